@@ -1,0 +1,6 @@
+//! The base of the verifier: names, places, types, lists, and the counter of search steps.
+#![tactic(auto)]
+
+pub mod memory;
+pub mod name;
+pub mod span;
