@@ -1,6 +1,7 @@
 //! The base of the verifier: names, places, types, lists, and the counter of search steps.
 #![tactic(auto)]
 
+pub mod lists;
 pub mod memory;
 pub mod name;
 pub mod span;
