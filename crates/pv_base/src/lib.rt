@@ -5,3 +5,5 @@ pub mod lists;
 pub mod memory;
 pub mod name;
 pub mod span;
+pub mod steps;
+pub mod types;
