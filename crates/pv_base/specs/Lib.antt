@@ -1,0 +1,4 @@
+pub mod Codes
+pub mod TypeData
+pub mod TypeView
+pub mod TypeFalls
