@@ -5,7 +5,7 @@ use base.Stored.{Gv, gnil, gnum, gcons, num}
 use Rattle.std.specs.Prelude.{◌≡◌, ℕ, ◌+◌, List, [], ◌∷◌, refl}
 use Rattle.std.specs.Coded.{Coded, code_by}
 use denote.Struct.Codes.{itself}
-use Rattle.std.proofs.Common.{ap, ◌∙◌}
+use Rattle.std.proofs.Common.{ap, sym, ◌∙◌}
 use Rattle.pv_base.specs.Codes.{pick, numbers_code, numbers_back, numbers_back-code}
 use Rattle.pv_base.specs.declared.types.StructId.{StructId}
 use Rattle.pv_base.specs.declared.types.Width.{Width}
@@ -45,6 +45,11 @@ list_of_types-types_of (t ∷ ts) = ap (λ us. t ∷ us) (list_of_types-types_of
 pub types_of-list_of_types : (ts : TypesData) → types_of (list_of_types ts) ≡ ts
 types_of-list_of_types NoTypes = refl
 types_of-list_of_types (MoreTypes t ts) = ap (MoreTypes t) (types_of-list_of_types ts)
+
+-- lists that make the same types are one
+pub types_of_injective : (ts us : List TypeData) → types_of ts ≡ types_of us → ts ≡ us
+types_of_injective ts us e =
+    sym (list_of_types-types_of ts) ∙ ap list_of_types e ∙ list_of_types-types_of us
 
 -- the number of nodes
 abbrev mutual

@@ -4,6 +4,7 @@
 pub mod lists;
 pub mod memory;
 pub mod name;
+pub mod same;
 pub mod span;
 pub mod steps;
 pub mod types;
