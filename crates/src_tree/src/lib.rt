@@ -1,0 +1,4 @@
+//! Source trees: the tokens of a file of source text, and how deep its brackets and signs nest.
+#![tactic(auto)]
+
+pub mod token;
