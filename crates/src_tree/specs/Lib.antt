@@ -1,0 +1,5 @@
+pub mod Characters
+pub mod Signs
+pub mod Texts
+pub mod Comments
+pub mod Spelling
