@@ -3,3 +3,4 @@ pub mod Signs
 pub mod Texts
 pub mod Comments
 pub mod Spelling
+pub mod Weight

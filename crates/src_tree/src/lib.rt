@@ -4,3 +4,4 @@
 ghost use Rattle.src_tree.specs.Spelling.{Spells, IsBadAt};
 
 pub mod token;
+pub mod weight;
