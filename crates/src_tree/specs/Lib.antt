@@ -3,4 +3,5 @@ pub mod Signs
 pub mod Texts
 pub mod Comments
 pub mod Spelling
+pub mod Reading
 pub mod Weight

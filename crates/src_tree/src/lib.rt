@@ -3,5 +3,7 @@
 
 ghost use Rattle.src_tree.specs.Spelling.{Spells, IsBadAt};
 
+mod number;
+mod piece;
 pub mod token;
 pub mod weight;
