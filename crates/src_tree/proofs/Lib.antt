@@ -1,3 +1,5 @@
 pub mod Runs
 pub mod SignFacts
 pub mod NumberFacts
+pub mod QuoteFacts
+pub mod CommentFacts
