@@ -59,7 +59,7 @@ comment_reads (comment x y) depth count rest is =
     ∙ ap (λ n. behind depth n rest) same
 
 -- what stands inside block comments that open one round another, up to the end of the outermost
-abbrev insides_text : List Inside → List ℕ
+abbrev pub insides_text : List Inside → List ℕ
 insides_text [] = []
 insides_text (x ∷ xs) = inside_text x ++ (codes "*/" ++ insides_text xs)
 

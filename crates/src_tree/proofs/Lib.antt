@@ -3,3 +3,4 @@ pub mod SignFacts
 pub mod NumberFacts
 pub mod QuoteFacts
 pub mod CommentFacts
+pub mod LongestFacts
