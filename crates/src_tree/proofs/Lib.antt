@@ -4,3 +4,4 @@ pub mod NumberFacts
 pub mod QuoteFacts
 pub mod CommentFacts
 pub mod LongestFacts
+pub mod PieceFacts
