@@ -5,3 +5,4 @@ pub mod QuoteFacts
 pub mod CommentFacts
 pub mod LongestFacts
 pub mod PieceFacts
+pub mod FoundFacts

@@ -72,7 +72,7 @@ space_found text after (inr (inl is)) = line_found text after is
 space_found text after (inr (inr is)) = block_found text after is
 
 -- a byte string that is read
-record IsStringAt (bytes : List ℕ) (end : ℕ) : Type 0 where
+pub record IsStringAt (bytes : List ℕ) (end : ℕ) : Type 0 where
   pub text : List ℕ
   pub after : List ℕ
   pub split : bytes ≡ text ++ after
@@ -80,7 +80,7 @@ record IsStringAt (bytes : List ℕ) (end : ℕ) : Type 0 where
   pub long : end ≡ length text
   pub three : 3 ≤ length text
 
-string_at : (b : ℕ) (rest : List ℕ) (end : ℕ) → ((eqb b 98 || eqb b 120) && eqb (get_or rest 0 0) 34) ≡ true → quoted_end false 2 (drop 1 rest) ≡ Some end → IsStringAt (b ∷ rest) end
+pub string_at : (b : ℕ) (rest : List ℕ) (end : ℕ) → ((eqb b 98 || eqb b 120) && eqb (get_or rest 0 0) 34) ≡ true → quoted_end false 2 (drop 1 rest) ≡ Some end → IsStringAt (b ∷ rest) end
 string_at b rest end test h =
     let parts = and_parts (eqb b 98 || eqb b 120) (eqb (get_or rest 0 0) 34) test in
     let quote : rest ≡ 34 ∷ drop 1 rest = front_is 33 rest (eqb-true _ _ parts.1) in
