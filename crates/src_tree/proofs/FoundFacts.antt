@@ -14,14 +14,14 @@ use Rattle.src_tree.specs.declared.token.NumberLiteral.{NumberLiteral}
 use Rattle.src_tree.specs.declared.token.NumberSuffix.{NumberSuffix}
 use Rattle.src_tree.specs.declared.piece.Found.{Found}
 use Rattle.src_tree.specs.declared.piece.Class.{Class}
-use Rattle.src_tree.specs.declared.piece.Class.TheVariants.{Space as blank, Word as word, ByteString as byte_string, Number as number, Sign}
+use Rattle.src_tree.specs.declared.piece.Class.TheVariants.{Space as blank}
 use Rattle.src_tree.specs.Characters.{is_blank, begins_word, continues_word}
 use Rattle.src_tree.specs.Signs.{sign_text}
 use Rattle.src_tree.specs.Texts.{IsByteString, IsNumber, text_of, IsTokenKind}
 use Rattle.src_tree.specs.Comments.{Inside, IsBlank, IsAtLineEnd, IsLineComment, IsBlockComment, IsSpace, IsInside, inside_text}
 use Rattle.src_tree.specs.Spelling.{Piece, piece_text, EndsRun, IsWhole, IsLexeme, Stands}
 use Rattle.src_tree.specs.Spelling.Piece.{space, lexeme}
-use Rattle.src_tree.specs.Reading.{quoted_end, comment_end, found, slash_at, string_or_word, word_at, number_of, number_at, sign_at, sign_found, found_at}
+use Rattle.src_tree.specs.Reading.{word_class, number_class, string_class, sign_class, quoted_end, comment_end, found, slash_at, string_or_word, word_at, number_of, number_at, sign_at, sign_found, found_at}
 use Rattle.src_tree.proofs.Runs.{Stops, run_passes, run_stops, front_is, chosen, none_is_some, pair_of}
 use Rattle.src_tree.proofs.SignFacts.{sign_front, Begins, sign_begins}
 use Rattle.src_tree.proofs.NumberFacts.{number_read}
@@ -75,17 +75,17 @@ ends_run : (after : List ℕ) → Stops continues_word after → EndsRun after
 ends_run [] stops = tt
 ends_run (b ∷ after) stops = stops
 
-word_piece : (b : ℕ) (rest : List ℕ) (f : Found) → begins_word b ≡ true → found_at (b ∷ rest) ≡ Some f → f ≡ found word (1 + prefix_len continues_word rest) → IsPiece (b ∷ rest) f
+word_piece : (b : ℕ) (rest : List ℕ) (f : Found) → begins_word b ≡ true → found_at (b ∷ rest) ≡ Some f → f ≡ found word_class (1 + prefix_len continues_word rest) → IsPiece (b ∷ rest) f
 word_piece b rest f begins h same =
     let n = prefix_len continues_word rest in
-    let long : found word (1 + n) ≡ found_of (lexeme (Word (b ∷ take n rest))) = ap (λ m. found word m) (omega (arith, length-prefix_len continues_word rest)) in
+    let long : found word_class (1 + n) ≡ found_of (lexeme (Word (b ∷ take n rest))) = ap (λ m. found word_class m) (omega (arith, length-prefix_len continues_word rest)) in
     lexeme_from (b ∷ rest) f (Word (b ∷ take n rest)) (drop n rest)
         (ap (λ t. b ∷ t) (sym (take-append-drop n rest)))
         h (same ∙ long) (begins, run_passes continues_word rest) tt (no_slash b rest (word_no_slash b begins))
 
-string_piece : (b : ℕ) (rest : List ℕ) (f : Found) (end : ℕ) → begins_word b ≡ true → found_at (b ∷ rest) ≡ Some f → f ≡ found byte_string end → IsStringAt (b ∷ rest) end → IsPiece (b ∷ rest) f
+string_piece : (b : ℕ) (rest : List ℕ) (f : Found) (end : ℕ) → begins_word b ≡ true → found_at (b ∷ rest) ≡ Some f → f ≡ found string_class end → IsStringAt (b ∷ rest) end → IsPiece (b ∷ rest) f
 string_piece b rest f end begins h same is =
-    lexeme_from (b ∷ rest) f (ByteString is.text) is.after is.split h (same ∙ ap (λ n. found byte_string n) is.long) is.is tt (no_slash b rest (word_no_slash b begins))
+    lexeme_from (b ∷ rest) f (ByteString is.text) is.after is.split h (same ∙ ap (λ n. found string_class n) is.long) is.is tt (no_slash b rest (word_no_slash b begins))
 
 word_or_string : (b : ℕ) (rest : List ℕ) (f : Found) → begins_word b ≡ true → found_at (b ∷ rest) ≡ Some f → (t : Bool) → ((eqb b 98 || eqb b 120) && eqb (get_or rest 0 0) 34) ≡ t → (o : Option ℕ) → quoted_end false 2 (drop 1 rest) ≡ o → f ≡ string_or_word (cond t o None) (1 + prefix_len continues_word rest) → IsPiece (b ∷ rest) f
 word_or_string b rest f begins h false test o e same = word_piece b rest f begins h same
@@ -98,13 +98,13 @@ word_stands b rest f begins h =
     word_or_string b rest f begins h _ refl _ refl (some_found f (word_at b rest) (sym h ∙ found_word b rest begins))
 
 -- a number
-number_piece : (b : ℕ) (rest : List ℕ) (f : Found) → is_ascii_digit b ≡ true → found_at (b ∷ rest) ≡ Some f → (o : Option (ℕ × NumberSuffix)) → number_of (take (prefix_len continues_word (b ∷ rest)) (b ∷ rest)) ≡ o → Some f ≡ option_map (λ n. found (number n.0 n.1) (prefix_len continues_word (b ∷ rest))) o → IsPiece (b ∷ rest) f
+number_piece : (b : ℕ) (rest : List ℕ) (f : Found) → is_ascii_digit b ≡ true → found_at (b ∷ rest) ≡ Some f → (o : Option (ℕ × NumberSuffix)) → number_of (take (prefix_len continues_word (b ∷ rest)) (b ∷ rest)) ≡ o → Some f ≡ option_map (λ n. found (number_class n.0 n.1) (prefix_len continues_word (b ∷ rest))) o → IsPiece (b ∷ rest) f
 number_piece b rest f digit h None e same = absurd (none_is_some f (sym same))
 number_piece b rest f digit h (Some v) e same =
     let n = prefix_len continues_word (b ∷ rest) in
     let run = take n (b ∷ rest) in
-    let f_is : f ≡ found (number v.0 v.1) n = some_found _ _ same in
-    let long : found (number v.0 v.1) n ≡ found (number v.0 v.1) (length run) = ap (λ m. found (number v.0 v.1) m) (sym (length-prefix_len continues_word (b ∷ rest))) in
+    let f_is : f ≡ found (number_class v.0 v.1) n = some_found _ _ same in
+    let long : found (number_class v.0 v.1) n ≡ found (number_class v.0 v.1) (length run) = ap (λ m. found (number_class v.0 v.1) m) (sym (length-prefix_len continues_word (b ∷ rest))) in
     let first : is_ascii_digit (get_or run 0 0) ≡ true = digit_first b rest digit in
     lexeme_from (b ∷ rest) f (Number (record { text = run; value = v.0; suffix = v.1 })) (drop n (b ∷ rest))
         (sym (take-append-drop n (b ∷ rest))) h (f_is ∙ long) (number_read run v.0 v.1 first e)
@@ -166,7 +166,7 @@ block_piece rest f star (Some end) e same =
     let is = comment_read 2 (drop 1 rest) end e in
     block_from rest f end star is.inner is.outer is.rest is.split is.inner_is is.deep is.ends (sym (some_found _ _ same))
 
-slash_piece : (rest : List ℕ) (f : Found) → found_at (47 ∷ rest) ≡ Some f → eqb (get_or rest 0 0) 47 ≡ false → eqb (get_or rest 0 0) 42 ≡ false → Some (found (Sign Slash) 1) ≡ Some f → IsPiece (47 ∷ rest) f
+slash_piece : (rest : List ℕ) (f : Found) → found_at (47 ∷ rest) ≡ Some f → eqb (get_or rest 0 0) 47 ≡ false → eqb (get_or rest 0 0) 42 ≡ false → Some (found (sign_class Slash) 1) ≡ Some f → IsPiece (47 ∷ rest) f
 slash_piece rest f h line block same =
     lexeme_from (47 ∷ rest) f (punctuation Slash) rest refl h (sym (some_found _ _ same)) tt tt (record {
       no_line = λ tail e. let here : rest ≡ 47 ∷ tail = cc in eqb-false _ _ line (ap (λ t. get_or t 0 0) here);

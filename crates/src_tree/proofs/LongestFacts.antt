@@ -11,12 +11,12 @@ use Rattle.src_tree.specs.declared.token.TokenKind.{TokenKind}
 use Rattle.src_tree.specs.declared.token.TokenKind.TheVariants.{Word, Number, ByteString, Punctuation as punctuation}
 use Rattle.src_tree.specs.declared.token.NumberSuffix.{NumberSuffix}
 use Rattle.src_tree.specs.declared.piece.Found.{Found}
-use Rattle.src_tree.specs.declared.piece.Class.TheVariants.{Space as space, Word as word, ByteString as byte_string, Number as number, Sign}
+use Rattle.src_tree.specs.declared.piece.Class.TheVariants.{Space as space}
 use Rattle.src_tree.specs.Characters.{is_blank, begins_word, continues_word}
 use Rattle.src_tree.specs.Signs.{sign_text}
 use Rattle.src_tree.specs.Texts.{IsByteString, text_of, IsTokenKind}
 use Rattle.src_tree.specs.Comments.{inside_text}
-use Rattle.src_tree.specs.Reading.{quoted_end, comment_end, found, slash_at, string_or_word, word_at, number_of, number_at, sign_at, sign_found, found_at}
+use Rattle.src_tree.specs.Reading.{word_class, number_class, string_class, sign_class, quoted_end, comment_end, found, slash_at, string_or_word, word_at, number_of, number_at, sign_at, sign_found, found_at}
 use Rattle.src_tree.proofs.Runs.{run_reaches, chosen, none_is_some}
 use Rattle.src_tree.proofs.SignFacts.{sign_front, HasSign, sign_found_at, IsSignByte, BeginsSign, sign_byte}
 use Rattle.src_tree.proofs.NumberFacts.{BeginsDigit, number_first, number_word}
@@ -94,7 +94,7 @@ word_long b (c ∷ w) rest all =
     rw test (omega (arith, reach))
 
 -- a byte string is found with its end
-pub string_found : (text rest : List ℕ) → IsByteString text → found_at (text ++ rest) ≡ Some (found byte_string (length text))
+pub string_found : (text rest : List ℕ) → IsByteString text → found_at (text ++ rest) ≡ Some (found string_class (length text))
 unfolding word_at
 string_found text rest is =
     let letter = string_letter is.letter is.letter_is in
@@ -104,7 +104,7 @@ string_found text rest is =
     ap (λ t. found_at (t ++ rest)) is.spelled
     ∙ ap (λ t. found_at (is.letter ∷ 34 ∷ t)) grouped
     ∙ found_word is.letter (34 ∷ (concat is.units ++ 34 ∷ rest)) letter.0
-    ∙ rw (letter.1, read) (ap (λ n. Some (found byte_string n)) long)
+    ∙ rw (letter.1, read) (ap (λ n. Some (found string_class n)) long)
 
 -- a number reaches to the end of its run
 run_length_of : (bytes : List ℕ) (f : Found) (o : Option (ℕ × NumberSuffix)) → number_of (take (prefix_len continues_word bytes) bytes) ≡ o → number_at bytes ≡ Some f → (n : ℕ) → n ≤ prefix_len continues_word bytes → n ≤ f.length
@@ -112,8 +112,8 @@ unfolding number_at
 run_length_of bytes f None e h n reach =
     let none : None ≡ Some f = (rw e at h) in absurd (none_is_some _ none)
 run_length_of bytes f (Some v) e h n reach =
-    let some : Some (found (number v.0 v.1) (prefix_len continues_word bytes)) ≡ Some f = (rw e at h) in
-    let same : found (number v.0 v.1) (prefix_len continues_word bytes) ≡ f = cc in
+    let some : Some (found (number_class v.0 v.1) (prefix_len continues_word bytes)) ≡ Some f = (rw e at h) in
+    let same : found (number_class v.0 v.1) (prefix_len continues_word bytes) ≡ f = cc in
     let long : prefix_len continues_word bytes ≡ f.length = ap (λ (g : Found). g.length) same in
     omega arith
 
@@ -142,7 +142,7 @@ slash_long rest f h =
     | inr other ↦
         elim (chosen (eqb (get_or rest 0 0) 42) _ _ _ other.1) [
           inl block ↦ comment_long (drop 1 rest) f (comment_end 0 0 2 (drop 1 rest)) refl block.1
-        | inr sign ↦ let same : found (Sign Slash) 1 ≡ f = (let e = sign.1 in cc) in omega (arith, ap (λ (g : Found). g.length) same)
+        | inr sign ↦ let same : found (sign_class Slash) 1 ≡ f = (let e = sign.1 in cc) in omega (arith, ap (λ (g : Found). g.length) same)
         ]
     ]
 
@@ -159,8 +159,8 @@ sign_is_long a rest n f true e is s front long h =
     let one = slash_long rest f (sym (found_slash rest) ∙ ap (λ b. found_at (b ∷ rest)) (sym a_is) ∙ h) in
     omega (arith, ap (λ p. length (sign_text p)) s_is)
 sign_is_long a rest n f false e is s front long h =
-    let some : Some (found (Sign s) (length (sign_text s))) ≡ Some f = ap sign_found (sym front) ∙ sym (found_sign a rest is e) ∙ h in
-    let same : found (Sign s) (length (sign_text s)) ≡ f = cc in
+    let some : Some (found (sign_class s) (length (sign_text s))) ≡ Some f = ap sign_found (sym front) ∙ sym (found_sign a rest is e) ∙ h in
+    let same : found (sign_class s) (length (sign_text s)) ≡ f = cc in
     omega (arith, ap (λ (g : Found). g.length) same)
 
 sign_long : (text rest : List ℕ) (n : ℕ) (f : Found) → BeginsSign text → HasSign (text ++ rest) n → found_at (text ++ rest) ≡ Some f → n ≤ f.length
@@ -177,7 +177,7 @@ token_long (Word (b ∷ w)) rest f is h =
     omega (arith, ap (λ (g : Found). g.length) same)
 token_long (Number n) rest f is h = number_long n.text rest f (number_first n is) (number_word n is) h
 token_long (ByteString text) rest f is h =
-    let e : Some (found byte_string (length text)) ≡ Some f = sym (string_found text rest is) ∙ h in
-    let same : found byte_string (length text) ≡ f = cc in
+    let e : Some (found string_class (length text)) ≡ Some f = sym (string_found text rest is) ∙ h in
+    let same : found string_class (length text) ≡ f = cc in
     omega (arith, ap (λ (g : Found). g.length) same)
 token_long (punctuation p) rest f is h = sign_long (sign_text p) rest (length (sign_text p)) f (sign_byte p) (sign_found_at p rest) h

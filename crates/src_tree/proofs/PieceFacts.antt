@@ -14,14 +14,14 @@ use Rattle.src_tree.specs.declared.token.NumberLiteral.{NumberLiteral}
 use Rattle.src_tree.specs.declared.token.NumberSuffix.{NumberSuffix}
 use Rattle.src_tree.specs.declared.piece.Found.{Found}
 use Rattle.src_tree.specs.declared.piece.Class.{Class}
-use Rattle.src_tree.specs.declared.piece.Class.TheVariants.{Space as blank, Word as word, ByteString as byte_string, Number as number, Sign}
+use Rattle.src_tree.specs.declared.piece.Class.TheVariants.{Space as blank}
 use Rattle.src_tree.specs.Characters.{is_blank, begins_word, continues_word}
 use Rattle.src_tree.specs.Signs.{sign_text}
 use Rattle.src_tree.specs.Texts.{IsByteString, IsNumber, text_of, IsTokenKind}
 use Rattle.src_tree.specs.Comments.{IsBlank, IsAtLineEnd, IsLineComment, IsBlockComment, IsSpace, inside_text}
 use Rattle.src_tree.specs.Spelling.{Piece, piece_text, EndsRun, IsWhole, IsLexeme, Stands}
 use Rattle.src_tree.specs.Spelling.Piece.{space, lexeme}
-use Rattle.src_tree.specs.Reading.{quoted_end, comment_end, found, slash_at, string_or_word, word_at, number_of, number_at, sign_at, sign_found, found_at}
+use Rattle.src_tree.specs.Reading.{word_class, number_class, string_class, sign_class, quoted_end, comment_end, found, slash_at, string_or_word, word_at, number_of, number_at, sign_at, sign_found, found_at}
 use Rattle.src_tree.proofs.Runs.{Stops, run_is, run_reaches, run_passes, run_stops, same_front, front_is, chosen, none_is_some, pair_of}
 use Rattle.src_tree.proofs.SignFacts.{sign_front, Begins, sign_begins, HasSign, sign_found_at, same_sign, IsSignByte, BeginsSign, sign_byte}
 use Rattle.src_tree.proofs.NumberFacts.{number_read, number_reads, BeginsDigit, number_first, number_word}
@@ -32,10 +32,10 @@ use Rattle.src_tree.proofs.LongestFacts.{found_word, found_digit, found_sign, fo
 -- the class of a piece
 abbrev pub class_of : Piece → Class
 class_of (space text) = blank
-class_of (lexeme (Word text)) = word
-class_of (lexeme (Number n)) = number n.value n.suffix
-class_of (lexeme (ByteString text)) = byte_string
-class_of (lexeme (punctuation sign)) = Sign sign
+class_of (lexeme (Word text)) = word_class
+class_of (lexeme (Number n)) = number_class n.value n.suffix
+class_of (lexeme (ByteString text)) = string_class
+class_of (lexeme (punctuation sign)) = sign_class sign
 
 abbrev pub found_of : Piece → Found
 found_of p = found (class_of p) (length (piece_text p))
@@ -116,7 +116,7 @@ word_run b w after is =
     let most : length (b ∷ run) ≤ length (b ∷ w) = is.longest (Word (b ∷ run)) rest (is.spelled.0, run_passes continues_word (w ++ after)) whole in
     omega (arith, length-prefix_len continues_word (w ++ after))
 
-no_string : (b : ℕ) (w after : List ℕ) (n : ℕ) → IsLexeme (Word (b ∷ w)) after → (t : Bool) → ((eqb b 98 || eqb b 120) && eqb (get_or (w ++ after) 0 0) 34) ≡ t → (o : Option ℕ) → quoted_end false 2 (drop 1 (w ++ after)) ≡ o → string_or_word (cond t o None) n ≡ found word n
+no_string : (b : ℕ) (w after : List ℕ) (n : ℕ) → IsLexeme (Word (b ∷ w)) after → (t : Bool) → ((eqb b 98 || eqb b 120) && eqb (get_or (w ++ after) 0 0) 34) ≡ t → (o : Option ℕ) → quoted_end false 2 (drop 1 (w ++ after)) ≡ o → string_or_word (cond t o None) n ≡ found word_class n
 no_string b w after n is false test o e = refl
 no_string b w after n is true test None e = refl
 no_string b [] after n is true test (Some end) e =
@@ -128,21 +128,21 @@ no_string b (c ∷ w) after n is true test o e =
     let other = word_no_quote c (and_parts (continues_word c) (list_all continues_word w) is.spelled.1).0 in
     absurd (true≢false (sym parts.1 ∙ other))
 
-word_found : (text after : List ℕ) → IsLexeme (Word text) after → found_at (text ++ after) ≡ Some (found word (length text))
+word_found : (text after : List ℕ) → IsLexeme (Word text) after → found_at (text ++ after) ≡ Some (found word_class (length text))
 unfolding word_at
 word_found [] after is = absurd is.spelled
 word_found (b ∷ w) after is =
     let long : 1 + prefix_len continues_word (w ++ after) ≡ suc (length w) = omega (arith, word_run b w after is) in
     found_word b (w ++ after) is.spelled.0
     ∙ ap Some (no_string b w after (1 + prefix_len continues_word (w ++ after)) is _ refl _ refl)
-    ∙ ap (λ n. Some (found word n)) long
+    ∙ ap (λ n. Some (found word_class n)) long
 
 -- a number is found
 stops_run : (after : List ℕ) → EndsRun after → Stops continues_word after
 stops_run [] ends = tt
 stops_run (b ∷ after) ends = ends
 
-number_at_run : (text after : List ℕ) (value : ℕ) (suffix : NumberSuffix) → list_all continues_word text ≡ true → Stops continues_word after → number_of text ≡ Some (pair_of value suffix) → number_at (text ++ after) ≡ Some (found (number value suffix) (length text))
+number_at_run : (text after : List ℕ) (value : ℕ) (suffix : NumberSuffix) → list_all continues_word text ≡ true → Stops continues_word after → number_of text ≡ Some (pair_of value suffix) → number_at (text ++ after) ≡ Some (found (number_class value suffix) (length text))
 unfolding number_at
 number_at_run text after value suffix all stops read =
     let long : prefix_len continues_word (text ++ after) ≡ length text = run_is continues_word text after all stops in
@@ -153,7 +153,7 @@ number_begins : (text after : List ℕ) → BeginsDigit text → found_at (text 
 number_begins [] after begins = absurd begins
 number_begins (b ∷ text) after begins = found_digit b (text ++ after) begins
 
-number_found : (n : NumberLiteral) (after : List ℕ) → IsLexeme (Number n) after → found_at (n.text ++ after) ≡ Some (found (number n.value n.suffix) (length n.text))
+number_found : (n : NumberLiteral) (after : List ℕ) → IsLexeme (Number n) after → found_at (n.text ++ after) ≡ Some (found (number_class n.value n.suffix) (length n.text))
 number_found n after is =
     number_begins n.text after (number_first n is.spelled)
     ∙ number_at_run n.text after n.value n.suffix (number_word n is.spelled) (stops_run after is.whole) (number_reads n is.spelled)
@@ -166,14 +166,14 @@ sign_is p a text after own is s front long =
     let most : length (sign_text s) ≤ length (sign_text p) = is.longest (punctuation s) (drop (length (sign_text s)) (a ∷ (text ++ after))) tt whole in
     same_sign p s (same_front (sign_text p) (sign_text s) after _ whole (omega arith))
 
-slash_sign_found : (rest : List ℕ) → ((tail : List ℕ) → 47 ∷ rest ≡ codes "//" ++ tail → ⊥) → ((tail : List ℕ) → 47 ∷ rest ≡ codes "/*" ++ tail → ⊥) → slash_at rest ≡ Some (found (Sign Slash) 1)
+slash_sign_found : (rest : List ℕ) → ((tail : List ℕ) → 47 ∷ rest ≡ codes "//" ++ tail → ⊥) → ((tail : List ℕ) → 47 ∷ rest ≡ codes "/*" ++ tail → ⊥) → slash_at rest ≡ Some (found (sign_class Slash) 1)
 unfolding slash_at
 slash_sign_found rest no_line no_block =
     let line : eqb (get_or rest 0 0) 47 ≡ false = false_from_ne_true _ (λ e. no_line (drop 1 rest) (ap (λ t. 47 ∷ t) (front_is 46 rest (eqb-true _ _ e)))) in
     let block : eqb (get_or rest 0 0) 42 ≡ false = false_from_ne_true _ (λ e. no_block (drop 1 rest) (ap (λ t. 47 ∷ t) (front_is 41 rest (eqb-true _ _ e)))) in
     rw (line, block) refl
 
-sign_found_by : (p : Punctuation) (a : ℕ) (text after : List ℕ) (t : Bool) → eqb a 47 ≡ t → sign_text p ≡ a ∷ text → IsSignByte a → IsLexeme (punctuation p) after → sign_front a (text ++ after) ≡ Some p → found_at (a ∷ (text ++ after)) ≡ Some (found (Sign p) (length (sign_text p)))
+sign_found_by : (p : Punctuation) (a : ℕ) (text after : List ℕ) (t : Bool) → eqb a 47 ≡ t → sign_text p ≡ a ∷ text → IsSignByte a → IsLexeme (punctuation p) after → sign_front a (text ++ after) ≡ Some p → found_at (a ∷ (text ++ after)) ≡ Some (found (sign_class p) (length (sign_text p)))
 unfolding sign_at
 sign_found_by p a text after true e own byte is front =
     let a_is : a ≡ 47 = eqb-true _ _ e in
@@ -183,11 +183,11 @@ sign_found_by p a text after true e own byte is front =
     ap (λ b. found_at (b ∷ (text ++ after))) a_is
     ∙ found_slash (text ++ after)
     ∙ slash_sign_found (text ++ after) (λ tail q. is.no_line_comment tail (whole ∙ q)) (λ tail q. is.no_block_comment tail (whole ∙ q))
-    ∙ ap (λ s. Some (found (Sign s) (length (sign_text s)))) p_is
+    ∙ ap (λ s. Some (found (sign_class s) (length (sign_text s)))) p_is
 sign_found_by p a text after false e own byte is front =
     found_sign a (text ++ after) byte e ∙ ap sign_found front
 
-sign_piece_found : (p : Punctuation) (text after : List ℕ) → sign_text p ≡ text → BeginsSign text → HasSign (text ++ after) (length (sign_text p)) → IsLexeme (punctuation p) after → found_at (text ++ after) ≡ Some (found (Sign p) (length (sign_text p)))
+sign_piece_found : (p : Punctuation) (text after : List ℕ) → sign_text p ≡ text → BeginsSign text → HasSign (text ++ after) (length (sign_text p)) → IsLexeme (punctuation p) after → found_at (text ++ after) ≡ Some (found (sign_class p) (length (sign_text p)))
 sign_piece_found p [] after own begins has is = absurd begins
 sign_piece_found p (a ∷ text) after own begins has is =
     let p_is : p ≡ has.0 = sign_is p a text after own is has.0 has.1 has.2 in

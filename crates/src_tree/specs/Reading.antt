@@ -9,8 +9,12 @@ use Rattle.src_tree.specs.declared.token.Punctuation.{Punctuation}
 use Rattle.src_tree.specs.declared.token.Punctuation.TheVariants.{LeftParenthesis, RightParenthesis, LeftBrace, RightBrace, LeftBracket, RightBracket, Comma, Semicolon, Colon, ColonColon, Period, PeriodPeriod, Equal, EqualEqual, EqualEqualGreater, ExclaimEqual, Exclaim, Less, LessEqual, LessEqualEqualGreater, LessLess, Greater, GreaterEqual, Plus, Minus, Star, Slash, Percent, Ampersand, AmpersandAmpersand, Pipe, PipePipe, Caret, AtSign, NumberSign}
 use Rattle.src_tree.specs.declared.token.NumberSuffix.{NumberSuffix}
 use Rattle.src_tree.specs.declared.token.NumberSuffix.TheVariants.{Absent, U8, U16, U32, U64, U128, U256}
+use Rattle.src_tree.specs.declared.token.TokenKind.{TokenKind}
+use Rattle.src_tree.specs.declared.token.TokenKind.TheVariants.{Word as word_kind, Number as number_kind, ByteString as byte_string_kind, Punctuation as sign_kind}
 use Rattle.src_tree.specs.declared.piece.Class.{Class}
-use Rattle.src_tree.specs.declared.piece.Class.TheVariants.{Space, Word, Number, ByteString, Sign}
+use Rattle.src_tree.specs.declared.piece.Class.TheVariants.{Space, Token}
+use Rattle.src_tree.specs.declared.piece.TokenClass.{TokenClass}
+use Rattle.src_tree.specs.declared.piece.TokenClass.TheVariants.{Word, Number, ByteString, Sign}
 use Rattle.src_tree.specs.declared.piece.Found.{Found}
 use Rattle.src_tree.specs.Signs.{sign_text}
 use Rattle.src_tree.specs.Characters.{is_blank, begins_word, continues_word}
@@ -109,6 +113,26 @@ comment_end depth last count (b ∷ rest) =
     else (if (last == 42) && (b == 47) then (if depth == 0 then Some (count + 1) else comment_end (depth - 1) 0 (count + 1) rest)
     else comment_end depth b (count + 1) rest)
 
+-- the classes of tokens, among those of pieces
+abbrev pub word_class : Class
+word_class = Token Word
+
+abbrev pub number_class : ℕ → NumberSuffix → Class
+number_class value suffix = Token (Number value suffix)
+
+abbrev pub string_class : Class
+string_class = Token ByteString
+
+abbrev pub sign_class : Punctuation → Class
+sign_class s = Token (Sign s)
+
+-- the token of a class that has this text
+abbrev pub kind_of : TokenClass → List ℕ → TokenKind
+kind_of Word text = word_kind text
+kind_of (Number value suffix) text = number_kind (record { text = text; value = value; suffix = suffix })
+kind_of ByteString text = byte_string_kind text
+kind_of (Sign s) text = sign_kind s
+
 abbrev pub found : Class → ℕ → Found
 found class count = record { class = class; length = count }
 
@@ -117,12 +141,12 @@ unfoldable pub slash_at : List ℕ → Option Found
 slash_at rest =
     if slice_index rest 0 == 47 then Some (found Space (2 + prefix_len (λ b. not (b == 10)) (drop 1 rest)))
     else (if slice_index rest 0 == 42 then option_map (λ count. found Space count) (comment_end 0 0 2 (drop 1 rest))
-    else Some (found (Sign Slash) 1))
+    else Some (found (sign_class Slash) 1))
 
 -- the byte string with this end, or else the word
 abbrev pub string_or_word : Option ℕ → ℕ → Found
-string_or_word None count = found Word count
-string_or_word (Some end) count = found ByteString end
+string_or_word None count = found word_class count
+string_or_word (Some end) count = found string_class end
 
 -- the word or byte string at a letter or `_`, with these bytes behind it
 unfoldable pub word_at : ℕ → List ℕ → Found
@@ -134,11 +158,11 @@ word_at b rest =
 -- the number at a digit, where the run of letters, digits and `_` is one
 unfoldable pub number_at : List ℕ → Option Found
 number_at bytes =
-    option_map (λ number. found (Number number.0 number.1) (prefix_len continues_word bytes))
+    option_map (λ n. found (number_class n.0 n.1) (prefix_len continues_word bytes))
         (number_of (take (prefix_len continues_word bytes) bytes))
 
 abbrev pub sign_found : Option Punctuation → Option Found
-sign_found sign = option_map (λ s. found (Sign s) (length (sign_text s))) sign
+sign_found o = option_map (λ s. found (sign_class s) (length (sign_text s))) o
 
 -- what stands at the front of the bytes: its class and its length
 unfoldable pub found_at : List ℕ → Option Found

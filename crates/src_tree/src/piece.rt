@@ -14,6 +14,12 @@ use crate::token::{NumberSuffix, Punctuation};
 pub enum Class {
     /// A blank or a comment.
     Space,
+    Token(TokenClass),
+}
+
+/// What kind of token it is, with what the token says besides its text.
+#[derive(Clone, Copy)]
+pub enum TokenClass {
     Word,
     Number(u128, NumberSuffix),
     ByteString,
@@ -229,7 +235,7 @@ fn slash_at(rest: &[u8]) -> Option<Found>
             let end = comment_end(&rest[1..])?;
             Some(Found::new(Class::Space, end))
         }
-        _ => Some(Found::new(Class::Sign(Punctuation::Slash), 1)),
+        _ => Some(Found::new(Class::Token(TokenClass::Sign(Punctuation::Slash)), 1)),
     }
 }
 
@@ -241,10 +247,10 @@ fn word_at(first: u8, rest: &[u8]) -> Found
 {
     if (first == b'b' || first == b'x') && byte_or_zero(rest, 0) == b'"' {
         if let Some(end) = quoted_end(&rest[1..]) {
-            return Found::new(Class::ByteString, end);
+            return Found::new(Class::Token(TokenClass::ByteString), end);
         }
     }
-    Found::new(Class::Word, 1 + run_length(rest))
+    Found::new(Class::Token(TokenClass::Word), 1 + run_length(rest))
 }
 
 /// The number at a digit, where the run of letters, digits and `_` is one.
@@ -254,7 +260,7 @@ fn number_at(bytes: &[u8]) -> Option<Found>
 {
     let length = run_length(bytes);
     let (value, suffix) = number_of(&bytes[..length])?;
-    Some(Found::new(Class::Number(value, suffix), length))
+    Some(Found::new(Class::Token(TokenClass::Number(value, suffix)), length))
 }
 
 /// The piece at the front of the bytes.
@@ -275,6 +281,6 @@ pub fn found_at(bytes: &[u8]) -> Option<Found>
         number_at(bytes)
     } else {
         let sign = sign_at(first, byte_or_zero(rest, 0), byte_or_zero(rest, 1), byte_or_zero(rest, 2))?;
-        Some(Found::new(Class::Sign(sign), sign_length(sign)))
+        Some(Found::new(Class::Token(TokenClass::Sign(sign)), sign_length(sign)))
     }
 }
