@@ -6,3 +6,4 @@ pub mod CommentFacts
 pub mod LongestFacts
 pub mod PieceFacts
 pub mod FoundFacts
+pub mod Rows

@@ -1,10 +1,12 @@
 -- What it means that tokens spell a text: the text is a row of pieces, of which some are tokens and the
 -- others blanks and comments.
-use Rattle.std.specs.Prelude.{◌≡◌, ℕ, ◌+◌, ◌≤◌, Bool, true, false, IsTrue, ◌⊎◌, ◌≢◌, List, [], ◌∷◌, ◌++◌, length, codes}
+use Rattle.std.specs.Prelude.{◌≡◌, ℕ, ◌+◌, ◌≤◌, Bool, true, false, IsTrue, ◌⊎◌, ◌≢◌, List, [], ◌∷◌, ◌++◌, length, codes, Result, Ok, Err}
 use Rattle.std.specs.Char.{is_ascii_digit}
 use Rattle.src_tree.specs.declared.token.TokenKind.{TokenKind}
 use Rattle.src_tree.specs.declared.token.TokenKind.TheVariants.{Word, Number, ByteString, Punctuation}
 use Rattle.src_tree.specs.declared.token.Token.{Token}
+use Rattle.src_tree.specs.declared.token.TokenFault.{TokenFault}
+use Rattle.src_tree.specs.declared.token.TokenFault.TheVariants.{BadToken, NoMemory}
 use Rattle.src_tree.specs.Characters.{continues_word}
 use Rattle.src_tree.specs.Texts.{text_of, IsTokenKind}
 use Rattle.src_tree.specs.Comments.{IsSpace}
@@ -72,3 +74,15 @@ pub record IsBadAt (place : ℕ) (bytes : List ℕ) : Type 0 where
   pub laid : AreLaid pieces bytes rest
   pub stuck : IsStuck rest
   pub placed : place + length rest ≡ length bytes
+
+-- no tokens spell the bytes
+abbrev pub IsUnspelled : ℕ → List ℕ → Type 0
+IsUnspelled file bytes = (tokens : List Token) → Spells file tokens bytes → ⊥
+
+-- the answer is this one, unless memory ran out
+abbrev pub Gives : Result (List Token) TokenFault → Result (List Token) TokenFault → Type 0
+Gives answer wanted = (answer ≡ wanted) ⊎ (answer ≡ Err NoMemory)
+
+-- the answer is some bad token, unless memory ran out
+abbrev pub GivesBadToken : Result (List Token) TokenFault → Type 0
+GivesBadToken answer = ((place : ℕ) × (answer ≡ Err (BadToken place))) ⊎ (answer ≡ Err NoMemory)

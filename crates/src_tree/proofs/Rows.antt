@@ -1,0 +1,174 @@
+-- Rows of pieces: one row at most lies in a text, and the scan lays it piece by piece.
+use Rattle.std.proofs.Common.{◌≡◌, ℕ, ◌+◌, ◌-◌, ◌<◌, ◌≤◌, Bool, true, false, ◌⊎◌, List, [], ◌∷◌, ◌++◌, length, take, drop, refl, sym, ap, subst, ◌∙◌, inl, inr, arith, suc, Option, Some, None, ◌≢◌, append_assoc, append-nil, length-append, length-drop}
+use Rattle.std.proofs.lemmas.List.{take_at, drop_at, drop_all, drop-drop, append_cancel_left, take_all, take-append-le, length_push}
+use Rattle.src_tree.specs.declared.token.Punctuation.{Punctuation}
+use Rattle.src_tree.specs.declared.token.TokenKind.{TokenKind}
+use Rattle.src_tree.specs.declared.token.TokenKind.TheVariants.{Word, Number, ByteString, Punctuation as punctuation}
+use Rattle.src_tree.specs.declared.token.Token.{Token}
+use Rattle.src_tree.specs.declared.piece.Found.{Found}
+use Rattle.src_tree.specs.declared.piece.Class.{Class}
+use Rattle.src_tree.specs.declared.piece.Class.TheVariants.{Space as blank, Token as a_token}
+use Rattle.src_tree.specs.declared.piece.TokenClass.{TokenClass}
+use Rattle.src_tree.specs.declared.piece.TokenClass.TheVariants.{Word as word, Number as number, ByteString as byte_string, Sign as sign}
+use Rattle.src_tree.specs.Texts.{text_of, IsByteString}
+use Rattle.src_tree.specs.Comments.{IsBlank, IsSpace}
+use Rattle.src_tree.specs.Spelling.{Piece, piece_text, Stands, AreLaid, tokens_of, Spells, IsStuck, IsBadAt, IsUnspelled}
+use Rattle.src_tree.specs.Spelling.Piece.{space, lexeme}
+use Rattle.src_tree.specs.Reading.{found, kind_of, found_at}
+use Rattle.src_tree.proofs.Runs.{same_front, none_is_some}
+use Rattle.src_tree.proofs.SignFacts.{BeginsSign, sign_byte}
+use Rattle.src_tree.proofs.NumberFacts.{BeginsDigit, number_first}
+use Rattle.src_tree.proofs.PieceFacts.{class_of, found_of, stands_found}
+use Rattle.src_tree.proofs.FoundFacts.{IsPiece, found_stands}
+
+-- each piece has a byte
+digit_long : (text : List ℕ) → BeginsDigit text → 1 ≤ length text
+digit_long [] begins = absurd begins
+digit_long (b ∷ text) begins = omega arith
+
+sign_long : (text : List ℕ) → BeginsSign text → 1 ≤ length text
+sign_long [] begins = absurd begins
+sign_long (b ∷ text) begins = omega arith
+
+blank_long : (text : List ℕ) → IsBlank text → 1 ≤ length text
+blank_long [] is = absurd is
+blank_long (b ∷ text) is = omega arith
+
+space_long : (text after : List ℕ) → IsSpace text after → 1 ≤ length text
+space_long text after (inl is) = blank_long text is
+space_long text after (inr (inl is)) = omega (arith, ap length is.spelled)
+space_long text after (inr (inr is)) = omega (arith, ap length is.spelled)
+
+pub piece_long : (p : Piece) (after : List ℕ) → Stands p after → 1 ≤ length (piece_text p)
+piece_long (space text) after is = space_long text after is
+piece_long (lexeme (Word [])) after is = absurd is.spelled
+piece_long (lexeme (Word (b ∷ text))) after is = omega arith
+piece_long (lexeme (Number n)) after is = digit_long n.text (number_first n is.spelled)
+piece_long (lexeme (ByteString text)) after is = omega (arith, ap length is.spelled.spelled)
+piece_long (lexeme (punctuation p)) after is = sign_long _ (sign_byte p)
+
+-- a piece is known by its class and its text
+abbrev piece_of : Class → List ℕ → Piece
+piece_of blank text = space text
+piece_of (a_token class) text = lexeme (kind_of class text)
+
+piece_is : (p : Piece) → p ≡ piece_of (class_of p) (piece_text p)
+piece_is (space text) = refl
+piece_is (lexeme (Word text)) = refl
+piece_is (lexeme (Number n)) = refl
+piece_is (lexeme (ByteString text)) = refl
+piece_is (lexeme (punctuation p)) = refl
+
+some_is : (f g : Found) → Some f ≡ Some g → f ≡ g
+some_is f g h = cc
+
+-- one piece at most stands at a place
+record IsSame (p q : Piece) (a b : List ℕ) : Type 0 where
+  pub piece : p ≡ q
+  pub after : a ≡ b
+
+one_piece : (p q : Piece) (a b : List ℕ) → Stands p a → Stands q b → piece_text p ++ a ≡ piece_text q ++ b → IsSame p q a b
+one_piece p q a b left right joined =
+    let same : found_of p ≡ found_of q = some_is _ _ (sym (stands_found p a left) ∙ ap found_at joined ∙ stands_found q b right) in
+    let class : class_of p ≡ class_of q = ap (λ (f : Found). f.class) same in
+    let long : length (piece_text p) ≡ length (piece_text q) = ap (λ (f : Found). f.length) same in
+    let text : piece_text p ≡ piece_text q = same_front (piece_text p) (piece_text q) a b joined long in
+    record {
+      piece = piece_is p ∙ ap (λ c. piece_of c (piece_text p)) class ∙ ap (piece_of (class_of q)) text ∙ sym (piece_is q);
+      after = append_cancel_left (piece_text p) a b (joined ∙ ap (λ t. t ++ b) (sym text));
+    }
+
+-- no piece stands at the front
+abbrev pub IsBlocked : List ℕ → Type 0
+IsBlocked rest = (p : Piece) (after : List ℕ) → rest ≡ piece_text p ++ after → Stands p after → ⊥
+
+pub end_blocked : IsBlocked []
+end_blocked p after split is =
+    let long = piece_long p after is in
+    absurd (omega (arith, ap length split, length-append (piece_text p) after))
+
+pub none_blocked : (rest : List ℕ) → found_at rest ≡ None → IsBlocked rest
+none_blocked rest h p after split is = none_is_some _ (sym h ∙ ap found_at split ∙ stands_found p after is)
+
+-- one row at most lies in a text up to where no piece stands
+record IsOneRow (ps qs : List Piece) (r s : List ℕ) : Type 0 where
+  pub row : ps ≡ qs
+  pub rest : r ≡ s
+
+one_row : (ps qs : List Piece) (bytes r s : List ℕ) → AreLaid ps bytes r → AreLaid qs bytes s → IsBlocked r → IsBlocked s → IsOneRow ps qs r s
+one_row [] [] bytes r s left right end_left end_right = record { row = refl; rest = sym left ∙ right }
+one_row [] (q ∷ qs) bytes r s left right end_left end_right = absurd (end_left q right.0 (sym left ∙ right.1) right.2)
+one_row (p ∷ ps) [] bytes r s left right end_left end_right = absurd (end_right p left.0 (sym right ∙ left.1) left.2)
+one_row (p ∷ ps) (q ∷ qs) bytes r s left right end_left end_right =
+    let same = one_piece p q left.0 right.0 left.2 right.2 (sym left.1 ∙ right.1) in
+    let behind : AreLaid ps right.0 r = (let P : List ℕ → Type 0 = λ t. AreLaid ps t r in subst P same.after left.3) in
+    let more = one_row ps qs right.0 r s behind right.3 end_left end_right in
+    record { row = ap (λ t. t ∷ ps) same.piece ∙ ap (λ ts. q ∷ ts) more.row; rest = more.rest }
+
+-- two token lists that spell the same bytes are the same
+pub spelled_once : (file : ℕ) (bytes : List ℕ) (ts us : List Token) → Spells file ts bytes → Spells file us bytes → ts ≡ us
+spelled_once file bytes ts us left right =
+    let same = one_row left.0 right.0 bytes [] [] left.1 right.1 end_blocked end_blocked in
+    left.2 ∙ ap (tokens_of file 0 false) same.row ∙ sym right.2
+
+-- bytes with a bad token are spelled by no list
+pub bad_unspelled : (file place : ℕ) (bytes : List ℕ) → IsBadAt place bytes → IsUnspelled file bytes
+bad_unspelled file place bytes bad ts spelled =
+    let same = one_row spelled.0 bad.pieces bytes [] bad.rest spelled.1 bad.laid end_blocked bad.stuck.blocked in
+    bad.stuck.left (sym same.rest)
+
+-- there is one bad token at most
+pub bad_once : (place other : ℕ) (bytes : List ℕ) → IsBadAt place bytes → IsBadAt other bytes → place ≡ other
+bad_once place other bytes left right =
+    let same = one_row left.pieces right.pieces bytes left.rest right.rest left.laid right.laid left.stuck.blocked right.stuck.blocked in
+    omega (arith, left.placed, right.placed, ap length same.rest)
+
+-- How far the scan has come: these tokens are found in the bytes before `at`, and whatever lies behind
+-- goes on with them.
+pub record Progress (file : ℕ) (bytes : List ℕ) (found : List Token) (count at : ℕ) (touching : Bool) : Type 0 where
+  pub tokens : List Token
+  pub kept : found ≡ take 200000 tokens
+  pub counted : count ≡ length tokens
+  pub few : count ≤ at
+  pub within : at ≤ length bytes
+  pub laid : (ps : List Piece) (rest : List ℕ) → AreLaid ps (drop at bytes) rest → (all : List Piece) × AreLaid all bytes rest × (tokens_of file 0 false all ≡ tokens ++ tokens_of file at touching ps)
+
+pub progress_start : (file : ℕ) (bytes : List ℕ) → Progress file bytes [] 0 0 false
+progress_start file bytes = record {
+  tokens = [];
+  kept = refl;
+  counted = refl;
+  few = omega arith;
+  within = omega arith;
+  laid = λ ps rest is. (ps, is, refl);
+}
+
+-- where the piece found ends
+pub record IsNext (bytes : List ℕ) (at : ℕ) (f : Found) : Type 0 where
+  pub piece : Piece
+  pub class : f.class ≡ class_of piece
+  pub text : take f.length (drop at bytes) ≡ piece_text piece
+  pub long : f.length ≡ length (piece_text piece)
+  pub some : 1 ≤ f.length
+  pub within : at + f.length ≤ length bytes
+  pub split : drop at bytes ≡ piece_text piece ++ drop (at + f.length) bytes
+  pub stands : Stands piece (drop (at + f.length) bytes)
+
+pub next_is : (bytes : List ℕ) (at : ℕ) (f : Found) → found_at (drop at bytes) ≡ Some f → IsNext bytes at f
+next_is bytes at f h =
+    let is = found_stands (drop at bytes) f h in
+    let long : f.length ≡ length (piece_text is.piece) = ap (λ (g : Found). g.length) is.found in
+    let text : take f.length (drop at bytes) ≡ piece_text is.piece = ap (take f.length) is.split ∙ take_at (piece_text is.piece) is.after f.length (sym long) in
+    let after : drop (at + f.length) bytes ≡ is.after = sym (drop-drop f.length at bytes) ∙ ap (drop f.length) is.split ∙ drop_at (piece_text is.piece) is.after f.length (sym long) in
+    let some = piece_long is.piece is.after is.stands in
+    let P : List ℕ → Type 0 = λ t. Stands is.piece t in
+    record {
+      piece = is.piece;
+      class = ap (λ (g : Found). g.class) is.found;
+      text = text;
+      long = long;
+      some = omega arith;
+      within = omega (arith, length-drop at bytes, ap length is.split, length-append (piece_text is.piece) is.after);
+      split = is.split ∙ ap (λ t. piece_text is.piece ++ t) (sym after);
+      stands = subst P (sym after) is.stands;
+    }
