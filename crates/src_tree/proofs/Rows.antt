@@ -172,3 +172,90 @@ next_is bytes at f h =
       split = is.split ∙ ap (λ t. piece_text is.piece ++ t) (sym after);
       stands = subst P (sym after) is.stands;
     }
+
+-- a blank or a comment goes by
+laid_space : (file : ℕ) (bytes : List ℕ) (found : List Token) (count at : ℕ) (touching : Bool) (f : Found) → Progress file bytes found count at touching → IsNext bytes at f → (p : Piece) → class_of p ≡ blank → piece_text p ++ drop (at + f.length) bytes ≡ drop at bytes → Stands p (drop (at + f.length) bytes) → length (piece_text p) ≡ f.length → Progress file bytes found count (at + f.length) false
+laid_space file bytes found count at touching f so next (space text) class split stands long = record {
+  tokens = so.tokens;
+  kept = so.kept;
+  counted = so.counted;
+  few = omega (arith, so.few);
+  within = next.within;
+  laid = λ ps rest is.
+      let whole = so.laid (space text ∷ ps) rest (drop (at + f.length) bytes, sym split, stands, is) in
+      (whole.0, whole.1, whole.2 ∙ ap (λ n. so.tokens ++ tokens_of file (at + n) false ps) long);
+}
+laid_space file bytes found count at touching f so next (lexeme (Word text)) class split stands long = cc
+laid_space file bytes found count at touching f so next (lexeme (Number n)) class split stands long = cc
+laid_space file bytes found count at touching f so next (lexeme (ByteString text)) class split stands long = cc
+laid_space file bytes found count at touching f so next (lexeme (punctuation p)) class split stands long = cc
+
+pub progress_space : (file : ℕ) (bytes : List ℕ) (found : List Token) (count at : ℕ) (touching : Bool) (f : Found) → Progress file bytes found count at touching → found_at (drop at bytes) ≡ Some f → f.class ≡ blank → Progress file bytes found count (at + f.length) false
+progress_space file bytes found count at touching f so h class =
+    let next = next_is bytes at f h in
+    laid_space file bytes found count at touching f so next next.piece (sym next.class ∙ class) (sym next.split) next.stands (sym next.long)
+
+-- a token joins those found, as long as they are few
+abbrev pub token_at : ℕ → ℕ → ℕ → Bool → TokenKind → Token
+token_at file start end touching kind = record { kind = kind; span = record { file = file; start = start; end = end }; glued = touching }
+
+kind_is : (k : TokenKind) (class : TokenClass) → class_of (lexeme k) ≡ a_token class → kind_of class (text_of k) ≡ k
+kind_is (Word text) class h = let e : word ≡ class = cc in ap (λ c. kind_of c text) (sym e)
+kind_is (Number n) class h = let e : number n.value n.suffix ≡ class = cc in ap (λ c. kind_of c n.text) (sym e)
+kind_is (ByteString text) class h = let e : byte_string ≡ class = cc in ap (λ c. kind_of c text) (sym e)
+kind_is (punctuation p) class h = let e : sign p ≡ class = cc in ap (λ c. kind_of c (text_of (punctuation p))) (sym e)
+
+laid_token : (file : ℕ) (bytes : List ℕ) (found more : List Token) (count at : ℕ) (touching : Bool) (f : Found) (class : TokenClass) (text : List ℕ) → Progress file bytes found count at touching → IsNext bytes at f → ((tokens : List Token) → count ≡ length tokens → found ≡ take 200000 tokens → more ≡ take 200000 (tokens ++ token_at file at (at + f.length) touching (kind_of class text) ∷ [])) → (p : Piece) → class_of p ≡ a_token class → text ≡ piece_text p → piece_text p ++ drop (at + f.length) bytes ≡ drop at bytes → Stands p (drop (at + f.length) bytes) → length (piece_text p) ≡ f.length → Progress file bytes more (count + 1) (at + f.length) true
+laid_token file bytes found more count at touching f class text so next joined (space blanks) class_is text_is split stands long = cc
+laid_token file bytes found more count at touching f class text so next joined (lexeme k) class_is text_is split stands long =
+    let kind : kind_of class text ≡ k = ap (kind_of class) text_is ∙ kind_is k class class_is in
+    let t : Token = token_at file at (at + f.length) touching (kind_of class text) in
+    record {
+      tokens = so.tokens ++ t ∷ [];
+      kept = joined so.tokens so.counted so.kept;
+      counted = omega (arith, so.counted, length_push so.tokens t);
+      few = omega (arith, so.few, next.some);
+      within = next.within;
+      laid = λ ps rest is.
+          let whole = so.laid (lexeme k ∷ ps) rest (drop (at + f.length) bytes, sym split, stands, is) in
+          let here : tokens_of file at touching (lexeme k ∷ ps) ≡ t ∷ tokens_of file (at + f.length) true ps =
+              ap (λ n. token_at file at (at + n) touching k ∷ tokens_of file (at + n) true ps) long
+              ∙ ap (λ j. token_at file at (at + f.length) touching j ∷ tokens_of file (at + f.length) true ps) (sym kind) in
+          (whole.0, whole.1, whole.2 ∙ ap (λ ts. so.tokens ++ ts) here ∙ sym (append_assoc so.tokens (t ∷ []) (tokens_of file (at + f.length) true ps)));
+    }
+
+pub progress_kept : (file : ℕ) (bytes : List ℕ) (found : List Token) (count at : ℕ) (touching : Bool) (f : Found) (class : TokenClass) → Progress file bytes found count at touching → found_at (drop at bytes) ≡ Some f → f.class ≡ a_token class → count < 200000 → Progress file bytes (found ++ token_at file at (at + f.length) touching (kind_of class (take f.length (drop at bytes))) ∷ []) (count + 1) (at + f.length) true
+progress_kept file bytes found count at touching f class so h class_is few =
+    let next = next_is bytes at f h in
+    let t : Token = token_at file at (at + f.length) touching (kind_of class (take f.length (drop at bytes))) in
+    laid_token file bytes found (found ++ t ∷ []) count at touching f class (take f.length (drop at bytes)) so next
+        (λ tokens counted kept.
+            let all : take 200000 tokens ≡ tokens = take_all 200000 tokens (omega arith) in
+            let more : take 200000 (tokens ++ t ∷ []) ≡ tokens ++ t ∷ [] = take_all 200000 (tokens ++ t ∷ []) (omega (arith, length_push tokens t)) in
+            ap (λ ts. ts ++ t ∷ []) (kept ∙ all) ∙ sym more)
+        next.piece (sym next.class ∙ class_is) next.text (sym next.split) next.stands (sym next.long)
+
+pub progress_counted : (file : ℕ) (bytes : List ℕ) (found : List Token) (count at : ℕ) (touching : Bool) (f : Found) (class : TokenClass) → Progress file bytes found count at touching → found_at (drop at bytes) ≡ Some f → f.class ≡ a_token class → 200000 ≤ count → Progress file bytes found (count + 1) (at + f.length) true
+progress_counted file bytes found count at touching f class so h class_is many =
+    let next = next_is bytes at f h in
+    laid_token file bytes found found count at touching f class (take f.length (drop at bytes)) so next
+        (λ tokens counted kept. kept ∙ sym (take-append-le 200000 tokens (token_at file at (at + f.length) touching (kind_of class (take f.length (drop at bytes))) ∷ []) (omega arith)))
+        next.piece (sym next.class ∙ class_is) next.text (sym next.split) next.stands (sym next.long)
+
+-- the scan is at the end
+pub progress_spells : (file : ℕ) (bytes : List ℕ) (found : List Token) (count at : ℕ) (touching : Bool) → (so : Progress file bytes found count at touching) → length bytes ≤ at → Spells file so.tokens bytes
+progress_spells file bytes found count at touching so end =
+    let whole = so.laid [] [] (drop_all at bytes end) in
+    (whole.0, whole.1, sym (whole.2 ∙ append-nil so.tokens))
+
+-- the scan is stuck
+pub progress_bad : (file : ℕ) (bytes : List ℕ) (found : List Token) (count at : ℕ) (touching : Bool) → Progress file bytes found count at touching → at < length bytes → found_at (drop at bytes) ≡ None → IsBadAt at bytes
+progress_bad file bytes found count at touching so more h =
+    let whole = so.laid [] (drop at bytes) refl in
+    record {
+      pieces = whole.0;
+      rest = drop at bytes;
+      laid = whole.1;
+      stuck = record { left = λ e. absurd (omega (arith, ap length e, length-drop at bytes)); blocked = none_blocked (drop at bytes) h };
+      placed = omega (arith, length-drop at bytes);
+    }
