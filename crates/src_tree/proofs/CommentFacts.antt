@@ -11,11 +11,11 @@ use Rattle.src_tree.proofs.Runs.{chosen, none_is_some}
 unmarked : (depth b count c : ℕ) (t rest : List ℕ) → NoMark (b ∷ c ∷ t) → comment_end depth b count (c ∷ t ++ rest) ≡ comment_end depth 0 count (c ∷ t ++ rest)
 unmarked depth b count c t rest unmark =
     let opens : (eqb b 47 && eqb c 42) ≡ false =
-        false_from_ne_true _ (λ e. let parts = and_parts (eqb b 47) (eqb c 42) e in
-            unmark.0 t (ap (λ x. x ∷ c ∷ t) (eqb-true _ _ parts.0) ∙ ap (λ x. 47 ∷ x ∷ t) (eqb-true _ _ parts.1))) in
+    false_from_ne_true _ (λ e. let parts = and_parts (eqb b 47) (eqb c 42) e in
+    unmark.0 t (ap (λ x. x ∷ c ∷ t) (eqb-true _ _ parts.0) ∙ ap (λ x. 47 ∷ x ∷ t) (eqb-true _ _ parts.1))) in
     let closes : (eqb b 42 && eqb c 47) ≡ false =
-        false_from_ne_true _ (λ e. let parts = and_parts (eqb b 42) (eqb c 47) e in
-            unmark.1 t (ap (λ x. x ∷ c ∷ t) (eqb-true _ _ parts.0) ∙ ap (λ x. 42 ∷ x ∷ t) (eqb-true _ _ parts.1))) in
+    false_from_ne_true _ (λ e. let parts = and_parts (eqb b 42) (eqb c 47) e in
+    unmark.1 t (ap (λ x. x ∷ c ∷ t) (eqb-true _ _ parts.0) ∙ ap (λ x. 42 ∷ x ∷ t) (eqb-true _ _ parts.1))) in
     rw (opens, closes) refl
 
 -- the same before the text of what stands inside and `*/`
@@ -81,11 +81,12 @@ record AreClosed (bytes : List ℕ) : Type 0 where
 
 is_plain : (last b : ℕ) (tail text rest : List ℕ) → (eqb last 47 && eqb b 42) ≡ false → (eqb last 42 && eqb b 47) ≡ false → b ∷ tail ≡ text ++ rest → (c : ℕ) (t : List ℕ) → text ≡ c ∷ t → NoMark (last ∷ text)
 is_plain last b tail text rest opens closes split c t begins =
-    let first : b ≡ c = (let e : b ∷ tail ≡ c ∷ (t ++ rest) = split ∙ ap (λ x. x ++ rest) begins in cc) in
-    (λ more e. let here : last ≡ 47 = cc in let there : c ∷ t ≡ 42 ∷ more = (let f : text ≡ 42 ∷ more = cc in sym begins ∙ f) in let second : c ≡ 42 = cc in
-        true≢false (sym (and_from _ _ (eq-eqb last 47 here) (eq-eqb b 42 (first ∙ second))) ∙ opens),
-     λ more e. let here : last ≡ 42 = cc in let there : c ∷ t ≡ 47 ∷ more = (let f : text ≡ 47 ∷ more = cc in sym begins ∙ f) in let second : c ≡ 47 = cc in
-        true≢false (sym (and_from _ _ (eq-eqb last 42 here) (eq-eqb b 47 (first ∙ second))) ∙ closes))
+    let first : b ≡ c = (let e : b ∷ tail ≡ c ∷ (t ++ rest) = split ∙ ap (λ x. x ++ rest) begins in cc) in (
+      λ more e. let here : last ≡ 47 = cc in let there : c ∷ t ≡ 42 ∷ more = (let f : text ≡ 42 ∷ more = cc in sym begins ∙ f) in let second : c ≡ 42 = cc in
+          true≢false (sym (and_from _ _ (eq-eqb last 47 here) (eq-eqb b 42 (first ∙ second))) ∙ opens),
+      λ more e. let here : last ≡ 42 = cc in let there : c ∷ t ≡ 47 ∷ more = (let f : text ≡ 47 ∷ more = cc in sym begins ∙ f) in let second : c ≡ 47 = cc in
+          true≢false (sym (and_from _ _ (eq-eqb last 42 here) (eq-eqb b 47 (first ∙ second))) ∙ closes),
+    )
 
 plain_before : (last b : ℕ) (tail : List ℕ) (x : Inside) (rest : List ℕ) → (eqb last 47 && eqb b 42) ≡ false → (eqb last 42 && eqb b 47) ≡ false → b ∷ tail ≡ (inside_text x ++ codes "*/") ++ rest → NoMark (last ∷ (inside_text x ++ codes "*/"))
 plain_before last b tail nothing rest opens closes split = is_plain last b tail (codes "*/") rest opens closes split 42 (codes "/") refl
@@ -159,18 +160,18 @@ with_closing depth last b count tail end closes some more =
 closed_behind : (depth last b count : ℕ) (tail : List ℕ) (end : ℕ) → AreClosed tail → comment_end depth last count (b ∷ tail) ≡ Some end → IsClosed depth count (last ∷ b ∷ tail) (b ∷ tail) end
 closed_behind depth last b count tail end more h =
     elim (chosen (eqb last 47 && eqb b 42) _ _ _ h) [
-      inl opens ↦
-        let is = more.at_start (depth + 1) (count + 1) end opens.1 in
-        with_opening depth last b count tail end opens.0 is.inner is.outer is.rest is.split is.inner_is is.outer_are is.deep is.ends
-    | inr other ↦
-        elim (chosen (eqb last 42 && eqb b 47) _ _ _ other.1) [
-          inl closes ↦
-            elim (chosen (eqb depth 0) _ _ _ closes.1) [
-              inl outermost ↦ with_last depth last b count tail end closes.0 outermost.0 outermost.1
-            | inr inner ↦ with_closing depth last b count tail end closes.0 inner.0 (more.at_start (depth - 1) (count + 1) end inner.1)
-            ]
-        | inr plain ↦ with_plain depth last b count tail end other.0 plain.0 (more.behind_byte depth b (count + 1) end plain.1)
-        ]
+      | inl opens ↦
+          let is = more.at_start (depth + 1) (count + 1) end opens.1 in
+          with_opening depth last b count tail end opens.0 is.inner is.outer is.rest is.split is.inner_is is.outer_are is.deep is.ends
+      | inr other ↦
+          elim (chosen (eqb last 42 && eqb b 47) _ _ _ other.1) [
+            | inl closes ↦
+                elim (chosen (eqb depth 0) _ _ _ closes.1) [
+                  | inl outermost ↦ with_last depth last b count tail end closes.0 outermost.0 outermost.1
+                  | inr inner ↦ with_closing depth last b count tail end closes.0 inner.0 (more.at_start (depth - 1) (count + 1) end inner.1)
+                ]
+            | inr plain ↦ with_plain depth last b count tail end other.0 plain.0 (more.behind_byte depth b (count + 1) end plain.1)
+          ]
     ]
 
 -- the bytes themselves, where no byte is before them

@@ -80,8 +80,8 @@ word_piece b rest f begins h same =
     let n = prefix_len continues_word rest in
     let long : found word_class (1 + n) ≡ found_of (lexeme (Word (b ∷ take n rest))) = ap (λ m. found word_class m) (omega (arith, length-prefix_len continues_word rest)) in
     lexeme_from (b ∷ rest) f (Word (b ∷ take n rest)) (drop n rest)
-        (ap (λ t. b ∷ t) (sym (take-append-drop n rest)))
-        h (same ∙ long) (begins, run_passes continues_word rest) tt (no_slash b rest (word_no_slash b begins))
+    (ap (λ t. b ∷ t) (sym (take-append-drop n rest)))
+    h (same ∙ long) (begins, run_passes continues_word rest) tt (no_slash b rest (word_no_slash b begins))
 
 string_piece : (b : ℕ) (rest : List ℕ) (f : Found) (end : ℕ) → begins_word b ≡ true → found_at (b ∷ rest) ≡ Some f → f ≡ found string_class end → IsStringAt (b ∷ rest) end → IsPiece (b ∷ rest) f
 string_piece b rest f end begins h same is =
@@ -107,12 +107,13 @@ number_piece b rest f digit h (Some v) e same =
     let long : found (number_class v.0 v.1) n ≡ found (number_class v.0 v.1) (length run) = ap (λ m. found (number_class v.0 v.1) m) (sym (length-prefix_len continues_word (b ∷ rest))) in
     let first : is_ascii_digit (get_or run 0 0) ≡ true = digit_first b rest digit in
     lexeme_from (b ∷ rest) f (Number (record { text = run; value = v.0; suffix = v.1 })) (drop n (b ∷ rest))
-        (sym (take-append-drop n (b ∷ rest))) h (f_is ∙ long) (number_read run v.0 v.1 first e)
-        (ends_run (drop n (b ∷ rest)) (run_stops continues_word (b ∷ rest)))
-        (no_slash b rest (digit_no_slash b digit))
+    (sym (take-append-drop n (b ∷ rest))) h (f_is ∙ long) (number_read run v.0 v.1 first e)
+    (ends_run (drop n (b ∷ rest)) (run_stops continues_word (b ∷ rest)))
+    (no_slash b rest (digit_no_slash b digit))
   where
     one_more : (m : ℕ) → 1 + m ≡ suc m
     one_more m = omega arith
+
     digit_first : (b : ℕ) (rest : List ℕ) → is_ascii_digit b ≡ true → is_ascii_digit (get_or (take (prefix_len continues_word (b ∷ rest)) (b ∷ rest)) 0 0) ≡ true
     digit_first b rest digit = rw (digit_continues b digit, one_more) digit
 
@@ -177,12 +178,12 @@ slash_stands : (rest : List ℕ) (f : Found) → found_at (47 ∷ rest) ≡ Some
 unfolding slash_at
 slash_stands rest f h same =
     elim (chosen (eqb (get_or rest 0 0) 47) _ _ _ same) [
-      inl line ↦ line_piece rest f line.0 line.1
-    | inr other ↦
-        elim (chosen (eqb (get_or rest 0 0) 42) _ _ _ other.1) [
-          inl block ↦ block_piece rest f block.0 (comment_end 0 0 2 (drop 1 rest)) refl block.1
-        | inr sign ↦ slash_piece rest f h other.0 sign.0 sign.1
-        ]
+      | inl line ↦ line_piece rest f line.0 line.1
+      | inr other ↦
+          elim (chosen (eqb (get_or rest 0 0) 42) _ _ _ other.1) [
+            | inl block ↦ block_piece rest f block.0 (comment_end 0 0 2 (drop 1 rest)) refl block.1
+            | inr sign ↦ slash_piece rest f h other.0 sign.0 sign.1
+          ]
     ]
 
 slash_stands_at : (b : ℕ) (rest : List ℕ) (f : Found) → b ≡ 47 → found_at (b ∷ rest) ≡ Some f → slash_at rest ≡ Some f → IsPiece (b ∷ rest) f
@@ -203,14 +204,14 @@ unfolding found_at
 found_stands [] f h = absurd (none_is_some f h)
 found_stands (b ∷ rest) f h =
     elim (chosen (is_blank b) _ _ _ h) [
-      inl is ↦ blank_piece b rest f is.0 is.1
-    | inr no_blank ↦ elim (chosen (eqb b 47) _ _ _ no_blank.1) [
-        inl is ↦ slash_stands_at b rest f (eqb-true b 47 is.0) h is.1
-      | inr no_slash ↦ elim (chosen (begins_word b) _ _ _ no_slash.1) [
-          inl is ↦ word_stands b rest f is.0 h
-        | inr no_word ↦ elim (chosen (is_ascii_digit b) _ _ _ no_word.1) [
-            inl is ↦ number_stands b rest f is.0 h
-          | inr no_digit ↦ sign_piece b rest f no_slash.0 h (sign_front b rest) (sign_begins b rest) no_digit.1
+      | inl is ↦ blank_piece b rest f is.0 is.1
+      | inr no_blank ↦ elim (chosen (eqb b 47) _ _ _ no_blank.1) [
+        | inl is ↦ slash_stands_at b rest f (eqb-true b 47 is.0) h is.1
+        | inr no_slash ↦ elim (chosen (begins_word b) _ _ _ no_slash.1) [
+          | inl is ↦ word_stands b rest f is.0 h
+          | inr no_word ↦ elim (chosen (is_ascii_digit b) _ _ _ no_word.1) [
+            | inl is ↦ number_stands b rest f is.0 h
+            | inr no_digit ↦ sign_piece b rest f no_slash.0 h (sign_front b rest) (sign_begins b rest) no_digit.1
           ]
         ]
       ]

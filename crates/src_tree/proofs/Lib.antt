@@ -7,3 +7,4 @@ pub mod LongestFacts
 pub mod PieceFacts
 pub mod FoundFacts
 pub mod Rows
+pub mod Outcomes

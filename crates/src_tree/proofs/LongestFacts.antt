@@ -82,11 +82,11 @@ word_long : (b : ℕ) (w rest : List ℕ) → list_all continues_word w ≡ true
 unfolding word_at
 word_long b [] rest all =
     string_or_word_long 1 (1 + prefix_len continues_word rest)
-        (cond ((eqb b 98 || eqb b 120) && eqb (get_or rest 0 0) 34) (quoted_end false 2 (drop 1 rest)) None) (omega arith)
-        (λ end h. elim (chosen ((eqb b 98 || eqb b 120) && eqb (get_or rest 0 0) 34) (quoted_end false 2 (drop 1 rest)) None (Some end) h) [
-          inl quoted ↦ let is = quoted_read 2 (drop 1 rest) end quoted.1 in omega (arith, is.ends)
-        | inr other ↦ absurd (none_is_some end other.1)
-        ])
+    (cond ((eqb b 98 || eqb b 120) && eqb (get_or rest 0 0) 34) (quoted_end false 2 (drop 1 rest)) None) (omega arith)
+    (λ end h. elim (chosen ((eqb b 98 || eqb b 120) && eqb (get_or rest 0 0) 34) (quoted_end false 2 (drop 1 rest)) None (Some end) h) [
+      | inl quoted ↦ let is = quoted_read 2 (drop 1 rest) end quoted.1 in omega (arith, is.ends)
+      | inr other ↦ absurd (none_is_some end other.1)
+    ])
 word_long b (c ∷ w) rest all =
     let parts = and_parts (continues_word c) (list_all continues_word w) all in
     let test : ((eqb b 98 || eqb b 120) && eqb c 34) ≡ false = and_right _ _ (word_no_quote c parts.0) in
@@ -138,12 +138,12 @@ slash_long : (rest : List ℕ) (f : Found) → slash_at rest ≡ Some f → 1 �
 unfolding slash_at
 slash_long rest f h =
     elim (chosen (eqb (get_or rest 0 0) 47) _ _ _ h) [
-      inl line ↦ let same : found space (2 + prefix_len (λ b. not (eqb b 10)) (drop 1 rest)) ≡ f = (let e = line.1 in cc) in omega (arith, ap (λ (g : Found). g.length) same)
-    | inr other ↦
-        elim (chosen (eqb (get_or rest 0 0) 42) _ _ _ other.1) [
-          inl block ↦ comment_long (drop 1 rest) f (comment_end 0 0 2 (drop 1 rest)) refl block.1
-        | inr sign ↦ let same : found (sign_class Slash) 1 ≡ f = (let e = sign.1 in cc) in omega (arith, ap (λ (g : Found). g.length) same)
-        ]
+      | inl line ↦ let same : found space (2 + prefix_len (λ b. not (eqb b 10)) (drop 1 rest)) ≡ f = (let e = line.1 in cc) in omega (arith, ap (λ (g : Found). g.length) same)
+      | inr other ↦
+          elim (chosen (eqb (get_or rest 0 0) 42) _ _ _ other.1) [
+            | inl block ↦ comment_long (drop 1 rest) f (comment_end 0 0 2 (drop 1 rest)) refl block.1
+            | inr sign ↦ let same : found (sign_class Slash) 1 ≡ f = (let e = sign.1 in cc) in omega (arith, ap (λ (g : Found). g.length) same)
+          ]
     ]
 
 slash_sign : (rest : List ℕ) → sign_front 47 rest ≡ Some Slash

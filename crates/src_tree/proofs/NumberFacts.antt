@@ -22,8 +22,8 @@ more_grows : (base before b : ℕ) → 1 ≤ base → before ≤ more_number bas
 unfolding more_number
 more_grows base before b positive =
     cond_both (eqb b 95) before (before * base + digit_value b) (λ n. before ≤ n)
-        (λ _. omega arith)
-        (λ _. let grown = mul-le-mul_left before positive in omega (arith, grown))
+    (λ _. omega arith)
+    (λ _. let grown = mul-le-mul_left before positive in omega (arith, grown))
 
 number_grows : (base before : ℕ) (digits : List ℕ) → 1 ≤ base → before ≤ number_from base before digits
 unfolding more_number
@@ -65,27 +65,27 @@ numeral_read base before count [] value len small h =
     record { front = []; rest = []; split = refl; passes = refl; valued = sym v; long = omega arith; bounded = omega arith }
 numeral_read base before count (b ∷ digits) value len small h =
     elim (chosen (continues_numeral base b) _ _ _ h) [
-      inl on ↦
-        elim (chosen (ltb (more_number base before b) (2 ^ 128)) _ _ _ on.1) [
-          inl fits ↦
-            let more : IsRead base (more_number base before b) (count + 1) digits value len = numeral_read base (more_number base before b) (count + 1) digits value len (ltb-true _ _ fits.0) fits.1 in
-            record {
-              front = b ∷ more.front;
-              rest = more.rest;
-              split = ap (λ t. b ∷ t) more.split;
-              passes = and_from _ _ on.0 more.passes;
-              valued = more.valued;
-              long = omega (arith, more.long);
-              bounded = more.bounded;
-            }
-        | inr large ↦ absurd (none_is_some _ large.1)
-        ]
-    | inr off ↦
-        let same : Some (before, count) ≡ Some (value, len) = off.1 in
-        let parts = same_parts before value count len same in
-        let v : before ≡ value = parts.0 in
-        let n : count ≡ len = parts.1 in
-        record { front = []; rest = b ∷ digits; split = refl; passes = refl; valued = sym v; long = omega arith; bounded = omega arith }
+      | inl on ↦
+          elim (chosen (ltb (more_number base before b) (2 ^ 128)) _ _ _ on.1) [
+            | inl fits ↦
+                let more : IsRead base (more_number base before b) (count + 1) digits value len = numeral_read base (more_number base before b) (count + 1) digits value len (ltb-true _ _ fits.0) fits.1 in
+                record {
+                  front = b ∷ more.front;
+                  rest = more.rest;
+                  split = ap (λ t. b ∷ t) more.split;
+                  passes = and_from _ _ on.0 more.passes;
+                  valued = more.valued;
+                  long = omega (arith, more.long);
+                  bounded = more.bounded;
+                }
+            | inr large ↦ absurd (none_is_some _ large.1)
+          ]
+      | inr off ↦
+          let same : Some (before, count) ≡ Some (value, len) = off.1 in
+          let parts = same_parts before value count len same in
+          let v : before ≡ value = parts.0 in
+          let n : count ≡ len = parts.1 in
+          record { front = []; rest = b ∷ digits; split = refl; passes = refl; valued = sym v; long = omega arith; bounded = omega arith }
     ]
 
 -- a suffix is read from its text, and from no other
@@ -216,8 +216,8 @@ pub number_read : (run : List ℕ) (value : ℕ) (s : NumberSuffix) → is_ascii
 unfolding number_of
 number_read run value s first h =
     elim (chosen (is_hexadecimal run) _ _ _ h) [
-      inl hex ↦ number_hexadecimal run value s hex.0 (suffixed_read 16 (drop 2 run) value s (numeral_at 16 0 0 (drop 2 run)) refl hex.1)
-    | inr decimal ↦ number_decimal run value s first (suffixed_read 10 run value s (numeral_at 10 0 0 run) refl decimal.1)
+      | inl hex ↦ number_hexadecimal run value s hex.0 (suffixed_read 16 (drop 2 run) value s (numeral_at 16 0 0 (drop 2 run)) refl hex.1)
+      | inr decimal ↦ number_decimal run value s first (suffixed_read 10 run value s (numeral_at 10 0 0 run) refl decimal.1)
     ]
 
 -- a number is read from its text
@@ -265,10 +265,10 @@ hexadecimal_reads digits s is small =
 pub number_reads : (n : NumberLiteral) → IsNumber n → number_of n.text ≡ Some (pair_of n.value n.suffix)
 number_reads n is =
     elim is.valued [
-      inl decimal ↦
-        ap number_of is.spelled ∙ decimal_reads is.numeral n.suffix decimal.0 (omega (arith, decimal.1, is.bounded)) ∙ ap (λ v. Some (pair_of v n.suffix)) (sym decimal.1)
-    | inr (digits, spelled, passes, valued) ↦
-        ap number_of (is.spelled ∙ ap (λ t. t ++ suffix_text n.suffix) spelled) ∙ hexadecimal_reads digits n.suffix passes (omega (arith, valued, is.bounded)) ∙ ap (λ v. Some (pair_of v n.suffix)) (sym valued)
+      | inl decimal ↦
+          ap number_of is.spelled ∙ decimal_reads is.numeral n.suffix decimal.0 (omega (arith, decimal.1, is.bounded)) ∙ ap (λ v. Some (pair_of v n.suffix)) (sym decimal.1)
+      | inr (digits, spelled, passes, valued) ↦
+          ap number_of (is.spelled ∙ ap (λ t. t ++ suffix_text n.suffix) spelled) ∙ hexadecimal_reads digits n.suffix passes (omega (arith, valued, is.bounded)) ∙ ap (λ v. Some (pair_of v n.suffix)) (sym valued)
     ]
 
 -- a number is a run of letters, digits and `_`, and begins with a digit
@@ -297,10 +297,10 @@ prefix_word = refl
 pub number_word : (n : NumberLiteral) → IsNumber n → list_all continues_word n.text ≡ true
 number_word n is =
     let numeral : list_all continues_word is.numeral ≡ true =
-        elim is.valued [
-          inl decimal ↦ all_weaker (λ c. is_ascii_digit c || eqb c 95) continues_word digit_word is.numeral (digits_all is_ascii_digit is.numeral decimal.0)
-        | inr (digits, spelled, passes, valued) ↦ rw spelled (all_joined continues_word (codes "0x") digits prefix_word (all_weaker (λ c. is_ascii_hexdigit c || eqb c 95) continues_word hexdigit_word digits (digits_all is_ascii_hexdigit digits passes)))
-        ] in
+    elim is.valued [
+      | inl decimal ↦ all_weaker (λ c. is_ascii_digit c || eqb c 95) continues_word digit_word is.numeral (digits_all is_ascii_digit is.numeral decimal.0)
+      | inr (digits, spelled, passes, valued) ↦ rw spelled (all_joined continues_word (codes "0x") digits prefix_word (all_weaker (λ c. is_ascii_hexdigit c || eqb c 95) continues_word hexdigit_word digits (digits_all is_ascii_hexdigit digits passes)))
+    ] in
     rw is.spelled (all_joined continues_word is.numeral (suffix_text n.suffix) numeral (suffix_word n.suffix))
 
 -- the first byte is a digit
@@ -315,6 +315,6 @@ digits_first (b ∷ digits) s is = is.0
 pub number_first : (n : NumberLiteral) → IsNumber n → BeginsDigit n.text
 number_first n is =
     elim is.valued [
-      inl decimal ↦ rw is.spelled (digits_first is.numeral n.suffix decimal.0)
-    | inr (digits, spelled, passes, valued) ↦ rw (is.spelled, spelled) refl
+      | inl decimal ↦ rw is.spelled (digits_first is.numeral n.suffix decimal.0)
+      | inr (digits, spelled, passes, valued) ↦ rw (is.spelled, spelled) refl
     ]

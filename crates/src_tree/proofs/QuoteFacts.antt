@@ -64,27 +64,27 @@ quoted_behind b c count bytes end false slash no_line no_quote h one two =
     with_byte b count (c ∷ bytes) end (no_quote, eqb-false _ _ slash, no_line) (one h)
 quoted_behind b c count bytes end true slash no_line no_quote h one two =
     elim (chosen (eqb c 10) _ _ _ h) [
-      inl line ↦ absurd (none_is_some _ line.1)
-    | inr other ↦ with_pair b c count bytes end (eqb-true _ _ slash, eqb-false _ _ other.0) (two other.1)
+      | inl line ↦ absurd (none_is_some _ line.1)
+      | inr other ↦ with_pair b c count bytes end (eqb-true _ _ slash, eqb-false _ _ other.0) (two other.1)
     ]
 
 pub quoted_read : (count : ℕ) (bytes : List ℕ) (end : ℕ) → quoted_end false count bytes ≡ Some end → IsQuoted count bytes end
 quoted_read count [] end h = absurd (none_is_some _ h)
 quoted_read count (b ∷ []) end h =
     elim (chosen (eqb b 10) _ _ _ h) [
-      inl line ↦ absurd (none_is_some _ line.1)
-    | inr other ↦
-        elim (chosen (eqb b 34) _ _ _ other.1) [
-          inl quote ↦ at_quote b count [] end (eqb-true _ _ quote.0) quote.1
-        | inr plain ↦ absurd (no_quote (eqb b 92) (count + 1) end plain.1)
-        ]
+      | inl line ↦ absurd (none_is_some _ line.1)
+      | inr other ↦
+          elim (chosen (eqb b 34) _ _ _ other.1) [
+            | inl quote ↦ at_quote b count [] end (eqb-true _ _ quote.0) quote.1
+            | inr plain ↦ absurd (no_quote (eqb b 92) (count + 1) end plain.1)
+          ]
     ]
 quoted_read count (b ∷ c ∷ bytes) end h =
     elim (chosen (eqb b 10) _ _ _ h) [
-      inl line ↦ absurd (none_is_some _ line.1)
-    | inr other ↦
-        elim (chosen (eqb b 34) _ _ _ other.1) [
-          inl quote ↦ at_quote b count (c ∷ bytes) end (eqb-true _ _ quote.0) quote.1
-        | inr plain ↦ quoted_behind b c count bytes end (eqb b 92) refl (eqb-false _ _ other.0) (eqb-false _ _ plain.0) plain.1 (λ e. quoted_read (count + 1) (c ∷ bytes) end e) (λ e. quoted_read (count + 1 + 1) bytes end e)
-        ]
+      | inl line ↦ absurd (none_is_some _ line.1)
+      | inr other ↦
+          elim (chosen (eqb b 34) _ _ _ other.1) [
+            | inl quote ↦ at_quote b count (c ∷ bytes) end (eqb-true _ _ quote.0) quote.1
+            | inr plain ↦ quoted_behind b c count bytes end (eqb b 92) refl (eqb-false _ _ other.0) (eqb-false _ _ plain.0) plain.1 (λ e. quoted_read (count + 1) (c ∷ bytes) end e) (λ e. quoted_read (count + 1 + 1) bytes end e)
+          ]
     ]

@@ -1,6 +1,6 @@
 -- Rows of pieces: one row at most lies in a text, and the scan lays it piece by piece.
 use Rattle.std.proofs.Common.{◌≡◌, ℕ, ◌+◌, ◌-◌, ◌<◌, ◌≤◌, Bool, true, false, ◌⊎◌, List, [], ◌∷◌, ◌++◌, length, take, drop, refl, sym, ap, subst, ◌∙◌, inl, inr, arith, suc, Option, Some, None, ◌≢◌, append_assoc, append-nil, length-append, length-drop}
-use Rattle.std.proofs.lemmas.List.{take_at, drop_at, drop_all, drop-drop, append_cancel_left, take_all, take-append-le, length_push}
+use Rattle.std.proofs.lemmas.List.{take_rest, take_at, drop_at, drop_all, drop-drop, append_cancel_left, take_all, take-append-le, length_push}
 use Rattle.src_tree.specs.declared.token.Punctuation.{Punctuation}
 use Rattle.src_tree.specs.declared.token.TokenKind.{TokenKind}
 use Rattle.src_tree.specs.declared.token.TokenKind.TheVariants.{Word, Number, ByteString, Punctuation as punctuation}
@@ -219,8 +219,8 @@ laid_token file bytes found more count at touching f class text so next joined (
       laid = λ ps rest is.
           let whole = so.laid (lexeme k ∷ ps) rest (drop (at + f.length) bytes, sym split, stands, is) in
           let here : tokens_of file at touching (lexeme k ∷ ps) ≡ t ∷ tokens_of file (at + f.length) true ps =
-              ap (λ n. token_at file at (at + n) touching k ∷ tokens_of file (at + n) true ps) long
-              ∙ ap (λ j. token_at file at (at + f.length) touching j ∷ tokens_of file (at + f.length) true ps) (sym kind) in
+          ap (λ n. token_at file at (at + n) touching k ∷ tokens_of file (at + n) true ps) long
+          ∙ ap (λ j. token_at file at (at + f.length) touching j ∷ tokens_of file (at + f.length) true ps) (sym kind) in
           (whole.0, whole.1, whole.2 ∙ ap (λ ts. so.tokens ++ ts) here ∙ sym (append_assoc so.tokens (t ∷ []) (tokens_of file (at + f.length) true ps)));
     }
 
@@ -229,18 +229,18 @@ progress_kept file bytes found count at touching f class so h class_is few =
     let next = next_is bytes at f h in
     let t : Token = token_at file at (at + f.length) touching (kind_of class (take f.length (drop at bytes))) in
     laid_token file bytes found (found ++ t ∷ []) count at touching f class (take f.length (drop at bytes)) so next
-        (λ tokens counted kept.
-            let all : take 200000 tokens ≡ tokens = take_all 200000 tokens (omega arith) in
-            let more : take 200000 (tokens ++ t ∷ []) ≡ tokens ++ t ∷ [] = take_all 200000 (tokens ++ t ∷ []) (omega (arith, length_push tokens t)) in
-            ap (λ ts. ts ++ t ∷ []) (kept ∙ all) ∙ sym more)
-        next.piece (sym next.class ∙ class_is) next.text (sym next.split) next.stands (sym next.long)
+    (λ tokens counted kept.
+    let all : take 200000 tokens ≡ tokens = take_all 200000 tokens (omega arith) in
+    let more : take 200000 (tokens ++ t ∷ []) ≡ tokens ++ t ∷ [] = take_all 200000 (tokens ++ t ∷ []) (omega (arith, length_push tokens t)) in
+    ap (λ ts. ts ++ t ∷ []) (kept ∙ all) ∙ sym more)
+    next.piece (sym next.class ∙ class_is) next.text (sym next.split) next.stands (sym next.long)
 
 pub progress_counted : (file : ℕ) (bytes : List ℕ) (found : List Token) (count at : ℕ) (touching : Bool) (f : Found) (class : TokenClass) → Progress file bytes found count at touching → found_at (drop at bytes) ≡ Some f → f.class ≡ a_token class → 200000 ≤ count → Progress file bytes found (count + 1) (at + f.length) true
 progress_counted file bytes found count at touching f class so h class_is many =
     let next = next_is bytes at f h in
     laid_token file bytes found found count at touching f class (take f.length (drop at bytes)) so next
-        (λ tokens counted kept. kept ∙ sym (take-append-le 200000 tokens (token_at file at (at + f.length) touching (kind_of class (take f.length (drop at bytes))) ∷ []) (omega arith)))
-        next.piece (sym next.class ∙ class_is) next.text (sym next.split) next.stands (sym next.long)
+    (λ tokens counted kept. kept ∙ sym (take-append-le 200000 tokens (token_at file at (at + f.length) touching (kind_of class (take f.length (drop at bytes))) ∷ []) (omega arith)))
+    next.piece (sym next.class ∙ class_is) next.text (sym next.split) next.stands (sym next.long)
 
 -- the scan is at the end
 pub progress_spells : (file : ℕ) (bytes : List ℕ) (found : List Token) (count at : ℕ) (touching : Bool) → (so : Progress file bytes found count at touching) → length bytes ≤ at → Spells file so.tokens bytes
@@ -259,3 +259,10 @@ progress_bad file bytes found count at touching so more h =
       stuck = record { left = λ e. absurd (omega (arith, ap length e, length-drop at bytes)); blocked = none_blocked (drop at bytes) h };
       placed = omega (arith, length-drop at bytes);
     }
+
+-- the same of the bytes from `at` on, as a slice to the end
+pub at_rest : (bytes : List ℕ) (at : ℕ) (o : Option Found) → o ≡ found_at (take (length bytes - at) (drop at bytes)) → found_at (drop at bytes) ≡ o
+at_rest bytes at o h = ap found_at (sym (take_rest bytes at)) ∙ sym h
+
+pub rest_take : (bytes : List ℕ) (at n : ℕ) → take n (take (length bytes - at) (drop at bytes)) ≡ take n (drop at bytes)
+rest_take bytes at n = ap (take n) (take_rest bytes at)

@@ -34,16 +34,16 @@ pub run_passes : (p : ℕ → Bool) (xs : List ℕ) → list_all p (take (prefix
 run_passes p [] = refl
 run_passes p (x ∷ xs) =
     elim (cases_Bool (p x)) [
-      inl e ↦ rw (e, one_add, e) (run_passes p xs)
-    | inr e ↦ rw e refl
+      | inl e ↦ rw (e, one_add, e) (run_passes p xs)
+      | inr e ↦ rw e refl
     ]
 
 pub run_stops : (p : ℕ → Bool) (xs : List ℕ) → Stops p (drop (prefix_len p xs) xs)
 run_stops p [] = tt
 run_stops p (x ∷ xs) =
     elim (cases_Bool (p x)) [
-      inl e ↦ rw (e, one_add) (run_stops p xs)
-    | inr e ↦ rw e e
+      | inl e ↦ rw (e, one_add) (run_stops p xs)
+      | inr e ↦ rw e e
     ]
 
 -- a text of nothing but passing bytes passes, and so do its parts

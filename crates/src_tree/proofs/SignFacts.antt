@@ -29,8 +29,8 @@ looked_up : (a : ℕ) (table : List (ℕ × Punctuation)) → AreTexts table →
 looked_up a [] texts = tt
 looked_up a ((text, sign) ∷ rest) texts =
     cond_both (eqb a text) (Some sign) (lookup a rest) (λ o. IfSome o (λ s. sign_text s ≡ a ∷ []))
-        (λ e. texts.0 ∙ ap (λ b. b ∷ []) (sym (eqb-true a text e)))
-        (λ _. looked_up a rest texts.1)
+    (λ e. texts.0 ∙ ap (λ b. b ∷ []) (sym (eqb-true a text e)))
+    (λ _. looked_up a rest texts.1)
 
 -- a sign of one byte begins the bytes that it is the first of
 begins_one : (a : ℕ) (rest : List ℕ) (s : Punctuation) → sign_text s ≡ a ∷ [] → Begins (a ∷ rest) s
@@ -50,26 +50,26 @@ begins_four a b c d rest s text second third fourth =
 begins_pair : (a b : ℕ) (rest : List ℕ) (long short : Punctuation) → sign_text short ≡ a ∷ [] → sign_text long ≡ a ∷ suc b ∷ [] → Begins (a ∷ rest) (cond (eqb (get_or rest 0 0) (suc b)) long short)
 begins_pair a b rest long short one two =
     cond_both (eqb (get_or rest 0 0) (suc b)) long short (Begins (a ∷ rest))
-        (λ e. begins_two a b rest long two (eqb-true _ _ e))
-        (λ _. begins_one a rest short one)
+    (λ e. begins_two a b rest long two (eqb-true _ _ e))
+    (λ _. begins_one a rest short one)
 
 begins_less : (rest : List ℕ) → Begins (60 ∷ rest) (less_at (get_or rest 0 0) (get_or rest 1 0) (get_or rest 2 0))
 begins_less rest =
     cond_both (eqb (get_or rest 0 0) 60) LessLess _ (Begins (60 ∷ rest))
-        (λ e. begins_two 60 59 rest LessLess refl (eqb-true _ _ e))
-        (λ _. cond_both (eqb (get_or rest 0 0) 61) _ Less (Begins (60 ∷ rest))
-            (λ second. cond_both (eqb (get_or rest 1 0) 61 && eqb (get_or rest 2 0) 62) LessEqualEqualGreater LessEqual (Begins (60 ∷ rest))
-                (λ both. let parts = and_parts _ _ both in begins_four 60 60 60 61 rest LessEqualEqualGreater refl (eqb-true _ _ second) (eqb-true _ _ parts.0) (eqb-true _ _ parts.1))
-                (λ _. begins_two 60 60 rest LessEqual refl (eqb-true _ _ second)))
-            (λ _. begins_one 60 rest Less refl))
+    (λ e. begins_two 60 59 rest LessLess refl (eqb-true _ _ e))
+    (λ _. cond_both (eqb (get_or rest 0 0) 61) _ Less (Begins (60 ∷ rest))
+    (λ second. cond_both (eqb (get_or rest 1 0) 61 && eqb (get_or rest 2 0) 62) LessEqualEqualGreater LessEqual (Begins (60 ∷ rest))
+    (λ both. let parts = and_parts _ _ both in begins_four 60 60 60 61 rest LessEqualEqualGreater refl (eqb-true _ _ second) (eqb-true _ _ parts.0) (eqb-true _ _ parts.1))
+    (λ _. begins_two 60 60 rest LessEqual refl (eqb-true _ _ second)))
+    (λ _. begins_one 60 rest Less refl))
 
 begins_equal : (rest : List ℕ) → Begins (61 ∷ rest) (equal_at (get_or rest 0 0) (get_or rest 1 0))
 begins_equal rest =
     cond_both (eqb (get_or rest 0 0) 61) _ Equal (Begins (61 ∷ rest))
-        (λ second. cond_both (eqb (get_or rest 1 0) 62) EqualEqualGreater EqualEqual (Begins (61 ∷ rest))
-            (λ third. begins_three 61 60 61 rest EqualEqualGreater refl (eqb-true _ _ second) (eqb-true _ _ third))
-            (λ _. begins_two 61 60 rest EqualEqual refl (eqb-true _ _ second)))
-        (λ _. begins_one 61 rest Equal refl)
+    (λ second. cond_both (eqb (get_or rest 1 0) 62) EqualEqualGreater EqualEqual (Begins (61 ∷ rest))
+    (λ third. begins_three 61 60 61 rest EqualEqualGreater refl (eqb-true _ _ second) (eqb-true _ _ third))
+    (λ _. begins_two 61 60 rest EqualEqual refl (eqb-true _ _ second)))
+    (λ _. begins_one 61 rest Equal refl)
 
 begins_lone : (a : ℕ) (rest : List ℕ) (o : Option Punctuation) → IfSome o (λ s. sign_text s ≡ a ∷ []) → IfSome o (Begins (a ∷ rest))
 begins_lone a rest None h = tt
@@ -105,15 +105,15 @@ long_enough n t x y left right = cond_both t x y (λ s. n ≤ length (sign_text 
 less_long : (b c d : ℕ) → 1 ≤ length (sign_text (less_at b c d))
 less_long b c d =
     long_enough 1 (eqb b 60) LessLess (cond (eqb b 61) (cond (eqb c 61 && eqb d 62) LessEqualEqualGreater LessEqual) Less) (omega arith)
-        (long_enough 1 (eqb b 61) (cond (eqb c 61 && eqb d 62) LessEqualEqualGreater LessEqual) Less
-            (long_enough 1 (eqb c 61 && eqb d 62) LessEqualEqualGreater LessEqual (omega arith) (omega arith))
-            (omega arith))
+    (long_enough 1 (eqb b 61) (cond (eqb c 61 && eqb d 62) LessEqualEqualGreater LessEqual) Less
+    (long_enough 1 (eqb c 61 && eqb d 62) LessEqualEqualGreater LessEqual (omega arith) (omega arith))
+    (omega arith))
 
 equal_long : (b c : ℕ) → 1 ≤ length (sign_text (equal_at b c))
 equal_long b c =
     long_enough 1 (eqb b 61) (cond (eqb c 62) EqualEqualGreater EqualEqual) Equal
-        (long_enough 1 (eqb c 62) EqualEqualGreater EqualEqual (omega arith) (omega arith))
-        (omega arith)
+    (long_enough 1 (eqb c 62) EqualEqualGreater EqualEqual (omega arith) (omega arith))
+    (omega arith)
 
 -- where a sign stands, one at least as long is found
 pub sign_found_at : (p : Punctuation) (rest : List ℕ) → HasSign (sign_text p ++ rest) (length (sign_text p))

@@ -152,14 +152,14 @@ string_or_word (Some end) count = found string_class end
 unfoldable pub word_at : ℕ → List ℕ → Found
 word_at b rest =
     string_or_word
-        (if ((b == 98) || (b == 120)) && (slice_index rest 0 == 34) then quoted_end false 2 (drop 1 rest) else None)
-        (1 + prefix_len continues_word rest)
+    (if ((b == 98) || (b == 120)) && (slice_index rest 0 == 34) then quoted_end false 2 (drop 1 rest) else None)
+    (1 + prefix_len continues_word rest)
 
 -- the number at a digit, where the run of letters, digits and `_` is one
 unfoldable pub number_at : List ℕ → Option Found
 number_at bytes =
     option_map (λ n. found (number_class n.0 n.1) (prefix_len continues_word bytes))
-        (number_of (take (prefix_len continues_word bytes) bytes))
+    (number_of (take (prefix_len continues_word bytes) bytes))
 
 abbrev pub sign_found : Option Punctuation → Option Found
 sign_found o = option_map (λ s. found (sign_class s) (length (sign_text s))) o

@@ -56,7 +56,7 @@ closed_by_brace levels = surrounding_item levels levels.outer
 abbrev pub is_counted_word : List ℕ → Bool
 is_counted_word text =
     list_any (λ word. pointwise nat_eq word text)
-        (codes "if" ∷ codes "else" ∷ codes "while" ∷ codes "loop" ∷ codes "return" ∷ codes "abort" ∷ codes "as" ∷ codes "forall" ∷ codes "exists" ∷ [])
+    (codes "if" ∷ codes "else" ∷ codes "while" ∷ codes "loop" ∷ codes "return" ∷ codes "abort" ∷ codes "as" ∷ codes "forall" ∷ codes "exists" ∷ [])
 
 -- the levels behind a sign
 abbrev pub after_sign : Punctuation → Levels → Levels

@@ -8,6 +8,7 @@ use crate::token::NumberSuffix;
 
 /// The base of a numeral.
 const DECIMAL: u8 = 10;
+
 const HEXADECIMAL: u8 = 16;
 
 /// Whether a numeral in the base goes on with the byte.

@@ -280,7 +280,12 @@ pub fn found_at(bytes: &[u8]) -> Option<Found>
     } else if first.is_ascii_digit() {
         number_at(bytes)
     } else {
-        let sign = sign_at(first, byte_or_zero(rest, 0), byte_or_zero(rest, 1), byte_or_zero(rest, 2))?;
+        let sign = sign_at(
+            first,
+            byte_or_zero(rest, 0),
+            byte_or_zero(rest, 1),
+            byte_or_zero(rest, 2),
+        )?;
         Some(Found::new(Class::Token(TokenClass::Sign(sign)), sign_length(sign)))
     }
 }

@@ -1,0 +1,108 @@
+//! The tokens of a file.
+
+ghost use Rattle.std.specs.Prelude.{◌≡◌, ◌<◌, ◌≤◌, ◌^◌, ℕ, List, length, IfOk};
+ghost use Rattle.src_tree.specs.declared.token.Token.{Token};
+ghost use Rattle.src_tree.specs.Spelling.{Spells, IsBadAt, IsUnspelled, Gives, GivesBadToken};
+ghost use Rattle.src_tree.specs.Reading.{kind_of};
+
+use crate::piece::{Class, TokenClass, found_at};
+use crate::token::{NumberLiteral, Token, TokenFault, TokenKind, Tokens};
+use pv_base::memory::NoMemory;
+use pv_base::name::Name;
+use pv_base::span::Span;
+use std::alloc::Global;
+
+/// The most tokens that a file may have.
+pub const TOKEN_LIMIT: u32 = 200_000;
+
+impl From<NoMemory> for TokenFault {
+    ghost use Rattle.std.specs.Prelude.{◌≡◌};
+    ghost use Rattle.src_tree.specs.declared.token.TokenFault.TheVariants.{NoMemory};
+
+    ghost from_gives = { λ _ e. e ≡ NoMemory };
+
+    fn from(_error: NoMemory) -> TokenFault {
+        TokenFault::NoMemory
+    }
+}
+
+/// The token of this class that the text spells.
+fn token_kind(alloc: Global, class: TokenClass, text: &[u8]) -> Result<TokenKind, NoMemory>
+    ensures { IfOk result (λ kind. kind ≡ kind_of class text.now) }
+{
+    match class {
+        TokenClass::Word => Ok(TokenKind::Word(Name::from_slice(alloc, text)?)),
+        TokenClass::Number(value, suffix) => Ok(TokenKind::Number(NumberLiteral {
+            text: Name::from_slice(alloc, text)?,
+            value,
+            suffix,
+        })),
+        TokenClass::ByteString => Ok(TokenKind::ByteString(Name::from_slice(alloc, text)?)),
+        TokenClass::Sign(sign) => Ok(TokenKind::Punctuation(sign)),
+    }
+}
+
+/// The tokens that the bytes of the file with this number spell.
+///
+/// A file that no tokens spell is scanned up to its first bad token, and one with too many tokens to
+/// its end.
+pub fn tokens(alloc: Global, file: u32, bytes: &[u8]) -> Result<Tokens, TokenFault>
+    requires { length bytes.now < 2 ^ 32 }
+
+    // What each answer says.
+    ensures ok { IfOk result (λ found. Spells file found bytes.now × (length found ≤ TOKEN_LIMIT)) }
+    ensures bad_token { (place : ℕ) → result ≡ Err (TokenFault.BadToken place)
+        → IsBadAt place bytes.now × IsUnspelled file bytes.now }
+    ensures too_many { (count : ℕ) → result ≡ Err (TokenFault.TooMany count)
+        → (found : List Token) × Spells file found bytes.now × (length found ≡ count) × (TOKEN_LIMIT < count) }
+
+    // Which answer comes, unless memory runs out.
+    ensures spelled { (found : List Token) → Spells file found bytes.now → length found ≤ TOKEN_LIMIT
+        → Gives result (Ok found) }
+    ensures spelled_long { (found : List Token) → Spells file found bytes.now → TOKEN_LIMIT < length found
+        → Gives result (Err (TokenFault.TooMany (length found))) }
+    ensures bad_place { (place : ℕ) → IsBadAt place bytes.now
+        → Gives result (Err (TokenFault.BadToken place)) }
+    ensures unspelled { IsUnspelled file bytes.now → GivesBadToken result }
+{
+    let mut found = Tokens::new(alloc);
+    let mut count: u32 = 0;
+    let mut at: usize = 0;
+    let mut touching = false;
+    while at < bytes.len() {
+        let rest = &bytes[at..];
+        let Some(piece) = found_at(rest) else {
+            return Err(TokenFault::BadToken(at as u32));
+        };
+        let end = at + piece.length;
+        match piece.class {
+            Class::Space => touching = false,
+            Class::Token(class) => {
+                if count < TOKEN_LIMIT {
+                    found.push(Token {
+                        kind: token_kind(alloc, class, &rest[..piece.length])?,
+                        span: Span {
+                            file,
+                            start: at as u32,
+                            end: end as u32,
+                        },
+                        glued: touching,
+                    })?;
+                }
+                count += 1;
+                touching = true;
+            }
+        }
+        at = end;
+    }
+    if count > TOKEN_LIMIT {
+        return Err(TokenFault::TooMany(count));
+    }
+    Ok(found)
+}
+
+/// A law: two token lists that spell the same bytes of a file are equal.
+pub fn one_spelling()
+    ensures { (file : ℕ) (bytes : List ℕ) (one other : List Token)
+        → Spells file one bytes → Spells file other bytes → one ≡ other }
+{}
