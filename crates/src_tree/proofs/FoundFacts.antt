@@ -1,33 +1,31 @@
 -- What `found_at` gives stands there.
-use Rattle.std.proofs.Common.{◌≡◌, ℕ, ◌+◌, ◌≤◌, Bool, true, false, cond, eqb, not, ◌&&◌, ◌||◌, ◌⊎◌, List, [], ◌∷◌, ◌++◌, length, take, drop, get_or, refl, sym, ap, ◌∙◌, inl, inr, arith, suc, Option, Some, None, IfSome, codes, append_assoc, append-nil, length-append}
-use Rattle.std.specs.List.{prefix_len, list_all, concat, AllByRecursion}
+use Rattle.std.proofs.Common.{◌≡◌, ℕ, ◌+◌, Bool, true, false, cond, eqb, not, ◌&&◌, ◌||◌, List, [], ◌∷◌, ◌++◌, length, take, drop, get_or, refl, sym, ap, ◌∙◌, inl, inr, arith, suc, Option, Some, None, IfSome, codes, append_assoc, length-append}
+use Rattle.std.specs.List.{prefix_len}
 use Rattle.std.specs.Option.{option_map}
 use Rattle.std.specs.Char.{is_ascii_digit}
-use Rattle.std.proofs.lemmas.List.{take_at, take-append-drop, nil_from_length}
+use Rattle.std.proofs.lemmas.List.{take-append-drop}
 use Rattle.std.proofs.lemmas.List.Folds.{length-prefix_len}
-use Rattle.std.proofs.lemmas.Bool.{and_parts, eqb-true, eqb-false, true≢false, not-false}
+use Rattle.std.proofs.lemmas.Bool.{eqb-true, eqb-false, not-false}
 use Rattle.src_tree.specs.declared.token.Punctuation.{Punctuation}
 use Rattle.src_tree.specs.declared.token.Punctuation.TheVariants.{Slash}
 use Rattle.src_tree.specs.declared.token.TokenKind.{TokenKind}
 use Rattle.src_tree.specs.declared.token.TokenKind.TheVariants.{Word, Number, ByteString, Punctuation as punctuation}
-use Rattle.src_tree.specs.declared.token.NumberLiteral.{NumberLiteral}
 use Rattle.src_tree.specs.declared.token.NumberSuffix.{NumberSuffix}
 use Rattle.src_tree.specs.declared.piece.Found.{Found}
-use Rattle.src_tree.specs.declared.piece.Class.{Class}
 use Rattle.src_tree.specs.declared.piece.Class.TheVariants.{Space as blank}
 use Rattle.src_tree.specs.Characters.{is_blank, begins_word, continues_word}
 use Rattle.src_tree.specs.Signs.{sign_text}
-use Rattle.src_tree.specs.Texts.{IsByteString, IsNumber, text_of, IsTokenKind}
-use Rattle.src_tree.specs.Comments.{Inside, IsBlank, IsAtLineEnd, IsLineComment, IsBlockComment, IsSpace, IsInside, inside_text}
-use Rattle.src_tree.specs.Spelling.{Piece, piece_text, EndsRun, IsWhole, IsLexeme, Stands}
+use Rattle.src_tree.specs.Texts.{text_of, IsTokenKind}
+use Rattle.src_tree.specs.Comments.{Inside, IsAtLineEnd, IsInside, inside_text}
+use Rattle.src_tree.specs.Spelling.{Piece, piece_text, EndsRun, IsWhole, Stands}
 use Rattle.src_tree.specs.Spelling.Piece.{space, lexeme}
-use Rattle.src_tree.specs.Reading.{word_class, number_class, string_class, sign_class, quoted_end, comment_end, found, slash_at, string_or_word, word_at, number_of, number_at, sign_at, sign_found, found_at}
-use Rattle.src_tree.proofs.Runs.{Stops, run_passes, run_stops, front_is, chosen, none_is_some, pair_of}
+use Rattle.src_tree.specs.Reading.{word_class, number_class, string_class, sign_class, quoted_end, comment_end, found, slash_at, string_or_word, word_at, number_of, number_at, sign_found, found_at}
+use Rattle.src_tree.proofs.Runs.{Stops, run_passes, run_stops, front_is, chosen, none_is_some}
 use Rattle.src_tree.proofs.SignFacts.{sign_front, Begins, sign_begins}
 use Rattle.src_tree.proofs.NumberFacts.{number_read}
 use Rattle.src_tree.proofs.CommentFacts.{insides_text, comment_read}
-use Rattle.src_tree.proofs.LongestFacts.{word_no_slash, digit_no_slash, digit_continues, found_word, found_digit, found_slash, token_long}
-use Rattle.src_tree.proofs.PieceFacts.{class_of, found_of, IsStringAt, string_at}
+use Rattle.src_tree.proofs.LongestFacts.{word_no_slash, digit_no_slash, digit_continues, found_word, found_digit, token_long}
+use Rattle.src_tree.proofs.PieceFacts.{found_of, IsStringAt, string_at}
 
 -- a piece that stands at the front of the bytes, and that was found
 pub record IsPiece (bytes : List ℕ) (f : Found) : Type 0 where

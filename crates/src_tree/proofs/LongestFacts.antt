@@ -3,7 +3,7 @@ use Rattle.std.proofs.Common.{◌≡◌, ℕ, ◌+◌, ◌≤◌, Bool, true, fa
 use Rattle.std.specs.List.{prefix_len, list_all, concat}
 use Rattle.std.specs.Option.{option_map}
 use Rattle.std.specs.Char.{is_ascii_digit}
-use Rattle.std.proofs.lemmas.Bool.{and_parts, and_right, eqb-true, ne_eqb, true≢false, cases_Bool, eq-eqb}
+use Rattle.std.proofs.lemmas.Bool.{and_parts, and_right, eqb-true}
 use Rattle.std.proofs.lemmas.Bool.Decides.{nat_tests}
 use Rattle.src_tree.specs.declared.token.Punctuation.{Punctuation}
 use Rattle.src_tree.specs.declared.token.Punctuation.TheVariants.{Slash}
@@ -16,7 +16,7 @@ use Rattle.src_tree.specs.Characters.{is_blank, begins_word, continues_word}
 use Rattle.src_tree.specs.Signs.{sign_text}
 use Rattle.src_tree.specs.Texts.{IsByteString, text_of, IsTokenKind}
 use Rattle.src_tree.specs.Comments.{inside_text}
-use Rattle.src_tree.specs.Reading.{word_class, number_class, string_class, sign_class, quoted_end, comment_end, found, slash_at, string_or_word, word_at, number_of, number_at, sign_at, sign_found, found_at}
+use Rattle.src_tree.specs.Reading.{number_class, string_class, sign_class, quoted_end, comment_end, found, slash_at, string_or_word, word_at, number_of, number_at, sign_at, sign_found, found_at}
 use Rattle.src_tree.proofs.Runs.{run_reaches, chosen, none_is_some}
 use Rattle.src_tree.proofs.SignFacts.{sign_front, HasSign, sign_found_at, IsSignByte, BeginsSign, sign_byte}
 use Rattle.src_tree.proofs.NumberFacts.{BeginsDigit, number_first, number_word}

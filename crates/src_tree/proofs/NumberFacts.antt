@@ -1,19 +1,19 @@
 -- Numbers: `number_of` reads a run exactly where it is a number, and gives its value and its suffix.
-use Rattle.std.proofs.Common.{◌≡◌, ℕ, ◌+◌, ◌*◌, ◌^◌, ◌<◌, ◌≤◌, Bool, true, false, cond, eqb, ltb, ◌&&◌, ◌||◌, ◌⊎◌, List, [], ◌∷◌, ◌++◌, length, take, drop, get_or, refl, sym, ap, ◌∙◌, inl, inr, arith, suc, add-zero, Option, Some, None, IfSome, codes}
+use Rattle.std.proofs.Common.{◌≡◌, ℕ, ◌+◌, ◌*◌, ◌^◌, ◌<◌, ◌≤◌, Bool, true, false, eqb, ltb, ◌&&◌, ◌||◌, List, [], ◌∷◌, ◌++◌, length, drop, get_or, refl, sym, ap, ◌∙◌, inl, inr, arith, suc, add-zero, Option, Some, None, IfSome, codes}
 use Rattle.std.specs.List.{list_all}
 use Rattle.std.specs.Option.{option_map}
 use Rattle.std.specs.Char.{is_ascii_digit, is_ascii_hexdigit, digit_value}
 use Rattle.std.specs.Cmp.Lexicographic.{pointwise, same_text}
 use Rattle.std.proofs.Math.Nat.{mul-le-mul_left}
 use Rattle.std.proofs.lemmas.List.{drop_at, get_or-drop}
-use Rattle.std.proofs.lemmas.Bool.{and_parts, and_from, cond_both, cond-true, cond-false, ltb-true, lt-ltb, or_cases, or_left, and_left, and_right, eqb-true, cases_Bool, true≢false}
+use Rattle.std.proofs.lemmas.Bool.{and_parts, and_from, cond_both, ltb-true, lt-ltb, or_left, and_left, and_right, eqb-true, true≢false}
 use Rattle.std.proofs.lemmas.Bool.Decides.{nat_tests}
 use Rattle.src_tree.specs.declared.token.NumberSuffix.{NumberSuffix}
 use Rattle.src_tree.specs.declared.token.NumberSuffix.TheVariants.{Absent, U8, U16, U32, U64, U128, U256}
 use Rattle.src_tree.specs.declared.token.NumberLiteral.{NumberLiteral}
 use Rattle.src_tree.specs.Characters.{continues_word}
 use Rattle.src_tree.specs.Signs.{suffix_text}
-use Rattle.src_tree.specs.Texts.{IsDigits, number_from, IsNumeral, IsNumber}
+use Rattle.src_tree.specs.Texts.{IsDigits, number_from, IsNumber}
 use Rattle.src_tree.specs.Reading.{continues_numeral, more_number, numeral_at, suffix_of, suffixed, is_hexadecimal, number_of}
 use Rattle.src_tree.proofs.Runs.{Stops, all_joined, all_weaker, front_is, second_is, chosen, same_parts, pair_of, none_is_some}
 

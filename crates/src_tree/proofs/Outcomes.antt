@@ -1,10 +1,9 @@
 -- Which answer a scan gives.
-use Rattle.std.proofs.Common.{◌≡◌, ℕ, ◌<◌, ◌≤◌, Bool, List, length, take, refl, sym, ap, subst, ◌∙◌, inl, inr, arith, Ok, Err}
+use Rattle.std.proofs.Common.{◌≡◌, ℕ, ◌<◌, ◌≤◌, Bool, List, length, sym, ap, subst, ◌∙◌, inl, arith, Err}
 use Rattle.std.proofs.lemmas.List.{take_all}
 use Rattle.src_tree.specs.declared.token.Token.{Token}
-use Rattle.src_tree.specs.declared.token.TokenFault.{TokenFault}
-use Rattle.src_tree.specs.declared.token.TokenFault.TheVariants.{BadToken, TooMany, NoMemory}
-use Rattle.src_tree.specs.Spelling.{Spells, IsBadAt, IsUnspelled, Gives, GivesBadToken}
+use Rattle.src_tree.specs.declared.token.TokenFault.TheVariants.{BadToken}
+use Rattle.src_tree.specs.Spelling.{Spells, IsBadAt, IsUnspelled, Gives}
 use Rattle.src_tree.proofs.Rows.{spelled_once, bad_unspelled, bad_once, Progress, progress_spells}
 
 -- at a bad token

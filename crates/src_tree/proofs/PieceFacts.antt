@@ -1,33 +1,31 @@
 -- `found_at` gives the one piece that stands at a place, and none exactly where none stands.
-use Rattle.std.proofs.Common.{◌≡◌, ℕ, ◌+◌, ◌≤◌, Bool, true, false, cond, eqb, not, ◌&&◌, ◌||◌, ◌⊎◌, List, [], ◌∷◌, ◌++◌, length, take, drop, get_or, refl, sym, ap, ◌∙◌, inl, inr, arith, suc, Option, Some, None, codes, append_assoc, append-nil, length-append}
+use Rattle.std.proofs.Common.{◌≡◌, ℕ, ◌+◌, ◌≤◌, Bool, true, false, cond, eqb, not, ◌&&◌, ◌||◌, ◌⊎◌, List, [], ◌∷◌, ◌++◌, length, take, drop, get_or, refl, sym, ap, ◌∙◌, inl, inr, arith, suc, Option, Some, None, codes, append_assoc, length-append}
 use Rattle.std.specs.List.{prefix_len, list_all, concat}
 use Rattle.std.specs.Option.{option_map}
-use Rattle.std.specs.Char.{is_ascii_digit}
-use Rattle.std.proofs.lemmas.List.{take_at, take-append-drop, nil_from_length, append_cancel_left}
+use Rattle.std.proofs.lemmas.List.{take_at, take-append-drop}
 use Rattle.std.proofs.lemmas.List.Folds.{length-prefix_len}
-use Rattle.std.proofs.lemmas.Bool.{and_parts, and_right, or_cases, eqb-true, eqb-false, ne_eqb, false_from_ne_true, true≢false, not-false, eq-eqb}
+use Rattle.std.proofs.lemmas.Bool.{and_parts, or_cases, eqb-true, false_from_ne_true, true≢false}
 use Rattle.src_tree.specs.declared.token.Punctuation.{Punctuation}
 use Rattle.src_tree.specs.declared.token.Punctuation.TheVariants.{Slash}
-use Rattle.src_tree.specs.declared.token.TokenKind.{TokenKind}
 use Rattle.src_tree.specs.declared.token.TokenKind.TheVariants.{Word, Number, ByteString, Punctuation as punctuation}
 use Rattle.src_tree.specs.declared.token.NumberLiteral.{NumberLiteral}
 use Rattle.src_tree.specs.declared.token.NumberSuffix.{NumberSuffix}
 use Rattle.src_tree.specs.declared.piece.Found.{Found}
 use Rattle.src_tree.specs.declared.piece.Class.{Class}
 use Rattle.src_tree.specs.declared.piece.Class.TheVariants.{Space as blank}
-use Rattle.src_tree.specs.Characters.{is_blank, begins_word, continues_word}
+use Rattle.src_tree.specs.Characters.{continues_word}
 use Rattle.src_tree.specs.Signs.{sign_text}
-use Rattle.src_tree.specs.Texts.{IsByteString, IsNumber, text_of, IsTokenKind}
+use Rattle.src_tree.specs.Texts.{IsByteString}
 use Rattle.src_tree.specs.Comments.{IsBlank, IsAtLineEnd, IsLineComment, IsBlockComment, IsSpace, inside_text}
-use Rattle.src_tree.specs.Spelling.{Piece, piece_text, EndsRun, IsWhole, IsLexeme, Stands}
+use Rattle.src_tree.specs.Spelling.{Piece, piece_text, EndsRun, IsLexeme, Stands}
 use Rattle.src_tree.specs.Spelling.Piece.{space, lexeme}
 use Rattle.src_tree.specs.Reading.{word_class, number_class, string_class, sign_class, quoted_end, comment_end, found, slash_at, string_or_word, word_at, number_of, number_at, sign_at, sign_found, found_at}
-use Rattle.src_tree.proofs.Runs.{Stops, run_is, run_reaches, run_passes, run_stops, same_front, front_is, chosen, none_is_some, pair_of}
+use Rattle.src_tree.proofs.Runs.{Stops, run_is, run_reaches, run_passes, same_front, front_is, pair_of}
 use Rattle.src_tree.proofs.SignFacts.{sign_front, Begins, sign_begins, HasSign, sign_found_at, same_sign, IsSignByte, BeginsSign, sign_byte}
-use Rattle.src_tree.proofs.NumberFacts.{number_read, number_reads, BeginsDigit, number_first, number_word}
+use Rattle.src_tree.proofs.NumberFacts.{number_reads, BeginsDigit, number_first, number_word}
 use Rattle.src_tree.proofs.QuoteFacts.{quoted_read}
-use Rattle.src_tree.proofs.CommentFacts.{insides_text, comment_reads, comment_read}
-use Rattle.src_tree.proofs.LongestFacts.{found_word, found_digit, found_sign, found_slash, word_no_slash, digit_no_slash, digit_continues, word_no_quote, string_found, token_long}
+use Rattle.src_tree.proofs.CommentFacts.{comment_reads}
+use Rattle.src_tree.proofs.LongestFacts.{found_word, found_digit, found_sign, found_slash, word_no_quote, string_found}
 
 -- the class of a piece
 abbrev pub class_of : Piece → Class

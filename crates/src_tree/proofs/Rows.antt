@@ -1,7 +1,6 @@
 -- Rows of pieces: one row at most lies in a text, and the scan lays it piece by piece.
-use Rattle.std.proofs.Common.{◌≡◌, ℕ, ◌+◌, ◌-◌, ◌<◌, ◌≤◌, Bool, true, false, ◌⊎◌, List, [], ◌∷◌, ◌++◌, length, take, drop, refl, sym, ap, subst, ◌∙◌, inl, inr, arith, suc, Option, Some, None, ◌≢◌, append_assoc, append-nil, length-append, length-drop}
+use Rattle.std.proofs.Common.{◌≡◌, ℕ, ◌+◌, ◌-◌, ◌<◌, ◌≤◌, Bool, true, false, ◌⊎◌, List, [], ◌∷◌, ◌++◌, length, take, drop, refl, sym, ap, subst, ◌∙◌, inl, inr, arith, zero, suc, Option, Some, None, append_assoc, append-nil, length-append, length-drop}
 use Rattle.std.proofs.lemmas.List.{take_rest, take_at, drop_at, drop_all, drop-drop, append_cancel_left, take_all, take-append-le, length_push}
-use Rattle.src_tree.specs.declared.token.Punctuation.{Punctuation}
 use Rattle.src_tree.specs.declared.token.TokenKind.{TokenKind}
 use Rattle.src_tree.specs.declared.token.TokenKind.TheVariants.{Word, Number, ByteString, Punctuation as punctuation}
 use Rattle.src_tree.specs.declared.token.Token.{Token}
@@ -10,16 +9,16 @@ use Rattle.src_tree.specs.declared.piece.Class.{Class}
 use Rattle.src_tree.specs.declared.piece.Class.TheVariants.{Space as blank, Token as a_token}
 use Rattle.src_tree.specs.declared.piece.TokenClass.{TokenClass}
 use Rattle.src_tree.specs.declared.piece.TokenClass.TheVariants.{Word as word, Number as number, ByteString as byte_string, Sign as sign}
-use Rattle.src_tree.specs.Texts.{text_of, IsByteString}
+use Rattle.src_tree.specs.Texts.{text_of}
 use Rattle.src_tree.specs.Comments.{IsBlank, IsSpace}
-use Rattle.src_tree.specs.Spelling.{Piece, piece_text, Stands, AreLaid, tokens_of, Spells, IsStuck, IsBadAt, IsUnspelled}
+use Rattle.src_tree.specs.Spelling.{Piece, piece_text, Stands, AreLaid, tokens_of, Spells, IsBadAt, IsUnspelled}
 use Rattle.src_tree.specs.Spelling.Piece.{space, lexeme}
 use Rattle.src_tree.specs.Reading.{found, kind_of, found_at}
 use Rattle.src_tree.proofs.Runs.{same_front, none_is_some}
 use Rattle.src_tree.proofs.SignFacts.{BeginsSign, sign_byte}
 use Rattle.src_tree.proofs.NumberFacts.{BeginsDigit, number_first}
 use Rattle.src_tree.proofs.PieceFacts.{class_of, found_of, stands_found}
-use Rattle.src_tree.proofs.FoundFacts.{IsPiece, found_stands}
+use Rattle.src_tree.proofs.FoundFacts.{found_stands}
 
 -- each piece has a byte
 digit_long : (text : List ℕ) → BeginsDigit text → 1 ≤ length text
@@ -266,3 +265,44 @@ at_rest bytes at o h = ap found_at (sym (take_rest bytes at)) ∙ sym h
 
 pub rest_take : (bytes : List ℕ) (at n : ℕ) → take n (take (length bytes - at) (drop at bytes)) ≡ take n (drop at bytes)
 rest_take bytes at n = ap (take n) (take_rest bytes at)
+
+-- what is left behind pieces is a part of the text
+laid_within : (ps : List Piece) (bytes rest : List ℕ) → AreLaid ps bytes rest → length rest ≤ length bytes
+laid_within [] bytes rest laid = omega (arith, ap length laid)
+laid_within (p ∷ ps) bytes rest laid =
+    let more = laid_within ps laid.0 rest laid.3 in
+    omega (arith, ap length laid.1, length-append (piece_text p) laid.0)
+
+row_from : (steps : ℕ) (bytes : List ℕ) → length bytes ≤ suc steps → (o : Option Found) → found_at bytes ≡ o → ((shorter : List ℕ) → length shorter ≤ steps → (ps : List Piece) × (rest : List ℕ) × AreLaid ps shorter rest × IsBlocked rest) → (ps : List Piece) × (rest : List ℕ) × AreLaid ps bytes rest × IsBlocked rest
+row_from steps bytes few None h more = ([], bytes, refl, none_blocked bytes h)
+row_from steps bytes few (Some f) h more =
+    let is = found_stands bytes f h in
+    let long = piece_long is.piece is.after is.stands in
+    let row = more is.after (omega (arith, ap length is.split, length-append (piece_text is.piece) is.after)) in
+    (is.piece ∷ row.0, row.1, (is.after, is.split, is.stands, row.2), row.3)
+
+-- pieces lie in each text up to where none stands
+pub some_row : (steps : ℕ) (bytes : List ℕ) → length bytes ≤ steps → (ps : List Piece) × (rest : List ℕ) × AreLaid ps bytes rest × IsBlocked rest
+some_row zero [] few = ([], [], refl, end_blocked)
+some_row zero (b ∷ bytes) few = absurd (omega arith)
+some_row (suc steps) bytes few = row_from steps bytes few (found_at bytes) refl (some_row steps)
+
+row_says : (file : ℕ) (bytes : List ℕ) (ps : List Piece) (rest : List ℕ) → AreLaid ps bytes rest → IsBlocked rest → ((ts : List Token) × Spells file ts bytes) ⊎ ((place : ℕ) × IsBadAt place bytes)
+row_says file bytes ps [] laid blocked = inl (tokens_of file 0 false ps, (ps, laid, refl))
+row_says file bytes ps (b ∷ rest) laid blocked =
+    let within = laid_within ps bytes (b ∷ rest) laid in
+    inr (
+      length bytes - length (b ∷ rest),
+      record {
+        pieces = ps;
+        rest = b ∷ rest;
+        laid = laid;
+        stuck = record { left = λ e. cc; blocked = blocked };
+        placed = omega arith;
+      },
+    )
+
+pub spelled_or_bad : (file : ℕ) (bytes : List ℕ) → ((ts : List Token) × Spells file ts bytes) ⊎ ((place : ℕ) × IsBadAt place bytes)
+spelled_or_bad file bytes =
+    let row = some_row (length bytes) bytes (omega arith) in
+    row_says file bytes row.0 row.1 row.2 row.3

@@ -1,7 +1,6 @@
 -- What it means that tokens spell a text: the text is a row of pieces, of which some are tokens and the
 -- others blanks and comments.
-use Rattle.std.specs.Prelude.{◌≡◌, ℕ, ◌+◌, ◌≤◌, Bool, true, false, IsTrue, ◌⊎◌, ◌≢◌, List, [], ◌∷◌, ◌++◌, length, codes, Result, Ok, Err}
-use Rattle.std.specs.Char.{is_ascii_digit}
+use Rattle.std.specs.Prelude.{◌≡◌, ℕ, ◌+◌, ◌≤◌, Bool, true, false, ◌⊎◌, ◌≢◌, List, [], ◌∷◌, ◌++◌, length, codes, Result, Err}
 use Rattle.src_tree.specs.declared.token.TokenKind.{TokenKind}
 use Rattle.src_tree.specs.declared.token.TokenKind.TheVariants.{Word, Number, ByteString, Punctuation}
 use Rattle.src_tree.specs.declared.token.Token.{Token}

@@ -1,6 +1,6 @@
 -- The weight of a token list: how deep brackets stand in one another, with the operators of each level.
 -- It bounds how deep a tree of these tokens can be.
-use Rattle.std.specs.Prelude.{◌≡◌, ℕ, ◌+◌, max, Bool, true, false, nat_le, nat_eq, if◌then◌else◌, List, [], ◌∷◌, length, sum, codes}
+use Rattle.std.specs.Prelude.{ℕ, ◌+◌, max, Bool, nat_le, nat_eq, if◌then◌else◌, List, [], ◌∷◌, length, sum, codes}
 use Rattle.std.specs.List.{list_any}
 use Rattle.std.specs.Cmp.Lexicographic.{pointwise}
 use Rattle.src_tree.specs.declared.token.Punctuation.{Punctuation}

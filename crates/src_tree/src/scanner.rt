@@ -1,6 +1,6 @@
 //! The tokens of a file.
 
-ghost use Rattle.std.specs.Prelude.{◌≡◌, ◌<◌, ◌≤◌, ◌^◌, ℕ, List, length, IfOk};
+ghost use Rattle.std.specs.Prelude.{◌≡◌, ◌⊎◌, ◌<◌, ◌≤◌, ◌^◌, ℕ, List, length, IfOk};
 ghost use Rattle.src_tree.specs.declared.token.Token.{Token};
 ghost use Rattle.src_tree.specs.Spelling.{Spells, IsBadAt, IsUnspelled, Gives, GivesBadToken};
 ghost use Rattle.src_tree.specs.Reading.{kind_of};
@@ -44,8 +44,16 @@ fn token_kind(alloc: Global, class: TokenClass, text: &[u8]) -> Result<TokenKind
 
 /// The tokens that the bytes of the file with this number spell.
 ///
-/// A file that no tokens spell is scanned up to its first bad token, and one with too many tokens to
-/// its end.
+/// The tokens are those of The Move Book, with the signs `==>`, `<==>` and `..` of specs. The longest
+/// token is taken at each place, except that `>>` is two, and that letters, digits and `_` behind a digit
+/// belong to its number. Blanks and comments separate tokens, and block comments nest.
+///
+/// # Errors
+///
+/// - `BadToken` where no token list spells the bytes, with the byte at which the first impossible token
+///   or the first block comment without an end begins.
+/// - `TooMany` where the bytes have more than `TOKEN_LIMIT` tokens, with their count.
+/// - `NoMemory` where memory runs out.
 pub fn tokens(alloc: Global, file: u32, bytes: &[u8]) -> Result<Tokens, TokenFault>
     requires { length bytes.now < 2 ^ 32 }
 
@@ -105,4 +113,13 @@ pub fn tokens(alloc: Global, file: u32, bytes: &[u8]) -> Result<Tokens, TokenFau
 pub fn one_spelling()
     ensures { (file : ℕ) (bytes : List ℕ) (one other : List Token)
         → Spells file one bytes → Spells file other bytes → one ≡ other }
+{}
+
+/// A law: either tokens spell the bytes or a bad token is in them, and never both.
+pub fn spelled_or_bad()
+    ensures either { (file : ℕ) (bytes : List ℕ)
+        → ((tokens : List Token) × Spells file tokens bytes) ⊎ ((place : ℕ) × IsBadAt place bytes) }
+    ensures apart { (file place : ℕ) (bytes : List ℕ) → IsBadAt place bytes → IsUnspelled file bytes }
+    ensures one_place { (one other : ℕ) (bytes : List ℕ)
+        → IsBadAt one bytes → IsBadAt other bytes → one ≡ other }
 {}

@@ -66,6 +66,15 @@ impl Levels {
         self.weight += 1;
     }
 
+    /// Opens a `[`, which counts in the level that it stands in.
+    fn open_counted(&mut self)
+        requires { weight_of self.old ≤ 200 }
+        ensures { self.new ≡ opened (counted self.old) }
+    {
+        self.count();
+        self.open();
+    }
+
     fn restart(&mut self)
         ensures { self.new ≡ restarted self.old }
     {
@@ -99,10 +108,7 @@ impl Levels {
     {
         match sign {
             Punctuation::LeftParenthesis | Punctuation::LeftBrace => self.open(),
-            Punctuation::LeftBracket => {
-                self.count();
-                self.open();
-            }
+            Punctuation::LeftBracket => self.open_counted(),
             Punctuation::RightParenthesis | Punctuation::RightBracket => self.close(),
             Punctuation::RightBrace => self.close_by_brace(),
             Punctuation::Semicolon => self.restart(),
@@ -151,7 +157,7 @@ fn is_counted_word(text: &[u8]) -> bool
 /// Each open bracket is a level with a count, and the file is a level round them all. The weight at a
 /// token is the sum of the counts behind it, and the number of open brackets.
 pub fn weight(tokens: &Tokens) -> u32
-    ensures { result ≡ min 201 (greatest_weight tokens.now) }
+    ensures { result ≡ min WEIGHT_LIMIT (greatest_weight tokens.now) }
 {
     let mut levels = Levels::new();
     let mut greatest = 0;

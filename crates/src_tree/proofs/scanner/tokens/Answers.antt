@@ -1,8 +1,8 @@
-use Rattle.std.proofs.Common.{rules, ◌≡◌, ℕ, ◌+◌, ◌<◌, ◌≤◌, length, inl, inr, arith, sym, ap, ◌∙◌, Ok, Err, length-drop, take, drop, subst, true, List, [], ◌∷◌, ◌++◌}
+use Rattle.std.proofs.Common.{◌≡◌, ◌+◌, length, inl, arith, sym, ap, ◌∙◌, Ok, Err, length-drop, take, drop, subst, true, List, [], ◌∷◌, ◌++◌}
 use Rattle.std.proofs.lemmas.List.{length-take-le}
 use Rattle.src_tree.specs.declared.token.Token.{Token}
 use Rattle.src_tree.specs.Reading.{kind_of}
-use Rattle.src_tree.specs.declared.token.TokenFault.TheVariants.{BadToken, TooMany}
+use Rattle.src_tree.specs.declared.token.TokenFault.TheVariants.{TooMany}
 use Rattle.src_tree.proofs.Rows.{Progress, token_at, next_is, at_rest, rest_take, progress_bad, progress_space, progress_kept, progress_counted, bad_unspelled, spelled_once, progress_spells}
 use Rattle.src_tree.proofs.Outcomes.{bad_says, bad_only, many_says, many_only, few_says}
 use Rattle.src_tree.proofs.scanner.tokens.Goals as goal
