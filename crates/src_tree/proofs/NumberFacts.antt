@@ -81,8 +81,7 @@ numeral_read base before count (b ∷ digits) value len small h =
             | inr large ↦ absurd (none_is_some _ large.1)
           ]
       | inr off ↦
-          let same : Some (before, count) ≡ Some (value, len) = off.1 in
-          let parts = same_parts before value count len same in
+          let parts = same_parts before value count len off.1 in
           let v : before ≡ value = parts.0 in
           let n : count ≡ len = parts.1 in
           record { front = []; rest = b ∷ digits; split = refl; passes = refl; valued = sym v; long = omega arith; bounded = omega arith }

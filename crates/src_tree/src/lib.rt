@@ -4,5 +4,7 @@
 mod number;
 mod piece;
 pub mod scanner;
+#[cfg(test)]
+mod tests;
 pub mod token;
 pub mod weight;
