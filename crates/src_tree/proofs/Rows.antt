@@ -107,13 +107,13 @@ one_row (p ∷ ps) (q ∷ qs) bytes r s left right end_left end_right =
 -- two token lists that spell the same bytes are the same
 pub spelled_once : (file : ℕ) (bytes : List ℕ) (ts us : List Token) → Spells file ts bytes → Spells file us bytes → ts ≡ us
 spelled_once file bytes ts us left right =
-    let same = one_row left.0 right.0 bytes [] [] left.1 right.1 end_blocked end_blocked in
-    left.2 ∙ ap (tokens_of file 0 false) same.row ∙ sym right.2
+    let same = one_row left.pieces right.pieces bytes [] [] left.laid right.laid end_blocked end_blocked in
+    left.in_order ∙ ap (tokens_of file 0 false) same.row ∙ sym right.in_order
 
 -- bytes with a bad token are spelled by no list
 pub bad_unspelled : (file place : ℕ) (bytes : List ℕ) → IsBadAt place bytes → IsUnspelled file bytes
 bad_unspelled file place bytes bad ts spelled =
-    let same = one_row spelled.0 bad.pieces bytes [] bad.rest spelled.1 bad.laid end_blocked bad.stuck.blocked in
+    let same = one_row spelled.pieces bad.pieces bytes [] bad.rest spelled.laid bad.laid end_blocked bad.stuck.blocked in
     bad.stuck.left (sym same.rest)
 
 -- there is one bad token at most
@@ -245,7 +245,7 @@ progress_counted file bytes found count at touching f class so h class_is many =
 pub progress_spells : (file : ℕ) (bytes : List ℕ) (found : List Token) (count at : ℕ) (touching : Bool) → (so : Progress file bytes found count at touching) → length bytes ≤ at → Spells file so.tokens bytes
 progress_spells file bytes found count at touching so end =
     let whole = so.laid [] [] (drop_all at bytes end) in
-    (whole.0, whole.1, sym (whole.2 ∙ append-nil so.tokens))
+    record { pieces = whole.0; laid = whole.1; in_order = sym (whole.2 ∙ append-nil so.tokens) }
 
 -- the scan is stuck
 pub progress_bad : (file : ℕ) (bytes : List ℕ) (found : List Token) (count at : ℕ) (touching : Bool) → Progress file bytes found count at touching → at < length bytes → found_at (drop at bytes) ≡ None → IsBadAt at bytes
@@ -288,7 +288,7 @@ some_row zero (b ∷ bytes) few = absurd (omega arith)
 some_row (suc steps) bytes few = row_from steps bytes few (found_at bytes) refl (some_row steps)
 
 row_says : (file : ℕ) (bytes : List ℕ) (ps : List Piece) (rest : List ℕ) → AreLaid ps bytes rest → IsBlocked rest → ((ts : List Token) × Spells file ts bytes) ⊎ ((place : ℕ) × IsBadAt place bytes)
-row_says file bytes ps [] laid blocked = inl (tokens_of file 0 false ps, (ps, laid, refl))
+row_says file bytes ps [] laid blocked = inl (tokens_of file 0 false ps, record { pieces = ps; laid = laid; in_order = refl })
 row_says file bytes ps (b ∷ rest) laid blocked =
     let within = laid_within ps bytes (b ∷ rest) laid in
     inr (

@@ -1,4 +1,5 @@
--- Blanks and comments, which separate tokens. Source: The Move Book, comments; block comments nest.
+-- Blanks and comments, which separate tokens. Source: the lexer of Move's compiler.
+-- Block comments nest.
 use Rattle.std.specs.Prelude.{◌≡◌, ℕ, IsTrue, not, ◌==◌, ◌⊎◌, List, [], ◌∷◌, ◌++◌, codes}
 use Rattle.std.specs.List.{list_all}
 use Rattle.src_tree.specs.Characters.{is_blank}

@@ -58,15 +58,18 @@ tokens_of file at touching (lexeme kind ∷ ps) =
     ∷ tokens_of file (at + length (text_of kind)) true ps
 
 -- the tokens spell the bytes of the file with this number
-abbrev pub Spells : ℕ → List Token → List ℕ → Type 0
-Spells file tokens bytes = (ps : List Piece) × AreLaid ps bytes [] × (tokens ≡ tokens_of file 0 false ps)
+pub record Spells (file : ℕ) (tokens : List Token) (bytes : List ℕ) : Type 0 where
+  pub pieces : List Piece
+  pub laid : AreLaid pieces bytes []
+  pub in_order : tokens ≡ tokens_of file 0 false pieces
 
 -- something is left, and no piece stands at its front
 pub record IsStuck (rest : List ℕ) : Type 0 where
   pub left : rest ≢ []
   pub blocked : (p : Piece) (after : List ℕ) → rest ≡ piece_text p ++ after → Stands p after → ⊥
 
--- behind whole pieces, at this byte, a token that is none or a block comment without an end begins
+-- behind whole pieces, at this byte, something begins that is none: an impossible token, or a block comment
+-- without an end
 pub record IsBadAt (place : ℕ) (bytes : List ℕ) : Type 0 where
   pub pieces : List Piece
   pub rest : List ℕ

@@ -1,4 +1,6 @@
--- Which bytes are the text of a token. Source: The Move Book, lexical structure.
+-- Which bytes are the text of a token. Source: The Move Book, "Integers" and "Vector", on literals, and the
+-- lexer of Move's compiler. A number is below 2^128, since u128 is the widest
+-- integer type of this project.
 use Rattle.std.specs.Prelude.{◌≡◌, ℕ, ◌+◌, ◌*◌, ◌<◌, ◌^◌, Bool, IsTrue, ◌||◌, ◌==◌, ◌≢◌, ◌⊎◌, if◌then◌else◌, List, [], ◌∷◌, ◌++◌, codes}
 use Rattle.std.specs.List.{list_all, concat, AllByRecursion}
 use Rattle.std.specs.Char.{is_ascii_digit, is_ascii_hexdigit, digit_value}
@@ -58,7 +60,7 @@ text_of (Number number) = number.text
 text_of (ByteString text) = text
 text_of (Punctuation sign) = sign_text sign
 
--- the text is that of such a token
+-- the bytes are those of a token of this kind
 abbrev pub IsTokenKind : TokenKind → Type 0
 IsTokenKind (Word text) = IsWord text
 IsTokenKind (Number number) = IsNumber number

@@ -1,5 +1,5 @@
 -- The weight of a token list: how deep brackets stand in one another, with the operators of each level.
--- It bounds how deep a tree of these tokens can be.
+-- It bounds how deep a tree of these tokens can be, and is this project's own measure.
 use Rattle.std.specs.Prelude.{ℕ, ◌+◌, max, Bool, nat_le, nat_eq, if◌then◌else◌, List, [], ◌∷◌, length, sum, codes}
 use Rattle.std.specs.List.{list_any}
 use Rattle.std.specs.Cmp.Lexicographic.{pointwise}

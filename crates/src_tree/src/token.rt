@@ -6,6 +6,8 @@ use pv_base::memory::NoMemory;
 use pv_base::name::Name;
 use pv_base::span::Span;
 use std::alloc::Global;
+use std::error::Error;
+use std::fmt;
 use std::marker::Model;
 
 /// The type that a number names behind its digits, as in `7u8`.
@@ -158,3 +160,15 @@ pub enum TokenFault {
     /// Memory ran out.
     NoMemory,
 }
+
+impl fmt::Display for TokenFault {
+    fn fmt<W: fmt::Write>(&self, f: &mut fmt::Formatter<W>) -> fmt::Result {
+        match self {
+            TokenFault::BadToken(place) => write!(f, "bad token at byte {place}"),
+            TokenFault::TooMany(count) => write!(f, "{count} tokens are too many"),
+            TokenFault::NoMemory => write!(f, "no memory"),
+        }
+    }
+}
+
+impl Error for TokenFault {}
