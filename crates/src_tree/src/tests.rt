@@ -174,6 +174,18 @@ fn texts_without_tokens(rt: HostRuntime) -> Result<(), Fail> {
 }
 
 #[test]
+fn faults_print(rt: HostRuntime) -> Result<(), Fail> {
+    for (fault, text) in [
+        (TokenFault::BadToken(3), "bad token at byte 3"),
+        (TokenFault::TooMany(200_001), "200001 tokens are too many"),
+        (TokenFault::NoMemory, "no memory"),
+    ] {
+        assert_eq!(rt; format!(in rt.alloc(); "{fault}")?.as_str(), text);
+    }
+    Ok(())
+}
+
+#[test]
 fn weights_of_texts(rt: HostRuntime) -> Result<(), Fail> {
     let alloc = rt.alloc();
     weighs(&rt, alloc, b"", 0);
