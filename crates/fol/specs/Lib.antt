@@ -1,0 +1,4 @@
+pub mod FormulaData
+pub mod FormulaCodes
+pub mod FormulaView
+pub mod FormulaFalls

@@ -1,0 +1,166 @@
+//! Terms and formulas.
+
+use pv_base::types::{TypeTerm, Width};
+use std::marker::Model;
+
+/// A term: it has one value for each choice of values of its variables.
+#[cycle(formula)]
+#[derive(Drop)]
+pub struct Term {
+    pub node: TermNode,
+}
+
+/// The forms of a term. What they say of values of another kind than they expect is in
+/// `specs/Value.antt`: each form has a value whatever its parts are.
+#[cycle(formula)]
+#[derive(Drop)]
+pub enum TermNode {
+    /// The variable with this number.
+    Var(u32),
+    /// The whole number.
+    Num(i128),
+    /// The greatest `u128`, 2^128 - 1.
+    Max,
+    True,
+    False,
+    /// The value that no Move value equals.
+    Nothing,
+    /// The memory without entries.
+    Blank,
+    /// The vector without items.
+    Empty,
+    /// The whole number, for those that no `Num` holds.
+    Wide(u128),
+    Add(Box<Term>, Box<Term>),
+    Sub(Box<Term>, Box<Term>),
+    Mul(Box<Term>, Box<Term>),
+    /// The quotient, rounded down; 0 where the divisor is 0.
+    Div(Box<Term>, Box<Term>),
+    /// What the quotient leaves: the dividend less the divisor times the quotient.
+    Mod(Box<Term>, Box<Term>),
+    /// Bit by bit, as are `Or` and `Xor`.
+    And(Box<Term>, Box<Term>),
+    Or(Box<Term>, Box<Term>),
+    Xor(Box<Term>, Box<Term>),
+    /// Shifted to the left within the width.
+    Shl(Width, Box<Term>, Box<Term>),
+    /// Shifted to the right.
+    Shr(Width, Box<Term>, Box<Term>),
+    /// What a memory holds at a key.
+    Select(Box<Term>, Box<Term>),
+    /// A memory with a value written at a key.
+    Store(Box<Term>, Box<Term>, Box<Term>),
+    /// The number of items of a vector.
+    Len(Box<Term>),
+    /// The item of a vector at a place, counted from 0.
+    At(Box<Term>, Box<Term>),
+    /// A vector with one more item at its end.
+    Push(Box<Term>, Box<Term>),
+    /// A vector without its last item.
+    Pop(Box<Term>),
+    /// A vector with the item at a place replaced.
+    Set(Box<Term>, Box<Term>, Box<Term>),
+    /// The struct of this type with these fields.
+    Pack(TypeTerm, Vec<Term>),
+    /// The field with this number of a struct of this type.
+    Field(TypeTerm, u32, Box<Term>),
+    /// A struct of this type with the field of this number replaced.
+    SetField(TypeTerm, u32, Box<Term>, Box<Term>),
+    /// The first term where the formula is true, else the second.
+    If(Box<Formula>, Box<Term>, Box<Term>),
+}
+
+/// A trigger of a quantifier: terms that, found together, call for an instance. It has no part in
+/// what the quantifier means.
+#[cycle(formula)]
+#[derive(Drop)]
+pub struct Trigger {
+    pub terms: Vec<Term>,
+}
+
+/// The triggers of a quantifier.
+pub type Triggers = Vec<Trigger>;
+
+/// A formula: it is true or false for each choice of values of its variables.
+#[cycle(formula)]
+#[derive(Drop)]
+pub struct Formula {
+    pub node: FormulaNode,
+}
+
+/// The forms of a formula.
+#[cycle(formula)]
+#[derive(Drop)]
+pub enum FormulaNode {
+    Eq(Term, Term),
+    /// The first number is at most the second.
+    Le(Term, Term),
+    /// The term has a value of the type.
+    Is(TypeTerm, Term),
+    /// The term is `True`.
+    Holds(Term),
+    Not(Box<Formula>),
+    AllOf(Vec<Formula>),
+    AnyOf(Vec<Formula>),
+    Implies(Box<Formula>, Box<Formula>),
+    Iff(Box<Formula>, Box<Formula>),
+    /// True for each value of the variable.
+    ForAll(u32, Triggers, Box<Formula>),
+    /// True for some value of the variable.
+    Exists(u32, Triggers, Box<Formula>),
+}
+
+impl Model for Term {
+    ghost use Rattle.fol.specs.FormulaData.{TermData, term_size};
+    ghost use Rattle.fol.specs.FormulaCodes.{coded_term};
+
+    ghost Value = { TermData };
+
+    ghost coded = { coded_term };
+
+    ghost use Rattle.fol.specs.FormulaView.{term_of_node};
+
+    ghost view = { λ a. term_of_node a.node };
+
+    ghost size = { term_size };
+
+    ghost use Rattle.fol.specs.FormulaFalls.{term_falls};
+
+    ghost size_decreases = { λ a h. term_falls a.node };
+}
+
+impl Model for Trigger {
+    ghost use Rattle.fol.specs.FormulaData.{TermsData, terms_size, terms_of};
+    ghost use Rattle.fol.specs.FormulaCodes.{coded_terms};
+
+    ghost Value = { TermsData };
+
+    ghost coded = { coded_terms };
+
+    ghost view = { λ a. terms_of a.terms.items };
+
+    ghost size = { terms_size };
+
+    ghost use Rattle.fol.specs.FormulaFalls.{terms_fall};
+
+    ghost size_decreases = { λ a h. terms_fall a.terms.items };
+}
+
+impl Model for Formula {
+    ghost use Rattle.fol.specs.FormulaData.{FormulaData, formula_size};
+    ghost use Rattle.fol.specs.FormulaCodes.{coded_formula};
+
+    ghost Value = { FormulaData };
+
+    ghost coded = { coded_formula };
+
+    ghost use Rattle.fol.specs.FormulaView.{formula_of_node};
+
+    ghost view = { λ a. formula_of_node a.node };
+
+    ghost size = { formula_size };
+
+    ghost use Rattle.fol.specs.FormulaFalls.{formula_falls};
+
+    ghost size_decreases = { λ a h. formula_falls a.node };
+}

@@ -1,0 +1,4 @@
+//! First-order formulas over Move's values, and when they are true.
+#![tactic(auto)]
+
+pub mod formula;
