@@ -2,3 +2,10 @@ pub mod FormulaData
 pub mod FormulaCodes
 pub mod FormulaView
 pub mod FormulaFalls
+pub mod TreeOrder
+pub mod Val
+pub mod Whole
+pub mod Operators
+pub mod TypedValue
+pub mod Truth
+pub mod Validity

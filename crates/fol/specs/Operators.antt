@@ -1,0 +1,132 @@
+-- What the operators of terms give at values. Each has a value at all values: what is no number counts as 0 in
+-- arithmetic, what is no vector as the empty one, and what is no memory as the one without entries.
+use Rattle.std.specs.Prelude.{ℕ, ◌-◌, ℤ, pos, negsuc, ◌+ℤ◌, ◌-ℤ◌, ◌*ℤ◌, int_le, Bool, false, List, [], ◌∷◌, ◌++◌, length, take, slice_index_or, slice_set, if◌then◌else◌}
+use Rattle.std.specs.Ordering.{match_ordering}
+use Rattle.pv_base.specs.TypeData.{TypeData}
+use Rattle.pv_base.specs.declared.types.Width.{Width}
+use Rattle.fol.specs.Val.{Val, NumberValue, TruthValue, NothingValue, VectorValue, StructValue, MemoryValue, Entries, NoEntries, MoreEntries, values_of, list_of_values, same_value, same_type, compare_values}
+use Rattle.fol.specs.Whole.{quotient, remainder, bitwise, shifted_left, shifted_right}
+
+-- ---- what a value counts as
+
+abbrev pub number_of : Val → ℤ
+number_of (NumberValue z) = z
+number_of (TruthValue b) = pos 0
+number_of NothingValue = pos 0
+number_of (VectorValue vs) = pos 0
+number_of (StructValue t vs) = pos 0
+number_of (MemoryValue es) = pos 0
+
+abbrev pub items_of : Val → List Val
+items_of (NumberValue z) = []
+items_of (TruthValue b) = []
+items_of NothingValue = []
+items_of (VectorValue vs) = list_of_values vs
+items_of (StructValue t vs) = []
+items_of (MemoryValue es) = []
+
+abbrev pub entries_of : Val → Entries
+entries_of (NumberValue z) = NoEntries
+entries_of (TruthValue b) = NoEntries
+entries_of NothingValue = NoEntries
+entries_of (VectorValue vs) = NoEntries
+entries_of (StructValue t vs) = NoEntries
+entries_of (MemoryValue es) = es
+
+-- ---- numbers
+
+abbrev pub add_values : Val → Val → Val
+add_values v w = NumberValue (number_of v +ℤ number_of w)
+
+abbrev pub sub_values : Val → Val → Val
+sub_values v w = NumberValue (number_of v -ℤ number_of w)
+
+abbrev pub mul_values : Val → Val → Val
+mul_values v w = NumberValue (number_of v *ℤ number_of w)
+
+abbrev pub div_values : Val → Val → Val
+div_values v w = NumberValue (quotient (number_of v) (number_of w))
+
+abbrev pub mod_values : Val → Val → Val
+mod_values v w = NumberValue (remainder (number_of v) (number_of w))
+
+-- an operator of bits. Of a number below 0 it is 0
+abbrev pub bit_values : (ℕ → ℕ → ℕ) → Val → Val → Val
+bit_values op v w = NumberValue (bitwise op (number_of v) (number_of w))
+
+-- a shift within a width. Of a number below 0, or by one, it is 0
+abbrev pub shl_values : Width → Val → Val → Val
+shl_values w v i = NumberValue (bitwise (shifted_left w) (number_of v) (number_of i))
+
+abbrev pub shr_values : Width → Val → Val → Val
+shr_values w v i = NumberValue (bitwise (shifted_right w) (number_of v) (number_of i))
+
+abbrev pub at_most : Val → Val → Bool
+at_most v w = int_le (number_of v) (number_of w)
+
+abbrev pub is_true : Val → Bool
+is_true (TruthValue b) = b
+is_true _ = false
+
+-- ---- memories
+
+abbrev entry_at : Entries → Val → Val
+entry_at NoEntries key = NothingValue
+entry_at (MoreEntries k v es) key = if same_value key k then v else entry_at es key
+
+-- the entries with this one put in its place, for the one of the same key if there is one
+abbrev with_entry : Entries → Val → Val → Entries
+with_entry NoEntries key value = MoreEntries key value NoEntries
+with_entry (MoreEntries k v es) key value = match_ordering (compare_values key k) (MoreEntries key value (MoreEntries k v es)) (MoreEntries key value es) (MoreEntries k v (with_entry es key value))
+
+-- what the memory holds at the key, and `Nothing` where it has no entry
+abbrev pub select_value : Val → Val → Val
+select_value memory key = entry_at (entries_of memory) key
+
+abbrev pub store_value : Val → Val → Val → Val
+store_value memory key value = MemoryValue (with_entry (entries_of memory) key value)
+
+-- ---- vectors
+
+abbrev pub vector_of : List Val → Val
+vector_of vs = VectorValue (values_of vs)
+
+abbrev pub len_value : Val → Val
+len_value v = NumberValue (pos (length (items_of v)))
+
+abbrev item_at : List Val → Val → Val
+item_at vs (NumberValue (pos n)) = slice_index_or vs n NothingValue
+item_at vs (NumberValue (negsuc n)) = NothingValue
+item_at vs _ = NothingValue
+
+abbrev with_item : List Val → Val → Val → List Val
+with_item vs (NumberValue (pos n)) item = slice_set vs n item
+with_item vs (NumberValue (negsuc n)) item = vs
+with_item vs _ item = vs
+
+-- the item at a place of the vector, and `Nothing` at what is none of its places
+abbrev pub at_value : Val → Val → Val
+at_value v i = item_at (items_of v) i
+
+abbrev pub push_value : Val → Val → Val
+push_value v item = vector_of (items_of v ++ item ∷ [])
+
+-- without its last item, if it has one
+abbrev pub pop_value : Val → Val
+pop_value v = vector_of (take (length (items_of v) - 1) (items_of v))
+
+-- with this item at a place of the vector. What is none of its places changes nothing
+abbrev pub set_value : Val → Val → Val → Val
+set_value v i item = vector_of (with_item (items_of v) i item)
+
+-- ---- structs
+
+-- the field with this number of a struct of this type, and `Nothing` of any other value
+abbrev pub field_value : TypeData → ℕ → Val → Val
+field_value t k (StructValue u vs) = if same_type t u then slice_index_or (list_of_values vs) k NothingValue else NothingValue
+field_value t k _ = NothingValue
+
+-- the struct with this value in that field. Any other value stays as it is
+abbrev pub set_field_value : TypeData → ℕ → Val → Val → Val
+set_field_value t k (StructValue u vs) value = if same_type t u then StructValue u (values_of (slice_set (list_of_values vs) k value)) else StructValue u vs
+set_field_value t k v value = v
