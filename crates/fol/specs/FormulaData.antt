@@ -1,7 +1,7 @@
 -- Terms and formulas as pure data, as contracts see them: many-sorted first-order logic with whole numbers, arrays
 -- ("memories"), sequences ("vectors") and tuples with names ("structs"), in one sort of values.
 use Rattle.std.specs.Prelude.{◌≡◌, ℕ, ◌+◌, ℤ, List, [], ◌∷◌, refl}
-use Rattle.std.proofs.Common.{ap}
+use Rattle.std.proofs.Common.{ap, sym, ◌∙◌}
 use Rattle.pv_base.specs.TypeData.{TypeData}
 use Rattle.pv_base.specs.declared.types.Width.{Width}
 
@@ -77,6 +77,9 @@ pub list_of_terms-terms_of : (ts : List TermData) → list_of_terms (terms_of ts
 list_of_terms-terms_of [] = refl
 list_of_terms-terms_of (t ∷ ts) = ap (λ us. t ∷ us) (list_of_terms-terms_of ts)
 
+pub terms_of_injective : (xs ys : List TermData) → terms_of xs ≡ terms_of ys → xs ≡ ys
+terms_of_injective xs ys e = sym (list_of_terms-terms_of xs) ∙ ap list_of_terms e ∙ list_of_terms-terms_of ys
+
 pub terms_of-list_of_terms : (ts : TermsData) → terms_of (list_of_terms ts) ≡ ts
 terms_of-list_of_terms NoTerms = refl
 terms_of-list_of_terms (MoreTerms t ts) = ap (MoreTerms t) (terms_of-list_of_terms ts)
@@ -93,6 +96,9 @@ pub list_of_triggers-triggers_of : (ts : List TermsData) → list_of_triggers (t
 list_of_triggers-triggers_of [] = refl
 list_of_triggers-triggers_of (t ∷ ts) = ap (λ us. t ∷ us) (list_of_triggers-triggers_of ts)
 
+pub triggers_of_injective : (xs ys : List TermsData) → triggers_of xs ≡ triggers_of ys → xs ≡ ys
+triggers_of_injective xs ys e = sym (list_of_triggers-triggers_of xs) ∙ ap list_of_triggers e ∙ list_of_triggers-triggers_of ys
+
 pub triggers_of-list_of_triggers : (ts : TriggersData) → triggers_of (list_of_triggers ts) ≡ ts
 triggers_of-list_of_triggers NoTriggers = refl
 triggers_of-list_of_triggers (MoreTriggers t ts) = ap (MoreTriggers t) (triggers_of-list_of_triggers ts)
@@ -108,6 +114,9 @@ list_of_formulas (MoreFormulas p ps) = p ∷ list_of_formulas ps
 pub list_of_formulas-formulas_of : (ps : List FormulaData) → list_of_formulas (formulas_of ps) ≡ ps
 list_of_formulas-formulas_of [] = refl
 list_of_formulas-formulas_of (p ∷ ps) = ap (λ qs. p ∷ qs) (list_of_formulas-formulas_of ps)
+
+pub formulas_of_injective : (xs ys : List FormulaData) → formulas_of xs ≡ formulas_of ys → xs ≡ ys
+formulas_of_injective xs ys e = sym (list_of_formulas-formulas_of xs) ∙ ap list_of_formulas e ∙ list_of_formulas-formulas_of ys
 
 pub formulas_of-list_of_formulas : (ps : FormulasData) → formulas_of (list_of_formulas ps) ≡ ps
 formulas_of-list_of_formulas NoFormulas = refl

@@ -9,3 +9,6 @@ pub mod Operators
 pub mod TypedValue
 pub mod Truth
 pub mod Validity
+pub mod ShapeCodes
+pub mod Parts
+pub mod Deciders

@@ -1,5 +1,8 @@
 //! First-order formulas over Move's values, and when they are true.
 #![tactic(auto)]
 
+pub mod copy;
 pub mod formula;
+pub mod laws;
+pub mod same;
 pub mod shapes;

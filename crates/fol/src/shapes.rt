@@ -1,6 +1,11 @@
 //! What structs are made of.
 
+ghost use Rattle.std.specs.Prelude.{◌≡◌, ◌∷◌, ◌++◌, [], OnOk, OnErr};
+
+use pv_base::memory::NoMemory;
 use pv_base::types::{StructId, TypeList};
+use std::alloc::Global;
+use std::marker::Model;
 
 /// A struct's shape: how many type parameters it has, and the types of its fields over them.
 #[derive(Drop)]
@@ -8,4 +13,50 @@ pub struct Shape {
     pub name: StructId,
     pub parameters: u32,
     pub fields: TypeList,
+}
+
+/// The shapes of structs. Of several shapes with one name the first counts; a struct without a shape
+/// has no values.
+#[derive(Drop)]
+pub struct Shapes {
+    items: Vec<Shape>,
+}
+
+impl Model for Shapes {
+    ghost use Rattle.std.specs.Prelude.{List};
+    ghost use Rattle.fol.specs.declared.shapes.Shape.{Shape};
+    ghost use Rattle.fol.specs.ShapeCodes.{coded_shapes};
+
+    ghost Value = { List Shape };
+
+    ghost coded = { coded_shapes };
+
+    ghost view = { λ s. s.items.items };
+}
+
+impl Shapes {
+    /// No shapes.
+    pub fn new(alloc: Global) -> Shapes
+        ensures { result ≡ [] }
+    {
+        Shapes {
+            items: Vec::new(alloc),
+        }
+    }
+
+    /// The shapes, in the order in which they were added.
+    pub fn as_slice(&self) -> &[Shape]
+        ensures { result.now ≡ self.now }
+    {
+        self.items.as_slice()
+    }
+
+    /// Puts a shape at the end. After `NoMemory` the shapes are as they were.
+    pub fn add(&mut self, shape: Shape) -> Result<(), NoMemory>
+        ensures ok { OnOk result (self.new ≡ self.old ++ shape ∷ []) }
+        ensures err { OnErr result (self.new ≡ self.old) }
+    {
+        self.items.push(shape)?;
+        Ok(())
+    }
 }

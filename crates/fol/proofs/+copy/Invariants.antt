@@ -1,0 +1,39 @@
+use Rattle.std.proofs.Common.{◌≡◌, ◌+◌, ◌*◌, take}
+use Rattle.fol.specs.FormulaData.{term_size, terms_size, triggers_size, formula_size, formulas_size, terms_of, triggers_of, formulas_of}
+use Rattle.fol.proofs.+copy.Given as goal
+
+abbrev pub decreases-formula::Term::try_clone : goal.decreases-formula::Term::try_clone
+decreases-formula::Term::try_clone l = 3 * term_size l.self.now
+
+abbrev pub decreases-copy::copy_term : goal.decreases-copy::copy_term
+decreases-copy::copy_term l = 3 * term_size l.from.now + 1
+
+abbrev pub decreases-copy::copy_terms : goal.decreases-copy::copy_terms
+decreases-copy::copy_terms l = 3 * terms_size (terms_of l.from.now)
+
+abbrev pub decreases-copy::copy_trigger : goal.decreases-copy::copy_trigger
+decreases-copy::copy_trigger l = 3 * terms_size l.from.now + 1
+
+abbrev pub decreases-copy::copy_triggers : goal.decreases-copy::copy_triggers
+decreases-copy::copy_triggers l = 3 * triggers_size (triggers_of l.from.now)
+
+abbrev pub decreases-formula::Formula::try_clone : goal.decreases-formula::Formula::try_clone
+decreases-formula::Formula::try_clone l = 3 * formula_size l.self.now
+
+abbrev pub decreases-copy::copy_formula : goal.decreases-copy::copy_formula
+decreases-copy::copy_formula l = 3 * formula_size l.from.now + 1
+
+abbrev pub decreases-copy::copy_formulas : goal.decreases-copy::copy_formulas
+decreases-copy::copy_formulas l = 3 * formulas_size (formulas_of l.from.now)
+
+abbrev pub invariant-copy::copy_terms-loop-term : goal.invariant-copy::copy_terms-loop-term
+invariant-copy::copy_terms-loop-term l = l.terms.items ≡ take l.term-index l.from
+
+abbrev pub invariant-copy::copy_triggers-loop-trigger : goal.invariant-copy::copy_triggers-loop-trigger
+invariant-copy::copy_triggers-loop-trigger l = l.triggers.items ≡ take l.trigger-index l.from
+
+abbrev pub invariant-copy::copy_formulas-loop-formula : goal.invariant-copy::copy_formulas-loop-formula
+invariant-copy::copy_formulas-loop-formula l = l.formulas.items ≡ take l.formula-index l.from
+
+abbrev pub decreases-copy::copy_two : goal.decreases-copy::copy_two
+decreases-copy::copy_two l = 3 * (term_size l.a.now + term_size l.b.now) + 2

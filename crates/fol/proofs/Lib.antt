@@ -1,0 +1,4 @@
+pub mod AlikeLists
+pub mod Smaller
+pub mod Ring
+pub mod DeciderLaws
