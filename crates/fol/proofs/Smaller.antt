@@ -1,5 +1,6 @@
 -- Each item of a list is smaller than the list.
 use Rattle.std.proofs.Common.{ℕ, zero, suc, ◌<◌, List, [], ◌∷◌, length, get_or, arith}
+use Rattle.pv_base.specs.TypeData.{TypeData, type_size, types_size, types_of}
 use Rattle.fol.specs.FormulaData.{TermData, TermsData, FormulaData, term_size, terms_size, triggers_size, formula_size, formulas_size, terms_of, triggers_of, formulas_of}
 
 pub term_smaller : (ts : List TermData) (i : ℕ) (d : TermData) → i < length ts → term_size (get_or ts i d) < terms_size (terms_of ts)
@@ -16,3 +17,8 @@ pub formula_smaller : (ps : List FormulaData) (i : ℕ) (d : FormulaData) → i 
 formula_smaller [] i d h = absurd (omega arith)
 formula_smaller (p ∷ ps) zero d h = omega arith
 formula_smaller (p ∷ ps) (suc i) d h = omega (arith, formula_smaller ps i d (omega arith))
+
+pub type_smaller : (ts : List TypeData) (i : ℕ) (d : TypeData) → i < length ts → type_size (get_or ts i d) < types_size (types_of ts)
+type_smaller [] i d h = absurd (omega arith)
+type_smaller (t ∷ ts) zero d h = omega arith
+type_smaller (t ∷ ts) (suc i) d h = omega (arith, type_smaller ts i d (omega arith))

@@ -12,3 +12,4 @@ pub mod Validity
 pub mod ShapeCodes
 pub mod Parts
 pub mod Deciders
+pub mod Depth

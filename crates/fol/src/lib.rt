@@ -2,6 +2,7 @@
 #![tactic(auto)]
 
 pub mod copy;
+pub mod depth;
 pub mod formula;
 pub mod laws;
 pub mod same;
