@@ -1,0 +1,12 @@
+-- Linear inequalities over whole numbers, as rows of a system: a sum of coefficients times unknowns is at most a bound.
+use Rattle.std.specs.Prelude.{ℕ, List, pos, slice_index_or}
+use Rattle.std.proofs.Common.{ℤ}
+
+-- the unknowns are numbered from 0
+pub record Inequality : Type 0 where
+  pub coefficients : List ℤ
+  pub bound : ℤ
+
+-- the coefficient of an unknown; a missing one counts as 0
+abbrev pub coefficient : ℕ → Inequality → ℤ
+coefficient unknown row = slice_index_or row.coefficients unknown (pos 0)
