@@ -1,5 +1,5 @@
 -- Linear inequalities over whole numbers, as rows of a system: a sum of coefficients times unknowns is at most a bound.
-use Rattle.std.specs.Prelude.{ℕ, List, pos, slice_index_or}
+use Rattle.std.specs.Prelude.{ℕ, ◌≤◌, List, pos, slice_index_or, length, All}
 use Rattle.std.proofs.Common.{ℤ}
 
 -- the unknowns are numbered from 0
@@ -10,3 +10,7 @@ pub record Inequality : Type 0 where
 -- the coefficient of an unknown; a missing one counts as 0
 abbrev pub coefficient : ℕ → Inequality → ℤ
 coefficient unknown row = slice_index_or row.coefficients unknown (pos 0)
+
+-- no row has an unknown from `width` on
+abbrev pub IsWithinWidth : ℕ → List Inequality → Type 0
+IsWithinWidth width rows = All (λ row. length row.coefficients ≤ width) rows

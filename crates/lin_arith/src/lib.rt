@@ -5,14 +5,18 @@
 //! row, or says which limit was reached: a number past 128 bits, or 5,000 rows.
 #![tactic(auto)]
 
-// mod bounds;
-// mod combination;
-// mod elimination;
-// mod numbers;
+mod bounds;
+mod combination;
+mod elimination;
+mod numbers;
+mod reduction;
 mod rows;
-// mod solver;
-// mod stop;
-// mod substitution;
+mod solver;
+mod stop;
+mod substitution;
+mod system;
+#[cfg(test)]
+mod tests;
 
 pub use rows::{Fraction, Fractions, LinAnswer, LinRow, Multipliers, Rows};
-// pub use solver::solve;
+pub use solver::solve;

@@ -1,7 +1,11 @@
 //! Rows, systems of rows, and what an elimination answers.
 
 ghost use Rattle.std.specs.Prelude.{◌≡◌, ◌∷◌, ◌++◌, [], OnOk, OnErr, IfOk};
+ghost use Rattle.std.specs.Prelude.{IsTrue, ◌↔◌, All, pos, ◌<ℤ◌, ◌≤ℤ◌};
+ghost use Rattle.lin_arith.specs.Inequality.{coefficient};
+ghost use Rattle.lin_arith.specs.Combination.{part_of};
 
+use crate::combination::Part;
 use pv_base::memory::NoMemory;
 use std::alloc::Global;
 use std::marker::Model;
@@ -165,6 +169,13 @@ impl Fractions {
         }
     }
 
+    /// These values.
+    pub fn from_values(items: Vec<Fraction>) -> Fractions
+        ensures { result ≡ items.items }
+    {
+        Fractions { items }
+    }
+
     /// The values, in the order in which they were chosen.
     pub fn as_slice(&self) -> &[Fraction]
         ensures { result.now ≡ self.now }
@@ -193,4 +204,46 @@ pub enum LinAnswer {
     Wide(LinRow, LinRow),
     /// The elimination reached 5,000 rows: these.
     TooManyRows(Rows),
+}
+
+impl LinRow {
+    /// The coefficient of an unknown; a missing one counts as 0.
+    pub fn coefficient(&self, unknown: usize) -> i128
+        ensures { result ≡ coefficient unknown self.now }
+    {
+        self.coefficients.get(unknown).copied().unwrap_or(0)
+    }
+
+    /// A number of the row.
+    pub fn part(&self, part: Part) -> i128
+        ensures { result ≡ part_of part self.now }
+    {
+        match part {
+            Part::Coefficient(unknown) => self.coefficient(unknown),
+            Part::Bound => self.bound,
+        }
+    }
+
+    /// Whether no unknown is left.
+    pub fn is_without_unknowns(&self) -> bool
+        ensures { IsTrue result ↔ All (λ c. c ≡ pos 0) self.now.coefficients }
+    {
+        self.coefficients.iter().all(|c| *c == 0)
+    }
+
+    /// Whether the row says that a positive number is at most 0.
+    pub fn is_contradiction(&self) -> bool
+        ensures { IsTrue result
+            ↔ ((self.now.bound <ℤ pos 0) × All (λ c. c ≡ pos 0) self.now.coefficients) }
+    {
+        self.bound < 0 && self.is_without_unknowns()
+    }
+
+    /// Whether no unknown is left and 0 is at most the bound.
+    pub fn is_true(&self) -> bool
+        ensures { IsTrue result
+            ↔ ((pos 0 ≤ℤ self.now.bound) × All (λ c. c ≡ pos 0) self.now.coefficients) }
+    {
+        self.bound >= 0 && self.is_without_unknowns()
+    }
 }

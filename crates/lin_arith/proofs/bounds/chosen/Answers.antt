@@ -1,0 +1,47 @@
+use Rattle.std.proofs.Common.{rules, ◌≡◌, ℕ, ◌≤ℤ◌, FitsSigned, arith, subst}
+use Rattle.std.specs.Prelude.{unsigned_abs}
+use Rattle.std.specs.Int.{w128}
+use Rattle.std.proofs.lemmas.Int.{ints, to_z-of_z}
+use Rattle.lin_arith.specs.Floor.{IsFloor}
+use Rattle.lin_arith.proofs.BoundLemmas.{uppers_met, uppers_most, all_met, all_met_at_quotient}
+use Rattle.lin_arith.proofs.bounds.chosen.Goals as goal
+
+pub returns-then-greatest-least-clause-met : goal.returns-then-greatest-least-clause-met
+returns-then-greatest-least-clause-met c =
+    λ consistent. all_met_at_quotient c.args.bounds.now c.in-Some.upper c.quotient.result.numerator c.quotient.result.denominator c.requires consistent c.in-Some.ensures.some c.quotient.ensures.positive c.quotient.ensures.value
+
+pub returns-then-greatest-least-clause-whole : goal.returns-then-greatest-least-clause-whole
+returns-then-greatest-least-clause-whole c = λ z fits met.
+    let bounds = c.args.bounds.now in
+    let upper = c.in-Some.upper in
+    let f = c.floor_quotient-greatest.result in
+    let ff : FitsSigned w128 f = search rules in
+    let fl : FitsSigned w128 c.in_ok-least.least = search rules in
+    let fc : FitsSigned w128 upper.coefficient = search rules in
+    let fb : FitsSigned w128 upper.bound = search rules in
+    let size : c.unsigned_abs.result ≡ unsigned_abs upper.coefficient = simp to_z-of_z at c.unsigned_abs.ensures.value in
+    let floored : IsFloor upper.bound c.unsigned_abs.result f = simp to_z-of_z at c.floor_quotient-greatest.ensures in
+    let floor : IsFloor upper.bound (unsigned_abs upper.coefficient) f = subst (λ (m : ℕ). IsFloor upper.bound m f) size floored in
+    let above = uppers_most bounds upper f z c.in-Some.ensures.some floor met in
+    let below = c.in_ok-least.ensures.least z fits (λ k d h on. met k d h) in
+    absurd (omega (arith, ints, above, below))
+
+pub returns-clause-met : goal.returns-clause-met
+returns-clause-met c = λ consistent.
+    let bounds = c.args.bounds.now in
+    let upper = c.in-Some.upper in
+    let f = c.floor_quotient-greatest.result in
+    let z = c.nearest_to_zero.result in
+    let ff : FitsSigned w128 f = search rules in
+    let fz : FitsSigned w128 z = search rules in
+    let fl : FitsSigned w128 c.in_ok-least.least = search rules in
+    let fc : FitsSigned w128 upper.coefficient = search rules in
+    let fb : FitsSigned w128 upper.bound = search rules in
+    let size : c.unsigned_abs.result ≡ unsigned_abs upper.coefficient = simp to_z-of_z at c.unsigned_abs.ensures.value in
+    let floored : IsFloor upper.bound c.unsigned_abs.result f = simp to_z-of_z at c.floor_quotient-greatest.ensures in
+    let floor : IsFloor upper.bound (unsigned_abs upper.coefficient) f = subst (λ (m : ℕ). IsFloor upper.bound m f) size floored in
+    let least : c.in_ok-least.least ≤ℤ z = simp to_z-of_z at c.nearest_to_zero.ensures.least in
+    let greatest : z ≤ℤ f = simp to_z-of_z at c.nearest_to_zero.ensures.greatest in
+    let above = uppers_met bounds upper f z c.in-Some.ensures.some floor greatest in
+    let below = c.in_ok-least.ensures.met z least in
+    rw (to_z-of_z w128 z fz) (all_met bounds z c.requires above below)

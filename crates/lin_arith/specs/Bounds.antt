@@ -1,0 +1,33 @@
+-- Bounds of one unknown.
+use Rattle.std.specs.Prelude.{◌≢◌, List, pos, ◌*ℤ◌, ◌≤ℤ◌, ◌<ℤ◌, All, Contains, unsigned_abs}
+use Rattle.std.proofs.Common.{ℤ}
+use Rattle.lin_arith.specs.declared.bounds.Bound.{Bound}
+use Rattle.lin_arith.specs.declared.bounds.Side.{Side}
+use Rattle.lin_arith.specs.declared.bounds.Side.TheVariants.{Upper, Lower}
+
+-- coefficient times p/q is at most the bound
+abbrev pub IsMetAt : ℤ → ℤ → Bound → Type 0
+IsMetAt p q b = (b.coefficient *ℤ p) ≤ℤ (b.bound *ℤ q)
+
+-- an upper bound has a coefficient above 0, a lower one below
+abbrev pub IsOn : Side → Bound → Type 0
+IsOn Upper b = pos 0 <ℤ b.coefficient
+IsOn Lower b = b.coefficient <ℤ pos 0
+
+abbrev pub AreNonzero : List Bound → Type 0
+AreNonzero bounds = All (λ b. b.coefficient ≢ pos 0) bounds
+
+-- the first leaves at most as much room as the second, of the same side
+abbrev pub IsAsTight : Bound → Bound → Type 0
+IsAsTight first second = (first.bound *ℤ pos (unsigned_abs second.coefficient)) ≤ℤ (second.bound *ℤ pos (unsigned_abs first.coefficient))
+
+-- one of the bounds of a side, as tight as each other
+pub record IsTightest (side : Side) (bounds : List Bound) (tightest : Bound) : Type 0 where
+  pub member : Contains bounds tightest
+  pub on_side : IsOn side tightest
+  pub as_tight : All (λ b. IsOn side b → IsAsTight tightest b) bounds
+
+-- each upper bound is at least each lower bound
+abbrev pub AreConsistent : List Bound → Type 0
+AreConsistent bounds =
+    All (λ upper. IsOn Upper upper → All (λ lower. IsOn Lower lower → (lower.coefficient *ℤ upper.bound) ≤ℤ (upper.coefficient *ℤ lower.bound)) bounds) bounds

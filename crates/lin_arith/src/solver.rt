@@ -1,0 +1,138 @@
+//! The answer to a system of rows.
+
+ghost use Rattle.std.specs.Prelude.{pos, ◌<ℤ◌, IfOk, IfErr, OnOk, List};
+ghost use Rattle.lin_arith.specs.Inequality.{Inequality};
+ghost use Rattle.lin_arith.specs.Combination.{IsContradiction};
+ghost use Rattle.lin_arith.specs.Bounds.{AreNonzero};
+ghost use Rattle.lin_arith.specs.Substitution.{ArePositive};
+ghost use Rattle.lin_arith.specs.Answer.{IfInfeasible, IfFeasible, IsSolution, Shows, StopShows};
+
+use crate::bounds::{Bound, chosen};
+use crate::elimination::{Derived, Elimination, Stage};
+use crate::rows::{Fraction, Fractions, LinAnswer, LinRow, Rows};
+use crate::stop::Stop;
+use crate::substitution::put_in_all;
+use crate::system::System;
+use pv_base::memory::NoMemory;
+use std::alloc::Global;
+
+/// Whether rows have a solution in fractions, with what shows it. `NoMemory` comes only where memory
+/// ran out.
+///
+/// `Infeasible` carries multipliers whose combination of the rows is a contradiction, `Feasible` values
+/// that meet every row. Nothing is promised yet of when `Wide` and `TooManyRows` come.
+pub fn solve(alloc: Global, rows: &Rows) -> Result<LinAnswer, NoMemory>
+    ensures infeasible { IfOk result (λ answer. IfInfeasible answer (IsContradiction rows.now)) }
+    ensures feasible { IfOk result (λ answer. IfFeasible answer (IsSolution rows.now)) }
+{
+    match answered(alloc, rows.as_slice()) {
+        Ok(answer) => Ok(answer),
+        Err(Stop::Answered(answer)) => Ok(answer),
+        Err(Stop::OutOfMemory) => Err(NoMemory),
+    }
+}
+
+fn answered(alloc: Global, rows: &[LinRow]) -> Result<LinAnswer, Stop>
+    ensures ok { IfOk result (Shows rows.now) }
+    ensures err { IfErr result (StopShows rows.now) }
+{
+    let system = System::new(rows);
+    let mut elimination = Elimination::new(alloc, &system)?;
+    elimination.run(&system)?;
+    let stages = elimination.into_stages();
+    let values = values(alloc, system.width, stages.as_slice())?;
+    checked(alloc, rows, values)
+}
+
+/// The values, last unknown first. An unknown that no stage eliminated stands before all, and is 0.
+fn values(alloc: Global, width: usize, stages: &[Stage]) -> Result<Vec<Fraction>, Stop>
+    ensures ok { IfOk result (λ values. ArePositive values.items) }
+    ensures err { IfErr result (λ stop. (rows : List Inequality) → StopShows rows stop) }
+{
+    let mut values = Vec::with_capacity(alloc, width)?;
+    for unknown in 0..width {
+        if stages.iter().all(|stage| stage.unknown != unknown) {
+            values.push(Fraction {
+                unknown,
+                numerator: 0,
+                denominator: 1,
+            })?;
+        }
+    }
+    for stage in stages.iter().rev() {
+        let value = value_at(alloc, stage, values.as_slice())?;
+        values.push(value)?;
+    }
+    Ok(values)
+}
+
+/// The value of a stage's unknown, after those that were chosen before.
+fn value_at(alloc: Global, stage: &Stage, values: &[Fraction]) -> Result<Fraction, Stop>
+    requires { ArePositive values.now }
+    ensures ok { IfOk result (λ value. pos 0 <ℤ value.denominator) }
+    ensures err { IfErr result (λ stop. (rows : List Inequality) → StopShows rows stop) }
+{
+    let mut bounds = Vec::new(alloc);
+    put_bounds(
+        alloc,
+        stage.unknown,
+        stage.upper.as_slice(),
+        values,
+        &mut bounds,
+    )?;
+    put_bounds(
+        alloc,
+        stage.unknown,
+        stage.lower.as_slice(),
+        values,
+        &mut bounds,
+    )?;
+    match chosen(stage.unknown, bounds.as_slice()) {
+        Some(value) => Ok(value),
+        None => Err(Stop::Answered(LinAnswer::Wide(
+            LinRow::new(Vec::new(alloc), 0),
+            LinRow::new(Vec::new(alloc), 0),
+        ))),
+    }
+}
+
+/// Puts what rows say of an unknown at the end of the bounds.
+fn put_bounds(
+    alloc: Global,
+    unknown: usize,
+    rows: &[Derived],
+    values: &[Fraction],
+    bounds: &mut Vec<Bound>,
+) -> Result<(), Stop>
+    requires values { ArePositive values.now }
+    requires bounds { AreNonzero bounds.old.items }
+    ensures ok { OnOk result (AreNonzero bounds.new.items) }
+    ensures err { IfErr result (λ stop. (rows : List Inequality) → StopShows rows stop) }
+{
+    for made in rows {
+        let left = put_in_all(alloc, &made.row, values)?;
+        let coefficient = left.coefficient(unknown);
+        if coefficient != 0 {
+            bounds.push(Bound {
+                coefficient,
+                bound: left.bound(),
+            })?;
+        }
+    }
+    Ok(())
+}
+
+/// The values as the answer, where they meet the rows.
+fn checked(alloc: Global, rows: &[LinRow], values: Vec<Fraction>) -> Result<LinAnswer, Stop>
+    requires { ArePositive values.items }
+    ensures ok { IfOk result (Shows rows.now) }
+    ensures err { IfErr result (StopShows rows.now) }
+{
+    for row in rows {
+        let left = put_in_all(alloc, row, values.as_slice())?;
+        if !left.is_true() {
+            return Err(Stop::Answered(LinAnswer::Wide(row.try_clone(alloc)?, left)));
+        }
+    }
+    Ok(LinAnswer::Feasible(Fractions::from_values(values)))
+}

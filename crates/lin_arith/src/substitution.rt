@@ -1,0 +1,95 @@
+//! Values put into rows.
+
+ghost use Rattle.std.specs.Prelude.{IfOk, IfErr, IfSome, pos, ◌<ℤ◌, ◌≢◌, ◌≡◌, ◌==◌, ℕ, ◌*ℤ◌, ◌-ℤ◌, if◌then◌else◌, slice_index_or, List};
+ghost use Rattle.lin_arith.specs.Inequality.{Inequality, coefficient};
+ghost use Rattle.lin_arith.specs.Answer.{StopShows};
+ghost use Rattle.lin_arith.specs.Substitution.{put_in, put_in_all, form_of, IsRatio, ArePositive};
+
+use crate::numbers::{exact_quotient, greatest_common_divisor};
+use crate::reduction::reduced;
+use crate::rows::{Fraction, LinAnswer, LinRow};
+use crate::stop::Stop;
+use pv_base::memory::NoMemory;
+use std::alloc::Global;
+
+/// The row with the value put in for its unknown: the sum of the row and of the value as a row. None
+/// where it leaves 128 bits.
+fn put_in(alloc: Global, row: &LinRow, value: &Fraction) -> Result<Option<LinRow>, NoMemory>
+    requires { pos 0 <ℤ value.now.denominator }
+    ensures { IfOk result (λ made. IfSome made (IsRatio (put_in (form_of row.now) value.now))) }
+{
+    let common = greatest_common_divisor(
+        row.coefficient(value.unknown).unsigned_abs(),
+        value.denominator.unsigned_abs(),
+    );
+    let factor = exact_quotient(value.denominator, common);
+    let weight = exact_quotient(row.coefficient(value.unknown), common);
+    let Some(coefficients) = scaled_without(alloc, row, factor, value.unknown)? else {
+        return Ok(None);
+    };
+    let Some(bound) = difference(factor, row.bound(), weight, value.numerator) else {
+        return Ok(None);
+    };
+    Ok(Some(reduced(alloc, &LinRow::new(coefficients, bound))?))
+}
+
+/// The difference of two products. None where a product or the difference leaves 128 bits.
+fn difference(factor: i128, bound: i128, weight: i128, numerator: i128) -> Option<i128>
+    ensures { IfSome result (λ d. d ≡ (factor *ℤ bound) -ℤ (weight *ℤ numerator)) }
+{
+    match (factor.checked_mul(bound), weight.checked_mul(numerator)) {
+        (Some(left), Some(right)) => left.checked_sub(right),
+        _ => None,
+    }
+}
+
+/// The row's coefficients times a factor, and 0 for the unknown. None where one leaves 128 bits.
+fn scaled_without(
+    alloc: Global,
+    row: &LinRow,
+    factor: i128,
+    unknown: usize,
+) -> Result<Option<Vec<i128>>, NoMemory>
+    ensures { IfOk result (λ made. IfSome made (λ cs. (k : ℕ) → slice_index_or cs.items k (pos 0) ≡ (if k == unknown then pos 0 else (factor *ℤ coefficient k row.now)))) }
+{
+    let mut coefficients = Vec::with_capacity(alloc, row.coefficients().len())?;
+    for (i, number) in row.coefficients().iter().enumerate() {
+        if i == unknown {
+            coefficients.push(0)?;
+        } else {
+            let Some(product) = factor.checked_mul(*number) else {
+                return Ok(None);
+            };
+            coefficients.push(product)?;
+        }
+    }
+    Ok(Some(coefficients))
+}
+
+/// The row with all values put in, one after another.
+pub fn put_in_all(alloc: Global, row: &LinRow, values: &[Fraction]) -> Result<LinRow, Stop>
+    requires { ArePositive values.now }
+    ensures ok { IfOk result (IsRatio (put_in_all (form_of row.now) values.now)) }
+    ensures err { IfErr result (λ stop. (rows : List Inequality) → StopShows rows stop) }
+{
+    let mut left = row.try_clone(alloc)?;
+    for value in values {
+        if left.coefficient(value.unknown) != 0 {
+            let Some(next) = put_in(alloc, &left, value)? else {
+                return Err(Stop::Answered(LinAnswer::Wide(left, value_row(alloc, value)?)));
+            };
+            left = next;
+        }
+    }
+    Ok(left)
+}
+
+/// A value as a row: its denominator times its unknown is at most its numerator.
+fn value_row(alloc: Global, value: &Fraction) -> Result<LinRow, NoMemory> {
+    let mut coefficients = Vec::new(alloc);
+    for _ in 0..value.unknown {
+        coefficients.push(0)?;
+    }
+    coefficients.push(value.denominator)?;
+    Ok(LinRow::new(coefficients, value.numerator))
+}
