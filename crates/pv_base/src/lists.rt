@@ -1,10 +1,14 @@
-//! Lists that contracts name: bytes, and the words of a command line.
+//! Lists and maps that contracts name: bytes, the words of a command line, files by their names, and the
+//! numbers of calls.
 
-ghost use Rattle.std.specs.Prelude.{◌≡◌, ◌↔◌, ◌∷◌, ◌++◌, [], length, IsTrue, OnOk, OnErr};
+ghost use Rattle.std.specs.Prelude.{◌≡◌, ◌↔◌, ◌∷◌, ◌++◌, [], length, IsTrue, OnOk, OnErr, IfOk, Contains};
+ghost use Rattle.std.specs.Option.{option_copied};
+ghost use Rattle.std.specs.FinMap as map;
 
 use crate::memory::NoMemory;
 use crate::name::Name;
 use std::alloc::Global;
+use std::collections::BTreeMap;
 use std::marker::Model;
 
 /// Bytes, as those of a source file.
@@ -107,5 +111,94 @@ impl Words {
     {
         self.items.push(word)?;
         Ok(())
+    }
+}
+
+/// Files by their names, each as its bytes.
+#[derive(Drop)]
+pub struct FileMap {
+    files: BTreeMap<Name, Bytes>,
+}
+
+impl Model for FileMap {
+    ghost use Rattle.std.specs.Prelude.{List, ℕ};
+    ghost use Rattle.std.specs.Ordering.{nat_cmp};
+    ghost use Rattle.std.specs.Cmp.Lexicographic.{slice_cmp};
+    ghost use Rattle.std.specs.FinMap as map;
+    ghost use Rattle.std.specs.Coded.{coded_ℕ, coded_list};
+
+    ghost Value = { map.FinMap (slice_cmp nat_cmp) (List ℕ) };
+
+    ghost coded = { map.code (coded_list coded_ℕ) (coded_list coded_ℕ) };
+
+    ghost view = { λ m. map.from_entries m.files.entries };
+}
+
+impl FileMap {
+    /// No files.
+    pub fn new(alloc: Global) -> FileMap
+        ensures { result ≡ map.empty }
+    {
+        FileMap {
+            files: BTreeMap::new(alloc),
+        }
+    }
+
+    /// The bytes of the file with this name.
+    pub fn get(&self, name: &Name) -> Option<&Bytes>
+        ensures { option_copied result ≡ map.get self.now name.now }
+    {
+        self.files.get(name)
+    }
+
+    /// Puts a file into the map, in place of an older one with its name. After `NoMemory` the map is as
+    /// it was.
+    pub fn insert(&mut self, name: Name, bytes: Bytes) -> Result<(), NoMemory>
+        ensures ok { OnOk result (self.new ≡ map.insert self.old name bytes) }
+        ensures err { OnErr result (self.new ≡ self.old) }
+    {
+        self.files.insert(name, bytes)?;
+        Ok(())
+    }
+}
+
+/// The numbers of calls of an object, each counted from 1.
+#[derive(Drop)]
+pub struct Calls {
+    numbers: Vec<u64>,
+}
+
+impl Model for Calls {
+    ghost use Rattle.std.specs.Prelude.{List, ℕ};
+
+    ghost Value = { List ℕ };
+
+    ghost view = { λ c. c.numbers.items };
+}
+
+impl Calls {
+    /// No calls.
+    pub fn new(alloc: Global) -> Calls
+        ensures { result ≡ [] }
+    {
+        Calls {
+            numbers: Vec::new(alloc),
+        }
+    }
+
+    /// The calls with these numbers.
+    pub fn from_slice(alloc: Global, numbers: &[u64]) -> Result<Calls, NoMemory>
+        ensures { IfOk result (λ calls. calls ≡ numbers.now) }
+    {
+        Ok(Calls {
+            numbers: Vec::from_slice(alloc, numbers)?,
+        })
+    }
+
+    /// Whether the call with this number is among them.
+    pub fn contains(&self, number: u64) -> bool
+        ensures { IsTrue result ↔ Contains self.now number }
+    {
+        self.numbers.contains(&number)
     }
 }
