@@ -1,0 +1,2 @@
+pub mod MemorySink
+pub mod Outside

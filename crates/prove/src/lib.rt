@@ -1,0 +1,5 @@
+//! The verifier's outer shell: what it asks of the outside, its statuses and its report.
+#![tactic(auto)]
+
+pub mod memory_sink;
+pub mod outside;
