@@ -1,2 +1,3 @@
 pub mod MemorySink
+pub mod MemorySources
 pub mod Outside

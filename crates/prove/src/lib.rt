@@ -2,4 +2,5 @@
 #![tactic(auto)]
 
 pub mod memory_sink;
+pub mod memory_sources;
 pub mod outside;
