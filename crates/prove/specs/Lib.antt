@@ -1,3 +1,5 @@
 pub mod MemorySink
 pub mod MemorySources
 pub mod Outside
+pub mod ReportData
+pub mod ReportText

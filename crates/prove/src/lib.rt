@@ -4,3 +4,5 @@
 pub mod memory_sink;
 pub mod memory_sources;
 pub mod outside;
+pub mod report;
+pub mod text;

@@ -1,0 +1,87 @@
+//! The records of verdicts, and the report that is written of them.
+
+ghost use Rattle.std.specs.Prelude.{◌≡◌, IfOk};
+ghost use Rattle.prove.specs.ReportText.{function_line, condition_line, count_line, lines_of_report};
+
+use pv_base::lists::Bytes;
+use pv_base::memory::NoMemory;
+use pv_base::name::Name;
+use std::alloc::Global;
+use std::marker::Model;
+
+/// What a condition says of its function.
+#[derive(Clone, Copy, Debug, PartialEq, Eq)]
+pub enum ConditionKind {
+    /// The clause holds at each return.
+    Ensures,
+    /// The clause holds at no return.
+    AbortsIf,
+    /// Where the function aborts, one of its `aborts_if` clauses holds.
+    Aborts,
+}
+
+/// What was found out of a condition.
+#[derive(Clone, Copy, Debug, PartialEq, Eq)]
+pub enum ConditionVerdict {
+    /// A certificate for it was checked.
+    Proved,
+    /// No certificate was found.
+    Open,
+}
+
+/// What was found out of a function.
+#[derive(Clone, Copy, Debug, PartialEq, Eq)]
+pub enum FunctionVerdict {
+    /// Each of its conditions is proved.
+    Proved,
+    /// Some condition of it is not proved.
+    Unknown,
+}
+
+/// A condition, by its kind and its place, and its verdict.
+#[derive(Clone, Copy, Debug, PartialEq, Eq)]
+pub struct ConditionRecord {
+    pub kind: ConditionKind,
+    /// The number of the clause's file, counted from 0 in the order of the report's files.
+    pub file: u32,
+    /// The line of the clause, or for `aborts` of the function, counted from 1.
+    pub line: u32,
+    /// The line of the check, where it stands apart from the clause.
+    pub check_line: Option<u32>,
+    pub verdict: ConditionVerdict,
+}
+
+/// A function, its verdict, and the verdicts of its conditions in the report's order.
+#[derive(Drop)]
+pub struct FunctionRecord {
+    pub address: u128,
+    pub module_name: Name,
+    pub name: Name,
+    pub verdict: FunctionVerdict,
+    pub conditions: Vec<ConditionRecord>,
+}
+
+impl Model for FunctionRecord {
+    ghost use Rattle.prove.specs.ReportData.{FunctionData};
+
+    ghost Value = { FunctionData };
+
+    ghost view = { λ f. record { address = f.address; module_name = f.module_name; name = f.name; verdict = f.verdict; conditions = f.conditions.items } };
+}
+
+/// What a run found out.
+#[derive(Drop)]
+pub struct Report {
+    /// The names of the files, in the order of the words that named them.
+    pub files: Vec<Name>,
+    /// The functions of the files, in their order.
+    pub functions: Vec<FunctionRecord>,
+}
+
+impl Model for Report {
+    ghost use Rattle.prove.specs.ReportData.{ReportData};
+
+    ghost Value = { ReportData };
+
+    ghost view = { λ r. record { files = r.files.items; functions = r.functions.items } };
+}
