@@ -5,4 +5,5 @@ pub mod memory_sink;
 pub mod memory_sources;
 pub mod outside;
 pub mod report;
+pub mod report_text;
 pub mod text;
