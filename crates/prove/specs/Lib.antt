@@ -3,3 +3,4 @@ pub mod MemorySources
 pub mod Outside
 pub mod ReportData
 pub mod ReportText
+pub mod Status

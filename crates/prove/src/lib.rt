@@ -6,4 +6,5 @@ pub mod memory_sources;
 pub mod outside;
 pub mod report;
 pub mod report_text;
+pub mod status;
 pub mod text;
