@@ -4,3 +4,4 @@ pub mod Outside
 pub mod ReportData
 pub mod ReportText
 pub mod Status
+pub mod Writing

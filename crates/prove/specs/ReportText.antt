@@ -3,6 +3,7 @@ use Rattle.std.specs.Prelude.{ℕ, Bool, true, false, List, [], ◌∷◌, ◌++
 use Rattle.std.specs.List.{flat_map}
 use Rattle.std.specs.Fmt.{decimal, digits}
 use Rattle.prove.specs.ReportData.{FunctionData, ReportData}
+use Rattle.prove.specs.Writing.{joined}
 use Rattle.prove.specs.declared.report.FunctionVerdict.{FunctionVerdict}
 use Rattle.prove.specs.declared.report.FunctionVerdict.TheVariants.{Proved, Unknown}
 use Rattle.prove.specs.declared.report.ConditionVerdict.{ConditionVerdict}
@@ -64,4 +65,4 @@ lines_of_report report = flat_map (function_lines report.files) report.functions
 
 -- the report's bytes
 abbrev pub report_text : ReportData → List ℕ
-report_text report = flat_map (λ line. line) (lines_of_report report)
+report_text report = joined (lines_of_report report)

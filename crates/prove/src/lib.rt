@@ -8,3 +8,4 @@ pub mod report;
 pub mod report_text;
 pub mod status;
 pub mod text;
+pub mod writing;
