@@ -7,5 +7,6 @@ pub mod outside;
 pub mod report;
 pub mod report_text;
 pub mod status;
+pub mod status_text;
 pub mod text;
 pub mod writing;

@@ -1,13 +1,12 @@
 //! The lines of a report.
 
 ghost use Rattle.std.specs.Prelude.{◌≡◌, ◌++◌, [], slice_index_or, IfOk, OnOk};
-ghost use Rattle.std.specs.Fmt.{decimal};
 ghost use Rattle.prove.specs.ReportText.{check_text, condition_line, condition_verdict_text, count_line, function_line, function_lines, function_verdict_text, kind_text, lines_of_report};
 
 use crate::report::{
     ConditionKind, ConditionRecord, ConditionVerdict, FunctionRecord, FunctionVerdict, Report,
 };
-use crate::text::{Lines, push_hexadecimal};
+use crate::text::{Lines, push_decimal, push_hexadecimal};
 use pv_base::lists::Bytes;
 use pv_base::memory::NoMemory;
 use pv_base::name::Name;
@@ -48,14 +47,6 @@ impl FunctionVerdict {
             FunctionVerdict::Unknown => b"unknown",
         }
     }
-}
-
-/// Puts a number at the end in decimal.
-fn push_decimal(alloc: Global, text: &mut Bytes, number: u64) -> Result<(), NoMemory>
-    ensures { OnOk result (text.new ≡ text.old ++ decimal number) }
-{
-    let digits = number.to_string(alloc)?;
-    text.extend_from_slice(digits.as_bytes())
 }
 
 /// The line of a function.

@@ -1,7 +1,7 @@
 //! Lines of text, and the parts that they are made of.
 
 ghost use Rattle.std.specs.Prelude.{◌≡◌, ◌≤◌, ◌∷◌, ◌++◌, [], drop, false, ◌<◌, OnOk, OnErr};
-ghost use Rattle.std.specs.Fmt.{digit_glyph};
+ghost use Rattle.std.specs.Fmt.{decimal, digit_glyph};
 ghost use Rattle.prove.specs.ReportText.{hexadecimal};
 
 use pv_base::lists::Bytes;
@@ -48,6 +48,15 @@ impl Lines {
         self.items.push(line)?;
         Ok(())
     }
+}
+
+/// Puts a number at the end in decimal.
+pub fn push_decimal(alloc: Global, text: &mut Bytes, number: u64) -> Result<(), NoMemory>
+    ensures ok { OnOk result (text.new ≡ text.old ++ decimal number) }
+    ensures err { OnErr result (text.new ≡ text.old) }
+{
+    let digits = number.to_string(alloc)?;
+    text.extend_from_slice(digits.as_bytes())
 }
 
 /// The ASCII digit of a number below 16, in lower case.

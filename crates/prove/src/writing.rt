@@ -13,7 +13,7 @@ use crate::text::Lines;
 pub struct SinkFault;
 
 /// Writes a piece, and what was not taken of it again, until the sink has taken all or fails.
-fn write_piece<W: Sink>(sink: &mut W, piece: &[u8]) -> Result<(), SinkFault>
+pub fn write_piece<W: Sink>(sink: &mut W, piece: &[u8]) -> Result<(), SinkFault>
     ensures taken { OnOk result (W.taken sink.new ≡ append_known (W.taken sink.old) piece.now) }
     ensures no_fault { OnOk result (W.faults sink.new ≡ W.faults sink.old) }
     ensures prefix { OnErr result (TakesPrefix (W.taken sink.old) (W.taken sink.new) piece.now) }

@@ -1,0 +1,66 @@
+//! The line that tells of a run without a report.
+
+ghost use Rattle.std.specs.Prelude.{◌≡◌, IfOk};
+ghost use Rattle.prove.specs.Status.{limit_line, no_memory_line, refusal_line, source_fault_line, usage_line};
+
+use crate::status::{LimitKind, Rule};
+use crate::text::push_decimal;
+use pv_base::lists::Bytes;
+use pv_base::memory::NoMemory;
+use pv_base::name::Name;
+use std::alloc::Global;
+
+/// What is written where the words are no words of this program.
+pub fn usage_line() -> &'static [u8]
+    ensures { result.now ≡ usage_line }
+{
+    b"usage: movep FILE\n"
+}
+
+/// What is written where memory ran out.
+pub fn no_memory_line() -> &'static [u8]
+    ensures { result.now ≡ no_memory_line }
+{
+    b"no memory\n"
+}
+
+/// What is written of a file that breaks a rule, with the line where it does.
+pub fn refusal_line(alloc: Global, file: &Name, rule: Rule, line: u32) -> Result<Bytes, NoMemory>
+    ensures { IfOk result (λ text. text ≡ refusal_line file.now rule line) }
+{
+    let mut text = Bytes::new(alloc);
+    text.extend_from_slice(b"refused ")?;
+    push_decimal(alloc, &mut text, u64::from(rule.number()))?;
+    text.extend_from_slice(b" ")?;
+    text.extend_from_slice(rule.text())?;
+    text.extend_from_slice(b" ")?;
+    text.extend_from_slice(file.as_slice())?;
+    text.extend_from_slice(b":")?;
+    push_decimal(alloc, &mut text, u64::from(line))?;
+    text.extend_from_slice(b"\n")?;
+    Ok(text)
+}
+
+/// What is written of a file that could not be fetched.
+pub fn source_fault_line(alloc: Global, file: &Name) -> Result<Bytes, NoMemory>
+    ensures { IfOk result (λ text. text ≡ source_fault_line file.now) }
+{
+    let mut text = Bytes::new(alloc);
+    text.extend_from_slice(b"fault source ")?;
+    text.extend_from_slice(file.as_slice())?;
+    text.extend_from_slice(b"\n")?;
+    Ok(text)
+}
+
+/// What is written of a file that passes a limit.
+pub fn limit_line(alloc: Global, file: &Name, kind: LimitKind) -> Result<Bytes, NoMemory>
+    ensures { IfOk result (λ text. text ≡ limit_line file.now kind) }
+{
+    let mut text = Bytes::new(alloc);
+    text.extend_from_slice(b"limit ")?;
+    text.extend_from_slice(kind.text())?;
+    text.extend_from_slice(b" ")?;
+    text.extend_from_slice(file.as_slice())?;
+    text.extend_from_slice(b"\n")?;
+    Ok(text)
+}
