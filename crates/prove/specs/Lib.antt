@@ -1,7 +1,11 @@
+pub mod FormData
+pub mod MemberData
 pub mod MemorySink
 pub mod MemorySources
+pub mod ModuleData
 pub mod Outside
 pub mod ReportData
 pub mod ReportText
+pub mod Semantics
 pub mod Status
 pub mod Writing

@@ -4,7 +4,7 @@ use Rattle.prove.specs.declared.report.FunctionVerdict.{FunctionVerdict}
 use Rattle.prove.specs.declared.report.ConditionRecord.{ConditionRecord}
 
 -- a function's verdict, and those of its conditions in their order
-pub record FunctionData : Type 0 where
+pub record FunctionRecordData : Type 0 where
   pub address : ℕ
   pub module_name : List ℕ
   pub name : List ℕ
@@ -14,4 +14,4 @@ pub record FunctionData : Type 0 where
 -- the names of the files, by which conditions are numbered, and the functions in file order
 pub record ReportData : Type 0 where
   pub files : List (List ℕ)
-  pub functions : List FunctionData
+  pub functions : List FunctionRecordData

@@ -2,7 +2,7 @@
 use Rattle.std.specs.Prelude.{ℕ, Bool, true, false, List, [], ◌∷◌, ◌++◌, length, count_by, Option, Some, None, codes, map, slice_index_or}
 use Rattle.std.specs.List.{flat_map}
 use Rattle.std.specs.Fmt.{decimal, digits}
-use Rattle.prove.specs.ReportData.{FunctionData, ReportData}
+use Rattle.prove.specs.ReportData.{FunctionRecordData, ReportData}
 use Rattle.prove.specs.Writing.{joined}
 use Rattle.prove.specs.declared.report.FunctionVerdict.{FunctionVerdict}
 use Rattle.prove.specs.declared.report.FunctionVerdict.TheVariants.{Proved, Unknown}
@@ -42,7 +42,7 @@ check_text None = []
 check_text (Some line) = codes " at " ++ decimal line
 
 -- `0x1::m::f: proved`
-abbrev pub function_line : FunctionData → List ℕ
+abbrev pub function_line : FunctionRecordData → List ℕ
 function_line f = codes "0x" ++ hexadecimal f.address ++ codes "::" ++ f.module_name ++ codes "::" ++ f.name
     ++ codes ": " ++ function_verdict_text f.verdict ++ line_feed
 
@@ -52,11 +52,11 @@ condition_line files c = codes "  " ++ kind_text c.kind ++ codes " " ++ slice_in
     ++ decimal c.line ++ check_text c.check_line ++ codes ": " ++ condition_verdict_text c.verdict ++ line_feed
 
 -- a function's line, and then one for each of its conditions
-abbrev pub function_lines : List (List ℕ) → FunctionData → List (List ℕ)
+abbrev pub function_lines : List (List ℕ) → FunctionRecordData → List (List ℕ)
 function_lines files f = function_line f ∷ map (condition_line files) f.conditions
 
 -- `proved 1 of 1`
-abbrev pub count_line : List FunctionData → List ℕ
+abbrev pub count_line : List FunctionRecordData → List ℕ
 count_line functions = codes "proved " ++ decimal (count_by (λ f. is_proved f.verdict) functions) ++ codes " of "
     ++ decimal (length functions) ++ line_feed
 

@@ -1,6 +1,7 @@
 //! The verifier's outer shell: what it asks of the outside, its statuses and its report.
 #![tactic(auto)]
 
+pub mod form;
 pub mod memory_sink;
 pub mod memory_sources;
 pub mod outside;

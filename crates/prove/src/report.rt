@@ -62,9 +62,9 @@ pub struct FunctionRecord {
 }
 
 impl Model for FunctionRecord {
-    ghost use Rattle.prove.specs.ReportData.{FunctionData};
+    ghost use Rattle.prove.specs.ReportData.{FunctionRecordData};
 
-    ghost Value = { FunctionData };
+    ghost Value = { FunctionRecordData };
 
     ghost view = { λ f. record { address = f.address; module_name = f.module_name; name = f.name; verdict = f.verdict; conditions = f.conditions.items } };
 }

@@ -1,0 +1,9 @@
+-- The form of a file as contracts see it.
+use Rattle.std.specs.Prelude.{List}
+use Rattle.prove.specs.declared.form.Atom.{Atom}
+use Rattle.prove.specs.declared.form.Operand.{Operand}
+
+-- an atom, and then others with their signs, in order
+pub record SumData : Type 0 where
+  pub first : Atom
+  pub rest : List Operand

@@ -1,0 +1,123 @@
+-- What the functions and the clauses of this form mean, apart from any code.
+-- Source: The Move Book, integers (arithmetic aborts where u64 can't hold the result; operands are evaluated from
+-- left to right), and the Move Specification Language reference (numbers in specs are unbounded whole numbers; the
+-- meaning of `requires`, `ensures` and `aborts_if`).
+use Rattle.std.specs.Prelude.{◌≡◌, ℕ, ◌+◌, ◌-◌, ◌^◌, ◌<◌, Bool, ℤ, pos, ◌+ℤ◌, ◌-ℤ◌, ◌≤ℤ◌, ◌<ℤ◌, nat_lt, nat_eq, if◌then◌else◌, List, [], ◌∷◌, Option, Some, None, option_and_then, All, Any, codes}
+use Rattle.std.specs.List.{flat_map, list_any}
+use Rattle.std.specs.Cmp.Lexicographic.{pointwise}
+use Rattle.prove.specs.declared.form.Atom.{Atom}
+use Rattle.prove.specs.declared.form.Atom.TheVariants.{Number, Word}
+use Rattle.prove.specs.declared.form.Operator.{Operator}
+use Rattle.prove.specs.declared.form.Operator.TheVariants.{Plus, Minus}
+use Rattle.prove.specs.declared.form.Operand.{Operand}
+use Rattle.prove.specs.declared.form.Comparison.{Comparison}
+use Rattle.prove.specs.declared.form.Comparison.TheVariants.{Equal, Less, Greater, LessEqual, GreaterEqual}
+use Rattle.prove.specs.declared.form.Condition.{Condition}
+use Rattle.prove.specs.declared.form.Condition.TheVariants.{True, False, Compares}
+use Rattle.prove.specs.declared.form.ClauseKind.{ClauseKind}
+use Rattle.prove.specs.declared.form.ClauseKind.TheVariants.{Requires, Ensures, AbortsIf}
+use Rattle.prove.specs.declared.form.Clause.{Clause}
+use Rattle.prove.specs.declared.form.Member.{Member}
+use Rattle.prove.specs.declared.form.Member.TheVariants.{Function, Spec}
+use Rattle.prove.specs.FormData.{SumData}
+use Rattle.prove.specs.MemberData.{FunctionData}
+use Rattle.prove.specs.ModuleData.{ModuleData}
+
+-- ---- runs
+
+-- the values of the parameters, by their names
+abbrev pub Arguments : Type 0
+Arguments = List ℕ → ℕ
+
+-- each is a u64
+abbrev pub AreU64 : Arguments → Type 0
+AreU64 arguments = (name : List ℕ) → arguments name < 2 ^ 64
+
+abbrev pub atom_value : Arguments → Atom → ℕ
+atom_value arguments (Number n) = n
+atom_value arguments (Word name) = arguments name
+
+-- a result in u64, and else an abort
+abbrev pub operator_result : Operator → ℕ → ℕ → Option ℕ
+operator_result Plus a b = if nat_lt (a + b) (2 ^ 64) then Some (a + b) else None
+operator_result Minus a b = if nat_lt a b then None else Some (a - b)
+
+-- the operands that are left run from the value so far on
+abbrev pub run_operands : Arguments → ℕ → List Operand → Option ℕ
+run_operands arguments value [] = Some value
+run_operands arguments value (o ∷ os) = option_and_then (λ next. run_operands arguments next os) (operator_result o.operator value (atom_value arguments o.atom))
+
+-- a run of a sum: what it returns, or None where it aborts
+abbrev pub run_sum : Arguments → SumData → Option ℕ
+run_sum arguments sum = run_operands arguments (atom_value arguments sum.first) sum.rest
+
+-- ---- truth of clauses
+
+-- the whole numbers that the names of a clause stand for
+abbrev pub Names : Type 0
+Names = List ℕ → ℤ
+
+abbrev pub atom_number : Names → Atom → ℤ
+atom_number names (Number n) = pos n
+atom_number names (Word name) = names name
+
+abbrev pub operator_number : Operator → ℤ → ℤ → ℤ
+operator_number Plus a b = a +ℤ b
+operator_number Minus a b = a -ℤ b
+
+abbrev pub operands_number : Names → ℤ → List Operand → ℤ
+operands_number names value [] = value
+operands_number names value (o ∷ os) = operands_number names (operator_number o.operator value (atom_number names o.atom)) os
+
+abbrev pub sum_number : Names → SumData → ℤ
+sum_number names sum = operands_number names (atom_number names sum.first) sum.rest
+
+abbrev pub ComparesBy : Comparison → ℤ → ℤ → Type 0
+ComparesBy Equal a b = a ≡ b
+ComparesBy Less a b = a <ℤ b
+ComparesBy Greater a b = b <ℤ a
+ComparesBy LessEqual a b = a ≤ℤ b
+ComparesBy GreaterEqual a b = b ≤ℤ a
+
+abbrev pub Holds : Names → Condition → Type 0
+Holds names True = Unit {0}
+Holds names False = ⊥
+Holds names (Compares left comparison right) = ComparesBy comparison (sum_number names left) (sum_number names right)
+
+abbrev pub same_name : List ℕ → List ℕ → Bool
+same_name = pointwise nat_eq
+
+-- A parameter's name means its value. Where no parameter has the name, `MAX_U64` and `result` mean what they say.
+abbrev pub names_of : FunctionData → Arguments → ℕ → Names
+names_of f arguments result name =
+    if list_any (same_name name) f.parameters then pos (arguments name)
+    else (if same_name name (codes "MAX_U64") then pos (2 ^ 64 - 1)
+    else (if same_name name (codes "result") then pos result else pos 0))
+
+-- ---- contracts
+
+-- the clauses of the spec blocks of a function, in their order
+abbrev pub clauses_of_member : List ℕ → Member → List Clause
+clauses_of_member name (Function f) = []
+clauses_of_member name (Spec s) = if same_name s.target name then s.clauses else []
+
+abbrev pub clauses_of : ModuleData → FunctionData → List Clause
+clauses_of m f = flat_map (clauses_of_member f.name) m.members
+
+-- each clause of the kind holds, or one does
+abbrev pub AllHold : ClauseKind → Names → List Clause → Type 0
+AllHold kind names clauses = All (λ c. c.kind ≡ kind → Holds names c.condition) clauses
+
+abbrev pub SomeHolds : ClauseKind → Names → List Clause → Type 0
+SomeHolds kind names clauses = Any (λ c. (c.kind ≡ kind) × Holds names c.condition) clauses
+
+abbrev pub HasKind : ClauseKind → List Clause → Type 0
+HasKind kind clauses = Any (λ c. c.kind ≡ kind) clauses
+
+-- The function keeps its contract: from all arguments that meet each `requires`, a run that returns meets each
+-- `ensures`, and returns only where no `aborts_if` holds; a run aborts only where some `aborts_if` holds, unless the
+-- function has none.
+pub record KeepsContract (f : FunctionData) (clauses : List Clause) : Type 0 where
+  pub ensures_hold : (arguments : Arguments) (result : ℕ) → AreU64 arguments → AllHold Requires (names_of f arguments 0) clauses → run_sum arguments f.body ≡ Some result → AllHold Ensures (names_of f arguments result) clauses
+  pub aborts_if_refused : (arguments : Arguments) (result : ℕ) → AreU64 arguments → AllHold Requires (names_of f arguments 0) clauses → run_sum arguments f.body ≡ Some result → SomeHolds AbortsIf (names_of f arguments 0) clauses → ⊥
+  pub aborts_allowed : (arguments : Arguments) → AreU64 arguments → AllHold Requires (names_of f arguments 0) clauses → run_sum arguments f.body ≡ None → HasKind AbortsIf clauses → SomeHolds AbortsIf (names_of f arguments 0) clauses
