@@ -1,9 +1,13 @@
 pub mod FormData
+pub mod FormEnds
+pub mod FormFault
 pub mod MemberData
 pub mod MemorySink
 pub mod MemorySources
 pub mod ModuleData
+pub mod Names
 pub mod Outside
+pub mod Reading
 pub mod ReportData
 pub mod ReportText
 pub mod Semantics

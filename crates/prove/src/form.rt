@@ -1,6 +1,9 @@
 //! The form of file that is built so far: one module of functions that are sums of u64 values, with
 //! their specs.
 
+ghost use Rattle.std.specs.Prelude.{◌≡◌};
+ghost use Rattle.prove.specs.FormEnds.{ends_in_word};
+
 use pv_base::name::Name;
 use std::marker::Model;
 
@@ -39,6 +42,19 @@ impl Model for Sum {
     ghost Value = { SumData };
 
     ghost view = { λ s. record { first = s.first; rest = s.rest.items } };
+}
+
+impl Sum {
+    /// Whether the last atom is a word.
+    pub fn ends_in_word(&self) -> bool
+        ensures { result ≡ ends_in_word self.now }
+    {
+        let last = match self.rest.last() {
+            Some(operand) => &operand.atom,
+            None => &self.first,
+        };
+        matches!(last, Atom::Word(_))
+    }
 }
 
 /// How two sums are compared.

@@ -2,9 +2,11 @@
 #![tactic(auto)]
 
 pub mod form;
+pub mod form_fault;
 pub mod memory_sink;
 pub mod memory_sources;
 pub mod outside;
+mod reading;
 pub mod report;
 pub mod report_text;
 pub mod status;
