@@ -1,3 +1,5 @@
 pub mod Hexadecimal
 pub mod TakenLemmas
 pub mod ReadingSteps
+pub mod SpellingLemmas
+pub mod FormSound

@@ -11,5 +11,6 @@ pub mod Reading
 pub mod ReportData
 pub mod ReportText
 pub mod Semantics
+pub mod Spelling
 pub mod Status
 pub mod Writing
