@@ -3,3 +3,4 @@ pub mod TakenLemmas
 pub mod ReadingSteps
 pub mod SpellingLemmas
 pub mod FormSound
+pub mod FormComplete

@@ -175,3 +175,7 @@ IsProperFile (Some m) = IsProperModule m
 pub record IsFormOf (file : Option ModuleData) (tokens : List Token) : Type 0 where
   pub spelled : Spells (file_marks file) tokens []
   pub proper : IsProperFile file
+
+-- The tokens spell no form.
+abbrev pub IsOfNoForm : List Token → Type 0
+IsOfNoForm tokens = (file : Option ModuleData) → ¬ IsFormOf file tokens

@@ -6,7 +6,7 @@ pub mod form_fault;
 pub mod memory_sink;
 pub mod memory_sources;
 pub mod outside;
-mod reading;
+pub mod reading;
 pub mod report;
 pub mod report_text;
 pub mod status;

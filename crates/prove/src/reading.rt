@@ -1,12 +1,13 @@
 //! The form of a file is read from its tokens.
 
-ghost use Rattle.std.specs.Prelude.{◌≡◌, is_some, length, MatchResult};
+ghost use Rattle.std.specs.Prelude.{◌≡◌, is_some, length, IfErr, IfOk, MatchResult};
 ghost use Rattle.std.specs.Option.{option_map, option_copied};
 ghost use Rattle.std.specs.List.{list_any};
 ghost use Rattle.prove.specs.Names.{is_keyword};
 ghost use Rattle.prove.specs.FormFault.{IfNotBuilt};
 ghost use Rattle.prove.specs.Reading.{after_sign, after_word, atom_at, body_at, clause_at, clause_kind_of, clauses_at, comparison_at, comparison_of, compares_at, condition_at, file_at, function_at, heading_at, is_sign, is_word, member_at, members_at, module_at, module_name_at, more_parameters_at, name_at, next_parameter_at, number_at, number_of, operand_at, operands_at, operator_at, operator_of, parameter_at, parameters_at, spec_at, sum_at};
 ghost use Rattle.prove.specs.Semantics.{same_name};
+ghost use Rattle.prove.specs.Spelling.{IsFormOf, IsOfNoForm};
 
 use crate::form::{
     Atom, Clause, ClauseKind, Comparison, Condition, Function, Member, Module, Operand, Operator,
@@ -14,7 +15,7 @@ use crate::form::{
 };
 use crate::form_fault::FormFault;
 use pv_base::name::Name;
-use src_tree::token::{NumberSuffix, Punctuation, Token, TokenKind};
+use src_tree::token::{NumberSuffix, Punctuation, Token, TokenKind, Tokens};
 use std::alloc::Global;
 
 /// The keywords of Move, which are never names.
@@ -526,9 +527,9 @@ fn read_module(alloc: Global, tokens: &[Token]) -> Result<(Module, &[Token]), Fo
     Ok((module, rest))
 }
 
-/// The module of a file, or none where the file has no tokens.
+/// The module of a file, or none where the file has no tokens, as the reader's own rules say.
 #[tactic(auto, unfolding(crate::specs::Reading::file_at))]
-fn read_file(alloc: Global, tokens: &[Token]) -> Result<Option<Module>, FormFault>
+fn read_whole(alloc: Global, tokens: &[Token]) -> Result<Option<Module>, FormFault>
     ensures { MatchResult result (λ file. file_at tokens.now ≡ Some file) (λ fault. IfNotBuilt fault (file_at tokens.now ≡ None)) }
 {
     if tokens.is_empty() {
@@ -540,4 +541,16 @@ fn read_file(alloc: Global, tokens: &[Token]) -> Result<Option<Module>, FormFaul
     } else {
         Err(FormFault::NotBuilt)
     }
+}
+
+/// The form of a file: its module, or none where the file has no tokens.
+///
+/// # Errors
+///
+/// `NotBuilt` comes exactly where the tokens spell no form that is built.
+pub fn read_form(alloc: Global, tokens: &Tokens) -> Result<Option<Module>, FormFault>
+    ensures ok { IfOk result (λ file. IsFormOf file tokens.now) }
+    ensures not_built { IfErr result (λ fault. IfNotBuilt fault (IsOfNoForm tokens.now)) }
+{
+    read_whole(alloc, tokens.as_slice())
 }
