@@ -1,0 +1,4 @@
+//! Certificates that a formula is valid, and their checker.
+#![tactic(auto)]
+
+pub mod certificate;
