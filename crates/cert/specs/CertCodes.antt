@@ -8,6 +8,8 @@ use Rattle.pv_base.specs.Codes.{pick}
 use Rattle.fol.specs.FormulaData.{FormulaData}
 use Rattle.fol.specs.FormulaCodes.{head, tail, tree, whole_code, whole_back, whole_back-code, formula_code, formula_back, formula_back-code}
 use Rattle.cert.specs.CertData.{StepData, PartsStep, AxiomStep, CertData, CertTree, EndData, SplitEnd, LinearEnd, ClashEnd, FalseEnd, CasesData, NoCases, MoreCases}
+use Rattle.cert.specs.declared.certificate.Axiom.{Axiom}
+use Rattle.cert.specs.declared.certificate.Axiom.TheVariants.{Range, Whole, Trichotomy}
 use Rattle.cert.specs.declared.certificate.Multiple.{Multiple}
 
 -- a list, by a code of its elements
@@ -24,18 +26,31 @@ pub list_back-code : {A : Type 0} (c : A → Gv) (b : Gv → A) → ((x : A) →
 list_back-code c b e [] = refl
 list_back-code c b e (x ∷ xs) = λ i. e x i ∷ list_back-code c b e xs i
 
+abbrev axiom_code : Axiom → Gv
+axiom_code Range = gnum 0
+axiom_code Whole = gnum 1
+axiom_code Trichotomy = gnum 2
+
+abbrev pub axiom_back : Gv → Axiom
+axiom_back g = pick (num g) Range (Range ∷ Whole ∷ Trichotomy ∷ [])
+
+pub axiom_back-code : (a : Axiom) → axiom_back (axiom_code a) ≡ a
+axiom_back-code Range = refl
+axiom_back-code Whole = refl
+axiom_back-code Trichotomy = refl
+
 abbrev pub step_code : StepData → Gv
 step_code (PartsStep i ps) = tree 0 (gnum i) (list_code formula_code ps) gnil
-step_code (AxiomStep n p) = tree 1 (gnum n) (formula_code p) gnil
+step_code (AxiomStep name p) = tree 1 (axiom_code name) (formula_code p) gnil
 
 abbrev pub step_back : Gv → StepData
 step_back (gcons (gnum n) (gcons a (gcons b c))) =
-    pick n (PartsStep 0 []) (PartsStep (num a) (list_back formula_back b) ∷ AxiomStep (num a) (formula_back b) ∷ [])
+    pick n (PartsStep 0 []) (PartsStep (num a) (list_back formula_back b) ∷ AxiomStep (axiom_back a) (formula_back b) ∷ [])
 step_back _ = PartsStep 0 []
 
 pub step_back-code : (s : StepData) → step_back (step_code s) ≡ s
 step_back-code (PartsStep i ps) = ap (PartsStep i) (list_back-code formula_code formula_back formula_back-code ps)
-step_back-code (AxiomStep n p) = ap (AxiomStep n) (formula_back-code p)
+step_back-code (AxiomStep name p) = λ i. AxiomStep (axiom_back-code name i) (formula_back-code p i)
 
 abbrev pub coded_step : Coded StepData
 coded_step = code_by Gv itself step_code step_back step_back-code

@@ -1,12 +1,13 @@
 -- Certificates as pure data, as contracts see them.
 use Rattle.std.specs.Prelude.{◌≡◌, ℕ, ◌+◌, List, [], ◌∷◌, refl}
 use Rattle.fol.specs.FormulaData.{FormulaData}
+use Rattle.cert.specs.declared.certificate.Axiom.{Axiom}
 use Rattle.cert.specs.declared.certificate.Multiple.{Multiple}
 
 -- a straight step adds entries to its branch
 pub data StepData : Type 0 where
   PartsStep : ℕ → List FormulaData → StepData
-  AxiomStep : ℕ → FormulaData → StepData
+  AxiomStep : Axiom → FormulaData → StepData
 
 mutual
   pub data CertData : Type 0 where

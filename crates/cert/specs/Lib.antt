@@ -3,3 +3,9 @@ pub mod CertCodes
 pub mod CertView
 pub mod StepView
 pub mod CertFalls
+pub mod Parts
+pub mod Axioms
+pub mod Linear
+pub mod Closes
+pub mod Branch
+pub mod Unknowns

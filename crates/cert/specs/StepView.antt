@@ -5,4 +5,4 @@ use Rattle.cert.specs.declared.certificate.StepNode.TheVariants.{Parts, Axiom}
 
 abbrev pub step_of_node : StepNode → StepData
 step_of_node (Parts i ps) = PartsStep i ps.items
-step_of_node (Axiom n p) = AxiomStep n p
+step_of_node (Axiom name p) = AxiomStep name p

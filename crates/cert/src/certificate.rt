@@ -26,8 +26,20 @@ pub struct Step {
 pub enum StepNode {
     /// The entry with this number is a conjunction; its parts join the branch.
     Parts(u32, Vec<Formula>),
-    /// An instance of the axiom with this number joins the branch.
-    Axiom(u32, Formula),
+    /// An instance of the axiom joins the branch.
+    Axiom(Axiom, Formula),
+}
+
+/// The axioms of which a step may take an instance.
+#[derive(Clone, Copy, Debug, PartialEq, Eq)]
+pub enum Axiom {
+    /// A term has an integer type, or the type of addresses or signers, exactly where it is a whole
+    /// number from 0 to the greatest of the type.
+    Range,
+    /// Numerals, lengths, arithmetic and operations on bits are whole numbers.
+    Whole,
+    /// Of two whole numbers either they are equal or one of them is at least 1 less than the other.
+    Trichotomy,
 }
 
 /// What stands at the end of the straight steps: a split into branches, or a step that closes.
