@@ -121,7 +121,7 @@ three_ways a b false true e f = or_true (same_value (NumberValue a) (NumberValue
 three_ways a b false false e f =
     let same : a ≡ b = grind (arith, ints) in
     let equal : same_value (NumberValue a) (NumberValue b) ≡ true =
-        subst (λ (x : ℤ). same_value (NumberValue a) (NumberValue x) ≡ true) same (same_value_itself (NumberValue a)) in
+    subst (λ (x : ℤ). same_value (NumberValue a) (NumberValue x) ≡ true) same (same_value_itself (NumberValue a)) in
     ap (λ c. c || false) equal
 
 trichotomy : (shapes : List Shape) (v w : Val) → not (has_type shapes NumType v) || (not (has_type shapes NumType w) || (same_value v w || (at_most v (NumberValue (number_of w -ℤ pos 1)) || (at_most w (NumberValue (number_of v -ℤ pos 1)) || false)))) ≡ true

@@ -34,7 +34,7 @@ row_splits x w (Some row) c e =
     let g : sum_of w row.greater ≡ sum_of (without x w) row.greater +ℤ part.right *ℤ w x = splits x w row.greater part.right part.is_right in
     let no_gap : pos 0 ≡ whole.right = cc in
     let d : part.left *ℤ w x ≡ whole.left *ℤ w x +ℤ part.right *ℤ w x =
-        ap (λ z. z *ℤ w x) (omega (arith, ints, part.exact)) ∙ add-mul_ℤ whole.left part.right (w x) in
+    ap (λ z. z *ℤ w x) (omega (arith, ints, part.exact)) ∙ add-mul_ℤ whole.left part.right (w x) in
     let s : c *ℤ w x ≡ whole.left *ℤ w x = ap (λ z. z *ℤ w x) (omega (arith, ints, whole.exact, no_gap)) in
     omega (arith, ints, l, g, d, s)
 
@@ -58,16 +58,16 @@ combination_splits x w entries (m ∷ ms) a c e =
         let is_a : a ≡ added.left = cc in
         let is_m : m.multiplier ≡ product.left = cc in
         let row : row_sum w (row_at entries m) ≡ row_sum (without x w) (row_at entries m) +ℤ product.right *ℤ w x =
-            row_splits x w (row_at entries m) product.right product.is_right in
+        row_splits x w (row_at entries m) product.right product.is_right in
         let exact : m.multiplier *ℤ product.right ≡ added.right = ap (λ z. z *ℤ product.right) is_m ∙ product.exact in
         let times : m.multiplier *ℤ row_sum w (row_at entries m) ≡ m.multiplier *ℤ row_sum (without x w) (row_at entries m) +ℤ added.right *ℤ w x =
-            ap (λ z. m.multiplier *ℤ z) row
-            ∙ mul-add_ℤ m.multiplier (row_sum (without x w) (row_at entries m)) (product.right *ℤ w x)
-            ∙ ap (λ z. m.multiplier *ℤ row_sum (without x w) (row_at entries m) +ℤ z) (sym (mul_assoc_ℤ m.multiplier product.right (w x)) ∙ ap (λ z. z *ℤ w x) exact) in
+        ap (λ z. m.multiplier *ℤ z) row
+        ∙ mul-add_ℤ m.multiplier (row_sum (without x w) (row_at entries m)) (product.right *ℤ w x)
+        ∙ ap (λ z. m.multiplier *ℤ row_sum (without x w) (row_at entries m) +ℤ z) (sym (mul_assoc_ℤ m.multiplier product.right (w x)) ∙ ap (λ z. z *ℤ w x) exact) in
         let sum : b *ℤ w x ≡ a *ℤ w x +ℤ added.right *ℤ w x =
-            ap (λ z. z *ℤ w x) (sym added.exact ∙ ap (λ z. z +ℤ added.right) (sym is_a)) ∙ add-mul_ℤ a added.right (w x) in
+        ap (λ z. z *ℤ w x) (sym added.exact ∙ ap (λ z. z +ℤ added.right) (sym is_a)) ∙ add-mul_ℤ a added.right (w x) in
         let rest : rows_sum w entries ms +ℤ b *ℤ w x ≡ rows_sum (without x w) entries ms +ℤ c *ℤ w x =
-            later b (ap (λ s. combined (Some x) entries s ms) (sym h) ∙ e) in
+        later b (ap (λ s. combined (Some x) entries s ms) (sym h) ∙ e) in
         omega (arith, ints, times, sum, rest)
 
 abbrev HasSum : List FormulaData → List Multiple → ℤ → Values → Type 0
@@ -118,7 +118,7 @@ combination_constant w entries (m ∷ ms) a c zeros e =
         let row : row_sum w (row_at entries m) ≡ product.right = row_constant w (row_at entries m) product.right zeros.0 product.is_right in
         let times : m.multiplier *ℤ row_sum w (row_at entries m) ≡ added.right = (λ i. is_m i *ℤ row i) ∙ product.exact in
         let rest : b +ℤ rows_sum w entries ms ≡ c =
-            later b (ap (λ s. combined None entries s ms) (sym h) ∙ e) in
+        later b (ap (λ s. combined None entries s ms) (sym h) ∙ e) in
         omega (arith, ints, times, rest, added.exact, is_a)
 
 -- ---- all unknowns of all rows set to 0
@@ -152,7 +152,7 @@ row_gone (Some r) w row e =
     let same : r ≡ row = cc in
     let lesser = without_all-gone r.lesser (without_all r.greater w) in
     let greater =
-        without_all-kept (λ v. EachUnknown (λ u. v u ≡ pos 0) r.greater) (zeros_kept r.greater) r.lesser (without_all r.greater w) (without_all-gone r.greater w) in
+    without_all-kept (λ v. EachUnknown (λ u. v u ≡ pos 0) r.greater) (zeros_kept r.greater) r.lesser (without_all r.greater w) (without_all-gone r.greater w) in
     subst (λ (s : Row). EachUnknown (λ u. without_row (Some r) w u ≡ pos 0) s.lesser × EachUnknown (λ u. without_row (Some r) w u ≡ pos 0) s.greater) same (lesser, greater)
 
 all_gone : (entries : List FormulaData) (ms : List Multiple) (w : Values) → AreZero entries ms (without_rows entries ms w)
@@ -164,7 +164,7 @@ all_gone entries (m ∷ ms) w =
 pub combination_value : (entries : List FormulaData) (ms : List Multiple) (c : ℤ) (w : Values) → ((x : TermData) → total (Some x) entries ms ≡ Some (pos 0)) → total None entries ms ≡ Some c → rows_sum w entries ms ≡ c
 combination_value entries ms c w free e =
     let at_zero : pos 0 +ℤ rows_sum (without_rows entries ms w) entries ms ≡ c =
-        combination_constant (without_rows entries ms w) entries ms (pos 0) c (all_gone entries ms w) e in
+    combination_constant (without_rows entries ms w) entries ms (pos 0) c (all_gone entries ms w) e in
     let same : rows_sum (without_rows entries ms w) entries ms ≡ rows_sum w entries ms =
-        without_rows-kept (HasSum entries ms (rows_sum w entries ms)) (sum_kept entries ms free (rows_sum w entries ms)) entries ms w refl in
+    without_rows-kept (HasSum entries ms (rows_sum w entries ms)) (sum_kept entries ms free (rows_sum w entries ms)) entries ms w refl in
     omega (arith, ints, at_zero, same)

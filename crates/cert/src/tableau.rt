@@ -1,0 +1,92 @@
+//! Whether formulas are the parts or the cases of an entry. Nothing is built for it: a negation is
+//! compared by what it negates.
+
+ghost use Rattle.std.specs.Prelude.{◌≡◌, ◌↔◌, IsTrue, Some, map};
+ghost use Rattle.fol.specs.FormulaData.{NotFormula};
+ghost use Rattle.cert.specs.Branch.{entry_formula};
+ghost use Rattle.cert.specs.Parts.{parts_of, parts_of_negated, cases_of, cases_of_negated, both_of};
+
+use crate::branch::Entry;
+use crate::certificate::Case;
+use fol::formula::{Formula, FormulaNode};
+use fol::same::{same_formula, same_formulas};
+
+/// Whether these formulas are the parts of the entry.
+pub fn are_parts(entry: Entry<'_>, formulas: &[Formula]) -> bool
+    ensures { IsTrue result ↔ (parts_of (entry_formula entry.entry) ≡ Some formulas.now) }
+{
+    match entry {
+        Entry::Negated(of) => are_parts_of_negated(of, formulas),
+        Entry::Plain(of) => match &of.node {
+            FormulaNode::AllOf(parts) => same_formulas(formulas, parts.as_slice()),
+            FormulaNode::Not(of) => are_parts_of_negated(of, formulas),
+            _ => false,
+        },
+    }
+}
+
+fn are_parts_of_negated(of: &Formula, formulas: &[Formula]) -> bool
+    ensures { IsTrue result ↔ (parts_of_negated of.now ≡ Some formulas.now) }
+{
+    match &of.node {
+        FormulaNode::AnyOf(parts) => are_negations(formulas, parts.as_slice()),
+        FormulaNode::Implies(left, right) => match formulas {
+            [first, second] => same_formula(first, left) && is_negation(second, right),
+            _ => false,
+        },
+        FormulaNode::Not(of) => match formulas {
+            [only] => same_formula(only, of),
+            _ => false,
+        },
+        _ => false,
+    }
+}
+
+/// Whether the formula is the entry.
+pub fn is_entry(formula: &Formula, entry: Entry<'_>) -> bool
+    ensures { IsTrue result ↔ (formula.now ≡ entry_formula entry.entry) }
+{
+    match entry {
+        Entry::Negated(of) => is_negation(formula, of),
+        Entry::Plain(of) => same_formula(formula, of),
+    }
+}
+
+// Whether the formula is the negation of another one.
+fn is_negation(formula: &Formula, of: &Formula) -> bool
+    ensures { IsTrue result ↔ (formula.now ≡ NotFormula of.now) }
+{
+    match &formula.node {
+        FormulaNode::Not(inner) => same_formula(inner, of),
+        _ => false,
+    }
+}
+
+// Whether each formula is the negation of the one at its place.
+fn are_negations(formulas: &[Formula], of: &[Formula]) -> bool
+    ensures { IsTrue result ↔ (formulas.now ≡ map NotFormula of.now) }
+{
+    if formulas.len() != of.len() {
+        return false;
+    }
+    for (formula, inner) in formulas.iter().zip(of) {
+        if !is_negation(formula, inner) {
+            return false;
+        }
+    }
+    true
+}
+
+// Whether the formula says both of two entries.
+fn is_both_of(formula: &Formula, left: Entry<'_>, right: Entry<'_>) -> bool
+    ensures { IsTrue result
+        ↔ (formula.now ≡ both_of (entry_formula left.entry) (entry_formula right.entry)) }
+{
+    match &formula.node {
+        FormulaNode::AllOf(parts) => match parts.as_slice() {
+            [first, second] => is_entry(first, left) && is_entry(second, right),
+            _ => false,
+        },
+        _ => false,
+    }
+}
