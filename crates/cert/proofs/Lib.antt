@@ -5,3 +5,5 @@ pub mod Contradiction
 pub mod RowTruth
 pub mod AxiomTruth
 pub mod Sound
+pub mod Pointwise
+pub mod TableauLemmas

@@ -42,3 +42,7 @@ abbrev mutual
   pub cases_size : CasesData → ℕ
   cases_size NoCases = 1
   cases_size (MoreCases p cert cases) = 1 + (cert_size cert + cases_size cases)
+
+-- the formula of a case
+abbrev pub first_of : FormulaData × CertData → FormulaData
+first_of c = c.0

@@ -1,9 +1,10 @@
 //! Whether formulas are the parts or the cases of an entry. Nothing is built for it: a negation is
 //! compared by what it negates.
 
-ghost use Rattle.std.specs.Prelude.{◌≡◌, ◌↔◌, IsTrue, Some, map};
+ghost use Rattle.std.specs.Prelude.{◌≡◌, ◌↔◌, IsTrue, Some, map, [], ◌∷◌};
 ghost use Rattle.fol.specs.FormulaData.{NotFormula};
 ghost use Rattle.cert.specs.Branch.{entry_formula};
+ghost use Rattle.cert.specs.CertData.{first_of};
 ghost use Rattle.cert.specs.Parts.{parts_of, parts_of_negated, cases_of, cases_of_negated, both_of};
 
 use crate::branch::Entry;
@@ -17,11 +18,17 @@ pub fn are_parts(entry: Entry<'_>, formulas: &[Formula]) -> bool
 {
     match entry {
         Entry::Negated(of) => are_parts_of_negated(of, formulas),
-        Entry::Plain(of) => match &of.node {
-            FormulaNode::AllOf(parts) => same_formulas(formulas, parts.as_slice()),
-            FormulaNode::Not(of) => are_parts_of_negated(of, formulas),
-            _ => false,
-        },
+        Entry::Plain(of) => are_parts_of(of, formulas),
+    }
+}
+
+fn are_parts_of(of: &Formula, formulas: &[Formula]) -> bool
+    ensures { IsTrue result ↔ (parts_of of.now ≡ Some formulas.now) }
+{
+    match &of.node {
+        FormulaNode::AllOf(parts) => same_formulas(formulas, parts.as_slice()),
+        FormulaNode::Not(of) => are_parts_of_negated(of, formulas),
+        _ => false,
     }
 }
 
@@ -69,8 +76,8 @@ fn are_negations(formulas: &[Formula], of: &[Formula]) -> bool
     if formulas.len() != of.len() {
         return false;
     }
-    for (formula, inner) in formulas.iter().zip(of) {
-        if !is_negation(formula, inner) {
+    for i in 0..formulas.len() {
+        if !is_negation(&formulas[i], &of[i]) {
             return false;
         }
     }
@@ -83,10 +90,112 @@ fn is_both_of(formula: &Formula, left: Entry<'_>, right: Entry<'_>) -> bool
         ↔ (formula.now ≡ both_of (entry_formula left.entry) (entry_formula right.entry)) }
 {
     match &formula.node {
-        FormulaNode::AllOf(parts) => match parts.as_slice() {
-            [first, second] => is_entry(first, left) && is_entry(second, right),
-            _ => false,
-        },
+        FormulaNode::AllOf(parts) => are_entries(parts.as_slice(), left, right),
         _ => false,
     }
+}
+
+// Whether the formulas are two entries.
+fn are_entries(formulas: &[Formula], left: Entry<'_>, right: Entry<'_>) -> bool
+    ensures { IsTrue result
+        ↔ (formulas.now ≡ entry_formula left.entry ∷ entry_formula right.entry ∷ []) }
+{
+    formulas.len() == 2 && is_entry(&formulas[0], left) && is_entry(&formulas[1], right)
+}
+
+/// Whether the formulas of these cases are the cases of the entry.
+pub fn are_cases(entry: Entry<'_>, cases: &[Case]) -> bool
+    ensures { IsTrue result ↔ (cases_of (entry_formula entry.entry) ≡ Some (map first_of cases.now)) }
+{
+    match entry {
+        Entry::Negated(of) => are_cases_of_negated(of, cases),
+        Entry::Plain(of) => are_cases_of(of, cases),
+    }
+}
+
+fn are_cases_of(of: &Formula, cases: &[Case]) -> bool
+    ensures { IsTrue result ↔ (cases_of of.now ≡ Some (map first_of cases.now)) }
+{
+    match &of.node {
+        FormulaNode::AnyOf(parts) => are_formulas(cases, parts.as_slice()),
+        FormulaNode::Implies(left, right) => {
+            cases.len() == 2
+                && is_negation(formula_of(&cases[0]), left)
+                && same_formula(formula_of(&cases[1]), right)
+        }
+        FormulaNode::Iff(left, right) => {
+            cases.len() == 2
+                && is_both_of(
+                    formula_of(&cases[0]),
+                    Entry::Plain(left),
+                    Entry::Plain(right),
+                )
+                && is_both_of(
+                    formula_of(&cases[1]),
+                    Entry::Negated(left),
+                    Entry::Negated(right),
+                )
+        }
+        FormulaNode::Not(of) => are_cases_of_negated(of, cases),
+        _ => false,
+    }
+}
+
+fn are_cases_of_negated(of: &Formula, cases: &[Case]) -> bool
+    ensures { IsTrue result ↔ (cases_of_negated of.now ≡ Some (map first_of cases.now)) }
+{
+    match &of.node {
+        FormulaNode::AllOf(parts) => negate(cases, parts.as_slice()),
+        FormulaNode::Iff(left, right) => {
+            cases.len() == 2
+                && is_both_of(
+                    formula_of(&cases[0]),
+                    Entry::Plain(left),
+                    Entry::Negated(right),
+                )
+                && is_both_of(
+                    formula_of(&cases[1]),
+                    Entry::Negated(left),
+                    Entry::Plain(right),
+                )
+        }
+        _ => false,
+    }
+}
+
+// The formula of a case.
+fn formula_of(case: &Case) -> &Formula
+    ensures { result.now ≡ first_of case.now }
+{
+    &case.formula
+}
+
+// Whether the formula of each case is the one at its place.
+fn are_formulas(cases: &[Case], formulas: &[Formula]) -> bool
+    ensures { IsTrue result ↔ (formulas.now ≡ map first_of cases.now) }
+{
+    if cases.len() != formulas.len() {
+        return false;
+    }
+    for i in 0..cases.len() {
+        if !same_formula(formula_of(&cases[i]), &formulas[i]) {
+            return false;
+        }
+    }
+    true
+}
+
+// Whether the formula of each case is the negation of the one at its place.
+fn negate(cases: &[Case], formulas: &[Formula]) -> bool
+    ensures { IsTrue result ↔ (map NotFormula formulas.now ≡ map first_of cases.now) }
+{
+    if cases.len() != formulas.len() {
+        return false;
+    }
+    for i in 0..cases.len() {
+        if !is_negation(formula_of(&cases[i]), &formulas[i]) {
+            return false;
+        }
+    }
+    true
 }
