@@ -7,3 +7,4 @@ pub mod AxiomTruth
 pub mod Sound
 pub mod Pointwise
 pub mod TableauLemmas
+pub mod AxiomLemmas

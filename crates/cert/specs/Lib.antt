@@ -9,3 +9,4 @@ pub mod Linear
 pub mod Closes
 pub mod Branch
 pub mod Unknowns
+pub mod LinearView

@@ -1,8 +1,9 @@
 -- The unknowns of a term as a sum: what stands in it and is no sum, no difference, no numeral, and no product with a
 -- numeral.
-use Rattle.std.specs.Prelude.{ℤ, Option, Some, None}
-use Rattle.fol.specs.FormulaData.{TermData, NumTerm, AddTerm, SubTerm, MulTerm}
-use Rattle.cert.specs.Linear.{numeral_of}
+use Rattle.std.specs.Prelude.{◌≡◌, ℤ, pos, List, slice_get, Option, Some, None}
+use Rattle.fol.specs.FormulaData.{TermData, NumTerm, AddTerm, SubTerm, MulTerm, FormulaData}
+use Rattle.cert.specs.declared.certificate.Multiple.{Multiple}
+use Rattle.cert.specs.Linear.{numeral_of, Row, row_of_entry, total}
 
 -- the unknowns of a product
 abbrev pub EachOfProduct : Option ℤ → Option ℤ → Type 0 → Type 0 → Type 0 → Type 0
@@ -18,3 +19,16 @@ EachUnknown P (SubTerm t u) = EachUnknown P t × EachUnknown P u
 EachUnknown P (MulTerm t u) =
     EachOfProduct (numeral_of t) (numeral_of u) (EachUnknown P t) (EachUnknown P u) (P (MulTerm t u))
 EachUnknown P t = P t
+
+-- an unknown is gone from the combination
+abbrev pub IsGone : List FormulaData → List Multiple → TermData → Type 0
+IsGone entries ms unknown = total (Some unknown) entries ms ≡ Some (pos 0)
+
+-- the unknowns of a row are gone
+abbrev pub RowGone : List FormulaData → List Multiple → Option Row → Type 0
+RowGone entries ms None = ⊥
+RowGone entries ms (Some row) = EachUnknown (IsGone entries ms) row.lesser × EachUnknown (IsGone entries ms) row.greater
+
+-- the unknowns of the row of an entry are gone
+abbrev pub Cancels : List FormulaData → List Multiple → Multiple → Type 0
+Cancels entries ms m = RowGone entries ms (row_of_entry (slice_get entries m.entry))

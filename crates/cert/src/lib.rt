@@ -1,6 +1,8 @@
 //! Certificates that a formula is valid, and their checker.
 #![tactic(auto)]
 
+pub mod axioms;
 pub mod branch;
 pub mod certificate;
+pub mod linear;
 pub mod tableau;
