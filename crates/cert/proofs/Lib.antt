@@ -8,3 +8,4 @@ pub mod Sound
 pub mod Pointwise
 pub mod TableauLemmas
 pub mod AxiomLemmas
+pub mod LinearLemmas

@@ -1,11 +1,11 @@
 //! Linear combinations of entries, read as rows over whole numbers.
 
-ghost use Rattle.std.specs.Prelude.{◌≡◌, ◌↔◌, ℕ, suc, ◌+ℤ◌, ◌-ℤ◌, ◌*ℤ◌, IsTrue, Some, pos, slice_get, All};
+ghost use Rattle.std.specs.Prelude.{◌≡◌, ◌↔◌, ℕ, suc, ◌+ℤ◌, ◌-ℤ◌, ◌*ℤ◌, ◌<ℤ◌, IsTrue, Some, pos, slice_get, All};
 ghost use Rattle.std.specs.Option.{option_map};
 ghost use Rattle.cert.specs.Branch.{entries_of, entry_formula, IsCounted};
 ghost use Rattle.cert.specs.Linear.{kept_of, numeral_of, numeral_weight, unknown_weight, weight, row_of, negated_row_of, row_of_entry, row_weight, total, MayMultiply, MayCount, IsContradiction};
 ghost use Rattle.cert.specs.LinearView.{part_of, row_data};
-ghost use Rattle.cert.specs.Unknowns.{EachUnknown, IsGone, Cancels};
+ghost use Rattle.cert.specs.Unknowns.{EachUnknown, IsGone, RowGone, Cancels};
 
 use crate::branch::{Branch, Entry, entry_at};
 use crate::certificate::Multiple;
@@ -37,18 +37,28 @@ pub fn is_contradiction(branch: &Branch<'_>, multiples: &[Multiple]) -> bool
     requires { IsCounted branch.now }
     ensures { IsTrue result ↔ IsContradiction (entries_of branch.now) multiples.now }
 {
-    may_all_count(branch, multiples)
-        && is_positive(total(Part::Constant, branch, multiples))
-        && all_cancel(branch, multiples)
+    if !may_all_count(branch, multiples) {
+        return false;
+    }
+    if !is_positive(total(Part::Constant, branch, multiples)) {
+        return false;
+    }
+    all_cancel(branch, multiples)
 }
 
 fn is_positive(number: Option<i128>) -> bool
     ensures { IsTrue result ↔ ((n : ℕ) × (number ≡ Some (pos (suc n)))) }
 {
     match number {
-        Some(z) => z > 0,
+        Some(z) => is_above_zero(z),
         None => false,
     }
+}
+
+fn is_above_zero(number: i128) -> bool
+    ensures { IsTrue result ↔ (pos 0 <ℤ number) }
+{
+    number > 0
 }
 
 fn may_all_count(branch: &Branch<'_>, multiples: &[Multiple]) -> bool
@@ -79,18 +89,25 @@ fn all_cancel(branch: &Branch<'_>, multiples: &[Multiple]) -> bool
     ensures { IsTrue result ↔ All (Cancels (entries_of branch.now) multiples.now) multiples.now }
 {
     for multiple in multiples {
-        match row_at(branch, *multiple) {
-            Some(row) => {
-                if !cancels(branch, multiples, row.lesser)
-                    || !cancels(branch, multiples, row.greater)
-                {
-                    return false;
-                }
-            }
-            None => return false,
+        if !row_cancels(branch, multiples, row_at(branch, *multiple)) {
+            return false;
         }
     }
     true
+}
+
+// Whether no unknown of the row is left of the combination.
+fn row_cancels(branch: &Branch<'_>, multiples: &[Multiple], row: Option<Row<'_>>) -> bool
+    requires { IsCounted branch.now }
+    ensures { IsTrue result
+        ↔ RowGone (entries_of branch.now) multiples.now (option_map row_data row.entry) }
+{
+    match row {
+        Some(row) => {
+            cancels(branch, multiples, row.lesser) && cancels(branch, multiples, row.greater)
+        }
+        None => false,
+    }
 }
 
 // Whether no unknown of the term is left of the combination.
