@@ -24,9 +24,9 @@ mutual
     MoreCases : FormulaData → CertData → CasesData → CasesData
 
 -- a list of cases as cases, and back
-abbrev pub cases_of : List (FormulaData × CertData) → CasesData
-cases_of [] = NoCases
-cases_of (c ∷ cs) = MoreCases c.0 c.1 (cases_of cs)
+abbrev pub as_cases : List (FormulaData × CertData) → CasesData
+as_cases [] = NoCases
+as_cases (c ∷ cs) = MoreCases c.0 c.1 (as_cases cs)
 
 -- the number of nodes, each cell of a list of cases as one more
 abbrev mutual

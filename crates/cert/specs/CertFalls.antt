@@ -3,14 +3,14 @@ use Rattle.std.specs.Prelude.{ℕ, ◌+◌, ◌≤◌, max, List, [], ◌∷◌}
 use Rattle.std.proofs.Common.{arith}
 use denote.Param.Weighed.{most}
 use Rattle.fol.specs.FormulaData.{FormulaData}
-use Rattle.cert.specs.CertData.{CertData, cert_size, end_size, cases_size, cases_of}
+use Rattle.cert.specs.CertData.{CertData, cert_size, end_size, cases_size, as_cases}
 use Rattle.cert.specs.CertView.{end_of_node}
 use Rattle.cert.specs.declared.certificate.End.{End}
 use Rattle.cert.specs.declared.certificate.End.TheVariants.{Split, Linear, Clash, False}
 use Rattle.cert.specs.declared.certificate.Case.TheDeep.{deep-End}
 
 -- no case is larger than all of them together
-pub cases_fall : (cs : List (FormulaData × CertData)) → max (most (λ c. cert_size c.1 + 1 + 1) cs) 0 ≤ 1 + cases_size (cases_of cs)
+pub cases_fall : (cs : List (FormulaData × CertData)) → max (most (λ c. cert_size c.1 + 1 + 1) cs) 0 ≤ 1 + cases_size (as_cases cs)
 cases_fall [] = omega arith
 cases_fall (c ∷ cs) = omega (arith, cases_fall cs)
 

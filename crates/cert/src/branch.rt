@@ -10,6 +10,7 @@ use fol::formula::Formula;
 
 /// A branch: the negation of the certified formula, and what was added since. `usize` is the number
 /// of the first entry that was added.
+#[derive(Clone, Copy)]
 pub enum Branch<'a> {
     /// The negation of this formula.
     Root(&'a Formula),

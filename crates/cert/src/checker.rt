@@ -1,20 +1,20 @@
 //! The checker of certificates, which takes no memory.
 
-ghost use Rattle.std.specs.Prelude.{◌≡◌, ◌↔◌, ◌×◌, ◌≤◌, length, IsTrue};
-ghost use Rattle.fol.specs.FormulaData.{FormulaData};
+ghost use Rattle.std.specs.Prelude.{◌≡◌, ◌↔◌, ◌+◌, ◌<◌, ◌≤◌, length, map, IsTrue, Some, MatchOption};
+ghost use Rattle.fol.specs.FormulaData.{FormulaData, NotFormula};
 ghost use Rattle.fol.specs.Validity.{Valid};
-ghost use Rattle.cert.specs.Branch.{entries_of, entry_formula, IsCounted};
-ghost use Rattle.cert.specs.CertData.{cases_of};
+ghost use Rattle.cert.specs.Branch.{entries_of, entries_added, IsCounted};
+ghost use Rattle.cert.specs.CertData.{as_cases, first_of};
+ghost use Rattle.cert.specs.Parts.{parts_of, cases_of};
 ghost use Rattle.cert.specs.CertView.{end_of_node};
-ghost use Rattle.cert.specs.Closes.{IsEntry, IsFalseForm, IsFalseNegated, AreAllowed, IsAllowed, Closes, EndCloses, EachCloses, Certifies};
+ghost use Rattle.cert.specs.Closes.{most_entries, IsEntry, IsFalseForm, AreAllowed, IsAllowed, Closes, EndCloses, EachCloses, Certifies};
 
 use crate::axioms::is_instance;
-use crate::branch::{Branch, Entry, added_by, entry_at};
+use crate::branch::{Branch, added_by, entry_at};
 use crate::certificate::{Case, Cert, End, Step, StepNode};
 use crate::linear::is_contradiction;
-use crate::tableau::{are_cases, are_parts, is_entry};
-use fol::formula::{Formula, FormulaNode, TermNode};
-use fol::same::same_term;
+use crate::tableau::{are_cases, are_parts, is_false, negates};
+use fol::formula::Formula;
 use fol::shapes::Shapes;
 
 /// The greatest number of entries of a branch.
@@ -31,10 +31,142 @@ pub fn check(shapes: &Shapes, formula: &Formula, cert: &Cert) -> bool
 
 // Whether the certificate closes the branch, which has this many entries.
 #[cycle(checker)]
-fn closes(branch: &Branch<'_>, count: usize, cert: &Cert) -> bool
+fn closes<'a>(branch: &'a Branch<'a>, count: usize, cert: &'a Cert) -> bool
     requires counted { IsCounted branch.now }
     requires count { count ≡ length (entries_of branch.now) }
     ensures { IsTrue result ↔ Closes (entries_of branch.now) cert.now }
 {
+    let steps = cert.steps.as_slice();
+    match count_after(count, steps) {
+        Some(after) => {
+            are_allowed(branch, count, steps)
+                && end_closes(&Branch::Steps(branch, count, steps), after, &cert.end)
+        }
+        None => false,
+    }
+}
+
+#[cycle(checker)]
+fn end_closes<'a>(branch: &'a Branch<'a>, count: usize, end: &'a End) -> bool
+    requires counted { IsCounted branch.now }
+    requires count { count ≡ length (entries_of branch.now) }
+    requires limit { count ≤ most_entries }
+    ensures { IsTrue result ↔ EndCloses (entries_of branch.now) (end_of_node end.now) }
+{
+    match end {
+        End::Split(index, cases) => {
+            splits(branch, *index, cases.as_slice()) && each_closes(branch, count, cases.as_slice())
+        }
+        End::Linear(multiples) => is_contradiction(branch, multiples.as_slice()),
+        End::Clash(index, negation) => clash(branch, *index, *negation),
+        End::False(index) => is_false_at(branch, *index),
+    }
+}
+
+#[cycle(checker)]
+fn each_closes<'a>(branch: &'a Branch<'a>, count: usize, cases: &'a [Case]) -> bool
+    requires counted { IsCounted branch.now }
+    requires count { count ≡ length (entries_of branch.now) }
+    requires limit { count ≤ most_entries }
+    ensures { IsTrue result ↔ EachCloses (entries_of branch.now) (as_cases cases.now) }
+{
+    match cases.split_first() {
+        Some((case, others)) => {
+            closes(
+                &Branch::Case(branch, count, &case.formula),
+                count + 1,
+                &case.cert,
+            ) && each_closes(branch, count, others)
+        }
+        None => true,
+    }
+}
+
+// The number of entries after the straight steps, unless a branch may not have so many.
+fn count_after(count: usize, steps: &[Step]) -> Option<usize>
+    ensures { MatchOption result (most_entries < count + length (entries_added steps.now)) (λ after. (after ≡ count + length (entries_added steps.now)) × (after ≤ most_entries)) }
+{
+    let mut after = count;
+    if after > MOST_ENTRIES {
+        return None;
+    }
+    for step in steps {
+        let more = added_by(step).len();
+        if more > MOST_ENTRIES - after {
+            return None;
+        }
+        after += more;
+    }
+    Some(after)
+}
+
+// Whether the straight steps are allowed, one after another.
+fn are_allowed<'a>(branch: &'a Branch<'a>, count: usize, steps: &'a [Step]) -> bool
+    requires counted { IsCounted branch.now }
+    requires count { count ≡ length (entries_of branch.now) }
+    ensures { IsTrue result ↔ AreAllowed (entries_of branch.now) steps.now }
+{
+    for i in 0..steps.len() {
+        if !is_allowed(&Branch::Steps(branch, count, &steps[..i]), &steps[i]) {
+            return false;
+        }
+    }
     true
+}
+
+fn is_allowed(branch: &Branch<'_>, step: &Step) -> bool
+    requires { IsCounted branch.now }
+    ensures { IsTrue result ↔ IsAllowed (entries_of branch.now) step.now }
+{
+    match &step.node {
+        StepNode::Parts(index, formulas) => are_parts_at(branch, *index, formulas.as_slice()),
+        StepNode::Axiom(name, formula) => is_instance(*name, formula),
+    }
+}
+
+fn are_parts_at(branch: &Branch<'_>, index: u32, formulas: &[Formula]) -> bool
+    requires { IsCounted branch.now }
+    ensures { IsTrue result
+        ↔ ((p : FormulaData) × IsEntry (entries_of branch.now) index p × (parts_of p ≡ Some formulas.now)) }
+{
+    match entry_at(branch, index as usize) {
+        Some(entry) => are_parts(entry, formulas),
+        None => false,
+    }
+}
+
+fn splits(branch: &Branch<'_>, index: u32, cases: &[Case]) -> bool
+    requires { IsCounted branch.now }
+    ensures { IsTrue result
+        ↔ ((p : FormulaData) × IsEntry (entries_of branch.now) index p × (cases_of p ≡ Some (map first_of cases.now))) }
+{
+    match entry_at(branch, index as usize) {
+        Some(entry) => are_cases(entry, cases),
+        None => false,
+    }
+}
+
+fn clash(branch: &Branch<'_>, index: u32, negation: u32) -> bool
+    requires { IsCounted branch.now }
+    ensures { IsTrue result
+        ↔ ((p : FormulaData) × IsEntry (entries_of branch.now) index p × IsEntry (entries_of branch.now) negation (NotFormula p)) }
+{
+    match entry_at(branch, index as usize) {
+        Some(entry) => match entry_at(branch, negation as usize) {
+            Some(other) => negates(other, entry),
+            None => false,
+        },
+        None => false,
+    }
+}
+
+fn is_false_at(branch: &Branch<'_>, index: u32) -> bool
+    requires { IsCounted branch.now }
+    ensures { IsTrue result
+        ↔ ((p : FormulaData) × IsEntry (entries_of branch.now) index p × IsFalseForm p) }
+{
+    match entry_at(branch, index as usize) {
+        Some(entry) => is_false(entry),
+        None => false,
+    }
 }

@@ -4,5 +4,6 @@
 pub mod axioms;
 pub mod branch;
 pub mod certificate;
+pub mod checker;
 pub mod linear;
 pub mod tableau;

@@ -5,12 +5,13 @@ ghost use Rattle.std.specs.Prelude.{◌≡◌, ◌↔◌, IsTrue, Some, map, [],
 ghost use Rattle.fol.specs.FormulaData.{NotFormula};
 ghost use Rattle.cert.specs.Branch.{entry_formula};
 ghost use Rattle.cert.specs.CertData.{first_of};
+ghost use Rattle.cert.specs.Closes.{IsFalseForm, IsFalseNegated};
 ghost use Rattle.cert.specs.Parts.{parts_of, parts_of_negated, cases_of, cases_of_negated, both_of};
 
 use crate::branch::Entry;
 use crate::certificate::Case;
-use fol::formula::{Formula, FormulaNode};
-use fol::same::{same_formula, same_formulas};
+use fol::formula::{Formula, FormulaNode, TermNode};
+use fol::same::{same_formula, same_formulas, same_term};
 
 /// Whether these formulas are the parts of the entry.
 pub fn are_parts(entry: Entry<'_>, formulas: &[Formula]) -> bool
@@ -198,4 +199,61 @@ fn negate(cases: &[Case], formulas: &[Formula]) -> bool
         }
     }
     true
+}
+
+/// Whether the entry is the negation of another one.
+pub fn negates(entry: Entry<'_>, of: Entry<'_>) -> bool
+    ensures { IsTrue result
+        ↔ (entry_formula entry.entry ≡ NotFormula (entry_formula of.entry)) }
+{
+    match entry {
+        Entry::Negated(inner) => is_entry(inner, of),
+        Entry::Plain(formula) => is_negation_of(formula, of),
+    }
+}
+
+fn is_negation_of(formula: &Formula, of: Entry<'_>) -> bool
+    ensures { IsTrue result ↔ (formula.now ≡ NotFormula (entry_formula of.entry)) }
+{
+    match &formula.node {
+        FormulaNode::Not(inner) => is_entry(inner, of),
+        _ => false,
+    }
+}
+
+/// Whether the entry can't be true by its form.
+pub fn is_false(entry: Entry<'_>) -> bool
+    ensures { IsTrue result ↔ IsFalseForm (entry_formula entry.entry) }
+{
+    match entry {
+        Entry::Negated(of) => is_false_negated(of),
+        Entry::Plain(formula) => is_false_form(formula),
+    }
+}
+
+fn is_false_form(formula: &Formula) -> bool
+    ensures { IsTrue result ↔ IsFalseForm formula.now }
+{
+    match &formula.node {
+        FormulaNode::AnyOf(cases) => are_none(cases.as_slice()),
+        FormulaNode::Holds(term) => matches!(&term.node, TermNode::False),
+        FormulaNode::Not(of) => is_false_negated(of),
+        _ => false,
+    }
+}
+
+fn is_false_negated(of: &Formula) -> bool
+    ensures { IsTrue result ↔ IsFalseNegated of.now }
+{
+    match &of.node {
+        FormulaNode::AllOf(parts) => are_none(parts.as_slice()),
+        FormulaNode::Eq(left, right) => same_term(left, right),
+        _ => false,
+    }
+}
+
+fn are_none(formulas: &[Formula]) -> bool
+    ensures { IsTrue result ↔ (formulas.now ≡ []) }
+{
+    formulas.is_empty()
 }
