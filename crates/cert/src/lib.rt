@@ -7,3 +7,5 @@ pub mod certificate;
 pub mod checker;
 pub mod linear;
 pub mod tableau;
+#[cfg(test)]
+mod tests;

@@ -1,0 +1,104 @@
+//! Certificates worked out by hand, and what becomes of them when they are spoilt.
+
+use crate::certificate::{Axiom, Cert, End, Multiple, Step, StepNode};
+use crate::checker::check;
+use fol::formula::{Formula, FormulaNode, Term, TermNode};
+use fol::shapes::Shapes;
+use pv_base::memory::NoMemory;
+use pv_base::types::{TypeNode, TypeTerm};
+use std::alloc::Global;
+use std::test::Fail;
+
+fn variable(number: u32) -> Term {
+    Term {
+        node: TermNode::Var(number),
+    }
+}
+
+fn numeral(number: i128) -> Term {
+    Term {
+        node: TermNode::Num(number),
+    }
+}
+
+fn at_most(left: Term, right: Term) -> Formula {
+    Formula {
+        node: FormulaNode::Le(left, right),
+    }
+}
+
+// x at most 1 where x is at most 0.
+fn weaker_bound(alloc: Global) -> Result<Formula, NoMemory> {
+    Ok(Formula {
+        node: FormulaNode::Implies(
+            Box::new(alloc, at_most(variable(0), numeral(0)))?,
+            Box::new(alloc, at_most(variable(0), numeral(1)))?,
+        ),
+    })
+}
+
+// The parts of its negation, and then their sum with these multipliers.
+fn by_rows(alloc: Global, first: i128, second: i128) -> Result<Cert, NoMemory> {
+    let mut parts = Vec::new(alloc);
+    parts.push(at_most(variable(0), numeral(0)))?;
+    parts.push(Formula {
+        node: FormulaNode::Not(Box::new(alloc, at_most(variable(0), numeral(1)))?),
+    })?;
+    let mut steps = Vec::new(alloc);
+    steps.push(Step {
+        node: StepNode::Parts(0, parts),
+    })?;
+    let mut multiples = Vec::new(alloc);
+    multiples.push(Multiple {
+        entry: 1,
+        multiplier: first,
+    })?;
+    multiples.push(Multiple {
+        entry: 2,
+        multiplier: second,
+    })?;
+    Ok(Cert {
+        steps,
+        end: End::Linear(multiples),
+    })
+}
+
+#[test]
+fn multipliers_decide(rt: HostRuntime) -> Result<(), Fail> {
+    let shapes = Shapes::new(rt.alloc());
+    let formula = weaker_bound(rt.alloc())?;
+    for (first, second, accepted) in [(1, 1, true), (2, 1, false), (-1, -1, false), (0, 0, false)] {
+        let cert = by_rows(rt.alloc(), first, second)?;
+        assert_eq!(rt; check(&shapes, &formula, &cert), accepted, "{first} {second}");
+    }
+    Ok(())
+}
+
+#[test]
+fn numerals_are_whole(rt: HostRuntime) -> Result<(), Fail> {
+    let shapes = Shapes::new(rt.alloc());
+    for (number, accepted) in [(7, true), (8, false)] {
+        let formula = whole(numeral(7));
+        let mut steps = Vec::new(rt.alloc());
+        steps.push(Step {
+            node: StepNode::Axiom(Axiom::Whole, whole(numeral(number))),
+        })?;
+        let cert = Cert {
+            steps,
+            end: End::Clash(1, 0),
+        };
+        assert_eq!(rt; check(&shapes, &formula, &cert), accepted, "{number}");
+    }
+    Ok(())
+}
+
+fn whole(term: Term) -> Formula {
+    Formula {
+        node: FormulaNode::Is(
+            TypeTerm {
+                node: TypeNode::Num,
+            },
+            term,
+        ),
+    }
+}
