@@ -16,11 +16,16 @@ use crate::system::System;
 use pv_base::memory::NoMemory;
 use std::alloc::Global;
 
-/// Whether rows have a solution in fractions, with what shows it. `NoMemory` comes only where memory
-/// ran out.
+/// Whether rows have a solution in fractions, with what shows it: an elimination of one unknown after
+/// another, as Fourier and Motzkin found it.
 ///
-/// `Infeasible` carries multipliers whose combination of the rows is a contradiction, `Feasible` values
-/// that meet every row. Nothing is promised yet of when `Wide` and `TooManyRows` come.
+/// `Infeasible` carries multipliers whose combination of the rows is a contradiction, with every product
+/// and sum on the way within 128 bits. `Feasible` carries values that meet every row, put in one after
+/// another. `NoMemory` comes where memory ran out.
+///
+/// No clause says yet when `Wide` and `TooManyRows` come, nor that the values of the last step, which are
+/// put into each row before they are returned, always meet it: where they did not, the answer would be
+/// `Wide`.
 pub fn solve(alloc: Global, rows: &Rows) -> Result<LinAnswer, NoMemory>
     ensures infeasible { IfOk result (λ answer. IfInfeasible answer (IsContradiction rows.now)) }
     ensures feasible { IfOk result (λ answer. IfFeasible answer (IsSolution rows.now)) }
@@ -89,11 +94,23 @@ fn value_at(alloc: Global, stage: &Stage, values: &[Fraction]) -> Result<Fractio
     )?;
     match chosen(stage.unknown, bounds.as_slice()) {
         Some(value) => Ok(value),
-        None => Err(Stop::Answered(LinAnswer::Wide(
-            LinRow::new(Vec::new(alloc), 0),
-            LinRow::new(Vec::new(alloc), 0),
-        ))),
+        None => {
+            let row = least_bound_row(alloc, stage.unknown)?;
+            let twin = least_bound_row(alloc, stage.unknown)?;
+            Err(Stop::Answered(LinAnswer::Wide(row, twin)))
+        }
     }
+}
+
+/// The row that lets no number of 128 bits be the value of an unknown: less the unknown is at most the
+/// least number.
+fn least_bound_row(alloc: Global, unknown: usize) -> Result<LinRow, NoMemory> {
+    let mut coefficients = Vec::new(alloc);
+    for _ in 0..unknown {
+        coefficients.push(0)?;
+    }
+    coefficients.push(-1)?;
+    Ok(LinRow::new(coefficients, i128::MIN))
 }
 
 /// Puts what rows say of an unknown at the end of the bounds.
