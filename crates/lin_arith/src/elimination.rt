@@ -277,12 +277,15 @@ fn mixed(
         let Some(both) = left.checked_add(right) else {
             return Ok(None);
         };
-        divisor = greatest_common_divisor(divisor, both);
+        if divisor != 1 {
+            divisor = greatest_common_divisor(divisor, both);
+        }
         mixed.push(both)?;
     }
-    let divisor = divisor.max(1);
-    for multiplier in mixed.iter_mut() {
-        *multiplier /= divisor;
+    if divisor > 1 {
+        for multiplier in mixed.iter_mut() {
+            *multiplier /= divisor;
+        }
     }
     Ok(Some(mixed))
 }
