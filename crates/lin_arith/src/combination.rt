@@ -19,6 +19,9 @@ pub enum Part {
 pub fn plus_product(total: i128, multiplier: i128, number: i128) -> Option<i128>
     ensures { SomeIff result (IsAdded total (multiplier *ℤ number)) (total +ℤ (multiplier *ℤ number)) }
 {
+    if multiplier == 0 {
+        return Some(total);
+    }
     match multiplier.checked_mul(number) {
         Some(product) => total.checked_add(product),
         None => None,
