@@ -10,6 +10,7 @@ pub mod Outside
 pub mod Reading
 pub mod ReportData
 pub mod ReportText
+pub mod Scope
 pub mod Semantics
 pub mod Spelling
 pub mod Status

@@ -9,6 +9,7 @@ pub mod outside;
 pub mod reading;
 pub mod report;
 pub mod report_text;
+pub mod scope;
 pub mod status;
 pub mod status_text;
 pub mod text;
