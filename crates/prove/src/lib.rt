@@ -12,5 +12,7 @@ pub mod report_text;
 pub mod scope;
 pub mod status;
 pub mod status_text;
+#[cfg(test)]
+mod tests;
 pub mod text;
 pub mod writing;
