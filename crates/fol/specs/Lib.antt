@@ -13,3 +13,4 @@ pub mod ShapeCodes
 pub mod Parts
 pub mod Deciders
 pub mod Depth
+pub mod Numerals

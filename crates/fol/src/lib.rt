@@ -5,5 +5,6 @@ pub mod copy;
 pub mod depth;
 pub mod formula;
 pub mod laws;
+pub mod make;
 pub mod same;
 pub mod shapes;
