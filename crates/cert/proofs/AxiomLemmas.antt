@@ -4,7 +4,7 @@ use Rattle.std.specs.Prelude.{IsTrue}
 use Rattle.pv_base.specs.TypeData.{TypeData, NumType}
 use Rattle.fol.specs.FormulaData.{TermData, NumTerm, SubTerm, FormulaData, EqFormula, LeFormula, IsFormula, NotFormula, AllOfFormula, AnyOfFormula, IffFormula, FormulasData, formulas_of, list_of_formulas, list_of_formulas-formulas_of}
 use Rattle.cert.specs.declared.certificate.Axiom.TheVariants.{Range, Trichotomy}
-use Rattle.cert.specs.Axioms.{greatest, range_axiom, trichotomy_axiom, IsInstanceOf}
+use Rattle.cert.specs.Axioms.{greatest, range_axiom, IsInstanceOf}
 
 abbrev pub range_parts : TermData → TermData → List FormulaData
 range_parts t most = IsFormula NumType t ∷ LeFormula (NumTerm (pos 0)) t ∷ LeFormula t most ∷ []

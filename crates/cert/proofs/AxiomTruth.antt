@@ -1,5 +1,5 @@
 -- Instances of the axioms are true, whatever their terms' values are.
-use Rattle.std.proofs.Common.{◌≡◌, ℕ, zero, suc, ◌+◌, ◌-◌, ◌^◌, ◌<◌, ◌≤◌, ℤ, pos, negsuc, ◌-ℤ◌, List, [], ◌∷◌, Option, Some, None, Bool, true, false, not, ◌&&◌, ◌||◌, refl, sym, ap, ◌∙◌, subst, arith}
+use Rattle.std.proofs.Common.{◌≡◌, ℕ, ◌-◌, ◌^◌, ◌<◌, ℤ, pos, negsuc, ◌-ℤ◌, List, Some, Bool, true, false, not, ◌&&◌, ◌||◌, refl, sym, ap, ◌∙◌, subst, arith}
 use Rattle.std.specs.Prelude.{int_le, nat_lt, nat_le}
 use Rattle.std.proofs.lemmas.Int.{ints}
 use Rattle.std.proofs.lemmas.Bool.Decides.{nat_tests}
@@ -7,14 +7,14 @@ use Rattle.pv_base.specs.TypeData.{TypeData, BoolType, IntType, NumType, Address
 use Rattle.pv_base.specs.declared.types.Width.{Width}
 use Rattle.pv_base.specs.declared.types.Width.TheVariants.{U8, U16, U32, U64, U128}
 use Rattle.fol.specs.declared.shapes.Shape.{Shape}
-use Rattle.fol.specs.FormulaData.{TermData, VarTerm, NumTerm, MaxTerm, TrueTerm, FalseTerm, NothingTerm, BlankTerm, EmptyTerm, WideTerm, AddTerm, SubTerm, MulTerm, DivTerm, ModTerm, AndTerm, OrTerm, XorTerm, ShlTerm, ShrTerm, SelectTerm, StoreTerm, LenTerm, AtTerm, PushTerm, PopTerm, SetTerm, PackTerm, FieldTerm, SetFieldTerm, IfTerm, FormulaData, IsFormula}
+use Rattle.fol.specs.FormulaData.{TermData, NumTerm, MaxTerm, AddTerm, SubTerm, MulTerm, DivTerm, ModTerm, AndTerm, OrTerm, XorTerm, ShlTerm, ShrTerm, LenTerm, FormulaData, IsFormula}
 use Rattle.fol.specs.Val.{Val, NumberValue, TruthValue, NothingValue, VectorValue, StructValue, MemoryValue, same_value, same_value_itself}
 use Rattle.fol.specs.Operators.{number_of, at_most}
 use Rattle.fol.specs.TypedValue.{has_type, is_in_width}
 use Rattle.fol.specs.Truth.{Interpretation, Assignment, value_of, truth_of, same_truth}
 use Rattle.cert.specs.declared.certificate.Axiom.{Axiom}
 use Rattle.cert.specs.declared.certificate.Axiom.TheVariants.{Range, Whole, Trichotomy}
-use Rattle.cert.specs.Axioms.{greatest, range_axiom, IsWhole, trichotomy_axiom, IsInstanceOf}
+use Rattle.cert.specs.Axioms.{greatest, range_axiom, IsWhole, IsInstanceOf}
 
 -- ---- ranges
 

@@ -1,12 +1,11 @@
 -- What the checker tests is what its definition says, step by step.
-use Rattle.std.proofs.Common.{◌≡◌, ◌↔◌, ℕ, ◌+◌, ◌<◌, ◌≤◌, List, [], ◌∷◌, ◌++◌, length, get_or, take, drop, map, Option, Some, Bool, true, false, refl, sym, ap, ◌∙◌, subst, arith, add-one, drop-cons, append_assoc, length-append, rules}
+use Rattle.std.proofs.Common.{◌≡◌, ◌↔◌, ℕ, ◌+◌, ◌<◌, ◌≤◌, List, [], ◌∷◌, ◌++◌, length, get_or, take, drop, map, Some, Bool, true, false, refl, sym, ap, ◌∙◌, subst, arith, add-one, drop-cons, append_assoc, length-append, rules}
 use Rattle.std.proofs.lemmas.List.{append-nil}
 use Rattle.std.specs.Prelude.{IsTrue}
-use Rattle.std.specs.List.{flat_map}
-use Rattle.std.proofs.lemmas.List.{take_more, take_all}
+use Rattle.std.proofs.lemmas.List.{take_more}
 use Rattle.std.proofs.Math.ListN.{drop_of_length-le}
-use Rattle.fol.specs.FormulaData.{FormulaData, NotFormula, EqFormula, AllOfFormula, AnyOfFormula, NoFormulas, formulas_of}
-use Rattle.cert.specs.CertData.{StepData, CertData, CertTree, EndData, SplitEnd, LinearEnd, ClashEnd, FalseEnd, CasesData, as_cases, first_of}
+use Rattle.fol.specs.FormulaData.{FormulaData, AllOfFormula, AnyOfFormula, formulas_of}
+use Rattle.cert.specs.CertData.{StepData, CertData, CertTree, EndData, SplitEnd, LinearEnd, ClashEnd, FalseEnd, as_cases, first_of}
 use Rattle.cert.specs.Parts.{cases_of}
 use Rattle.cert.specs.Closes.{most_entries, IsEntry, IsFalseForm, IsFalseNegated, added, IsAllowed, AreAllowed, after_steps, formulas_in, Closes, EndCloses, EachCloses}
 use Rattle.cert.specs.Branch.{entries_added}

@@ -1,14 +1,12 @@
 -- Entries whose combination says that a positive number is at most 0 are not all true.
-use Rattle.std.proofs.Common.{◌≡◌, ℕ, suc, ℤ, pos, negsuc, ◌+ℤ◌, ◌-ℤ◌, ◌*ℤ◌, ◌≤ℤ◌, List, [], ◌∷◌, Option, Some, None, Bool, true, false, slice_get, refl, sym, ap, ◌∙◌, subst, arith}
-use Rattle.std.specs.Prelude.{All}
+use Rattle.std.proofs.Common.{◌≡◌, ℤ, pos, ◌+ℤ◌, ◌-ℤ◌, ◌*ℤ◌, List, [], ◌∷◌, Option, Some, None, slice_get, refl, sym, ap, ◌∙◌, subst, arith}
 use Rattle.std.proofs.lemmas.Int.{ints}
-use lib.IntN.{zero-*ℤ, *ℤ-zero, *ℤ_comm}
 use Rattle.fol.specs.FormulaData.{TermData, FormulaData}
 use Rattle.cert.specs.declared.certificate.Multiple.{Multiple}
-use Rattle.cert.specs.Linear.{kept, kept_of, Part, weight, Row, row_of_entry, gap_weight, row_weight, combined, total, MayMultiply, IsContradiction}
+use Rattle.cert.specs.Linear.{kept_of, Row, row_of_entry, row_weight, combined, total}
 use Rattle.cert.specs.Unknowns.{EachUnknown}
 use Rattle.cert.proofs.Ring.{mul-add_ℤ, add-mul_ℤ, mul_assoc_ℤ}
-use Rattle.cert.proofs.Sums.{Kept, kept_of_exact, Values, sum_of, without, splits, constant, without_all, without_all-kept, without_all-gone, IsKeptWithout, zeros_kept}
+use Rattle.cert.proofs.Sums.{kept_of_exact, Values, sum_of, without, splits, constant, without_all, without_all-kept, without_all-gone, IsKeptWithout, zeros_kept}
 
 -- the row as a number: the lesser less the greater, and the gap
 abbrev pub row_sum : Values → Option Row → ℤ

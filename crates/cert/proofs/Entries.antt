@@ -1,8 +1,7 @@
 -- Where the entries of a branch stand.
-use Rattle.std.proofs.Common.{◌≡◌, ℕ, zero, suc, ◌+◌, ◌-◌, ◌<◌, ◌≤◌, List, [], ◌∷◌, ◌++◌, length, get_or, drop, slice_get, refl, sym, ap, ◌∙◌, arith, add-one, drop-cons}
-use Rattle.std.specs.List.{flat_map}
+use Rattle.std.proofs.Common.{◌≡◌, ℕ, zero, suc, ◌+◌, ◌<◌, List, [], ◌∷◌, ◌++◌, length, get_or, drop, slice_get, refl, sym, ap, ◌∙◌, arith, add-one, drop-cons}
 use Rattle.cert.specs.CertData.{StepData}
-use Rattle.cert.specs.Closes.{added, after_steps}
+use Rattle.cert.specs.Closes.{added}
 use Rattle.cert.specs.Branch.{entries_added}
 
 pub slice_get-append_front : {A : Type 0} → (xs ys : List A) (k : ℕ) → k < length xs → slice_get (xs ++ ys) k ≡ slice_get xs k

@@ -5,9 +5,9 @@ use Rattle.std.proofs.lemmas.Int.{ints}
 use Rattle.std.proofs.lemmas.List.Elements.{All-nil, All-cons, All-head, All-tail, All-get_or, All-more}
 use lib.IntN.{*ℤ-zero}
 use Rattle.std.proofs.lemmas.List.{take_all}
-use Rattle.fol.specs.FormulaData.{TermData, VarTerm, NumTerm, MaxTerm, TrueTerm, FalseTerm, NothingTerm, BlankTerm, EmptyTerm, WideTerm, AddTerm, SubTerm, MulTerm, DivTerm, ModTerm, AndTerm, OrTerm, XorTerm, ShlTerm, ShrTerm, SelectTerm, StoreTerm, LenTerm, AtTerm, PushTerm, PopTerm, SetTerm, PackTerm, FieldTerm, SetFieldTerm, IfTerm, FormulaData}
+use Rattle.fol.specs.FormulaData.{TermData, NumTerm, AddTerm, SubTerm, MulTerm, FormulaData}
 use Rattle.cert.specs.declared.certificate.Multiple.{Multiple}
-use Rattle.cert.specs.Linear.{kept, kept_of, same_term, numeral_of, Part, numeral_weight, unknown_weight, product_weight, weight, Row, row_of_entry, gap_weight, row_weight, combined, total, MayMultiply, MayCount, IsContradiction}
+use Rattle.cert.specs.Linear.{kept, kept_of, same_term, numeral_of, Part, unknown_weight, product_weight, weight, Row, row_of_entry, row_weight, combined, total, MayMultiply, MayCount, IsContradiction}
 use Rattle.cert.specs.Unknowns.{EachUnknown, EachOfProduct, IsGone, RowGone, Cancels}
 use Rattle.cert.proofs.Sums.{same_term-equal, same_term_itself}
 

@@ -1,11 +1,11 @@
 -- What a true entry says of its row, and why a contradiction of true entries can't be.
-use Rattle.std.proofs.Common.{◌≡◌, ℕ, zero, suc, ◌*◌, ℤ, pos, negsuc, ◌+ℤ◌, ◌-ℤ◌, ◌*ℤ◌, ◌≤ℤ◌, ◌<ℤ◌, neg_ℤ, List, [], ◌∷◌, Option, Some, None, Bool, true, false, not, slice_get, refl, sym, ap, ◌∙◌, subst, arith}
+use Rattle.std.proofs.Common.{◌≡◌, ℕ, zero, suc, ℤ, pos, negsuc, ◌+ℤ◌, ◌-ℤ◌, ◌*ℤ◌, ◌≤ℤ◌, ◌<ℤ◌, List, [], ◌∷◌, Option, Some, None, true, false, not, slice_get, refl, sym, ap, ◌∙◌, subst, arith}
 use Rattle.std.specs.Prelude.{All, int_le}
 use Rattle.std.proofs.lemmas.List.Elements.{All-head, All-tail}
 use Rattle.std.proofs.lemmas.Int.{ints}
-use lib.IntN.{zero-*ℤ, *ℤ-zero, *ℤ_comm, pos-*ℤ-negsuc}
-use Rattle.fol.specs.FormulaData.{TermData, VarTerm, NumTerm, MaxTerm, TrueTerm, FalseTerm, NothingTerm, BlankTerm, EmptyTerm, WideTerm, AddTerm, SubTerm, MulTerm, DivTerm, ModTerm, AndTerm, OrTerm, XorTerm, ShlTerm, ShrTerm, SelectTerm, StoreTerm, LenTerm, AtTerm, PushTerm, PopTerm, SetTerm, PackTerm, FieldTerm, SetFieldTerm, IfTerm, FormulaData, EqFormula, LeFormula, IsFormula, HoldsFormula, NotFormula, AllOfFormula, AnyOfFormula, ImpliesFormula, IffFormula, ForAllFormula, ExistsFormula}
-use Rattle.fol.specs.Val.{Val, same_value, same_value-equal}
+use lib.IntN.{*ℤ-zero, *ℤ_comm, pos-*ℤ-negsuc}
+use Rattle.fol.specs.FormulaData.{TermData, NumTerm, AddTerm, SubTerm, MulTerm, FormulaData, EqFormula, LeFormula, NotFormula}
+use Rattle.fol.specs.Val.{same_value-equal}
 use Rattle.fol.specs.Operators.{number_of}
 use Rattle.fol.specs.Truth.{Interpretation, Assignment, value_of, truth_of}
 use Rattle.cert.specs.declared.certificate.Multiple.{Multiple}

@@ -1,18 +1,14 @@
 -- A formula that has a certificate is valid.
-use Rattle.std.proofs.Common.{◌≡◌, ℕ, zero, suc, ◌+◌, ◌<◌, ◌≤◌, ℤ, pos, List, [], ◌∷◌, ◌++◌, length, map, Option, Some, None, Bool, true, false, not, ◌&&◌, ◌||◌, slice_get, refl, sym, ap, ◌∙◌, subst, arith, rules}
-use Rattle.std.specs.Prelude.{IsTrue, int_le}
-use Rattle.std.proofs.lemmas.Int.{ints}
-use Rattle.pv_base.specs.TypeData.{TypeData, BoolType, IntType, NumType, AddressType, SignerType, VectorType, StructType, ParamType, SharedType, MutableType, TupleType}
-use Rattle.pv_base.specs.declared.types.Width.TheVariants.{U8, U16, U32, U64, U128}
-use Rattle.fol.specs.FormulaData.{TermData, VarTerm, NumTerm, MaxTerm, TrueTerm, FalseTerm, NothingTerm, BlankTerm, EmptyTerm, WideTerm, AddTerm, SubTerm, MulTerm, DivTerm, ModTerm, AndTerm, OrTerm, XorTerm, ShlTerm, ShrTerm, SelectTerm, StoreTerm, LenTerm, AtTerm, PushTerm, PopTerm, SetTerm, PackTerm, FieldTerm, SetFieldTerm, IfTerm, FormulaData, EqFormula, LeFormula, IsFormula, HoldsFormula, NotFormula, AllOfFormula, AnyOfFormula, ImpliesFormula, IffFormula, ForAllFormula, ExistsFormula, FormulasData, NoFormulas, MoreFormulas, list_of_formulas}
+use Rattle.std.proofs.Common.{◌≡◌, zero, suc, List, [], ◌∷◌, ◌++◌, map, Some, Bool, true, false, not, ◌&&◌, ◌||◌, refl, ap, subst, rules}
+use Rattle.std.specs.Prelude.{IsTrue}
+use Rattle.fol.specs.FormulaData.{FalseTerm, FormulaData, EqFormula, HoldsFormula, NotFormula, AllOfFormula, AnyOfFormula, ImpliesFormula, IffFormula, FormulasData, NoFormulas, MoreFormulas, list_of_formulas}
 use Rattle.fol.specs.declared.shapes.Shape.{Shape}
 use Rattle.fol.specs.Validity.{Valid}
-use Rattle.fol.specs.Val.{Val, same_value, same_value_itself}
+use Rattle.fol.specs.Val.{same_value, same_value_itself}
 use Rattle.fol.specs.Truth.{Interpretation, Assignment, value_of, truth_of, all_true, any_true, same_truth}
 use Rattle.cert.specs.CertData.{StepData, PartsStep, AxiomStep, CertData, CertTree, EndData, SplitEnd, LinearEnd, ClashEnd, FalseEnd, CasesData, NoCases, MoreCases}
 use Rattle.cert.specs.Parts.{parts_of, parts_of_negated, cases_of, cases_of_negated, both_of}
-use Rattle.cert.specs.Closes.{IsEntry, added, IsAllowed, AreAllowed, after_steps, IsFalseForm, formulas_in, Closes, EndCloses, EachCloses, Certifies}
-use Rattle.cert.proofs.Entries.{slice_get-append_front, slice_get-append_back}
+use Rattle.cert.specs.Closes.{AreAllowed, after_steps, IsFalseForm, formulas_in, Closes, EndCloses, EachCloses, Certifies}
 use Rattle.cert.proofs.RowTruth.{AreTrue, contradiction_false}
 use Rattle.cert.proofs.AxiomTruth.{instance_true}
 

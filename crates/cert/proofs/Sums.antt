@@ -1,13 +1,13 @@
 -- A term as a sum of unknowns with coefficients: what its weights say of its value when each unknown has some value.
-use Rattle.std.proofs.Common.{◌≡◌, zero, suc, ℤ, pos, negsuc, ◌+ℤ◌, ◌-ℤ◌, ◌*ℤ◌, Option, Some, None, Bool, true, false, cond, nat_lt, ◌^◌, refl, sym, ap, ◌∙◌, subst, arith, cond}
+use Rattle.std.proofs.Common.{◌≡◌, ℤ, pos, negsuc, ◌+ℤ◌, ◌-ℤ◌, ◌*ℤ◌, Option, Some, None, Bool, true, false, cond, nat_lt, ◌^◌, refl, sym, ap, ◌∙◌, arith, cond}
 use Rattle.std.proofs.lemmas.Int.{ints}
-use lib.IntN.{zero-*ℤ, *ℤ-zero, *ℤ_comm, *ℤ-one}
-use Rattle.fol.specs.FormulaData.{TermData, VarTerm, NumTerm, MaxTerm, TrueTerm, FalseTerm, NothingTerm, BlankTerm, EmptyTerm, WideTerm, AddTerm, SubTerm, MulTerm, DivTerm, ModTerm, AndTerm, OrTerm, XorTerm, ShlTerm, ShrTerm, SelectTerm, StoreTerm, LenTerm, AtTerm, PushTerm, PopTerm, SetTerm, PackTerm, FieldTerm, SetFieldTerm, IfTerm}
+use lib.IntN.{zero-*ℤ}
+use Rattle.fol.specs.FormulaData.{TermData, NumTerm, AddTerm, SubTerm, MulTerm}
 use Rattle.fol.specs.FormulaCodes.{term_code, term_back, term_back-code}
-use Rattle.fol.specs.TreeOrder.{same_tree, same_tree-equal, same_tree_itself}
-use Rattle.cert.specs.Linear.{kept, kept_of, same_term, numeral_of, Part, numeral_weight, unknown_weight, product_weight, weight}
+use Rattle.fol.specs.TreeOrder.{same_tree-equal, same_tree_itself}
+use Rattle.cert.specs.Linear.{kept, kept_of, same_term, numeral_of, unknown_weight, product_weight, weight}
 use Rattle.cert.specs.Unknowns.{EachUnknown, EachOfProduct}
-use Rattle.cert.proofs.Ring.{mul-add_ℤ, mul-sub_ℤ, mul_assoc_ℤ, add-mul_ℤ, sub-mul_ℤ, one-mul_ℤ}
+use Rattle.cert.proofs.Ring.{mul-add_ℤ, mul_assoc_ℤ, add-mul_ℤ, sub-mul_ℤ, one-mul_ℤ}
 
 -- ---- terms that are one
 

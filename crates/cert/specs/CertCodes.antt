@@ -1,7 +1,7 @@
 -- The codes by which the logic stores certificates: each as a tree of numbers, and back.
 use base.Stored.{Gv, gnil, gnum, gcons, num}
 use denote.Struct.Codes.{itself}
-use Rattle.std.specs.Prelude.{◌≡◌, ℕ, List, [], ◌∷◌, refl}
+use Rattle.std.specs.Prelude.{◌≡◌, List, [], ◌∷◌, refl}
 use Rattle.std.specs.Coded.{Coded, code_by}
 use Rattle.std.proofs.Common.{ap}
 use Rattle.pv_base.specs.Codes.{pick}

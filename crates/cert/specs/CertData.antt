@@ -1,5 +1,5 @@
 -- Certificates as pure data, as contracts see them.
-use Rattle.std.specs.Prelude.{◌≡◌, ℕ, ◌+◌, List, [], ◌∷◌, refl}
+use Rattle.std.specs.Prelude.{ℕ, ◌+◌, List, [], ◌∷◌}
 use Rattle.fol.specs.FormulaData.{FormulaData}
 use Rattle.cert.specs.declared.certificate.Axiom.{Axiom}
 use Rattle.cert.specs.declared.certificate.Multiple.{Multiple}

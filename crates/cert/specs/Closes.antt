@@ -1,7 +1,7 @@
 -- When a certificate closes a branch: a closed analytic tableau (R. Smullyan, First-Order Logic, chapter II), with
 -- instances of axioms and contradictions of linear arithmetic.
-use Rattle.std.specs.Prelude.{◌≡◌, ℕ, ◌≤◌, List, [], ◌∷◌, ◌++◌, length, slice_get, Option, Some, None, ◌⊎◌}
-use Rattle.fol.specs.FormulaData.{TermData, FalseTerm, FormulaData, EqFormula, HoldsFormula, NotFormula, AllOfFormula, AnyOfFormula, NoFormulas}
+use Rattle.std.specs.Prelude.{◌≡◌, ℕ, ◌≤◌, List, [], ◌∷◌, ◌++◌, length, slice_get, Some}
+use Rattle.fol.specs.FormulaData.{FalseTerm, FormulaData, EqFormula, HoldsFormula, NotFormula, AllOfFormula, AnyOfFormula, NoFormulas}
 use Rattle.cert.specs.CertData.{StepData, PartsStep, AxiomStep, CertData, CertTree, EndData, SplitEnd, LinearEnd, ClashEnd, FalseEnd, CasesData, NoCases, MoreCases}
 use Rattle.cert.specs.Parts.{parts_of, cases_of}
 use Rattle.cert.specs.Axioms.{IsInstanceOf}

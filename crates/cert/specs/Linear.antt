@@ -1,7 +1,7 @@
 -- Linear combinations of entries, read as rows over whole numbers. That nonnegative multiples of inequalities add up to
 -- a false one shows that they have no common solution: the easy half of Farkas' lemma (A. Schrijver, Theory of Linear
 -- and Integer Programming, section 7.3). All sums on the way are to fit 128 bits.
-use Rattle.std.specs.Prelude.{◌≡◌, ℕ, suc, ◌^◌, ℤ, pos, negsuc, ◌+ℤ◌, ◌-ℤ◌, ◌*ℤ◌, ◌≤ℤ◌, Bool, true, false, nat_lt, List, [], ◌∷◌, slice_get, Option, Some, None, if◌then◌else◌, All}
+use Rattle.std.specs.Prelude.{◌≡◌, ℕ, suc, ◌^◌, ℤ, pos, negsuc, ◌+ℤ◌, ◌-ℤ◌, ◌*ℤ◌, Bool, true, false, nat_lt, List, [], ◌∷◌, slice_get, Option, Some, None, if◌then◌else◌, All}
 use Rattle.fol.specs.FormulaData.{TermData, NumTerm, AddTerm, SubTerm, MulTerm, FormulaData, EqFormula, LeFormula, NotFormula}
 use Rattle.fol.specs.FormulaCodes.{term_code}
 use Rattle.fol.specs.TreeOrder.{same_tree}

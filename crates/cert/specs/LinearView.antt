@@ -1,6 +1,5 @@
 -- What the parts and rows of the checker stand for.
 use Rattle.std.specs.Prelude.{Some, None}
-use Rattle.fol.specs.FormulaData.{TermData}
 use Rattle.cert.specs.Linear as sums
 use Rattle.cert.specs.declared.linear.Part.{Part}
 use Rattle.cert.specs.declared.linear.Part.TheVariants.{Constant, Coefficient}

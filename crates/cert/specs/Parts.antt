@@ -1,7 +1,7 @@
 -- What a tableau does with an entry: a conjunction joins its parts to the branch, a disjunction splits the branch into
 -- its cases (R. Smullyan, First-Order Logic, chapter II, "alpha" and "beta" formulas).
 use Rattle.std.specs.Prelude.{List, [], ◌∷◌, map, Option, Some, None}
-use Rattle.fol.specs.FormulaData.{FormulaData, EqFormula, LeFormula, IsFormula, HoldsFormula, NotFormula, AllOfFormula, AnyOfFormula, ImpliesFormula, IffFormula, ForAllFormula, ExistsFormula, list_of_formulas, formulas_of}
+use Rattle.fol.specs.FormulaData.{FormulaData, NotFormula, AllOfFormula, AnyOfFormula, ImpliesFormula, IffFormula, list_of_formulas, formulas_of}
 
 -- both of two formulas
 abbrev pub both_of : FormulaData → FormulaData → FormulaData

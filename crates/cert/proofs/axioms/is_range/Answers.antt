@@ -1,5 +1,5 @@
-use Rattle.std.proofs.Common.{◌≡◌, sym, ap, ◌∙◌}
-use Rattle.fol.specs.FormulaData.{IsFormula, AllOfFormula, IffFormula, formulas_of}
+use Rattle.std.proofs.Common.{sym, ap, ◌∙◌}
+use Rattle.fol.specs.FormulaData.{AllOfFormula, IffFormula, formulas_of}
 use Rattle.fol.specs.FormulaView.{formula_of_node}
 use Rattle.cert.proofs.AxiomLemmas.{range_stored}
 use Rattle.cert.proofs.axioms.is_range.Goals as goal

@@ -1,7 +1,6 @@
-use Rattle.std.proofs.Common.{◌≡◌, ◌-◌, ◌+◌, ◌++◌, drop, sym, ap, ◌∙◌, length, get_or, slice_get, Some, arith}
+use Rattle.std.proofs.Common.{◌-◌, ◌+◌, ◌++◌, drop, sym, ap, ◌∙◌, length, slice_get, Some, arith}
 use Rattle.std.proofs.lemmas.Option.{slice_get-get_or}
 use Rattle.cert.specs.Branch.{entries_added}
-use Rattle.cert.specs.Closes.{added}
 use Rattle.cert.proofs.Entries.{slice_get-append_front, slice_get-append_back, entries_added-drop}
 use Rattle.cert.proofs.branch.entry_in.Goals as goal
 

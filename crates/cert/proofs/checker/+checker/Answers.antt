@@ -1,8 +1,7 @@
-use Rattle.std.proofs.Common.{◌≡◌, sym, ap, ◌∙◌, subst, ◌≤◌}
-use Rattle.cert.specs.Branch.{entries_of, entries_added}
+use Rattle.std.proofs.Common.{sym, ap, ◌∙◌, subst, ◌≤◌}
+use Rattle.cert.specs.Branch.{entries_of}
 use Rattle.cert.specs.CertData.{CertTree, SplitEnd, as_cases}
 use Rattle.cert.specs.CertView.{end_of_node}
-use Rattle.cert.specs.Closes.{EachCloses}
 use Rattle.cert.proofs.CheckerLemmas.{tree_closes, too_long, split_closes, no_split_closes, same_cases}
 use Rattle.cert.proofs.checker.+checker.Goals as goal
 

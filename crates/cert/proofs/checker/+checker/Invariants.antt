@@ -1,4 +1,4 @@
-use Rattle.std.proofs.Common.{ℕ, ◌+◌, ◌*◌}
+use Rattle.std.proofs.Common.{◌+◌, ◌*◌}
 use Rattle.cert.specs.CertData.{cert_size, end_size, cases_size, as_cases}
 use Rattle.cert.specs.CertView.{end_of_node}
 use Rattle.cert.proofs.checker.+checker.Given as goal

@@ -1,4 +1,4 @@
-use Rattle.std.proofs.Common.{◌≡◌, ap, arith, length}
+use Rattle.std.proofs.Common.{ap, arith, length}
 use Rattle.std.proofs.lemmas.List.Folds.{length-flat_map-take}
 use Rattle.cert.specs.Closes.{added}
 use Rattle.cert.proofs.checker.count_after.Goals as goal

@@ -1,6 +1,4 @@
-use Rattle.std.proofs.Common.{◌≡◌, IsTrue, ℕ, suc, pos, Some, None, ◌↔◌, subst}
 use Rattle.cert.specs.Branch.{entries_of}
-use Rattle.cert.specs.Linear.{total}
 use Rattle.cert.proofs.LinearLemmas.{last_test, positive_at}
 use Rattle.cert.proofs.linear.is_contradiction.Goals as goal
 

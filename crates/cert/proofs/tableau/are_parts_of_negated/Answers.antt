@@ -1,7 +1,7 @@
-use Rattle.std.proofs.Common.{◌≡◌, map, sym, ap, ◌∙◌}
-use Rattle.fol.specs.FormulaData.{NotFormula, AllOfFormula, AnyOfFormula, formulas_of}
+use Rattle.std.proofs.Common.{sym, ap, ◌∙◌}
+use Rattle.fol.specs.FormulaData.{AnyOfFormula, formulas_of}
 use Rattle.fol.specs.FormulaView.{formula_of_node}
-use Rattle.cert.proofs.TableauLemmas.{as_some, all_of_parts, any_of_parts, any_of_cases, all_of_cases}
+use Rattle.cert.proofs.TableauLemmas.{as_some, any_of_parts}
 use Rattle.cert.proofs.tableau.are_parts_of_negated.Goals as goal
 
 pub returns-in-AnyOf : goal.returns-in-AnyOf

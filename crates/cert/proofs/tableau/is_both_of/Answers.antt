@@ -1,7 +1,7 @@
-use Rattle.std.proofs.Common.{◌≡◌, map, sym, ap, ◌∙◌}
-use Rattle.fol.specs.FormulaData.{NotFormula, AllOfFormula, AnyOfFormula, formulas_of}
+use Rattle.std.proofs.Common.{sym, ap, ◌∙◌}
+use Rattle.fol.specs.FormulaData.{AllOfFormula, formulas_of}
 use Rattle.fol.specs.FormulaView.{formula_of_node}
-use Rattle.cert.proofs.TableauLemmas.{as_some, as_some_flipped, all_of_parts, any_of_parts, any_of_cases, all_of_cases, two_parts}
+use Rattle.cert.proofs.TableauLemmas.{two_parts}
 use Rattle.cert.proofs.tableau.is_both_of.Goals as goal
 
 pub returns-in-AllOf : goal.returns-in-AllOf

@@ -1,4 +1,4 @@
-use Rattle.std.proofs.Common.{◌≡◌, sym, ap, ◌∙◌}
+use Rattle.std.proofs.Common.{sym, ap, ◌∙◌}
 use Rattle.fol.specs.FormulaData.{AllOfFormula, formulas_of}
 use Rattle.fol.specs.FormulaView.{formula_of_node}
 use Rattle.cert.proofs.CheckerLemmas.{no_parts}
