@@ -10,8 +10,7 @@ pub struct Term {
     pub node: TermNode,
 }
 
-/// The forms of a term. What they say of values of another kind than they expect is in
-/// `specs/Value.antt`: each form has a value whatever its parts are.
+/// The forms of a term. Each has a value whatever its parts are; `specs/Operators.antt` says which.
 #[cycle(formula)]
 #[derive(Drop)]
 pub enum TermNode {
