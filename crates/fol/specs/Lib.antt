@@ -10,7 +10,6 @@ pub mod TypedValue
 pub mod Truth
 pub mod Validity
 pub mod ShapeCodes
-pub mod Parts
 pub mod Deciders
 pub mod Depth
 pub mod Numerals
