@@ -4,3 +4,4 @@ pub mod ReadingSteps
 pub mod SpellingLemmas
 pub mod FormSound
 pub mod FormComplete
+pub mod LineLemmas

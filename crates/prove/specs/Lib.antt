@@ -1,6 +1,7 @@
 pub mod FormData
 pub mod FormEnds
 pub mod FormFault
+pub mod Lines
 pub mod MemberData
 pub mod MemorySink
 pub mod MemorySources
@@ -15,3 +16,4 @@ pub mod Semantics
 pub mod Spelling
 pub mod Status
 pub mod Writing
+pub mod Stages

@@ -3,6 +3,7 @@
 
 pub mod form;
 pub mod form_fault;
+pub mod lines;
 pub mod memory_sink;
 pub mod memory_sources;
 pub mod outside;
@@ -10,6 +11,7 @@ pub mod reading;
 pub mod report;
 pub mod report_text;
 pub mod scope;
+pub mod stages;
 pub mod status;
 pub mod status_text;
 #[cfg(test)]
