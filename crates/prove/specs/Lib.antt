@@ -7,6 +7,7 @@ pub mod MemorySink
 pub mod MemorySources
 pub mod ModuleData
 pub mod Names
+pub mod Outcome
 pub mod Outside
 pub mod Reading
 pub mod ReportData

@@ -6,6 +6,7 @@ pub mod form_fault;
 pub mod lines;
 pub mod memory_sink;
 pub mod memory_sources;
+pub mod outcome;
 pub mod outside;
 pub mod reading;
 pub mod report;
