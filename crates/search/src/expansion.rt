@@ -1,0 +1,223 @@
+//! The parts and the cases of formulas, and instances of axioms.
+
+use fol::formula::{Formula, FormulaNode, Term, TermNode};
+use pv_base::memory::NoMemory;
+use pv_base::same::copy_type;
+use pv_base::types::{TypeNode, TypeTerm, Width};
+use std::alloc::Global;
+
+/// The parts of a conjunction; none of another formula.
+pub fn parts(alloc: Global, formula: &Formula) -> Result<Option<Vec<Formula>>, NoMemory> {
+    match &formula.node {
+        FormulaNode::AllOf(parts) => Ok(Some(copies(alloc, parts.as_slice())?)),
+        FormulaNode::Not(inner) => parts_of_negated(alloc, inner),
+        _ => Ok(None),
+    }
+}
+
+fn parts_of_negated(alloc: Global, formula: &Formula) -> Result<Option<Vec<Formula>>, NoMemory> {
+    match &formula.node {
+        FormulaNode::AnyOf(parts) => Ok(Some(negations(alloc, parts.as_slice())?)),
+        FormulaNode::Implies(left, right) => {
+            let mut both = Vec::new(alloc);
+            both.push(left.try_clone(alloc)?)?;
+            both.push(negation(alloc, right)?)?;
+            Ok(Some(both))
+        }
+        FormulaNode::Not(inner) => {
+            let mut only = Vec::new(alloc);
+            only.push(inner.try_clone(alloc)?)?;
+            Ok(Some(only))
+        }
+        _ => Ok(None),
+    }
+}
+
+/// The cases of a disjunction; none of another formula.
+pub fn cases(alloc: Global, formula: &Formula) -> Result<Option<Vec<Formula>>, NoMemory> {
+    match &formula.node {
+        FormulaNode::AnyOf(cases) => Ok(Some(copies(alloc, cases.as_slice())?)),
+        FormulaNode::Implies(left, right) => {
+            let mut both = Vec::new(alloc);
+            both.push(negation(alloc, left)?)?;
+            both.push(right.try_clone(alloc)?)?;
+            Ok(Some(both))
+        }
+        FormulaNode::Iff(left, right) => Ok(Some(two_ways(alloc, left, right, false)?)),
+        FormulaNode::Not(inner) => cases_of_negated(alloc, inner),
+        _ => Ok(None),
+    }
+}
+
+fn cases_of_negated(alloc: Global, formula: &Formula) -> Result<Option<Vec<Formula>>, NoMemory> {
+    match &formula.node {
+        FormulaNode::AllOf(parts) => Ok(Some(negations(alloc, parts.as_slice())?)),
+        FormulaNode::Iff(left, right) => Ok(Some(two_ways(alloc, left, right, true)?)),
+        _ => Ok(None),
+    }
+}
+
+/// Whether the formula is a disjunction.
+pub fn is_disjunction(formula: &Formula) -> bool {
+    match &formula.node {
+        FormulaNode::AnyOf(_) | FormulaNode::Implies(_, _) | FormulaNode::Iff(_, _) => true,
+        FormulaNode::Not(inner) => matches!(
+            &inner.node,
+            FormulaNode::AllOf(_) | FormulaNode::Iff(_, _)
+        ),
+        _ => false,
+    }
+}
+
+/// The range axiom at a term and a type of whole numbers from 0; none at another type.
+pub fn range(alloc: Global, of: &TypeTerm, term: &Term) -> Result<Option<Formula>, NoMemory> {
+    match greatest(of) {
+        Some(most) => {
+            let claim = Box::new(alloc, has_type(alloc, of, term)?)?;
+            let bounds = Box::new(alloc, Formula::all_of(bounds(alloc, term, most)?))?;
+            Ok(Some(Formula {
+                node: FormulaNode::Iff(claim, bounds),
+            }))
+        }
+        None => Ok(None),
+    }
+}
+
+fn has_type(alloc: Global, of: &TypeTerm, term: &Term) -> Result<Formula, NoMemory> {
+    let copy = term.try_clone(alloc)?;
+    Ok(Formula::has_type(copy_type(alloc, of)?, copy))
+}
+
+// The claims that the term is a whole number from 0 to the greatest.
+fn bounds(alloc: Global, term: &Term, most: Term) -> Result<Vec<Formula>, NoMemory> {
+    let mut parts = Vec::new(alloc);
+    parts.push(is_number(alloc, term)?)?;
+    parts.push(Formula::at_most(Term::number(0), term.try_clone(alloc)?))?;
+    parts.push(Formula::at_most(term.try_clone(alloc)?, most))?;
+    Ok(parts)
+}
+
+fn greatest(of: &TypeTerm) -> Option<Term> {
+    match &of.node {
+        TypeNode::Int(Width::U8) => Some(Term::number(0xff)),
+        TypeNode::Int(Width::U16) => Some(Term::number(0xffff)),
+        TypeNode::Int(Width::U32) => Some(Term::number(0xffff_ffff)),
+        TypeNode::Int(Width::U64) => Some(Term::number(0xffff_ffff_ffff_ffff)),
+        TypeNode::Int(Width::U128) | TypeNode::Address | TypeNode::Signer => Some(Term {
+            node: TermNode::Max,
+        }),
+        _ => None,
+    }
+}
+
+/// The claim that the term is a whole number.
+pub fn is_number(alloc: Global, term: &Term) -> Result<Formula, NoMemory> {
+    let number = TypeTerm {
+        node: TypeNode::Num,
+    };
+    Ok(Formula::has_type(number, term.try_clone(alloc)?))
+}
+
+/// Whether the term is a whole number by its form.
+pub fn is_whole(term: &Term) -> bool {
+    matches!(
+        &term.node,
+        TermNode::Num(_)
+            | TermNode::Max
+            | TermNode::Add(_, _)
+            | TermNode::Sub(_, _)
+            | TermNode::Mul(_, _)
+            | TermNode::Div(_, _)
+            | TermNode::Mod(_, _)
+            | TermNode::And(_, _)
+            | TermNode::Or(_, _)
+            | TermNode::Xor(_, _)
+            | TermNode::Shl(_, _, _)
+            | TermNode::Shr(_, _, _)
+            | TermNode::Len(_)
+    )
+}
+
+/// The trichotomy axiom at two terms.
+pub fn trichotomy(alloc: Global, left: &Term, right: &Term) -> Result<Formula, NoMemory> {
+    let mut cases = Vec::new(alloc);
+    cases.push(is_no_number(alloc, left)?)?;
+    cases.push(is_no_number(alloc, right)?)?;
+    cases.push(Formula::equal(left.try_clone(alloc)?, right.try_clone(alloc)?))?;
+    cases.push(is_less(alloc, left, right)?)?;
+    cases.push(is_less(alloc, right, left)?)?;
+    Ok(Formula::any_of(cases))
+}
+
+fn is_no_number(alloc: Global, term: &Term) -> Result<Formula, NoMemory> {
+    Formula::not(alloc, is_number(alloc, term)?)
+}
+
+fn equal(alloc: Global, left: &Term, right: &Term) -> Result<Formula, NoMemory> {
+    let first = left.try_clone(alloc)?;
+    Ok(Formula::equal(first, right.try_clone(alloc)?))
+}
+
+// The claim that the first term is at least 1 less than the second.
+fn is_less(alloc: Global, lesser: &Term, greater: &Term) -> Result<Formula, NoMemory> {
+    let predecessor = Term::difference(alloc, greater.try_clone(alloc)?, Term::number(1))?;
+    Ok(Formula::at_most(lesser.try_clone(alloc)?, predecessor))
+}
+
+/// The negation of a formula.
+pub fn negation(alloc: Global, formula: &Formula) -> Result<Formula, NoMemory> {
+    Formula::not(alloc, formula.try_clone(alloc)?)
+}
+
+// The cases of an equivalence, or of the negation of one: the left side holds in the first case alone,
+// the right side in the first or in the second.
+fn two_ways(
+    alloc: Global,
+    left: &Formula,
+    right: &Formula,
+    differ: bool,
+) -> Result<Vec<Formula>, NoMemory> {
+    let mut ways = Vec::new(alloc);
+    ways.push(both_of(alloc, left, false, right, differ)?)?;
+    ways.push(both_of(alloc, left, true, right, !differ)?)?;
+    Ok(ways)
+}
+
+// Both of two formulas, each negated where it is said so.
+fn both_of(
+    alloc: Global,
+    left: &Formula,
+    is_left_negated: bool,
+    right: &Formula,
+    is_right_negated: bool,
+) -> Result<Formula, NoMemory> {
+    let mut parts = Vec::new(alloc);
+    parts.push(signed(alloc, left, is_left_negated)?)?;
+    parts.push(signed(alloc, right, is_right_negated)?)?;
+    Ok(Formula::all_of(parts))
+}
+
+fn signed(alloc: Global, formula: &Formula, is_negated: bool) -> Result<Formula, NoMemory> {
+    if is_negated {
+        negation(alloc, formula)
+    } else {
+        formula.try_clone(alloc)
+    }
+}
+
+/// Second copies of formulas.
+pub fn copies(alloc: Global, formulas: &[Formula]) -> Result<Vec<Formula>, NoMemory> {
+    let mut all = Vec::new(alloc);
+    for formula in formulas {
+        all.push(formula.try_clone(alloc)?)?;
+    }
+    Ok(all)
+}
+
+fn negations(alloc: Global, formulas: &[Formula]) -> Result<Vec<Formula>, NoMemory> {
+    let mut all = Vec::new(alloc);
+    for formula in formulas {
+        all.push(negation(alloc, formula)?)?;
+    }
+    Ok(all)
+}
