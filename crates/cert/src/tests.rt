@@ -69,7 +69,11 @@ fn multipliers_decide(rt: HostRuntime) -> Result<(), Fail> {
     let formula = weaker_bound(rt.alloc())?;
     for (first, second, accepted) in [(1, 1, true), (2, 1, false), (-1, -1, false), (0, 0, false)] {
         let cert = by_rows(rt.alloc(), first, second)?;
-        assert_eq!(rt; check(&shapes, &formula, &cert), accepted, "{first} {second}");
+        assert_eq!(rt;
+            check(&shapes, &formula, &cert),
+            accepted,
+            "{first} {second}"
+        );
     }
     Ok(())
 }
