@@ -9,26 +9,26 @@ use Rattle.src_tree.specs.declared.token.TokenKind.{TokenKind}
 use Rattle.src_tree.specs.declared.token.TokenKind.TheVariants.{Word}
 use Rattle.src_tree.specs.declared.token.Punctuation.{Punctuation as Sign}
 use Rattle.src_tree.specs.declared.token.Punctuation.TheVariants.{LeftParenthesis, RightParenthesis, LeftBrace, RightBrace, Comma, Semicolon, Colon, ColonColon}
-use Rattle.prove.specs.declared.form.Atom.{Atom}
-use Rattle.prove.specs.declared.form.Atom.TheVariants.{Number as number_atom, Word as word_atom}
-use Rattle.prove.specs.declared.form.Operator.{Operator}
-use Rattle.prove.specs.declared.form.Operator.TheVariants.{Plus, Minus}
-use Rattle.prove.specs.declared.form.Operand.{Operand}
-use Rattle.prove.specs.declared.form.Comparison.{Comparison}
-use Rattle.prove.specs.declared.form.Comparison.TheVariants.{Equal, Less, Greater, LessEqual, GreaterEqual}
-use Rattle.prove.specs.declared.form.Condition.{Condition}
-use Rattle.prove.specs.declared.form.Condition.TheVariants.{True, False, Compares}
-use Rattle.prove.specs.declared.form.ClauseKind.{ClauseKind}
-use Rattle.prove.specs.declared.form.ClauseKind.TheVariants.{Requires, Ensures, AbortsIf}
-use Rattle.prove.specs.declared.form.Clause.{Clause}
-use Rattle.prove.specs.declared.form.Member.{Member}
-use Rattle.prove.specs.declared.form.Member.TheVariants.{Function as function_member, Spec as spec_member}
-use Rattle.prove.specs.FormData.{SumData}
-use Rattle.prove.specs.MemberData.{FunctionData, SpecData}
-use Rattle.prove.specs.ModuleData.{ModuleData}
-use Rattle.prove.specs.FormEnds.{ends_in_word}
+use Rattle.ref_sem.specs.declared.form.Atom.{Atom}
+use Rattle.ref_sem.specs.declared.form.Atom.TheVariants.{Number as number_atom, Word as word_atom}
+use Rattle.ref_sem.specs.declared.form.Operator.{Operator}
+use Rattle.ref_sem.specs.declared.form.Operator.TheVariants.{Plus, Minus}
+use Rattle.ref_sem.specs.declared.form.Operand.{Operand}
+use Rattle.ref_sem.specs.declared.form.Comparison.{Comparison}
+use Rattle.ref_sem.specs.declared.form.Comparison.TheVariants.{Equal, Less, Greater, LessEqual, GreaterEqual}
+use Rattle.ref_sem.specs.declared.form.Condition.{Condition}
+use Rattle.ref_sem.specs.declared.form.Condition.TheVariants.{True, False, Compares}
+use Rattle.ref_sem.specs.declared.form.ClauseKind.{ClauseKind}
+use Rattle.ref_sem.specs.declared.form.ClauseKind.TheVariants.{Requires, Ensures, AbortsIf}
+use Rattle.ref_sem.specs.declared.form.Clause.{Clause}
+use Rattle.ref_sem.specs.declared.form.Member.{Member}
+use Rattle.ref_sem.specs.declared.form.Member.TheVariants.{Function as function_member, Spec as spec_member}
+use Rattle.ref_sem.specs.FormData.{SumData}
+use Rattle.ref_sem.specs.MemberData.{FunctionData, SpecData}
+use Rattle.ref_sem.specs.ModuleData.{ModuleData}
+use Rattle.ref_sem.specs.FormEnds.{ends_in_word}
 use Rattle.prove.specs.Names.{is_keyword}
-use Rattle.prove.specs.Semantics.{same_name}
+use Rattle.ref_sem.specs.Semantics.{same_name}
 use Rattle.std.specs.Cmp.Lexicographic.{same_text}
 use Rattle.prove.specs.Reading.{Read, is_sign, is_word, after_sign, after_word, name_at, untyped, atom_of, atom_at, operator_of, operator_of_sign, operator_at, operand_at, operands_at, end_of_sum, sum_at, list_at, put_before, comparison_of, opens_types, comparison_at, compares_at, condition_at, kind_of_word, clause_kind_of, clause_at, clauses_at, parameter_at, next_parameter_at, more_parameters_at, parameters_at, heading_at, body_at, function_at, spec_at, member_at, members_at, number_at, module_name_at, module_at, at_end, file_at}
 use Rattle.prove.specs.Spelling.{Mark, word, number, sign, Matches, Spells, atom_marks, operator_sign, operand_marks, sum_marks, comparison_mark, condition_marks, kind_word, clause_marks, parameter_marks, next_parameter_marks, parameters_marks, member_marks, module_marks, IsName, IsProperAtom, IsProperSum, IsProperCondition, IsProperFunction, IsProperSpec, IsProperMember, IsProperModule, IsFormOf}

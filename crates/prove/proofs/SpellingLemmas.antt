@@ -11,7 +11,7 @@ use Rattle.src_tree.specs.declared.token.TokenKind.TheVariants.{Word, Number, By
 use Rattle.src_tree.specs.declared.token.NumberSuffix.{NumberSuffix}
 use Rattle.src_tree.specs.declared.token.NumberSuffix.TheVariants.{Absent, U8, U16, U32, U64, U128, U256}
 use Rattle.src_tree.specs.declared.token.Punctuation.{Punctuation as Sign}
-use Rattle.prove.specs.Semantics.{same_name}
+use Rattle.ref_sem.specs.Semantics.{same_name}
 use Rattle.prove.specs.Names.{is_keyword}
 use Rattle.prove.specs.Reading.{is_sign, is_word, after_sign, after_word, name_of, name_at, untyped, number_of, number_at}
 use Rattle.prove.specs.Spelling.{Mark, word, number, sign, IsNumber, Spells, IsName}

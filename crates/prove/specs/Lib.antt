@@ -1,11 +1,7 @@
-pub mod FormData
-pub mod FormEnds
 pub mod FormFault
 pub mod Lines
-pub mod MemberData
 pub mod MemorySink
 pub mod MemorySources
-pub mod ModuleData
 pub mod Names
 pub mod Outcome
 pub mod Outside
@@ -13,7 +9,6 @@ pub mod Reading
 pub mod ReportData
 pub mod ReportText
 pub mod Scope
-pub mod Semantics
 pub mod Spelling
 pub mod Status
 pub mod Writing

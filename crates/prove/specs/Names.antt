@@ -1,7 +1,7 @@
 -- Words that are no names. Source: The Move Book, lexical structure.
 use Rattle.std.specs.Prelude.{ℕ, Bool, List, [], ◌∷◌, codes}
 use Rattle.std.specs.List.{list_any}
-use Rattle.prove.specs.Semantics.{same_name}
+use Rattle.ref_sem.specs.Semantics.{same_name}
 
 abbrev pub keywords : List (List ℕ)
 keywords =

@@ -1,18 +1,18 @@
 -- Which words stand for something, and which names a function may give its parameters.
 use Rattle.std.specs.Prelude.{ℕ, Bool, true, false, not, ◌&&◌, ◌||◌, ◌==◌, nat_le, List, [], ◌∷◌, length, codes}
 use Rattle.std.specs.List.{list_any, list_all}
-use Rattle.prove.specs.declared.form.Atom.{Atom}
-use Rattle.prove.specs.declared.form.Atom.TheVariants.{Number, Word}
-use Rattle.prove.specs.declared.form.Condition.{Condition}
-use Rattle.prove.specs.declared.form.Condition.TheVariants.{True, False, Compares}
-use Rattle.prove.specs.declared.form.ClauseKind.{ClauseKind}
-use Rattle.prove.specs.declared.form.ClauseKind.TheVariants.{Requires, Ensures, AbortsIf}
-use Rattle.prove.specs.declared.form.Clause.{Clause}
+use Rattle.ref_sem.specs.declared.form.Atom.{Atom}
+use Rattle.ref_sem.specs.declared.form.Atom.TheVariants.{Number, Word}
+use Rattle.ref_sem.specs.declared.form.Condition.{Condition}
+use Rattle.ref_sem.specs.declared.form.Condition.TheVariants.{True, False, Compares}
+use Rattle.ref_sem.specs.declared.form.ClauseKind.{ClauseKind}
+use Rattle.ref_sem.specs.declared.form.ClauseKind.TheVariants.{Requires, Ensures, AbortsIf}
+use Rattle.ref_sem.specs.declared.form.Clause.{Clause}
 use Rattle.prove.specs.declared.scope.Place.{Place}
 use Rattle.prove.specs.declared.scope.Place.TheVariants.{Body, InClause}
-use Rattle.prove.specs.FormData.{SumData}
-use Rattle.prove.specs.MemberData.{FunctionData}
-use Rattle.prove.specs.Semantics.{same_name}
+use Rattle.ref_sem.specs.FormData.{SumData}
+use Rattle.ref_sem.specs.MemberData.{FunctionData}
+use Rattle.ref_sem.specs.Semantics.{same_name}
 
 -- the word is one of these names
 abbrev pub is_one_of : List (List ℕ) → List ℕ → Bool

@@ -8,24 +8,24 @@ use Rattle.src_tree.specs.declared.token.NumberLiteral.{NumberLiteral}
 use Rattle.src_tree.specs.declared.token.NumberSuffix.TheVariants.{Absent}
 use Rattle.src_tree.specs.declared.token.Punctuation.{Punctuation as Sign}
 use Rattle.src_tree.specs.declared.token.Punctuation.TheVariants.{LeftParenthesis, RightParenthesis, LeftBrace, RightBrace, Colon, ColonColon, Comma, Semicolon, Plus as plus_sign, Minus as minus_sign, EqualEqual, Less as less_sign, Greater as greater_sign, LessEqual as less_equal_sign, GreaterEqual as greater_equal_sign}
-use Rattle.prove.specs.declared.form.Atom.{Atom}
-use Rattle.prove.specs.declared.form.Atom.TheVariants.{Number as number_atom, Word as word_atom}
-use Rattle.prove.specs.declared.form.Operator.{Operator}
-use Rattle.prove.specs.declared.form.Operator.TheVariants.{Plus, Minus}
-use Rattle.prove.specs.declared.form.Operand.{Operand}
-use Rattle.prove.specs.declared.form.Comparison.{Comparison}
-use Rattle.prove.specs.declared.form.Comparison.TheVariants.{Equal, Less, Greater, LessEqual, GreaterEqual}
-use Rattle.prove.specs.declared.form.Condition.{Condition}
-use Rattle.prove.specs.declared.form.Condition.TheVariants.{True, False, Compares}
-use Rattle.prove.specs.declared.form.ClauseKind.{ClauseKind}
-use Rattle.prove.specs.declared.form.ClauseKind.TheVariants.{Requires, Ensures, AbortsIf}
-use Rattle.prove.specs.declared.form.Clause.{Clause}
-use Rattle.prove.specs.declared.form.Member.{Member}
-use Rattle.prove.specs.declared.form.Member.TheVariants.{Function, Spec}
-use Rattle.prove.specs.FormData.{SumData}
-use Rattle.prove.specs.MemberData.{FunctionData, SpecData}
-use Rattle.prove.specs.ModuleData.{ModuleData}
-use Rattle.prove.specs.FormEnds.{ends_in_word}
+use Rattle.ref_sem.specs.declared.form.Atom.{Atom}
+use Rattle.ref_sem.specs.declared.form.Atom.TheVariants.{Number as number_atom, Word as word_atom}
+use Rattle.ref_sem.specs.declared.form.Operator.{Operator}
+use Rattle.ref_sem.specs.declared.form.Operator.TheVariants.{Plus, Minus}
+use Rattle.ref_sem.specs.declared.form.Operand.{Operand}
+use Rattle.ref_sem.specs.declared.form.Comparison.{Comparison}
+use Rattle.ref_sem.specs.declared.form.Comparison.TheVariants.{Equal, Less, Greater, LessEqual, GreaterEqual}
+use Rattle.ref_sem.specs.declared.form.Condition.{Condition}
+use Rattle.ref_sem.specs.declared.form.Condition.TheVariants.{True, False, Compares}
+use Rattle.ref_sem.specs.declared.form.ClauseKind.{ClauseKind}
+use Rattle.ref_sem.specs.declared.form.ClauseKind.TheVariants.{Requires, Ensures, AbortsIf}
+use Rattle.ref_sem.specs.declared.form.Clause.{Clause}
+use Rattle.ref_sem.specs.declared.form.Member.{Member}
+use Rattle.ref_sem.specs.declared.form.Member.TheVariants.{Function, Spec}
+use Rattle.ref_sem.specs.FormData.{SumData}
+use Rattle.ref_sem.specs.MemberData.{FunctionData, SpecData}
+use Rattle.ref_sem.specs.ModuleData.{ModuleData}
+use Rattle.ref_sem.specs.FormEnds.{ends_in_word}
 use Rattle.prove.specs.Names.{is_keyword}
 
 -- ---- what one token has to be

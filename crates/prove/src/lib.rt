@@ -1,7 +1,6 @@
 //! The verifier's outer shell: what it asks of the outside, its statuses and its report.
 #![tactic(auto)]
 
-pub mod form;
 pub mod form_fault;
 pub mod lines;
 pub mod memory_sink;

@@ -6,10 +6,10 @@ ghost use Rattle.std.specs.List.{list_any};
 ghost use Rattle.prove.specs.Names.{is_keyword};
 ghost use Rattle.prove.specs.FormFault.{IfNotBuilt};
 ghost use Rattle.prove.specs.Reading.{after_sign, after_word, atom_at, body_at, clause_at, clause_kind_of, clauses_at, comparison_at, comparison_of, compares_at, condition_at, file_at, function_at, heading_at, is_sign, is_word, member_at, members_at, module_at, module_name_at, more_parameters_at, name_at, next_parameter_at, number_at, number_of, operand_at, operands_at, operator_at, operator_of, parameter_at, parameters_at, spec_at, sum_at};
-ghost use Rattle.prove.specs.Semantics.{same_name};
+ghost use Rattle.ref_sem.specs.Semantics.{same_name};
 ghost use Rattle.prove.specs.Spelling.{IsFormOf, IsOfNoForm};
 
-use crate::form::{
+use ref_sem::form::{
     Atom, Clause, ClauseKind, Comparison, Condition, Function, Member, Module, Operand, Operator,
     Spec, Sum,
 };

@@ -10,7 +10,7 @@ ghost use Rattle.prove.specs.Outside.{HasFaulted, IsLongFile};
 ghost use Rattle.prove.specs.Spelling.{IsFormOf, IsOfNoForm};
 ghost use Rattle.prove.specs.Stages.{NamesFile, UnlessSourceFault, FetchStopped, FormStopped, TokensStopped, first_place};
 
-use crate::form::Module;
+use ref_sem::form::Module;
 use crate::form_fault::FormFault;
 use crate::lines::LineFeeds;
 use crate::outside::{FILE_LIMIT, Fetched, Sources};

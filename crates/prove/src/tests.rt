@@ -1,6 +1,6 @@
 //! What no clause says: texts as a user sees them, and that each call succeeds where memory is ample.
 
-use crate::form::Member;
+use ref_sem::form::Member;
 use crate::memory_sink::VecSink;
 use crate::memory_sources::MapSources;
 use crate::outside::{Fetched, Sink, Sources, Wrote};

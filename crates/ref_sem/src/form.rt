@@ -2,7 +2,7 @@
 //! their specs.
 
 ghost use Rattle.std.specs.Prelude.{◌≡◌};
-ghost use Rattle.prove.specs.FormEnds.{ends_in_word};
+ghost use Rattle.ref_sem.specs.FormEnds.{ends_in_word};
 
 use pv_base::name::Name;
 use std::marker::Model;
@@ -37,7 +37,7 @@ pub struct Sum {
 }
 
 impl Model for Sum {
-    ghost use Rattle.prove.specs.FormData.{SumData};
+    ghost use Rattle.ref_sem.specs.FormData.{SumData};
 
     ghost Value = { SumData };
 
@@ -106,7 +106,7 @@ pub struct Function {
 }
 
 impl Model for Function {
-    ghost use Rattle.prove.specs.MemberData.{FunctionData};
+    ghost use Rattle.ref_sem.specs.MemberData.{FunctionData};
 
     ghost Value = { FunctionData };
 
@@ -122,7 +122,7 @@ pub struct Spec {
 }
 
 impl Model for Spec {
-    ghost use Rattle.prove.specs.MemberData.{SpecData};
+    ghost use Rattle.ref_sem.specs.MemberData.{SpecData};
 
     ghost Value = { SpecData };
 
@@ -145,7 +145,7 @@ pub struct Module {
 }
 
 impl Model for Module {
-    ghost use Rattle.prove.specs.ModuleData.{ModuleData};
+    ghost use Rattle.ref_sem.specs.ModuleData.{ModuleData};
 
     ghost Value = { ModuleData };
 

@@ -2,26 +2,28 @@
 -- Source: The Move Book, integers (arithmetic aborts where u64 can't hold the result; operands are evaluated from
 -- left to right), and the Move Specification Language reference (numbers in specs are unbounded whole numbers; the
 -- meaning of `requires`, `ensures` and `aborts_if`).
-use Rattle.std.specs.Prelude.{◌≡◌, ℕ, ◌+◌, ◌-◌, ◌^◌, ◌<◌, Bool, ℤ, pos, ◌+ℤ◌, ◌-ℤ◌, ◌≤ℤ◌, ◌<ℤ◌, nat_lt, nat_eq, if◌then◌else◌, List, [], ◌∷◌, Option, Some, None, option_and_then, All, Any, codes}
+use Rattle.std.specs.Prelude.{◌≡◌, ℕ, ◌+◌, ◌-◌, ◌^◌, ◌<◌, Bool, ℤ, pos, ◌+ℤ◌, ◌-ℤ◌, ◌≤ℤ◌, ◌<ℤ◌, nat_lt, nat_eq, if◌then◌else◌, List, [], ◌∷◌, ◌⊎◌, Option, Some, None, option_and_then, codes}
 use Rattle.std.specs.List.{flat_map, list_any}
 use Rattle.std.specs.Cmp.Lexicographic.{pointwise}
-use Rattle.prove.specs.declared.form.Atom.{Atom}
-use Rattle.prove.specs.declared.form.Atom.TheVariants.{Number, Word}
-use Rattle.prove.specs.declared.form.Operator.{Operator}
-use Rattle.prove.specs.declared.form.Operator.TheVariants.{Plus, Minus}
-use Rattle.prove.specs.declared.form.Operand.{Operand}
-use Rattle.prove.specs.declared.form.Comparison.{Comparison}
-use Rattle.prove.specs.declared.form.Comparison.TheVariants.{Equal, Less, Greater, LessEqual, GreaterEqual}
-use Rattle.prove.specs.declared.form.Condition.{Condition}
-use Rattle.prove.specs.declared.form.Condition.TheVariants.{True, False, Compares}
-use Rattle.prove.specs.declared.form.ClauseKind.{ClauseKind}
-use Rattle.prove.specs.declared.form.ClauseKind.TheVariants.{Requires, Ensures, AbortsIf}
-use Rattle.prove.specs.declared.form.Clause.{Clause}
-use Rattle.prove.specs.declared.form.Member.{Member}
-use Rattle.prove.specs.declared.form.Member.TheVariants.{Function, Spec}
-use Rattle.prove.specs.FormData.{SumData}
-use Rattle.prove.specs.MemberData.{FunctionData}
-use Rattle.prove.specs.ModuleData.{ModuleData}
+use Rattle.fol.specs.Val.{Val}
+use Rattle.fol.specs.Validity.{AnswersRight}
+use Rattle.ref_sem.specs.declared.form.Atom.{Atom}
+use Rattle.ref_sem.specs.declared.form.Atom.TheVariants.{Number, Word}
+use Rattle.ref_sem.specs.declared.form.Operator.{Operator}
+use Rattle.ref_sem.specs.declared.form.Operator.TheVariants.{Plus, Minus}
+use Rattle.ref_sem.specs.declared.form.Operand.{Operand}
+use Rattle.ref_sem.specs.declared.form.Comparison.{Comparison}
+use Rattle.ref_sem.specs.declared.form.Comparison.TheVariants.{Equal, Less, Greater, LessEqual, GreaterEqual}
+use Rattle.ref_sem.specs.declared.form.Condition.{Condition}
+use Rattle.ref_sem.specs.declared.form.Condition.TheVariants.{True, False, Compares}
+use Rattle.ref_sem.specs.declared.form.ClauseKind.{ClauseKind}
+use Rattle.ref_sem.specs.declared.form.ClauseKind.TheVariants.{Requires, Ensures, AbortsIf}
+use Rattle.ref_sem.specs.declared.form.Clause.{Clause}
+use Rattle.ref_sem.specs.declared.form.Member.{Member}
+use Rattle.ref_sem.specs.declared.form.Member.TheVariants.{Function, Spec}
+use Rattle.ref_sem.specs.FormData.{SumData}
+use Rattle.ref_sem.specs.MemberData.{FunctionData}
+use Rattle.ref_sem.specs.ModuleData.{ModuleData}
 
 -- ---- runs
 
@@ -104,20 +106,33 @@ clauses_of_member name (Spec s) = if same_name s.target name then s.clauses else
 abbrev pub clauses_of : ModuleData → FunctionData → List Clause
 clauses_of m f = flat_map (clauses_of_member f.name) m.members
 
--- each clause of the kind holds, or one does
+-- each clause of the kind holds
 abbrev pub AllHold : ClauseKind → Names → List Clause → Type 0
-AllHold kind names clauses = All (λ c. c.kind ≡ kind → Holds names c.condition) clauses
+AllHold kind names [] = Unit {0}
+AllHold kind names (c ∷ cs) = (c.kind ≡ kind → Holds names c.condition) × AllHold kind names cs
 
+-- some clause of the kind holds
 abbrev pub SomeHolds : ClauseKind → Names → List Clause → Type 0
-SomeHolds kind names clauses = Any (λ c. (c.kind ≡ kind) × Holds names c.condition) clauses
+SomeHolds kind names [] = ⊥
+SomeHolds kind names (c ∷ cs) = ((c.kind ≡ kind) × Holds names c.condition) ⊎ SomeHolds kind names cs
 
+-- there is a clause of the kind
 abbrev pub HasKind : ClauseKind → List Clause → Type 0
-HasKind kind clauses = Any (λ c. c.kind ≡ kind) clauses
+HasKind kind [] = ⊥
+HasKind kind (c ∷ cs) = (c.kind ≡ kind) ⊎ HasKind kind cs
 
--- The function keeps its contract: from all arguments that meet each `requires`, a run that returns meets each
--- `ensures`, and returns only where no `aborts_if` holds; a run aborts only where some `aborts_if` holds, unless the
--- function has none.
+-- A run that returns meets each `ensures`, and no `aborts_if` held at its start. Where a run aborts, some `aborts_if`
+-- held at its start, unless the function has none.
+abbrev pub MeetsClauses : FunctionData → List Clause → Arguments → Option ℕ → Type 0
+MeetsClauses f clauses arguments (Some result) =
+    AllHold Ensures (names_of f arguments result) clauses × (SomeHolds AbortsIf (names_of f arguments 0) clauses → ⊥)
+MeetsClauses f clauses arguments None = HasKind AbortsIf clauses → SomeHolds AbortsIf (names_of f arguments 0) clauses
+
+-- The function keeps its contract: each run meets the clauses that starts with u64 arguments that meet each `requires`.
 pub record KeepsContract (f : FunctionData) (clauses : List Clause) : Type 0 where
-  pub ensures_hold : (arguments : Arguments) (result : ℕ) → AreU64 arguments → AllHold Requires (names_of f arguments 0) clauses → run_sum arguments f.body ≡ Some result → AllHold Ensures (names_of f arguments result) clauses
-  pub aborts_if_refused : (arguments : Arguments) (result : ℕ) → AreU64 arguments → AllHold Requires (names_of f arguments 0) clauses → run_sum arguments f.body ≡ Some result → SomeHolds AbortsIf (names_of f arguments 0) clauses → ⊥
-  pub aborts_allowed : (arguments : Arguments) → AreU64 arguments → AllHold Requires (names_of f arguments 0) clauses → run_sum arguments f.body ≡ None → HasKind AbortsIf clauses → SomeHolds AbortsIf (names_of f arguments 0) clauses
+  pub each_run : (arguments : Arguments) → AreU64 arguments → AllHold Requires (names_of f arguments 0) clauses → MeetsClauses f clauses arguments (run_sum arguments f.body)
+
+-- The same, read classically: where a property either holds of all values or fails of one, which a test of all values
+-- that answers right says. No program can test all values, and to a classical reader there is just one such test.
+abbrev pub Keeps : FunctionData → List Clause → Type 0
+Keeps f clauses = (all : (Val → Bool) → Bool) → AnswersRight all → KeepsContract f clauses

@@ -1,9 +1,9 @@
 -- How a sum ends.
 use Rattle.std.specs.Prelude.{◌-◌, Bool, true, false, length, slice_get}
 use Rattle.std.specs.Option.{option_map_or}
-use Rattle.prove.specs.declared.form.Atom.{Atom}
-use Rattle.prove.specs.declared.form.Atom.TheVariants.{Number, Word}
-use Rattle.prove.specs.FormData.{SumData}
+use Rattle.ref_sem.specs.declared.form.Atom.{Atom}
+use Rattle.ref_sem.specs.declared.form.Atom.TheVariants.{Number, Word}
+use Rattle.ref_sem.specs.FormData.{SumData}
 
 abbrev pub is_word_atom : Atom → Bool
 is_word_atom (Number n) = false

@@ -1,7 +1,7 @@
 -- A module and its members as contracts see them.
 use Rattle.std.specs.Prelude.{ℕ, List}
-use Rattle.prove.specs.FormData.{SumData}
-use Rattle.prove.specs.declared.form.Clause.{Clause}
+use Rattle.ref_sem.specs.FormData.{SumData}
+use Rattle.ref_sem.specs.declared.form.Clause.{Clause}
 
 -- a function of u64 parameters whose body is a sum; `start` is the place of its first byte
 pub record FunctionData : Type 0 where

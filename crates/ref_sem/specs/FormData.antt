@@ -1,7 +1,7 @@
 -- The form of a file as contracts see it.
 use Rattle.std.specs.Prelude.{List}
-use Rattle.prove.specs.declared.form.Atom.{Atom}
-use Rattle.prove.specs.declared.form.Operand.{Operand}
+use Rattle.ref_sem.specs.declared.form.Atom.{Atom}
+use Rattle.ref_sem.specs.declared.form.Operand.{Operand}
 
 -- an atom, and then others with their signs, in order
 pub record SumData : Type 0 where

@@ -1,0 +1,5 @@
+pub mod FormData
+pub mod FormEnds
+pub mod MemberData
+pub mod ModuleData
+pub mod Semantics

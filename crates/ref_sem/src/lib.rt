@@ -1,0 +1,4 @@
+//! Reference semantics: what functions and the clauses of their specs mean.
+#![tactic(auto)]
+
+pub mod form;
