@@ -1,0 +1,71 @@
+//! The program: it verifies the file that its one word names, and reports to standard output.
+#![tactic(auto)]
+
+mod file_sources;
+mod out_sink;
+mod stand_in;
+#[cfg(test)]
+mod tests;
+mod words;
+
+ghost use Rattle.std.specs.Prelude.{◌≡◌, ◌<◌, ◌⊎◌};
+ghost use Rattle.std.specs.Io.KnownBytes.{append_known};
+ghost use Rattle.prove.specs.Outside.{HasFaulted};
+ghost use Rattle.prove.specs.Status.{no_memory_line};
+
+use crate::file_sources::FileSources;
+use crate::out_sink::OutSink;
+use crate::stand_in::movep;
+use crate::words::collect_words;
+use prove::outside::{Sink, Sources};
+use prove::status::{Device, Status};
+use prove::status_text::no_memory_line;
+use prove::writing::{SinkFault, write_piece};
+use pv_base::lists::Words;
+use pv_base::memory::NoMemory;
+use pv_base::steps::Steps;
+use std::alloc::Global;
+use std::marker::Brand;
+use std::process::ExitCode;
+use std::sync::ledger::{Blank, Ledger};
+
+/// Verifies the file that the words name, with a counter of search steps of its own.
+fn verify<S: Sources, W: Sink, L: Ledger>(
+    alloc: Global,
+    words: &Words,
+    sources: &mut S,
+    sink: &mut W,
+    blank: Blank,
+) -> Status
+    requires name { blank.name ≡ L.name }
+    requires parts { blank.parts ≡ L.parts }
+    requires some { 0 < L.parts }
+{
+    let mut steps = Steps::<L>::new(blank);
+    movep(alloc, words, sources, sink, &mut steps)
+}
+
+/// Ends a run that had no memory for its words.
+fn give_up<W: Sink>(sink: &mut W) -> Status
+    ensures ends { (result ≡ Status.NoMemory) ⊎ (result ≡ Status.Fault Device.Sink) }
+    ensures wrote { result ≡ Status.NoMemory → W.taken sink.new ≡ append_known (W.taken sink.old) no_memory_line }
+    ensures fault { result ≡ Status.Fault Device.Sink → HasFaulted (W.faults sink.old) (W.faults sink.new) }
+{
+    match write_piece(sink, no_memory_line()) {
+        Ok(()) => Status::NoMemory,
+        Err(SinkFault) => Status::Fault(Device::Sink),
+    }
+}
+
+fn main(rt: HostRuntime) -> ExitCode {
+    let alloc = rt.alloc();
+    let mut sources = FileSources::new(&rt);
+    let mut sink = OutSink::new(&rt);
+    let status = match collect_words(alloc, &rt) {
+        Ok(words) => {
+            verify::<_, _, Brand>(alloc, &words, &mut sources, &mut sink, Blank::new(1))
+        }
+        Err(NoMemory) => give_up(&mut sink),
+    };
+    ExitCode::from(status.code())
+}
