@@ -31,8 +31,9 @@ use Rattle.prove.specs.Names.{is_keyword}
 use Rattle.ref_sem.specs.Semantics.{same_name}
 use Rattle.std.specs.Cmp.Lexicographic.{same_text}
 use Rattle.prove.specs.Reading.{Read, is_sign, is_word, after_sign, after_word, name_at, untyped, atom_of, atom_at, operator_of, operator_of_sign, operator_at, operand_at, operands_at, end_of_sum, sum_at, list_at, put_before, comparison_of, opens_types, comparison_at, compares_at, condition_at, kind_of_word, clause_kind_of, clause_at, clauses_at, parameter_at, next_parameter_at, more_parameters_at, parameters_at, heading_at, body_at, function_at, spec_at, member_at, members_at, number_at, module_name_at, module_at, at_end, file_at}
-use Rattle.prove.specs.Spelling.{Mark, word, number, sign, Matches, Spells, atom_marks, operator_sign, operand_marks, sum_marks, comparison_mark, condition_marks, kind_word, clause_marks, parameter_marks, next_parameter_marks, parameters_marks, member_marks, module_marks, IsName, IsProperAtom, IsProperSum, IsProperCondition, IsProperFunction, IsProperSpec, IsProperMember, IsProperModule, IsFormOf}
-use Rattle.prove.proofs.SpellingLemmas.{Spells-split, length-Spells, after_sign-complete, after_word-complete, name_at-complete, number_at-complete, is_word-refl}
+use Rattle.prove.specs.Program.{IsScoped, IsScopedFile}
+use Rattle.prove.specs.Spelling.{Mark, word, number, sign, Matches, Spells, atom_marks, operator_sign, operand_marks, sum_marks, comparison_mark, condition_marks, kind_word, clause_marks, parameter_marks, next_parameter_marks, parameters_marks, member_marks, module_marks, IsName, IsProperAtom, IsProperSum, IsProperCondition, IsProperFunction, IsProperSpec, IsProperMember, IsProperModule, IsSpelledForm, IsFormOf, IsOfNoForm}
+use Rattle.prove.proofs.SpellingLemmas.{some_one, Spells-split, length-Spells, after_sign-complete, after_word-complete, name_at-complete, number_at-complete, is_word-refl}
 
 -- ---- chains of steps
 
@@ -390,7 +391,7 @@ module_at-complete m ts rest s p =
     (length b.mid) m.members b.mid rest (fewer_items member_marks member_some m.members (sign RightBrace) b.mid rest b.back) tt b.back p.1)
 
 -- each form that the tokens spell is the one that the reader reads
-pub file_at-complete : (file : Option ModuleData) (ts : List Token) → IsFormOf file ts → file_at ts ≡ Some file
+pub file_at-complete : (file : Option ModuleData) (ts : List Token) → IsSpelledForm file ts → file_at ts ≡ Some file
 unfolding file_at
 file_at-complete None [] is = refl
 file_at-complete None (t ∷ ts) is = absurd (not_nil is.spelled)
@@ -400,9 +401,17 @@ file_at-complete None (t ∷ ts) is = absurd (not_nil is.spelled)
 file_at-complete (Some m) [] is = absurd is.spelled
 file_at-complete (Some m) (t ∷ ts) is = bind_some (module_at (t ∷ ts)) (λ x. at_end (Some x.0) x.1) (m, []) (module_at-complete m (t ∷ ts) [] is.spelled is.proper)
 
+-- tokens spell one form
+pub one_form : (ts : List Token) (file other : Option ModuleData) → IsSpelledForm file ts → IsSpelledForm other ts → file ≡ other
+one_form ts file other a b = some_one file other (sym (file_at-complete file ts a) ∙ file_at-complete other ts b)
+
 -- where the reader reads nothing, the tokens spell no form
-pub no_form : (ts : List Token) → file_at ts ≡ None → (file : Option ModuleData) → IsFormOf file ts → ⊥
+pub no_form : (ts : List Token) → file_at ts ≡ None → (file : Option ModuleData) → IsSpelledForm file ts → ⊥
 no_form ts e file is = different (sym e ∙ file_at-complete file ts is)
   where
     different : ◌≡◌ {A = Option (Option ModuleData)} None (Some file) → ⊥
     different h = cc
+
+-- where the names of the form that the tokens spell break the rules, the tokens are of no form
+pub no_scoped_form : (ts : List Token) (m : ModuleData) → IsSpelledForm (Some m) ts → (IsScoped m → ⊥) → IsOfNoForm ts
+no_scoped_form ts m is bad file form = bad (subst IsScopedFile (one_form ts file (Some m) (record { spelled = form.spelled; proper = form.proper }) is) form.scoped)

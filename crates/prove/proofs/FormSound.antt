@@ -31,7 +31,7 @@ use Rattle.ref_sem.specs.FormEnds.{ends_in_word}
 use Rattle.prove.specs.Names.{is_keyword}
 use Rattle.ref_sem.specs.Semantics.{same_name}
 use Rattle.prove.specs.Reading.{Read, is_word, after_sign, after_word, name_at, untyped, atom_of, atom_at, operator_of, operator_of_sign, operator_at, operand_at, operands_at, end_of_sum, sum_at, list_at, put_before, comparison_of, comparison_of_sign, opens_types, comparison_at, compares_at, condition_at, kind_of_word, clause_kind_of, clause_at, clauses_at, parameter_at, next_parameter_at, more_parameters_at, parameters_at, heading_at, body_at, function_at, spec_at, member_at, members_at, number_at, module_name_at, module_at, at_end, file_at}
-use Rattle.prove.specs.Spelling.{Mark, word, number, sign, Matches, Spells, atom_marks, operator_sign, operand_marks, sum_marks, comparison_mark, condition_marks, kind_word, clause_marks, parameter_marks, next_parameter_marks, parameters_marks, member_marks, module_marks, IsName, IsProperAtom, IsProperSum, IsProperCondition, IsProperFunction, IsProperSpec, IsProperMember, IsProperModule, IsFormOf}
+use Rattle.prove.specs.Spelling.{Mark, word, number, sign, Matches, Spells, atom_marks, operator_sign, operand_marks, sum_marks, comparison_mark, condition_marks, kind_word, clause_marks, parameter_marks, next_parameter_marks, parameters_marks, member_marks, module_marks, IsName, IsProperAtom, IsProperSum, IsProperCondition, IsProperFunction, IsProperSpec, IsProperMember, IsProperModule, IsSpelledForm}
 use Rattle.prove.proofs.SpellingLemmas.{Spells-append, step, last, either, either_if, either_read, if_read, if_some, if_not, some_one, untyped-sound, after_sign-sound, after_word-sound, name_at-sound, number_at-sound, is_word-sound}
 
 -- ---- sums
@@ -383,11 +383,11 @@ at_end-sound x [] y e = (some_one x y e, refl)
 at_end-sound x (t ∷ ts) y e = absurd (cc)
 
 -- the form that the reader reads is one that the tokens spell
-pub file_at-sound : (ts : List Token) (file : Option ModuleData) → file_at ts ≡ Some file → IsFormOf file ts
+pub file_at-sound : (ts : List Token) (file : Option ModuleData) → file_at ts ≡ Some file → IsSpelledForm file ts
 unfolding file_at
-file_at-sound [] file e = subst (λ f. IsFormOf f []) (some_one None file e) (record { spelled = refl; proper = tt })
+file_at-sound [] file e = subst (λ f. IsSpelledForm f []) (some_one None file e) (record { spelled = refl; proper = tt })
 file_at-sound (t ∷ ts) file e =
     let m = step (module_at (t ∷ ts)) (λ m. at_end (Some m.0) m.1) file e in
     let s = module_at-sound (t ∷ ts) m.value m.first in
     let end = at_end-sound (Some m.value.0) m.value.1 file m.then in
-    subst (λ f. IsFormOf f (t ∷ ts)) end.0 (record { spelled = subst (λ us. Spells (module_marks m.value.0) (t ∷ ts) us) end.1 s.0; proper = s.1 })
+    subst (λ f. IsSpelledForm f (t ∷ ts)) end.0 (record { spelled = subst (λ us. Spells (module_marks m.value.0) (t ∷ ts) us) end.1 s.0; proper = s.1 })

@@ -5,3 +5,6 @@ pub mod SpellingLemmas
 pub mod FormSound
 pub mod FormComplete
 pub mod LineLemmas
+pub mod ProgramLemmas
+pub mod TableLemmas
+pub mod ClosedBody

@@ -1,5 +1,5 @@
 -- One step of each loop of the reader.
-use Rattle.std.proofs.Common.{◌≡◌, ℕ, zero, suc, List, [], ◌∷◌, ◌++◌, Option, Some, None, true, false, cond, Result, Ok, Err, MatchResult, IsErrAnd, subst, refl, sym, ap, ◌∙◌, append_assoc, append-nil}
+use Rattle.std.proofs.Common.{◌≡◌, ℕ, zero, suc, List, [], ◌∷◌, ◌++◌, Option, Some, None, true, false, cond, Result, Ok, Err, MatchResult, IfErr, IsErrAnd, subst, refl, sym, ap, ◌∙◌, append_assoc, append-nil}
 use Rattle.std.specs.Option.{option_map_or}
 use Rattle.std.specs.Prelude.{option_and_then, is_some}
 use Rattle.prove.specs.FormFault.{IfNotBuilt}
@@ -75,3 +75,7 @@ IfNotBuilt-weaker NoMemory f p = tt
 pub fault_hands_on : {X : Type 0} (r : Result X FormFault) (fault : FormFault) (P : X → Type 0) (Q : Type 0) → IsErrAnd r (λ f. f ≡ fault) → IfNotBuilt fault Q → MatchResult r P (λ f. IfNotBuilt f Q)
 fault_hands_on (Ok x) fault P Q e h = absurd e
 fault_hands_on (Err f) fault P Q e h = subst (λ g. IfNotBuilt g Q) (sym e) h
+
+pub fault_goes_on : {X : Type 0} (r : Result X FormFault) (fault : FormFault) (Q : Type 0) → IsErrAnd r (λ f. f ≡ fault) → IfNotBuilt fault Q → IfErr r (λ f. IfNotBuilt f Q)
+fault_goes_on (Ok x) fault Q e h = absurd e
+fault_goes_on (Err f) fault Q e h = subst (λ g. IfNotBuilt g Q) (sym e) h

@@ -5,6 +5,10 @@ pub mod MemorySources
 pub mod Names
 pub mod Outcome
 pub mod Outside
+pub mod Program
+pub mod ProgramData
+pub mod ProgramForm
+pub mod ClauseTable
 pub mod Reading
 pub mod ReportData
 pub mod ReportText

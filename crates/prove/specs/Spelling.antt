@@ -27,6 +27,7 @@ use Rattle.ref_sem.specs.MemberData.{FunctionData, SpecData}
 use Rattle.ref_sem.specs.ModuleData.{ModuleData}
 use Rattle.ref_sem.specs.FormEnds.{ends_in_word}
 use Rattle.prove.specs.Names.{is_keyword}
+use Rattle.prove.specs.Program.{IsScopedFile}
 
 -- ---- what one token has to be
 
@@ -172,10 +173,20 @@ IsProperFile None = Unit {0}
 IsProperFile (Some m) = IsProperModule m
 
 -- The tokens of a file spell this form, and no other tokens are in the file.
-pub record IsFormOf (file : Option ModuleData) (tokens : List Token) : Type 0 where
+pub record IsSpelledForm (file : Option ModuleData) (tokens : List Token) : Type 0 where
   pub spelled : Spells (file_marks file) tokens []
   pub proper : IsProperFile file
 
--- The tokens spell no form.
+-- The tokens of a file spell this form, no other tokens are in the file, and its names keep the rules.
+pub record IsFormOf (file : Option ModuleData) (tokens : List Token) : Type 0 where
+  pub spelled : Spells (file_marks file) tokens []
+  pub proper : IsProperFile file
+  pub scoped : IsScopedFile file
+
+-- The tokens spell no form, whatever its names are.
+abbrev pub SpellNoForm : List Token → Type 0
+SpellNoForm tokens = (file : Option ModuleData) → ¬ IsSpelledForm file tokens
+
+-- The tokens are of no form.
 abbrev pub IsOfNoForm : List Token → Type 0
 IsOfNoForm tokens = (file : Option ModuleData) → ¬ IsFormOf file tokens

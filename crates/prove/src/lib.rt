@@ -7,6 +7,7 @@ pub mod memory_sink;
 pub mod memory_sources;
 pub mod outcome;
 pub mod outside;
+pub mod program;
 pub mod reading;
 pub mod report;
 pub mod report_text;

@@ -7,14 +7,14 @@ ghost use Rattle.prove.specs.Names.{is_keyword};
 ghost use Rattle.prove.specs.FormFault.{IfNotBuilt};
 ghost use Rattle.prove.specs.Reading.{after_sign, after_word, atom_at, body_at, clause_at, clause_kind_of, clauses_at, comparison_at, comparison_of, compares_at, condition_at, file_at, function_at, heading_at, is_sign, is_word, member_at, members_at, module_at, module_name_at, more_parameters_at, name_at, next_parameter_at, number_at, number_of, operand_at, operands_at, operator_at, operator_of, parameter_at, parameters_at, spec_at, sum_at};
 ghost use Rattle.ref_sem.specs.Semantics.{same_name};
-ghost use Rattle.prove.specs.Spelling.{IsFormOf, IsOfNoForm};
+ghost use Rattle.prove.specs.Spelling.{IsSpelledForm, SpellNoForm};
 
+use crate::form_fault::FormFault;
+use pv_base::name::Name;
 use ref_sem::form::{
     Atom, Clause, ClauseKind, Comparison, Condition, Function, Member, Module, Operand, Operator,
     Spec, Sum,
 };
-use crate::form_fault::FormFault;
-use pv_base::name::Name;
 use src_tree::token::{NumberSuffix, Punctuation, Token, TokenKind, Tokens};
 use std::alloc::Global;
 
@@ -543,14 +543,14 @@ fn read_whole(alloc: Global, tokens: &[Token]) -> Result<Option<Module>, FormFau
     }
 }
 
-/// The form of a file: its module, or none where the file has no tokens.
+/// The form of a file, whatever its names are: its module, or none where the file has no tokens.
 ///
 /// # Errors
 ///
 /// `NotBuilt` comes exactly where the tokens spell no form that is built.
 pub fn read_form(alloc: Global, tokens: &Tokens) -> Result<Option<Module>, FormFault>
-    ensures ok { IfOk result (λ file. IsFormOf file tokens.now) }
-    ensures not_built { IfErr result (λ fault. IfNotBuilt fault (IsOfNoForm tokens.now)) }
+    ensures ok { IfOk result (λ file. IsSpelledForm file tokens.now) }
+    ensures not_built { IfErr result (λ fault. IfNotBuilt fault (SpellNoForm tokens.now)) }
 {
     read_whole(alloc, tokens.as_slice())
 }

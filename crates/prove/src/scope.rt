@@ -4,8 +4,8 @@ ghost use Rattle.std.specs.Prelude.{◌≡◌};
 ghost use Rattle.std.specs.List.{list_all};
 ghost use Rattle.prove.specs.Scope.{all_differ, are_parameters, begins_small, is_closed, is_known, is_one_of, knows_atom, knows_clause, knows_condition, knows_sum};
 
-use ref_sem::form::{Atom, Clause, ClauseKind, Condition, Function, Operand, Sum};
 use pv_base::name::Name;
+use ref_sem::form::{Atom, Clause, ClauseKind, Condition, Function, Operand, Sum};
 
 /// Where a word stands.
 #[derive(Clone, Copy, Debug, PartialEq, Eq)]

@@ -7,14 +7,15 @@ ghost use Rattle.src_tree.specs.Weight.{greatest_weight};
 ghost use Rattle.src_tree.specs.declared.token.Token.{Token};
 ghost use Rattle.prove.specs.Lines.{line_feeds, line_of};
 ghost use Rattle.prove.specs.Outside.{HasFaulted, IsLongFile};
-ghost use Rattle.prove.specs.Spelling.{IsFormOf, IsOfNoForm};
+ghost use Rattle.prove.specs.ProgramForm.{IsProgramOf};
+ghost use Rattle.prove.specs.Spelling.{IsOfNoForm};
 ghost use Rattle.prove.specs.Stages.{NamesFile, UnlessSourceFault, FetchStopped, FormStopped, TokensStopped, first_place};
 
-use ref_sem::form::Module;
 use crate::form_fault::FormFault;
 use crate::lines::LineFeeds;
 use crate::outside::{FILE_LIMIT, Fetched, Sources};
-use crate::reading::read_form;
+use crate::program;
+use crate::program::Program;
 use crate::status::{LimitKind, Rule};
 use pv_base::lists::{Bytes, Words};
 use pv_base::memory::NoMemory;
@@ -117,13 +118,17 @@ pub fn not_built(found: &Tokens, feeds: &LineFeeds) -> Stop
     Stop::Refused(Rule::NotBuilt, feeds.line(first_place(found)))
 }
 
-/// The module of a file, or none where the file has no tokens.
-pub fn read_module(alloc: Global, found: &Tokens, feeds: &LineFeeds) -> Result<Option<Module>, Stop>
-    ensures ok { IfOk result (λ file. IsFormOf file found.now) }
+/// The program of a file, or none where the file has no tokens.
+pub fn read_program(
+    alloc: Global,
+    found: &Tokens,
+    feeds: &LineFeeds,
+) -> Result<Option<Program>, Stop>
+    ensures ok { IfOk result (λ program. IsProgramOf found.now program) }
     ensures stopped { (bytes : List ℕ) → feeds.now ≡ line_feeds bytes → IfErr result (FormStopped bytes found.now) }
 {
-    match read_form(alloc, found) {
-        Ok(file) => Ok(file),
+    match program::read_program(alloc, found) {
+        Ok(program) => Ok(program),
         Err(FormFault::NotBuilt) => Err(not_built(found, feeds)),
         Err(FormFault::NoMemory) => Err(Stop::NoMemory),
     }

@@ -1,3 +1,4 @@
+pub mod Bodies
 pub mod FormData
 pub mod FormEnds
 pub mod MemberData
