@@ -1,8 +1,11 @@
 pub mod BoundLemmas
 pub mod CombinationLemmas
 pub mod ContradictionLemmas
+pub mod GivenLemmas
 pub mod IntegerLemmas
 pub mod ListLemmas
 pub mod NumberLemmas
 pub mod ProductLemmas
+pub mod StageLemmas
 pub mod SubstitutionLemmas
+pub mod SumLemmas

@@ -3,6 +3,7 @@ use Rattle.std.specs.Prelude.{List, All}
 use Rattle.std.proofs.Common.{ℤ}
 use Rattle.lin_arith.specs.Inequality.{Inequality}
 use Rattle.lin_arith.specs.Combination.{IsContradiction}
+use Rattle.lin_arith.specs.Elimination.{ReachesLimit}
 use Rattle.lin_arith.specs.Substitution.{Meets, ArePositive}
 use Rattle.lin_arith.specs.declared.rows.Fraction.{Fraction}
 use Rattle.lin_arith.specs.declared.rows.LinAnswer.{LinAnswer}
@@ -24,6 +25,13 @@ IfFeasible (Feasible values) P = P values
 IfFeasible (Wide first second) P = Unit {0}
 IfFeasible (TooManyRows rows) P = Unit {0}
 
+-- a fact of the rows, where the answer has some
+abbrev pub IfTooManyRows : LinAnswer → (List Inequality → Type 0) → Type 0
+IfTooManyRows (Infeasible multipliers) P = Unit {0}
+IfTooManyRows (Feasible values) P = Unit {0}
+IfTooManyRows (Wide first second) P = Unit {0}
+IfTooManyRows (TooManyRows found) P = P found
+
 -- values that meet every row
 pub record IsSolution (rows : List Inequality) (values : List Fraction) : Type 0 where
   pub positive : ArePositive values
@@ -31,7 +39,7 @@ pub record IsSolution (rows : List Inequality) (values : List Fraction) : Type 0
 
 -- the answer shows what it says of the rows
 abbrev pub Shows : List Inequality → LinAnswer → Type 0
-Shows rows answer = IfInfeasible answer (IsContradiction rows) × IfFeasible answer (IsSolution rows)
+Shows rows answer = IfInfeasible answer (IsContradiction rows) × IfFeasible answer (IsSolution rows) × IfTooManyRows answer (ReachesLimit rows)
 
 abbrev pub StopShows : List Inequality → Stop → Type 0
 StopShows rows (Answered answer) = Shows rows answer

@@ -1,7 +1,9 @@
 pub mod Answer
 pub mod Bounds
 pub mod Combination
+pub mod Elimination
 pub mod Floor
 pub mod Inequality
 pub mod Reduction
+pub mod Stages
 pub mod Substitution

@@ -1,14 +1,18 @@
 //! The elimination of one unknown after another.
 
-ghost use Rattle.std.specs.Prelude.{◌≡◌, ◌<◌, pos, ◌≤ℤ◌, All, IfErr, IfOk, IfSome, length, List};
-ghost use Rattle.lin_arith.specs.Inequality.{Inequality};
+ghost use Rattle.std.specs.Prelude.{◌≡◌, ◌<◌, ◌∷◌, ◌++◌, [], pos, ◌<ℤ◌, ◌≤ℤ◌, All, IfErr, IfOk, OnOk, IfSome, ℕ, length, List};
+ghost use Rattle.std.specs.Option.{SomeIff};
+ghost use Rattle.lin_arith.specs.Inequality.{Inequality, coefficient};
+ghost use Rattle.lin_arith.specs.Combination.{combination, CombinesWithin};
+ghost use Rattle.lin_arith.specs.Elimination.{IsUnit};
+ghost use Rattle.lin_arith.specs.Stages.{AreMultipliers, IsDerived, AreBefore, IsStage, IsStageBefore, IsUnderWay};
 ghost use Rattle.lin_arith.specs.Answer.{StopShows};
 
 use crate::combination::combined;
-use crate::numbers::greatest_common_divisor;
 use crate::reduction::reduced;
 use crate::rows::{LinAnswer, LinRow, Multipliers, Rows};
 use crate::stop::Stop;
+use crate::sums::{cancelling, least_mixed, sum_of_rows};
 use crate::system::System;
 use pv_base::memory::NoMemory;
 use std::alloc::Global;
@@ -26,7 +30,7 @@ pub struct Derived {
     /// The given rows times the multipliers, added up: a positive multiple of the row.
     pub total: LinRow,
     /// One for each given row.
-    pub multipliers: Vec<u128>,
+    pub multipliers: Vec<i128>,
 }
 
 /// What an elimination of an unknown left behind.
@@ -43,40 +47,34 @@ pub struct Stage {
 #[derive(Drop)]
 pub struct Elimination {
     alloc: Global,
-    /// How many rows were made, over all stages.
-    made: usize,
-    /// The rows of this stage, as lists of numbers.
+    /// The unknowns that were eliminated, in order.
+    unknowns: Vec<usize>,
+    /// The different rows of all stages, in the order in which they were made.
+    found: Rows,
+    /// The numbers of these rows.
     keys: BTreeSet<Vec<i128>>,
     /// The rows of this stage.
     live: Vec<Derived>,
-    /// The unknowns that were eliminated, each with the rows that it stood in.
+    /// The earlier stages, each with the rows that its unknown stood in.
     stages: Vec<Stage>,
 }
 
 impl Elimination {
     /// The first stage: the given rows, none of them twice.
     pub fn new(alloc: Global, system: &System<'_>) -> Result<Elimination, Stop>
-        ensures { IfErr result (StopShows system.now.rows.now) }
+        ensures ok { IfOk result (IsUnderWay system.now.width system.now.rows.now) }
+        ensures err { IfErr result (StopShows system.now.rows.now) }
     {
         let mut elimination = Elimination {
             alloc,
-            made: 0,
+            unknowns: Vec::new(alloc),
+            found: Rows::new(alloc),
             keys: BTreeSet::new(alloc),
             live: Vec::new(alloc),
             stages: Vec::new(alloc),
         };
         for i in 0..system.rows.len() {
-            let mut multipliers = vec![in alloc; 0u128; system.rows.len()]?;
-            multipliers[i] = 1;
-            let made = row_of_multipliers(alloc, system, multipliers)?;
-            let Some(mut made) = made else {
-                let row = system.rows[i].try_clone(alloc)?;
-                let twin = system.rows[i].try_clone(alloc)?;
-                return Err(Stop::Answered(LinAnswer::Wide(row, twin)));
-            };
-            made.row = made.total.try_clone(alloc)?;
-            elimination.add(made)?;
-            elimination.check_limit()?;
+            elimination.add(given(alloc, system, i)?)?;
         }
         Ok(elimination)
     }
@@ -85,51 +83,40 @@ impl Elimination {
     pub fn into_stages(self) -> Vec<Stage> {
         let Elimination {
             alloc: _,
-            made: _,
+            unknowns,
+            found,
             keys,
             live,
             stages,
         } = self;
+        drop(unknowns);
+        drop(found);
         drop(keys);
         drop(live);
         stages
     }
 
-    /// Adds a row to this stage, unless it stands there.
-    fn add(&mut self, made: Derived) -> Result<(), NoMemory> {
+    /// Adds a row to this stage, unless it stands there. Stops where the limit of rows is reached.
+    fn add(&mut self, made: Derived) -> Result<(), Stop>
+        ensures ok { (width : ℕ) (rows : List Inequality) → IsUnderWay width rows self.old → IsDerived width rows self.old.unknowns.items made → OnOk result (IsUnderWay width rows self.new) }
+        ensures err { (width : ℕ) (rows : List Inequality) → IsUnderWay width rows self.old → IsDerived width rows self.old.unknowns.items made → IfErr result (StopShows rows) }
+        ensures unknowns { OnOk result (self.new.unknowns.items ≡ self.old.unknowns.items) }
+    {
         if self.keys.insert(key_of(self.alloc, &made.row)?)? {
+            self.found.push(made.row.try_clone(self.alloc)?)?;
             self.live.push(made)?;
-            self.made = self.made.saturating_add(1);
+            if self.found.as_slice().len() >= MOST_ROWS {
+                let found = mem::replace(&mut self.found, Rows::new(self.alloc));
+                return Err(Stop::Answered(LinAnswer::TooManyRows(found)));
+            }
         }
         Ok(())
     }
 
-    /// Stops where the limit of rows is reached.
-    fn check_limit(&self) -> Result<(), Stop>
-        ensures { IfErr result (λ stop. (rows : List Inequality) → StopShows rows stop) }
-    {
-        if self.made < MOST_ROWS {
-            Ok(())
-        } else {
-            Err(Stop::Answered(LinAnswer::TooManyRows(self.all_rows()?)))
-        }
-    }
-
-    /// All rows that were made.
-    fn all_rows(&self) -> Result<Rows, NoMemory> {
-        let mut rows = Rows::new(self.alloc);
-        for stage in self.stages.iter() {
-            for made in stage.upper.iter() {
-                rows.push(made.row.try_clone(self.alloc)?)?;
-            }
-            for made in stage.lower.iter() {
-                rows.push(made.row.try_clone(self.alloc)?)?;
-            }
-        }
-        for made in self.live.iter() {
-            rows.push(made.row.try_clone(self.alloc)?)?;
-        }
-        Ok(rows)
+    /// Whether a row was made before.
+    fn stands(&self, row: &LinRow) -> Result<bool, NoMemory> {
+        let key = key_of(self.alloc, row)?;
+        Ok(self.keys.contains(&key))
     }
 
     /// The unknown with the fewest sums, or none where none is left.
@@ -156,26 +143,28 @@ impl Elimination {
         best
     }
 
-    /// Takes the rows with the unknown out of this stage.
-    fn split(&mut self, unknown: usize) -> Result<Stage, NoMemory> {
+    /// Goes to the next stage, and takes the rows with the unknown out of it.
+    fn split(&mut self, unknown: usize) -> Result<Stage, NoMemory>
+        ensures unknown { IfOk result (λ stage. stage.unknown ≡ unknown) }
+        ensures unknowns { OnOk result (self.new.unknowns.items ≡ self.old.unknowns.items ++ unknown ∷ []) }
+        ensures stage { (width : ℕ) (rows : List Inequality) → IsUnderWay width rows self.old → IfOk result (IsStage width rows self.old.unknowns.items) }
+        ensures under_way { (width : ℕ) (rows : List Inequality) → IsUnderWay width rows self.old → OnOk result (IsUnderWay width rows self.new) }
+    {
         let mut stage = Stage {
             unknown,
             upper: Vec::new(self.alloc),
             lower: Vec::new(self.alloc),
         };
+        self.unknowns.push(unknown)?;
         let live = mem::replace(&mut self.live, Vec::new(self.alloc));
         for made in live {
-            let coefficient = made.row.coefficient(unknown);
-            if coefficient == 0 {
-                self.live.push(made)?;
-                continue;
-            }
-            let key = key_of(self.alloc, &made.row)?;
-            self.keys.remove(&key);
+            let coefficient = made.total.coefficient(unknown);
             if coefficient > 0 {
                 stage.upper.push(made)?;
-            } else {
+            } else if coefficient < 0 {
                 stage.lower.push(made)?;
+            } else {
+                self.live.push(made)?;
             }
         }
         Ok(stage)
@@ -183,33 +172,57 @@ impl Elimination {
 
     /// Goes to the next stage: the rows without the unknown, and the sums of two rows that cancel it.
     fn eliminate(&mut self, system: &System<'_>, unknown: usize) -> Result<(), Stop>
-        ensures { IfErr result (StopShows system.now.rows.now) }
+        requires { IsUnderWay system.now.width system.now.rows.now self.old }
+        ensures ok { OnOk result (IsUnderWay system.now.width system.now.rows.now self.new) }
+        ensures err { IfErr result (StopShows system.now.rows.now) }
     {
         let stage = self.split(unknown)?;
         self.add_sums(system, &stage)?;
         self.stages.push(stage)?;
-        self.check_limit()
+        Ok(())
     }
 
-    /// Adds the sums of two rows that cancel the stage's unknown, up to the limit of rows.
+    /// Adds the sums of two rows that cancel the stage's unknown.
     fn add_sums(&mut self, system: &System<'_>, stage: &Stage) -> Result<(), Stop>
-        ensures { IfErr result (StopShows system.now.rows.now) }
+        requires under_way { IsUnderWay system.now.width system.now.rows.now self.old }
+        requires before { IsStageBefore system.now.width system.now.rows.now self.old.unknowns.items stage.now }
+        ensures ok { OnOk result (IsUnderWay system.now.width system.now.rows.now self.new) }
+        ensures err { IfErr result (StopShows system.now.rows.now) }
     {
         for upper in stage.upper.iter() {
             for lower in stage.lower.iter() {
-                if self.made >= MOST_ROWS {
-                    return Ok(());
-                }
-                let made = sum_without(self.alloc, system, stage.unknown, upper, lower)?;
-                self.add(made)?;
+                self.add_sum(system, stage.unknown, upper, lower)?;
             }
         }
         Ok(())
     }
 
+    /// Adds the sum of two rows that cancels an unknown.
+    fn add_sum(
+        &mut self,
+        system: &System<'_>,
+        unknown: usize,
+        upper: &Derived,
+        lower: &Derived,
+    ) -> Result<(), Stop>
+        requires under_way { IsUnderWay system.now.width system.now.rows.now self.old }
+        requires before { AreBefore system.now.width system.now.rows.now self.old.unknowns.items unknown upper.now lower.now }
+        ensures ok { OnOk result (IsUnderWay system.now.width system.now.rows.now self.new) }
+        ensures err { IfErr result (StopShows system.now.rows.now) }
+        ensures unknowns { OnOk result (self.new.unknowns.items ≡ self.old.unknowns.items) }
+    {
+        if let Some(sum) = sum_of_rows(self.alloc, unknown, &upper.row, &lower.row)? {
+            if self.stands(&sum)? {
+                return Ok(());
+            }
+        }
+        self.add(sum_without(self.alloc, system, unknown, upper, lower)?)
+    }
+
     /// Eliminates every unknown.
     pub fn run(&mut self, system: &System<'_>) -> Result<(), Stop>
-        ensures { IfErr result (StopShows system.now.rows.now) }
+        requires { IsUnderWay system.now.width system.now.rows.now self.old }
+        ensures err { IfErr result (StopShows system.now.rows.now) }
     {
         for _ in 0..system.width {
             match self.next_unknown(system.width) {
@@ -222,11 +235,42 @@ impl Elimination {
 }
 
 /// The numbers of a row, the bound first.
-fn key_of(alloc: Global, row: &LinRow) -> Result<Vec<i128>, NoMemory> {
+fn key_of(alloc: Global, row: &LinRow) -> Result<Vec<i128>, NoMemory>
+    ensures { IfOk result (λ key. key.items ≡ row.now.bound ∷ row.now.coefficients) }
+{
     let mut key = Vec::with_capacity(alloc, 1)?;
     key.push(row.bound())?;
     key.extend_from_slice(row.coefficients())?;
     Ok(key)
+}
+
+/// A given row, as one of the first stage. Where it is a contradiction, that is the answer.
+fn given(alloc: Global, system: &System<'_>, i: usize) -> Result<Derived, Stop>
+    requires { i < length system.now.rows.now }
+    ensures ok { IfOk result (IsDerived system.now.width system.now.rows.now []) }
+    ensures err { IfErr result (StopShows system.now.rows.now) }
+{
+    let multipliers = unit(alloc, system.rows.len(), i)?;
+    let row = system.rows[i].padded(alloc, system.width)?;
+    if row.is_contradiction() {
+        let shown = Multipliers::new(multipliers);
+        return Err(Stop::Answered(LinAnswer::Infeasible(shown)));
+    }
+    Ok(Derived {
+        row: row.try_clone(alloc)?,
+        total: row,
+        multipliers,
+    })
+}
+
+/// The multipliers of a given row: 1 for itself.
+fn unit(alloc: Global, count: usize, i: usize) -> Result<Vec<i128>, NoMemory>
+    requires { i < count }
+    ensures { IfOk result (λ ms. IsUnit count i ms.items) }
+{
+    let mut multipliers = vec![in alloc; 0i128; count]?;
+    multipliers[i] = 1;
+    Ok(multipliers)
 }
 
 /// The sum of two rows, in which the unknown has a coefficient above 0 and one below, without it.
@@ -237,11 +281,24 @@ fn sum_without(
     upper: &Derived,
     lower: &Derived,
 ) -> Result<Derived, Stop>
-    ensures { IfErr result (StopShows system.now.rows.now) }
+    requires upper { AreMultipliers system.now.rows.now upper.now.multipliers.items }
+    requires lower { AreMultipliers system.now.rows.now lower.now.multipliers.items }
+    ensures ok { (unknowns : List ℕ) → AreBefore system.now.width system.now.rows.now unknowns unknown upper.now lower.now → IfOk result (IsDerived system.now.width system.now.rows.now unknowns) }
+    ensures err { IfErr result (StopShows system.now.rows.now) }
 {
-    if let Some(multipliers) = mixed(alloc, system.rows.len(), unknown, upper, lower)? {
-        if let Some(made) = row_of_multipliers(alloc, system, multipliers)? {
-            return Ok(made);
+    let weights = cancelling(
+        upper.total.coefficient(unknown),
+        lower.total.coefficient(unknown),
+    );
+    let first = upper.multipliers.as_slice();
+    let second = lower.multipliers.as_slice();
+    if let Some(multipliers) = least_mixed(alloc, weights, first, second)? {
+        if let Some(total) = total_of(alloc, system, multipliers.as_slice())? {
+            return Ok(Derived {
+                row: reduced(alloc, &total)?,
+                total,
+                multipliers,
+            });
         }
     }
     let first = upper.row.try_clone(alloc)?;
@@ -249,84 +306,23 @@ fn sum_without(
     Err(Stop::Answered(LinAnswer::Wide(first, second)))
 }
 
-/// The least multipliers of the given rows in the ratio by which they go into the sum of two rows that
-/// cancels the unknown. None where a number on the way leaves 128 bits.
-fn mixed(
-    alloc: Global,
-    count: usize,
-    unknown: usize,
-    upper: &Derived,
-    lower: &Derived,
-) -> Result<Option<Vec<u128>>, NoMemory> {
-    let above = upper.total.coefficient(unknown).unsigned_abs();
-    let below = lower.total.coefficient(unknown).unsigned_abs();
-    let common = greatest_common_divisor(above, below).max(1);
-    let first = below / common;
-    let second = above / common;
-    let mut divisor = 0;
-    let mut mixed = Vec::with_capacity(alloc, count)?;
-    for i in 0..count {
-        let from_upper = upper.multipliers.get(i).copied().unwrap_or(0);
-        let from_lower = lower.multipliers.get(i).copied().unwrap_or(0);
-        let Some(left) = first.checked_mul(from_upper) else {
-            return Ok(None);
-        };
-        let Some(right) = second.checked_mul(from_lower) else {
-            return Ok(None);
-        };
-        let Some(both) = left.checked_add(right) else {
-            return Ok(None);
-        };
-        if divisor != 1 {
-            divisor = greatest_common_divisor(divisor, both);
-        }
-        mixed.push(both)?;
-    }
-    if divisor > 1 {
-        for multiplier in mixed.iter_mut() {
-            *multiplier /= divisor;
-        }
-    }
-    Ok(Some(mixed))
-}
-
-/// The row that these multipliers of the given rows make. None where a multiplier or a sum on the way
-/// leaves 128 bits. Where the row is a contradiction, that is the answer.
-fn row_of_multipliers(
+/// The combination of the given rows by these multipliers. None where a product or a sum on the way
+/// leaves 128 bits. Where it is a contradiction, that is the answer.
+fn total_of(
     alloc: Global,
     system: &System<'_>,
-    multipliers: Vec<u128>,
-) -> Result<Option<Derived>, Stop>
-    ensures { IfErr result (StopShows system.now.rows.now) }
+    multipliers: &[i128],
+) -> Result<Option<LinRow>, Stop>
+    requires { AreMultipliers system.now.rows.now multipliers.now }
+    ensures ok { IfOk result (λ made. SomeIff made (CombinesWithin system.now.width multipliers.now system.now.rows.now) (combination system.now.width multipliers.now system.now.rows.now)) }
+    ensures err { IfErr result (StopShows system.now.rows.now) }
 {
-    let Some(signed) = signed(alloc, system.rows.len(), multipliers.as_slice())? else {
-        return Ok(None);
-    };
-    let Some(total) = combined(alloc, system.width, signed.as_slice(), system.rows)? else {
-        return Ok(None);
-    };
-    if total.is_contradiction() {
-        return Err(Stop::Answered(LinAnswer::Infeasible(Multipliers::new(signed))));
+    let total = combined(alloc, system.width, multipliers, system.rows)?;
+    if let Some(row) = &total {
+        if row.is_contradiction() {
+            let shown = Multipliers::new(Vec::from_slice(alloc, multipliers)?);
+            return Err(Stop::Answered(LinAnswer::Infeasible(shown)));
+        }
     }
-    Ok(Some(Derived {
-        row: reduced(alloc, &total)?,
-        total,
-        multipliers,
-    }))
-}
-
-/// The first `count` multipliers as signed numbers. None where one of them leaves 128 bits.
-fn signed(alloc: Global, count: usize, multipliers: &[u128]) -> Result<Option<Vec<i128>>, NoMemory>
-    ensures one_each { IfOk result (λ signed. IfSome signed (λ ms. length ms.items ≡ count)) }
-    ensures not_negative { IfOk result (λ signed. IfSome signed (λ ms. All (λ m. pos 0 ≤ℤ m) ms.items)) }
-{
-    let mut signed = Vec::with_capacity(alloc, count)?;
-    for i in 0..count {
-        let multiplier = multipliers.get(i).copied().unwrap_or(0);
-        let Ok(multiplier) = i128::try_from(multiplier) else {
-            return Ok(None);
-        };
-        signed.push(multiplier)?;
-    }
-    Ok(Some(signed))
+    Ok(total)
 }

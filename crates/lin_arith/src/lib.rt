@@ -14,6 +14,7 @@ mod rows;
 mod solver;
 mod stop;
 mod substitution;
+mod sums;
 mod system;
 #[cfg(test)]
 mod tests;

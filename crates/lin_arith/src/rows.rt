@@ -1,6 +1,8 @@
 //! Rows, systems of rows, and what an elimination answers.
 
-ghost use Rattle.std.specs.Prelude.{◌≡◌, ◌∷◌, ◌++◌, [], OnOk, OnErr, IfOk};
+ghost use Rattle.std.specs.Prelude.{◌≡◌, ◌∷◌, ◌++◌, [], OnOk, OnErr, IfOk, map, FitsSigned};
+ghost use Rattle.std.specs.List.{range_with_len};
+ghost use Rattle.std.specs.Int.{w128};
 ghost use Rattle.std.specs.Prelude.{IsTrue, ◌↔◌, All, pos, ◌<ℤ◌, ◌≤ℤ◌};
 ghost use Rattle.lin_arith.specs.Inequality.{coefficient};
 ghost use Rattle.lin_arith.specs.Combination.{part_of};
@@ -49,6 +51,17 @@ impl LinRow {
         ensures { result ≡ self.now.bound }
     {
         self.bound
+    }
+
+    /// The coefficients, without the row.
+    pub fn into_coefficients(self) -> Vec<i128>
+        ensures { result.items ≡ self.coefficients }
+    {
+        let LinRow {
+            coefficients,
+            bound: _,
+        } = self;
+        coefficients
     }
 
     /// A second copy of the row.
@@ -222,6 +235,22 @@ impl LinRow {
             Part::Coefficient(unknown) => self.coefficient(unknown),
             Part::Bound => self.bound,
         }
+    }
+
+    /// The row with the coefficients of the first `width` unknowns.
+    pub fn padded(&self, alloc: Global, width: usize) -> Result<LinRow, NoMemory>
+        ensures padded { IfOk result (λ row. row ≡ record { coefficients = map (λ u. coefficient u self.now) (range_with_len 0 width); bound = self.now.bound }) }
+        ensures fits { FitsSigned w128 self.now.bound }
+    {
+        let bound = self.bound;
+        let mut coefficients = Vec::with_capacity(alloc, width)?;
+        for unknown in 0..width {
+            coefficients.push(self.coefficient(unknown))?;
+        }
+        Ok(LinRow {
+            coefficients,
+            bound,
+        })
     }
 
     /// Whether no unknown is left.

@@ -4,8 +4,9 @@ ghost use Rattle.std.specs.Prelude.{pos, ◌<ℤ◌, IfOk, IfErr, OnOk, List};
 ghost use Rattle.lin_arith.specs.Inequality.{Inequality};
 ghost use Rattle.lin_arith.specs.Combination.{IsContradiction};
 ghost use Rattle.lin_arith.specs.Bounds.{AreNonzero};
+ghost use Rattle.lin_arith.specs.Elimination.{ReachesLimit};
 ghost use Rattle.lin_arith.specs.Substitution.{ArePositive};
-ghost use Rattle.lin_arith.specs.Answer.{IfInfeasible, IfFeasible, IsSolution, Shows, StopShows};
+ghost use Rattle.lin_arith.specs.Answer.{IfInfeasible, IfFeasible, IfTooManyRows, IsSolution, Shows, StopShows};
 
 use crate::bounds::{Bound, chosen};
 use crate::elimination::{Derived, Elimination, Stage};
@@ -21,14 +22,15 @@ use std::alloc::Global;
 ///
 /// `Infeasible` carries multipliers whose combination of the rows is a contradiction, with every product
 /// and sum on the way within 128 bits. `Feasible` carries values that meet every row, put in one after
-/// another. `NoMemory` comes where memory ran out.
+/// another. `TooManyRows` carries 5,000 different rows of the stages of one elimination. `NoMemory` comes
+/// where memory ran out.
 ///
-/// No clause says yet when `Wide` and `TooManyRows` come, nor that the values of the last step, which are
-/// put into each row before they are returned, always meet it: where they did not, the answer would be
-/// `Wide`.
+/// No clause says yet when `Wide` comes, nor that the values of the last step, which are put into each
+/// row before they are returned, always meet it: where they did not, the answer would be `NoMemory`.
 pub fn solve(alloc: Global, rows: &Rows) -> Result<LinAnswer, NoMemory>
     ensures infeasible { IfOk result (λ answer. IfInfeasible answer (IsContradiction rows.now)) }
     ensures feasible { IfOk result (λ answer. IfFeasible answer (IsSolution rows.now)) }
+    ensures too_many_rows { IfOk result (λ answer. IfTooManyRows answer (ReachesLimit rows.now)) }
 {
     match answered(alloc, rows.as_slice()) {
         Ok(answer) => Ok(answer),
@@ -148,7 +150,7 @@ fn checked(alloc: Global, rows: &[LinRow], values: Vec<Fraction>) -> Result<LinA
     for row in rows {
         let left = put_in_all(alloc, row, values.as_slice())?;
         if !left.is_true() {
-            return Err(Stop::Answered(LinAnswer::Wide(row.try_clone(alloc)?, left)));
+            return Err(Stop::OutOfMemory);
         }
     }
     Ok(LinAnswer::Feasible(Fractions::from_values(values)))

@@ -1,0 +1,26 @@
+use Rattle.std.proofs.Common.{◌∷◌, ◌++◌, [], ap, ◌∙◌, sym}
+use Rattle.lin_arith.specs.Inequality.{Inequality}
+use Rattle.lin_arith.specs.declared.elimination.Elimination.{Elimination}
+use Rattle.lin_arith.proofs.StageLemmas.{under_way_with, limit_with, under_way_same, negated}
+use Rattle.lin_arith.proofs.elimination.Elimination.add.Goals as goal
+use Rattle.lin_arith.proofs.elimination.Elimination.add.Goals.{then-branch+in_ok-try_clone+in_ok-push+in_ok-push-2+else-as_slice-ge-MOST_ROWS, else-branch}
+
+pub returns-clause-ok : goal.returns-clause-ok
+returns-clause-ok c = λ width rows u d. elim c.if-branch.branch [
+  | then-branch+in_ok-try_clone+in_ok-push+in_ok-push-2+else-as_slice-ge-MOST_ROWS w ↦
+      let old = c.args.self.now in
+      let fresh = negated _ _ c.in_ok-insert.ensures.added w.if-branch.true in
+      let found = w.in_ok-push.ensures.ok ∙ ap (λ (r : Inequality). old.found ++ r ∷ []) w.in_ok-try_clone.ensures in
+      under_way_with width rows old c.if-branch.self c.args.made c.in_ok-key_of.field-0 u d (ap (λ (e : Elimination). e.unknowns.items) w.self-is) (ap (λ (e : Elimination). e.live.items) w.self-is ∙ w.in_ok-push-2.ensures.items) (ap (λ (e : Elimination). e.found) w.self-is ∙ found) c.in_ok-key_of.ensures fresh (rw w.self-is c.in_ok-insert.ensures.updates) (rw w.self-is (let l = w.if-as_slice-ge-MOST_ROWS.false in rw w.as_slice.ensures at l))
+  | else-branch w ↦
+      let same = rw w.if-branch.false at c.in_ok-insert.ensures.unchanged in
+      rw w.self-is (under_way_same width rows c.args.self.now c.insert.new.self u (sym same))
+]
+
+pub returns-then-as_slice-ge-MOST_ROWS-clause-err : goal.returns-then-as_slice-ge-MOST_ROWS-clause-err
+returns-then-as_slice-ge-MOST_ROWS-clause-err c = λ width rows u d.
+    let old = c.args.self.now in
+    let fresh = negated _ _ c.in_ok-insert.ensures.added c.if-branch.true in
+    let found = c.in_ok-push.ensures.ok ∙ ap (λ (r : Inequality). old.found ++ r ∷ []) c.in_ok-try_clone.ensures in
+    let many = rw c.as_slice.ensures at c.if-as_slice-ge-MOST_ROWS.true in
+    (tt, tt, limit_with width rows old c.insert.new.self c.replace-found.result c.args.made c.in_ok-key_of.field-0 u d (c.replace-found.ensures.value ∙ found) c.in_ok-key_of.ensures fresh c.in_ok-insert.ensures.updates (rw c.replace-found.ensures.value many))

@@ -1,0 +1,14 @@
+use Rattle.std.proofs.Common.{◌∷◌, ◌++◌, [], ap, ◌∙◌, sym, ℕ}
+use Rattle.lin_arith.proofs.elimination.Elimination.eliminate.Goals as goal
+
+pub add_sums-requires-clause-under_way : goal.add_sums-requires-clause-under_way
+add_sums-requires-clause-under_way c = c.in_ok-stage.ensures.under_way c.args.system.now.width c.args.system.now.rows.now c.requires
+
+pub add_sums-requires-clause-before : goal.add_sums-requires-clause-before
+add_sums-requires-clause-before c =
+    let us = c.args.self.now.unknowns.items in
+    record {
+      before = us;
+      is_last = ap (λ (n : ℕ). us ++ n ∷ []) c.in_ok-stage.ensures.unknown ∙ sym c.in_ok-stage.ensures.unknowns;
+      is_stage = c.in_ok-stage.ensures.stage c.args.system.now.width c.args.system.now.rows.now c.requires;
+    }

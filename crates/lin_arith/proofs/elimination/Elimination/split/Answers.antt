@@ -1,0 +1,67 @@
+use Rattle.std.proofs.Common.{rules, refl, ◌≡◌, pos, ◌<ℤ◌, sym, ◌∙◌, FitsSigned, subst, arith, ℕ, ℤ, ◌∷◌, ◌++◌, []}
+use Rattle.std.specs.Int.{w128}
+use Rattle.std.proofs.lemmas.Int.{ints}
+use Rattle.lin_arith.specs.Inequality.{coefficient}
+use Rattle.lin_arith.proofs.StageLemmas.{head_derived, tail_derived, stage_with_upper, stage_with_lower, kept_derived, live_with, under_way_next}
+use Rattle.lin_arith.proofs.elimination.Elimination.split.Goals as goal
+
+pub loop-made-preserved-in-Continue-branch-2 : goal.loop-made-preserved-in-Continue-branch-2
+loop-made-preserved-in-Continue-branch-2 c =
+    let inv = c.loop-made.invariant in
+    let us = c.args.self.now.unknowns.items in
+    let made = c.in-Some.made in
+    let s = c.in-Some.ensures.steps.0 in
+    let f : FitsSigned w128 c.coefficient-coefficient.result = search rules in
+    let sign : pos 0 <ℤ c.coefficient-coefficient.result = omega (arith, ints) in
+    let at : pos 0 <ℤ coefficient c.args.unknown made.total = subst (λ (z : ℤ). pos 0 <ℤ z) c.coefficient-coefficient.ensures sign in
+    record {
+      unknown = inv.unknown;
+      unknowns = inv.unknowns;
+      found = inv.found;
+      keys = inv.keys;
+      rest = λ width rows u. tail_derived width rows us _ _ made (inv.rest width rows u) s;
+      stage = λ width rows u. stage_with_upper width rows us c.loop-made.stage _ made (inv.stage width rows u) (head_derived width rows us _ _ made (inv.rest width rows u) s) (subst (λ (n : ℕ). pos 0 <ℤ coefficient n made.total) (sym inv.unknown) at) refl c.in_ok-push-2.ensures.items refl;
+      live = inv.live;
+    }
+
+pub loop-made-preserved-in-Continue-branch-3 : goal.loop-made-preserved-in-Continue-branch-3
+loop-made-preserved-in-Continue-branch-3 c =
+    let inv = c.loop-made.invariant in
+    let us = c.args.self.now.unknowns.items in
+    let made = c.in-Some.made in
+    let s = c.in-Some.ensures.steps.0 in
+    let f : FitsSigned w128 c.coefficient-coefficient.result = search rules in
+    let sign : c.coefficient-coefficient.result <ℤ pos 0 = omega (arith, ints) in
+    let at : coefficient c.args.unknown made.total <ℤ pos 0 = subst (λ (z : ℤ). z <ℤ pos 0) c.coefficient-coefficient.ensures sign in
+    record {
+      unknown = inv.unknown;
+      unknowns = inv.unknowns;
+      found = inv.found;
+      keys = inv.keys;
+      rest = λ width rows u. tail_derived width rows us _ _ made (inv.rest width rows u) s;
+      stage = λ width rows u. stage_with_lower width rows us c.loop-made.stage _ made (inv.stage width rows u) (head_derived width rows us _ _ made (inv.rest width rows u) s) (subst (λ (n : ℕ). coefficient n made.total <ℤ pos 0) (sym inv.unknown) at) refl refl c.in_ok-push-3.ensures.items;
+      live = inv.live;
+    }
+
+pub loop-made-preserved : goal.loop-made-preserved
+loop-made-preserved c =
+    let inv = c.loop-made.invariant in
+    let us = c.args.self.now.unknowns.items in
+    let made = c.in-Some.made in
+    let s = c.in-Some.ensures.steps.0 in
+    let f : FitsSigned w128 c.coefficient-coefficient.result = search rules in
+    let none : c.coefficient-coefficient.result ≡ pos 0 = omega (arith, ints) in
+    record {
+      unknown = inv.unknown;
+      unknowns = inv.unknowns;
+      found = inv.found;
+      keys = inv.keys;
+      rest = λ width rows u. tail_derived width rows us _ _ made (inv.rest width rows u) s;
+      stage = inv.stage;
+      live = λ width rows u. live_with width rows (us ++ c.args.unknown ∷ []) _ _ made (inv.live width rows u) (kept_derived width rows us c.args.unknown made (head_derived width rows us _ _ made (inv.rest width rows u) s) (sym c.coefficient-coefficient.ensures ∙ none)) c.in_ok-push-4.ensures.items;
+    }
+
+pub returns-clause-under_way : goal.returns-clause-under_way
+returns-clause-under_way c = λ width rows u.
+    let inv = c.loop-made.invariant in
+    under_way_next width rows c.args.unknown c.args.self.now c.loop-made.self u inv.unknowns inv.found inv.keys (inv.live width rows u)

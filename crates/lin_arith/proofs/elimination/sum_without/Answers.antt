@@ -1,0 +1,33 @@
+use Rattle.std.proofs.Common.{rules, ◌≡◌, ◌<ℤ◌, pos, ap, ◌∙◌, List, ℤ, FitsSigned}
+use Rattle.std.specs.Int.{w128}
+use Rattle.std.proofs.lemmas.Int.{to_z-of_z}
+use Rattle.lin_arith.specs.Inequality.{coefficient}
+use Rattle.lin_arith.specs.Combination.{combination}
+use Rattle.lin_arith.specs.Elimination.{Cancels, IsLeastMix}
+use Rattle.lin_arith.proofs.StageLemmas.{least_multipliers, sum_derived}
+use Rattle.lin_arith.proofs.elimination.sum_without.Goals as goal
+
+pub total_of-requires : goal.total_of-requires
+total_of-requires c =
+    let least = rw c.in-Some.is at c.in_ok-multipliers.ensures.some in
+    let made = rw (c.as_slice-first.ensures.value, c.as_slice-second.ensures.value) at least in
+    rw c.as_slice.ensures.value (least_multipliers c.args.system.now.rows.now _ _ _ _ _ c.requires.upper c.requires.lower made)
+
+pub returns-in-Some-2-clause-ok : goal.returns-in-Some-2-clause-ok
+returns-in-Some-2-clause-ok c = λ unknowns before.
+    let system = c.args.system.now in
+    let upper = c.args.upper.now in
+    let lower = c.args.lower.now in
+    let weights = c.cancelling-weights.result in
+    let fu : FitsSigned w128 c.coefficient.result = search rules in
+    let fl : FitsSigned w128 c.coefficient-2.result = search rules in
+    let some = rw c.in-Some.is at c.in_ok-multipliers.ensures.some in
+    let least : IsLeastMix weights.first weights.second upper.multipliers.items lower.multipliers.items c.in-Some.multipliers.items = rw (c.as_slice-first.ensures.value, c.as_slice-second.ensures.value) at some in
+    let made = rw c.in-Some-2.is at c.in_ok-total.ensures.ok in
+    let total : c.in-Some-2.total ≡ combination system.width c.in-Some.multipliers.items system.rows.now = made.1 ∙ ap (λ (ms : List ℤ). combination system.width ms system.rows.now) c.as_slice.ensures.value in
+    let above : pos 0 <ℤ c.coefficient.result = rw c.coefficient.ensures before.above in
+    let below : c.coefficient-2.result <ℤ pos 0 = rw c.coefficient-2.ensures before.below in
+    let k = simp to_z-of_z at c.cancelling-weights.ensures in
+    let cancels : Cancels c.coefficient.result c.coefficient-2.result weights.first weights.second = k above below in
+    let cancelled : Cancels (coefficient c.args.unknown upper.total) (coefficient c.args.unknown lower.total) weights.first weights.second = rw (c.coefficient.ensures, c.coefficient-2.ensures) at cancels in
+    sum_derived system.width system.rows.now unknowns c.args.unknown weights.first weights.second upper lower _ before cancelled least total c.in_ok-reduced.ensures

@@ -1,0 +1,114 @@
+//! Sums of two lists of numbers, with multipliers that cancel an unknown.
+
+ghost use Rattle.std.specs.Prelude.{◌<◌, ◌≡◌, length, pos, ◌<ℤ◌, ◌+ℤ◌, ◌*ℤ◌, IfOk, IfSome, IfNone};
+ghost use Rattle.std.specs.Option.{SomeIff};
+ghost use Rattle.lin_arith.specs.Elimination.{Cancels, IsMix, IsLeastMix, MixFits, MixLeaves};
+
+use crate::combination::plus_product;
+use crate::numbers::greatest_common_divisor;
+use crate::reduction::reduced;
+use crate::rows::LinRow;
+use pv_base::memory::NoMemory;
+use std::alloc::Global;
+
+/// Multipliers of two rows.
+#[derive(Clone, Copy, Debug)]
+pub struct Weights {
+    pub first: u128,
+    pub second: u128,
+}
+
+/// The least positive multipliers with which a number above 0 and one below cancel.
+pub fn cancelling(above: i128, below: i128) -> Weights
+    ensures { pos 0 <ℤ above → below <ℤ pos 0 → Cancels above below result.first result.second }
+{
+    let above = above.unsigned_abs();
+    let below = below.unsigned_abs();
+    let common = greatest_common_divisor(above, below);
+    if common == 0 {
+        return Weights {
+            first: 1,
+            second: 1,
+        };
+    }
+    Weights {
+        first: below / common,
+        second: above / common,
+    }
+}
+
+/// Two numbers times their multipliers, added. None where a multiplier, a product or the sum leaves 128
+/// bits.
+pub fn mixed_number(weights: Weights, first: i128, second: i128) -> Option<i128>
+    ensures { SomeIff result (MixFits weights.first weights.second first second)
+        ((pos weights.first *ℤ first) +ℤ (pos weights.second *ℤ second)) }
+{
+    let Ok(first_weight) = i128::try_from(weights.first) else {
+        return None;
+    };
+    let Ok(second_weight) = i128::try_from(weights.second) else {
+        return None;
+    };
+    match first_weight.checked_mul(first) {
+        Some(product) => plus_product(product, second_weight, second),
+        None => None,
+    }
+}
+
+/// Two lists times their multipliers, added number by number. None where one leaves 128 bits.
+pub fn mixed(
+    alloc: Global,
+    weights: Weights,
+    first: &[i128],
+    second: &[i128],
+) -> Result<Option<Vec<i128>>, NoMemory>
+    ensures some { IfOk result (λ made. IfSome made (λ ms. IsMix weights.first weights.second first.now second.now ms.items)) }
+    ensures none { IfOk result (λ made. IfNone made (MixLeaves weights.first weights.second first.now second.now)) }
+{
+    let mut numbers = Vec::with_capacity(alloc, first.len())?;
+    for k in 0..first.len() {
+        let other = second.get(k).copied().unwrap_or(0);
+        let Some(number) = mixed_number(weights, first[k], other) else {
+            return Ok(None);
+        };
+        numbers.push(number)?;
+    }
+    Ok(Some(numbers))
+}
+
+/// The least whole numbers in the ratio of two lists times their multipliers, added. None where a number
+/// on the way leaves 128 bits.
+pub fn least_mixed(
+    alloc: Global,
+    weights: Weights,
+    first: &[i128],
+    second: &[i128],
+) -> Result<Option<Vec<i128>>, NoMemory>
+    ensures some { IfOk result (λ made. IfSome made (λ ms. IsLeastMix weights.first weights.second first.now second.now ms.items)) }
+    ensures none { IfOk result (λ made. IfNone made (MixLeaves weights.first weights.second first.now second.now)) }
+{
+    let Some(numbers) = mixed(alloc, weights, first, second)? else {
+        return Ok(None);
+    };
+    let least = reduced(alloc, &LinRow::new(numbers, 0))?;
+    Ok(Some(least.into_coefficients()))
+}
+
+/// The sum of two rows that cancels an unknown, divided by the greatest common divisor of its numbers.
+/// None where a number on the way leaves 128 bits.
+pub fn sum_of_rows(
+    alloc: Global,
+    unknown: usize,
+    upper: &LinRow,
+    lower: &LinRow,
+) -> Result<Option<LinRow>, NoMemory> {
+    let weights = cancelling(upper.coefficient(unknown), lower.coefficient(unknown));
+    let Some(coefficients) = mixed(alloc, weights, upper.coefficients(), lower.coefficients())?
+    else {
+        return Ok(None);
+    };
+    let Some(bound) = mixed_number(weights, upper.bound(), lower.bound()) else {
+        return Ok(None);
+    };
+    Ok(Some(reduced(alloc, &LinRow::new(coefficients, bound))?))
+}
