@@ -1,16 +1,19 @@
 -- A given row is the combination of the given rows in which it alone has a multiplier, of 1.
-use Rattle.std.proofs.Common.{◌≡◌, ◌≢◌, ℕ, zero, suc, ◌<◌, ◌≤◌, List, [], ◌∷◌, length, get_or, pos, ℤ, ◌+ℤ◌, ◌<ℤ◌, FitsSigned, refl, sym, ap, ◌∙◌, subst, arith, map, inl, inr}
-use Rattle.std.specs.Prelude.{All}
+use Rattle.std.proofs.Common.{◌≡◌, ◌≢◌, ℕ, zero, suc, ◌<◌, ◌≤◌, Bool, true, false, List, [], ◌∷◌, length, get_or, pos, ℤ, ◌+ℤ◌, ◌<ℤ◌, FitsSigned, refl, sym, ap, ◌∙◌, subst, arith, map, inl, inr}
+use Rattle.std.specs.Prelude.{All, if◌then◌else◌, ◌==◌}
+use Rattle.std.proofs.lemmas.Bool.{eqb-true, eq-eqb}
 use Rattle.std.specs.Int.{w128}
 use Rattle.std.specs.List.{range_with_len}
 use Rattle.std.proofs.Math.IntN.{zero-*ℤ}
 use Rattle.std.proofs.lemmas.Int.{ints}
 use Rattle.std.proofs.lemmas.List.FromFn.{get_or-map-range_with_len, length-map-range_with_len}
-use Rattle.lin_arith.specs.Inequality.{Inequality, coefficient}
+use Rattle.lin_arith.specs.Inequality.{Inequality, coefficient, IsWithinWidth}
 use Rattle.lin_arith.specs.Combination.{weighted_sum, StaysWithin, bound_of, combination, IsContradiction}
 use Rattle.lin_arith.specs.Elimination.{number, IsUnit}
 use Rattle.lin_arith.specs.Elimination.IsRowOfStage.{given}
 use Rattle.lin_arith.specs.Stages.{IsDerived}
+use Rattle.lin_arith.specs.Substitution.{form_of}
+use Rattle.lin_arith.specs.Wide.{IsFormOfRow}
 use Rattle.lin_arith.specs.declared.elimination.Derived.{Derived}
 use Rattle.lin_arith.proofs.IntegerLemmas.{one_mul}
 use Rattle.lin_arith.proofs.ListLemmas.{get_or-past, below_or_past}
@@ -104,3 +107,54 @@ given_derived width rows i made unit is total = record {
   multipliers = unit_multipliers rows i made.multipliers.items unit;
   same_width = ap (λ (r : Inequality). length r.coefficients) is ∙ width_of_combination width made.multipliers.items rows;
 }
+
+-- the multipliers of a given row
+abbrev unit_number : ℕ → ℕ → ℤ
+unit_number i k = if k == i then pos 1 else pos 0
+
+abbrev unit_list : ℕ → ℕ → List ℤ
+unit_list n i = map (unit_number i) (range_with_len 0 n)
+
+unit_number-other : (i k : ℕ) (t : Bool) → (k == i) ≡ t → k ≢ i → (if t then pos 1 else pos 0) ≡ pos 0
+unit_number-other i k true e n = absurd (n (eqb-true k i e))
+unit_number-other i k false e n = refl
+
+unit_number-itself : (i : ℕ) → unit_number i i ≡ pos 1
+unit_number-itself i = ap (λ (t : Bool). if t then pos 1 else pos 0) (eq-eqb i i refl)
+
+is_unit : (n i : ℕ) → i < n → IsUnit n i (unit_list n i)
+is_unit n i l = record {
+  one_each = length-map-range_with_len (unit_number i) 0 n;
+  is_one = l;
+  itself = get_or-map-range_with_len (unit_number i) 0 n i i (pos 0) l (omega arith) ∙ unit_number-itself i;
+  others = λ k ne. elim (below_or_past k n) [
+    | inl b ↦ get_or-map-range_with_len (unit_number i) 0 n k k (pos 0) b (omega arith) ∙ unit_number-other i k (k == i) refl ne
+    | inr b ↦ get_or-past (unit_list n i) k (pos 0) (let e = length-map-range_with_len (unit_number i) 0 n in omega (arith, e, b))
+  ];
+}
+
+padded_form : (width : ℕ) (row : Inequality) → length row.coefficients ≤ width → form_of (padded width row) ≡ form_of row
+padded_form width row short = λ j. record { at = λ (u : ℕ). same u j; bound = row.bound }
+  where
+    same : (u : ℕ) → coefficient u (padded width row) ≡ coefficient u row
+    same u = elim (below_or_past u width) [
+      | inl l ↦ get_or-map-range_with_len (λ v. coefficient v row) 0 width u u (pos 0) l (omega arith)
+      | inr l ↦
+          let len = length-map-range_with_len (λ v. coefficient v row) 0 width in
+          get_or-past (padded width row).coefficients u (pos 0) (omega (arith, len, l)) ∙ sym (get_or-past row.coefficients u (pos 0) (omega (arith, short, l)))
+    ]
+
+-- a given row has the form of one of the first stage
+pub given_form : (width : ℕ) (rows : List Inequality) (i : ℕ) (row : Inequality) → IsWithinWidth width rows → i < length rows → row ≡ get_or rows i row → IsFormOfRow rows (form_of row)
+given_form width rows i row within l is =
+    let unit = is_unit (length rows) i l in
+    let short : length row.coefficients ≤ width = subst (λ (r : Inequality). length r.coefficients ≤ width) (sym is) (within i row l) in
+    record {
+      width = width;
+      within = within;
+      unknowns = [];
+      row = padded width row;
+      multipliers = unit_list (length rows) i;
+      of_stage = given i (padded width row) (unit_list (length rows) i) unit (padded_is width (unit_list (length rows) i) rows i row unit is);
+      is_form = padded_form width row short;
+    }

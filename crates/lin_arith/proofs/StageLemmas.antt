@@ -12,12 +12,15 @@ use Rattle.std.proofs.lemmas.Int.{ints}
 use Rattle.std.proofs.lemmas.List.FromFn.{length-map-range_with_len}
 use Rattle.std.proofs.lemmas.List.Elements.{All-push}
 use Rattle.std.proofs.lemmas.List.Quantifiers.{all_pairs_push}
-use Rattle.lin_arith.specs.Inequality.{Inequality, coefficient}
+use Rattle.lin_arith.specs.Inequality.{Inequality, coefficient, IsWithinWidth}
 use Rattle.lin_arith.specs.Combination.{weighted_sum, combination}
 use Rattle.lin_arith.specs.Reduction.{IsReduced}
 use Rattle.lin_arith.specs.Elimination.{number, IsUnit, Cancels, IsLeastMix, as_row, IsCancellingSum, IsRowOfStage, IsFound, ReachesLimit}
 use Rattle.lin_arith.specs.Elimination.IsRowOfStage.{kept, sum}
-use Rattle.lin_arith.specs.Stages.{AreMultipliers, IsDerived, AreBefore, IsStage, HasKey, key_cmp, AreFound, IsUnderWay}
+use Rattle.lin_arith.specs.Substitution.{form_of}
+use Rattle.lin_arith.specs.Wide.{SumLeaves, IsFormOfRow, IsWide}
+use Rattle.lin_arith.specs.Wide.IsWide.{sum as wide}
+use Rattle.lin_arith.specs.Stages.{AreMultipliers, IsDerived, AreBefore, IsStage, IsOfStages, HasKey, key_cmp, AreFound, IsUnderWay}
 use Rattle.lin_arith.specs.declared.elimination.Stage.{Stage}
 use Rattle.lin_arith.specs.declared.elimination.Derived.{Derived}
 use Rattle.lin_arith.specs.declared.elimination.Elimination.{Elimination}
@@ -127,11 +130,12 @@ found_with width rows unknowns old new found made key f d numbers fresh updates 
 }
 
 -- an elimination with one more row
-pub under_way_with : (width : ℕ) (rows : List Inequality) (old new : Elimination) (made : Derived) (key : Vec ℤ) → IsUnderWay width rows old → IsDerived width rows old.unknowns.items made → new.unknowns.items ≡ old.unknowns.items → new.live.items ≡ old.live.items ++ made ∷ [] → new.found ≡ old.found ++ made.row ∷ [] → key.items ≡ made.row.bound ∷ made.row.coefficients → contains key_cmp old.keys key ≡ false → Updates key_cmp old.keys new.keys key true → length new.found < 5000 → IsUnderWay width rows new
-under_way_with width rows old new made key u d unknowns live found numbers fresh updates limit = record {
+pub under_way_with : (width : ℕ) (rows : List Inequality) (old new : Elimination) (made : Derived) (key : Vec ℤ) → IsUnderWay width rows old → IsDerived width rows old.unknowns.items made → new.unknowns.items ≡ old.unknowns.items → new.live.items ≡ old.live.items ++ made ∷ [] → new.found ≡ old.found ++ made.row ∷ [] → new.stages.items ≡ old.stages.items → key.items ≡ made.row.bound ∷ made.row.coefficients → contains key_cmp old.keys key ≡ false → Updates key_cmp old.keys new.keys key true → length new.found < 5000 → IsUnderWay width rows new
+under_way_with width rows old new made key u d unknowns live found stages numbers fresh updates limit = record {
   within = u.within;
   live = subst (λ (us : List ℕ). All (IsDerived width rows us) new.live.items) (sym unknowns) (subst (λ (ds : List Derived). All (IsDerived width rows old.unknowns.items) ds) (sym live) (All-push (IsDerived width rows old.unknowns.items) old.live.items made u.live d));
   are_found = subst (λ (us : List ℕ). AreFound width rows us new.keys new.found) (sym unknowns) (subst (λ (rs : List Inequality). AreFound width rows old.unknowns.items new.keys rs) (sym found) (found_with width rows old.unknowns.items old.keys new.keys old.found made key u.are_found d numbers fresh updates));
+  stages = subst (λ (ss : List Stage). All (IsOfStages width rows) ss) (sym stages) u.stages;
   below_limit = limit;
 }
 
@@ -161,6 +165,7 @@ under_way_same width rows old keys u same = record {
     different = u.are_found.different;
     keyed = λ k e l. let has = u.are_found.keyed k e l in record { key = has.key; numbers = has.numbers; stands = subst (λ (ks : List (Vec ℤ)). list_any (is_at (key_cmp has.key)) ks ≡ true) same has.stands };
   };
+  stages = u.stages;
   below_limit = u.below_limit;
 }
 
@@ -241,8 +246,8 @@ found_later width rows unknowns unknown row f = record {
 }
 
 -- an elimination that goes to the next stage
-pub under_way_next : (width : ℕ) (rows : List Inequality) (unknown : ℕ) (old new : Elimination) → IsUnderWay width rows old → new.unknowns.items ≡ old.unknowns.items ++ unknown ∷ [] → new.found ≡ old.found → new.keys ≡ old.keys → All (IsDerived width rows (old.unknowns.items ++ unknown ∷ [])) new.live.items → IsUnderWay width rows new
-under_way_next width rows unknown old new u unknowns found keys live = record {
+pub under_way_next : (width : ℕ) (rows : List Inequality) (unknown : ℕ) (old new : Elimination) → IsUnderWay width rows old → new.unknowns.items ≡ old.unknowns.items ++ unknown ∷ [] → new.found ≡ old.found → new.keys ≡ old.keys → new.stages.items ≡ old.stages.items → All (IsDerived width rows (old.unknowns.items ++ unknown ∷ [])) new.live.items → IsUnderWay width rows new
+under_way_next width rows unknown old new u unknowns found keys stages live = record {
   within = u.within;
   live = subst (λ (us : List ℕ). All (IsDerived width rows us) new.live.items) (sym unknowns) live;
   are_found = subst (λ (us : List ℕ). AreFound width rows us new.keys new.found) (sym unknowns) (subst (λ (ks : BTreeSet (Vec ℤ)). AreFound width rows (old.unknowns.items ++ unknown ∷ []) ks new.found) (sym keys) (subst (λ (rs : List Inequality). AreFound width rows (old.unknowns.items ++ unknown ∷ []) old.keys rs) (sym found) (record {
@@ -251,5 +256,52 @@ under_way_next width rows unknown old new u unknowns found keys live = record {
     different = u.are_found.different;
     keyed = u.are_found.keyed;
   })));
+  stages = subst (λ (ss : List Stage). All (IsOfStages width rows) ss) (sym stages) u.stages;
   below_limit = subst (λ (rs : List Inequality). length rs < 5000) (sym found) u.below_limit;
 }
+
+-- an elimination that keeps what a stage left behind
+pub under_way_kept : (width : ℕ) (rows : List Inequality) (unknowns : List ℕ) (stage : Stage) (old new : Elimination) → IsUnderWay width rows old → IsStage width rows unknowns stage → new.unknowns.items ≡ old.unknowns.items → new.live.items ≡ old.live.items → new.found ≡ old.found → new.keys ≡ old.keys → new.stages.items ≡ old.stages.items ++ stage ∷ [] → IsUnderWay width rows new
+under_way_kept width rows unknowns stage old new u is_stage same live found keys stages = record {
+  within = u.within;
+  live = subst (λ (us : List ℕ). All (IsDerived width rows us) new.live.items) (sym same) (subst (λ (ds : List Derived). All (IsDerived width rows old.unknowns.items) ds) (sym live) u.live);
+  are_found = subst (λ (us : List ℕ). AreFound width rows us new.keys new.found) (sym same) (subst (λ (ks : BTreeSet (Vec ℤ)). AreFound width rows old.unknowns.items ks new.found) (sym keys) (subst (λ (rs : List Inequality). AreFound width rows old.unknowns.items old.keys rs) (sym found) u.are_found));
+  stages = subst (λ (ss : List Stage). All (IsOfStages width rows) ss) (sym stages) (All-push (IsOfStages width rows) old.stages.items stage u.stages (record { unknowns = unknowns; is_stage = is_stage }));
+  below_limit = subst (λ (rs : List Inequality). length rs < 5000) (sym found) u.below_limit;
+}
+
+-- two rows whose sum leaves 128 bits
+pub wide_sum : (width : ℕ) (rows : List Inequality) (unknowns : List ℕ) (unknown x y : ℕ) (upper lower : Derived) → IsWithinWidth width rows → AreBefore width rows unknowns unknown upper lower → Cancels (coefficient unknown upper.total) (coefficient unknown lower.total) x y → SumLeaves width rows x y upper.multipliers.items lower.multipliers.items → IsWide rows upper.row lower.row
+wide_sum width rows unknowns unknown x y upper lower within b cancels leaves =
+    let u = b.upper_of_stage in
+    let l = b.lower_of_stage in
+    wide (record {
+      width = width;
+      within = within;
+      unknowns = b.before;
+      unknown = unknown;
+      upper = upper.multipliers.items;
+      lower = lower.multipliers.items;
+      first_of_stage = u.of_stage;
+      second_of_stage = l.of_stage;
+      above = subst (λ (r : Inequality). pos 0 <ℤ coefficient unknown r) u.is_total b.above;
+      below = subst (λ (r : Inequality). coefficient unknown r <ℤ pos 0) l.is_total b.below;
+      x = x;
+      y = y;
+      cancels = subst (λ (r : Inequality). Cancels (coefficient unknown (combination width upper.multipliers.items rows)) (coefficient unknown r) x y) l.is_total (subst (λ (r : Inequality). Cancels (coefficient unknown r) (coefficient unknown lower.total) x y) u.is_total cancels);
+      leaves = leaves;
+    })
+
+-- the form of a row that an elimination keeps
+pub form_of_derived : (width : ℕ) (given : List Inequality) (unknowns : List ℕ) (rows : List Derived) (i : ℕ) (made : Derived) → IsWithinWidth width given → All (IsDerived width given unknowns) rows → i < length rows → made ≡ get_or rows i made → IsFormOfRow given (form_of made.row)
+form_of_derived width given unknowns rows i made within derived l is =
+    let d = subst (λ (m : Derived). IsDerived width given unknowns m) (sym is) (derived i made l) in
+    record {
+      width = width;
+      within = within;
+      unknowns = unknowns;
+      row = made.row;
+      multipliers = made.multipliers.items;
+      of_stage = d.of_stage;
+      is_form = refl;
+    }

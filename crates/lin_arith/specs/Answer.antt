@@ -5,6 +5,7 @@ use Rattle.lin_arith.specs.Inequality.{Inequality}
 use Rattle.lin_arith.specs.Combination.{IsContradiction}
 use Rattle.lin_arith.specs.Elimination.{ReachesLimit}
 use Rattle.lin_arith.specs.Substitution.{Meets, ArePositive}
+use Rattle.lin_arith.specs.Wide.{IsWide}
 use Rattle.lin_arith.specs.declared.rows.Fraction.{Fraction}
 use Rattle.lin_arith.specs.declared.rows.LinAnswer.{LinAnswer}
 use Rattle.lin_arith.specs.declared.rows.LinAnswer.TheVariants.{Infeasible, Feasible, Wide, TooManyRows}
@@ -25,6 +26,13 @@ IfFeasible (Feasible values) P = P values
 IfFeasible (Wide first second) P = Unit {0}
 IfFeasible (TooManyRows rows) P = Unit {0}
 
+-- a fact of the two rows, where the answer has some
+abbrev pub IfWide : LinAnswer → (Inequality → Inequality → Type 0) → Type 0
+IfWide (Infeasible multipliers) P = Unit {0}
+IfWide (Feasible values) P = Unit {0}
+IfWide (Wide first second) P = P first second
+IfWide (TooManyRows found) P = Unit {0}
+
 -- a fact of the rows, where the answer has some
 abbrev pub IfTooManyRows : LinAnswer → (List Inequality → Type 0) → Type 0
 IfTooManyRows (Infeasible multipliers) P = Unit {0}
@@ -39,7 +47,7 @@ pub record IsSolution (rows : List Inequality) (values : List Fraction) : Type 0
 
 -- the answer shows what it says of the rows
 abbrev pub Shows : List Inequality → LinAnswer → Type 0
-Shows rows answer = IfInfeasible answer (IsContradiction rows) × IfFeasible answer (IsSolution rows) × IfTooManyRows answer (ReachesLimit rows)
+Shows rows answer = IfInfeasible answer (IsContradiction rows) × IfFeasible answer (IsSolution rows) × IfTooManyRows answer (ReachesLimit rows) × IfWide answer (IsWide rows)
 
 abbrev pub StopShows : List Inequality → Stop → Type 0
 StopShows rows (Answered answer) = Shows rows answer

@@ -1,5 +1,6 @@
 -- Bounds of one unknown.
-use Rattle.std.specs.Prelude.{◌≢◌, List, pos, ◌*ℤ◌, ◌≤ℤ◌, ◌<ℤ◌, All, Contains, unsigned_abs}
+use Rattle.std.specs.Prelude.{◌≢◌, List, pos, ◌*ℤ◌, ◌≤ℤ◌, ◌<ℤ◌, All, Contains, unsigned_abs, ◌^◌, ◌-◌, FitsSigned}
+use Rattle.std.specs.Int.{w128}
 use Rattle.std.proofs.Common.{ℤ}
 use Rattle.lin_arith.specs.declared.bounds.Bound.{Bound}
 use Rattle.lin_arith.specs.declared.bounds.Side.{Side}
@@ -31,3 +32,14 @@ pub record IsTightest (side : Side) (bounds : List Bound) (tightest : Bound) : T
 abbrev pub AreConsistent : List Bound → Type 0
 AreConsistent bounds =
     All (λ upper. IsOn Upper upper → All (λ lower. IsOn Lower lower → (lower.coefficient *ℤ upper.bound) ≤ℤ (upper.coefficient *ℤ lower.bound)) bounds) bounds
+
+-- the greatest whole number of 128 bits meets it, if it is a lower bound
+abbrev pub IsReached : Bound → Type 0
+IsReached b = IsOn Lower b → IsMetAt (pos (2 ^ 127 - 1)) (pos 1) b
+
+abbrev pub AreWithinReach : List Bound → Type 0
+AreWithinReach bounds = All IsReached bounds
+
+-- no whole number of 128 bits meets it
+abbrev pub IsUnmet : Bound → Type 0
+IsUnmet b = (z : ℤ) → FitsSigned w128 z → ¬ ((b.coefficient *ℤ z) ≤ℤ b.bound)

@@ -7,3 +7,4 @@ pub mod Inequality
 pub mod Reduction
 pub mod Stages
 pub mod Substitution
+pub mod Wide

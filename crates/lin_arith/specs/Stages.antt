@@ -41,7 +41,12 @@ pub record IsStage (width : ℕ) (rows : List Inequality) (unknowns : List ℕ) 
   pub above : All (λ (made : Derived). pos 0 <ℤ coefficient stage.unknown made.total) stage.upper.items
   pub below : All (λ (made : Derived). coefficient stage.unknown made.total <ℤ pos 0) stage.lower.items
 
--- the same, where that unknown is the last of these
+-- what some stage left behind
+pub record IsOfStages (width : ℕ) (rows : List Inequality) (stage : Stage) : Type 0 where
+  pub unknowns : List ℕ
+  pub is_stage : IsStage width rows unknowns stage
+
+-- the same as `IsStage`, where that unknown is the last of these
 pub record IsStageBefore (width : ℕ) (rows : List Inequality) (unknowns : List ℕ) (stage : Stage) : Type 0 where
   pub before : List ℕ
   pub is_last : before ++ stage.unknown ∷ [] ≡ unknowns
@@ -68,4 +73,5 @@ pub record IsUnderWay (width : ℕ) (rows : List Inequality) (elimination : Elim
   pub within : IsWithinWidth width rows
   pub live : All (IsDerived width rows elimination.unknowns.items) elimination.live.items
   pub are_found : AreFound width rows elimination.unknowns.items elimination.keys elimination.found
+  pub stages : All (IsOfStages width rows) elimination.stages.items
   pub below_limit : length elimination.found < 5000

@@ -1,9 +1,9 @@
 //! The choice of a value between bounds.
 
-ghost use Rattle.std.specs.Prelude.{◌≡◌, ◌≢◌, pos, ◌<ℤ◌, ◌≤ℤ◌, ◌*ℤ◌, All, IfSome, IfNone, ◌↔◌, ◌⊎◌, IsTrue, ℤ, FitsSigned};
+ghost use Rattle.std.specs.Prelude.{false, ◌≡◌, ◌≢◌, pos, ◌<ℤ◌, ◌≤ℤ◌, ◌*ℤ◌, All, IfSome, IfNone, ◌↔◌, ◌⊎◌, IsTrue, ℤ, FitsSigned};
 ghost use Rattle.std.specs.Int.{w128};
 ghost use Rattle.lin_arith.specs.declared.bounds.Side.TheVariants.{Lower};
-ghost use Rattle.lin_arith.specs.Bounds.{IsOn, IsMetAt, IsAsTight, IsTightest, AreConsistent, AreNonzero};
+ghost use Rattle.lin_arith.specs.Bounds.{IsOn, IsMetAt, IsAsTight, IsTightest, AreConsistent, AreNonzero, IsReached, IsUnmet};
 
 use crate::numbers::{exact_quotient, floor_quotient, greatest_common_divisor, is_product_less};
 use crate::rows::Fraction;
@@ -33,6 +33,7 @@ pub fn chosen(unknown: usize, bounds: &[Bound]) -> Option<Fraction>
         → IfSome result (λ value. All (IsMetAt value.numerator value.denominator) bounds.now) }
     ensures whole { (z : ℤ) → FitsSigned w128 z → All (IsMetAt z (pos 1)) bounds.now
         → IfSome result (λ value. value.denominator ≡ pos 1) }
+    ensures none { IfNone result ((z : ℤ) → FitsSigned w128 z → All (λ b. IsOn Lower b → IsMetAt z (pos 1) b) bounds.now → ⊥) }
 {
     let least = least_whole(bounds)?;
     let Some(upper) = tightest(bounds, Side::Upper) else {
@@ -152,4 +153,13 @@ fn is_as_tight(first: &Bound, second: &Bound) -> bool
         (false, true) => true,
         (false, false) => !is_product_less(first_bound, second_size, second_bound, first_size),
     }
+}
+
+/// Whether some whole number of 128 bits meets a bound.
+pub fn is_within_reach(bound: &Bound) -> bool
+    ensures reached { IsTrue result → IsReached bound.now }
+    ensures unmet { result ≡ false → IsUnmet bound.now }
+{
+    let Bound { coefficient, bound } = *bound;
+    coefficient != -1 || bound != i128::MIN
 }

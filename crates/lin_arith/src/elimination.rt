@@ -11,7 +11,7 @@ ghost use Rattle.lin_arith.specs.Answer.{StopShows};
 use crate::combination::combined;
 use crate::reduction::reduced;
 use crate::rows::{LinAnswer, LinRow, Multipliers, Rows};
-use crate::stop::Stop;
+use crate::stop::{Stop, wide};
 use crate::sums::{cancelling, least_mixed, sum_of_rows};
 use crate::system::System;
 use pv_base::memory::NoMemory;
@@ -80,7 +80,9 @@ impl Elimination {
     }
 
     /// The stages, once no unknown is left.
-    pub fn into_stages(self) -> Vec<Stage> {
+    pub fn into_stages(self) -> Vec<Stage>
+        ensures { result.items ≡ self.stages.items }
+    {
         let Elimination {
             alloc: _,
             unknowns,
@@ -222,6 +224,7 @@ impl Elimination {
     /// Eliminates every unknown.
     pub fn run(&mut self, system: &System<'_>) -> Result<(), Stop>
         requires { IsUnderWay system.now.width system.now.rows.now self.old }
+        ensures ok { OnOk result (IsUnderWay system.now.width system.now.rows.now self.new) }
         ensures err { IfErr result (StopShows system.now.rows.now) }
     {
         for _ in 0..system.width {
@@ -284,7 +287,7 @@ fn sum_without(
     requires upper { AreMultipliers system.now.rows.now upper.now.multipliers.items }
     requires lower { AreMultipliers system.now.rows.now lower.now.multipliers.items }
     ensures ok { (unknowns : List ℕ) → AreBefore system.now.width system.now.rows.now unknowns unknown upper.now lower.now → IfOk result (IsDerived system.now.width system.now.rows.now unknowns) }
-    ensures err { IfErr result (StopShows system.now.rows.now) }
+    ensures err { (unknowns : List ℕ) → AreBefore system.now.width system.now.rows.now unknowns unknown upper.now lower.now → IfErr result (StopShows system.now.rows.now) }
 {
     let weights = cancelling(
         upper.total.coefficient(unknown),
@@ -292,18 +295,17 @@ fn sum_without(
     );
     let first = upper.multipliers.as_slice();
     let second = lower.multipliers.as_slice();
-    if let Some(multipliers) = least_mixed(alloc, weights, first, second)? {
-        if let Some(total) = total_of(alloc, system, multipliers.as_slice())? {
-            return Ok(Derived {
-                row: reduced(alloc, &total)?,
-                total,
-                multipliers,
-            });
-        }
-    }
-    let first = upper.row.try_clone(alloc)?;
-    let second = lower.row.try_clone(alloc)?;
-    Err(Stop::Answered(LinAnswer::Wide(first, second)))
+    let Some(multipliers) = least_mixed(alloc, weights, first, second)? else {
+        return Err(wide(alloc, &upper.row, &lower.row)?);
+    };
+    let Some(total) = total_of(alloc, system, multipliers.as_slice())? else {
+        return Err(wide(alloc, &upper.row, &lower.row)?);
+    };
+    Ok(Derived {
+        row: reduced(alloc, &total)?,
+        total,
+        multipliers,
+    })
 }
 
 /// The combination of the given rows by these multipliers. None where a product or a sum on the way

@@ -1,17 +1,19 @@
 //! The answer to a system of rows.
 
-ghost use Rattle.std.specs.Prelude.{pos, ◌<ℤ◌, IfOk, IfErr, OnOk, List};
-ghost use Rattle.lin_arith.specs.Inequality.{Inequality};
+ghost use Rattle.std.specs.Prelude.{pos, ◌<ℤ◌, ℕ, All, IfOk, IfErr, OnOk, List};
+ghost use Rattle.lin_arith.specs.Inequality.{Inequality, IsWithinWidth};
+ghost use Rattle.lin_arith.specs.Stages.{IsDerived, IsOfStages};
+ghost use Rattle.lin_arith.specs.Wide.{IsWide};
 ghost use Rattle.lin_arith.specs.Combination.{IsContradiction};
-ghost use Rattle.lin_arith.specs.Bounds.{AreNonzero};
+ghost use Rattle.lin_arith.specs.Bounds.{AreNonzero, AreWithinReach};
 ghost use Rattle.lin_arith.specs.Elimination.{ReachesLimit};
 ghost use Rattle.lin_arith.specs.Substitution.{ArePositive};
-ghost use Rattle.lin_arith.specs.Answer.{IfInfeasible, IfFeasible, IfTooManyRows, IsSolution, Shows, StopShows};
+ghost use Rattle.lin_arith.specs.Answer.{IfInfeasible, IfFeasible, IfTooManyRows, IfWide, IsSolution, Shows, StopShows};
 
-use crate::bounds::{Bound, chosen};
+use crate::bounds::{Bound, chosen, is_within_reach};
 use crate::elimination::{Derived, Elimination, Stage};
 use crate::rows::{Fraction, Fractions, LinAnswer, LinRow, Rows};
-use crate::stop::Stop;
+use crate::stop::{Stop, wide};
 use crate::substitution::put_in_all;
 use crate::system::System;
 use pv_base::memory::NoMemory;
@@ -22,14 +24,17 @@ use std::alloc::Global;
 ///
 /// `Infeasible` carries multipliers whose combination of the rows is a contradiction, with every product
 /// and sum on the way within 128 bits. `Feasible` carries values that meet every row, put in one after
-/// another. `TooManyRows` carries 5,000 different rows of the stages of one elimination. `NoMemory` comes
+/// another. `Wide` carries two rows whose sum leaves 128 bits: two of one stage; or a row with values put
+/// in, and the next value as a row; or, twice, a row with values put in that no whole number of 128 bits
+/// meets. `TooManyRows` carries 5,000 different rows of the stages of one elimination. `NoMemory` comes
 /// where memory ran out.
 ///
-/// No clause says yet when `Wide` comes, nor that the values of the last step, which are put into each
-/// row before they are returned, always meet it: where they did not, the answer would be `NoMemory`.
+/// No clause says that the values of the last step, which are put into each row before they are returned,
+/// always meet it: where they did not, the answer would be `NoMemory`.
 pub fn solve(alloc: Global, rows: &Rows) -> Result<LinAnswer, NoMemory>
     ensures infeasible { IfOk result (λ answer. IfInfeasible answer (IsContradiction rows.now)) }
     ensures feasible { IfOk result (λ answer. IfFeasible answer (IsSolution rows.now)) }
+    ensures wide { IfOk result (λ answer. IfWide answer (IsWide rows.now)) }
     ensures too_many_rows { IfOk result (λ answer. IfTooManyRows answer (ReachesLimit rows.now)) }
 {
     match answered(alloc, rows.as_slice()) {
@@ -48,13 +53,13 @@ fn answered(alloc: Global, rows: &[LinRow]) -> Result<LinAnswer, Stop>
     elimination.run(&system)?;
     let stages = elimination.into_stages();
     let values = values(alloc, system.width, stages.as_slice())?;
-    checked(alloc, rows, values)
+    checked(alloc, &system, values)
 }
 
 /// The values, last unknown first. An unknown that no stage eliminated stands before all, and is 0.
 fn values(alloc: Global, width: usize, stages: &[Stage]) -> Result<Vec<Fraction>, Stop>
     ensures ok { IfOk result (λ values. ArePositive values.items) }
-    ensures err { IfErr result (λ stop. (rows : List Inequality) → StopShows rows stop) }
+    ensures err { (width : ℕ) (rows : List Inequality) → IsWithinWidth width rows → All (IsOfStages width rows) stages.now → IfErr result (StopShows rows) }
 {
     let mut values = Vec::with_capacity(alloc, width)?;
     for unknown in 0..width {
@@ -77,7 +82,7 @@ fn values(alloc: Global, width: usize, stages: &[Stage]) -> Result<Vec<Fraction>
 fn value_at(alloc: Global, stage: &Stage, values: &[Fraction]) -> Result<Fraction, Stop>
     requires { ArePositive values.now }
     ensures ok { IfOk result (λ value. pos 0 <ℤ value.denominator) }
-    ensures err { IfErr result (λ stop. (rows : List Inequality) → StopShows rows stop) }
+    ensures err { (width : ℕ) (rows : List Inequality) → IsWithinWidth width rows → IsOfStages width rows stage.now → IfErr result (StopShows rows) }
 {
     let mut bounds = Vec::new(alloc);
     put_bounds(
@@ -96,23 +101,8 @@ fn value_at(alloc: Global, stage: &Stage, values: &[Fraction]) -> Result<Fractio
     )?;
     match chosen(stage.unknown, bounds.as_slice()) {
         Some(value) => Ok(value),
-        None => {
-            let row = least_bound_row(alloc, stage.unknown)?;
-            let twin = least_bound_row(alloc, stage.unknown)?;
-            Err(Stop::Answered(LinAnswer::Wide(row, twin)))
-        }
+        None => unreachable!(),
     }
-}
-
-/// The row that lets no number of 128 bits be the value of an unknown: less the unknown is at most the
-/// least number.
-fn least_bound_row(alloc: Global, unknown: usize) -> Result<LinRow, NoMemory> {
-    let mut coefficients = Vec::new(alloc);
-    for _ in 0..unknown {
-        coefficients.push(0)?;
-    }
-    coefficients.push(-1)?;
-    Ok(LinRow::new(coefficients, i128::MIN))
 }
 
 /// Puts what rows say of an unknown at the end of the bounds.
@@ -125,29 +115,34 @@ fn put_bounds(
 ) -> Result<(), Stop>
     requires values { ArePositive values.now }
     requires bounds { AreNonzero bounds.old.items }
+    requires reached { AreWithinReach bounds.old.items }
     ensures ok { OnOk result (AreNonzero bounds.new.items) }
-    ensures err { IfErr result (λ stop. (rows : List Inequality) → StopShows rows stop) }
+    ensures reached { OnOk result (AreWithinReach bounds.new.items) }
+    ensures err { (width : ℕ) (given : List Inequality) (unknowns : List ℕ) → IsWithinWidth width given → All (IsDerived width given unknowns) rows.now → IfErr result (StopShows given) }
 {
     for made in rows {
         let left = put_in_all(alloc, &made.row, values)?;
-        let coefficient = left.coefficient(unknown);
-        if coefficient != 0 {
-            bounds.push(Bound {
-                coefficient,
-                bound: left.bound(),
-            })?;
+        let bound = Bound {
+            coefficient: left.coefficient(unknown),
+            bound: left.bound(),
+        };
+        if !is_within_reach(&bound) {
+            return Err(wide(alloc, &left, &left)?);
+        }
+        if bound.coefficient != 0 {
+            bounds.push(bound)?;
         }
     }
     Ok(())
 }
 
 /// The values as the answer, where they meet the rows.
-fn checked(alloc: Global, rows: &[LinRow], values: Vec<Fraction>) -> Result<LinAnswer, Stop>
+fn checked(alloc: Global, system: &System<'_>, values: Vec<Fraction>) -> Result<LinAnswer, Stop>
     requires { ArePositive values.items }
-    ensures ok { IfOk result (Shows rows.now) }
-    ensures err { IfErr result (StopShows rows.now) }
+    ensures ok { IfOk result (Shows system.now.rows.now) }
+    ensures err { IfErr result (StopShows system.now.rows.now) }
 {
-    for row in rows {
+    for row in system.rows {
         let left = put_in_all(alloc, row, values.as_slice())?;
         if !left.is_true() {
             return Err(Stop::OutOfMemory);

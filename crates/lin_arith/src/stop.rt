@@ -1,11 +1,15 @@
 //! Why an elimination ends before its last stage.
 
 ghost use Rattle.std.specs.Prelude.{◌≡◌};
+ghost use Rattle.std.specs.Prelude.{List, IfOk};
+ghost use Rattle.lin_arith.specs.Inequality.{Inequality};
+ghost use Rattle.lin_arith.specs.Answer.{StopShows};
+ghost use Rattle.lin_arith.specs.Wide.{IsWide};
 ghost use Rattle.lin_arith.specs.declared.stop.Stop.TheVariants.{OutOfMemory};
 
-use crate::rows::LinAnswer;
+use crate::rows::{LinAnswer, LinRow};
 use pv_base::memory::NoMemory;
-use std::alloc::{AllocError, AllocFailed};
+use std::alloc::{AllocError, AllocFailed, Global};
 
 /// An answer was reached, or memory ran out.
 #[derive(Drop)]
@@ -36,4 +40,13 @@ impl<T: Drop> From<AllocFailed<T>> for Stop {
     fn from(_error: AllocFailed<T>) -> Stop {
         Stop::OutOfMemory
     }
+}
+
+/// The answer that the sum of two rows leaves 128 bits.
+pub fn wide(alloc: Global, first: &LinRow, second: &LinRow) -> Result<Stop, NoMemory>
+    ensures { (rows : List Inequality) → IsWide rows first.now second.now → IfOk result (StopShows rows) }
+{
+    let first = first.try_clone(alloc)?;
+    let second = second.try_clone(alloc)?;
+    Ok(Stop::Answered(LinAnswer::Wide(first, second)))
 }

@@ -1,9 +1,11 @@
 //! Values put into rows.
 
-ghost use Rattle.std.specs.Prelude.{IfOk, IfErr, IfSome, pos, ◌<ℤ◌, ◌≢◌, ◌≡◌, ◌==◌, ℕ, ◌*ℤ◌, ◌-ℤ◌, if◌then◌else◌, slice_index_or, List};
+ghost use Rattle.std.specs.Prelude.{IfOk, IfErr, IfSome, IfNone, pos, ◌<ℤ◌, ◌≢◌, ◌≡◌, ◌==◌, ℕ, ◌*ℤ◌, ◌-ℤ◌, if◌then◌else◌, slice_index_or, List};
 ghost use Rattle.lin_arith.specs.Inequality.{Inequality, coefficient};
+ghost use Rattle.std.specs.Option.{SomeIff};
 ghost use Rattle.lin_arith.specs.Answer.{StopShows};
 ghost use Rattle.lin_arith.specs.Substitution.{put_in, put_in_all, form_of, IsRatio, ArePositive};
+ghost use Rattle.lin_arith.specs.Wide.{DifferenceWithin, IsFormOfRow, IsValueRow, PutInLeaves, ScaledLeaves};
 
 use crate::numbers::{exact_quotient, greatest_common_divisor};
 use crate::reduction::reduced;
@@ -16,7 +18,8 @@ use std::alloc::Global;
 /// where it leaves 128 bits.
 fn put_in(alloc: Global, row: &LinRow, value: &Fraction) -> Result<Option<LinRow>, NoMemory>
     requires { pos 0 <ℤ value.now.denominator }
-    ensures { IfOk result (λ made. IfSome made (IsRatio (put_in (form_of row.now) value.now))) }
+    ensures some { IfOk result (λ made. IfSome made (IsRatio (put_in (form_of row.now) value.now))) }
+    ensures none { IfOk result (λ made. IfNone made (PutInLeaves row.now value.now)) }
 {
     let common = greatest_common_divisor(
         row.coefficient(value.unknown).unsigned_abs(),
@@ -35,12 +38,15 @@ fn put_in(alloc: Global, row: &LinRow, value: &Fraction) -> Result<Option<LinRow
 
 /// The difference of two products. None where a product or the difference leaves 128 bits.
 fn difference(factor: i128, bound: i128, weight: i128, numerator: i128) -> Option<i128>
-    ensures { IfSome result (λ d. d ≡ (factor *ℤ bound) -ℤ (weight *ℤ numerator)) }
+    ensures { SomeIff result (DifferenceWithin factor bound weight numerator) ((factor *ℤ bound) -ℤ (weight *ℤ numerator)) }
 {
-    match (factor.checked_mul(bound), weight.checked_mul(numerator)) {
-        (Some(left), Some(right)) => left.checked_sub(right),
-        _ => None,
-    }
+    let Some(left) = factor.checked_mul(bound) else {
+        return None;
+    };
+    let Some(right) = weight.checked_mul(numerator) else {
+        return None;
+    };
+    left.checked_sub(right)
 }
 
 /// The row's coefficients times a factor, and 0 for the unknown. None where one leaves 128 bits.
@@ -50,7 +56,8 @@ fn scaled_without(
     factor: i128,
     unknown: usize,
 ) -> Result<Option<Vec<i128>>, NoMemory>
-    ensures { IfOk result (λ made. IfSome made (λ cs. (k : ℕ) → slice_index_or cs.items k (pos 0) ≡ (if k == unknown then pos 0 else (factor *ℤ coefficient k row.now)))) }
+    ensures some { IfOk result (λ made. IfSome made (λ cs. (k : ℕ) → slice_index_or cs.items k (pos 0) ≡ (if k == unknown then pos 0 else (factor *ℤ coefficient k row.now)))) }
+    ensures none { IfOk result (λ made. IfNone made (ScaledLeaves factor unknown row.now)) }
 {
     let mut coefficients = Vec::with_capacity(alloc, row.coefficients().len())?;
     for (i, number) in row.coefficients().iter().enumerate() {
@@ -70,7 +77,7 @@ fn scaled_without(
 pub fn put_in_all(alloc: Global, row: &LinRow, values: &[Fraction]) -> Result<LinRow, Stop>
     requires { ArePositive values.now }
     ensures ok { IfOk result (IsRatio (put_in_all (form_of row.now) values.now)) }
-    ensures err { IfErr result (λ stop. (rows : List Inequality) → StopShows rows stop) }
+    ensures err { (rows : List Inequality) → IsFormOfRow rows (form_of row.now) → IfErr result (StopShows rows) }
 {
     let mut left = row.try_clone(alloc)?;
     for value in values {
@@ -85,11 +92,10 @@ pub fn put_in_all(alloc: Global, row: &LinRow, values: &[Fraction]) -> Result<Li
 }
 
 /// A value as a row: its denominator times its unknown is at most its numerator.
-fn value_row(alloc: Global, value: &Fraction) -> Result<LinRow, NoMemory> {
-    let mut coefficients = Vec::new(alloc);
-    for _ in 0..value.unknown {
-        coefficients.push(0)?;
-    }
+fn value_row(alloc: Global, value: &Fraction) -> Result<LinRow, NoMemory>
+    ensures { IfOk result (IsValueRow value.now) }
+{
+    let mut coefficients = vec![in alloc; 0i128; value.unknown]?;
     coefficients.push(value.denominator)?;
     Ok(LinRow::new(coefficients, value.numerator))
 }

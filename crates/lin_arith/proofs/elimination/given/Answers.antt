@@ -16,7 +16,7 @@ returns-then-is_contradiction-clause-err c =
     let e : c.in_ok-row.row ≡ padded system.width row = c.in_ok-row.ensures.padded ∙ ap (padded system.width) (sym is) in
     let bound = subst (λ (r : Inequality). r.bound <ℤ pos 0) e so.0 in
     let zeros = subst (λ (r : Inequality). All (λ c. c ≡ pos 0) r.coefficients) e so.1 in
-    (subst (λ (ms : List ℤ). IsContradiction system.rows.now ms) (sym c.new-shown.ensures) (given_contradicts system.width c.in_ok-multipliers.multipliers.items system.rows.now c.args.i row c.in_ok-multipliers.ensures is short (subst (λ (r : Inequality). FitsSigned w128 r.bound) (sym is) c.in_ok-row.ensures.fits) bound zeros), tt, tt)
+    (subst (λ (ms : List ℤ). IsContradiction system.rows.now ms) (sym c.new-shown.ensures) (given_contradicts system.width c.in_ok-multipliers.multipliers.items system.rows.now c.args.i row c.in_ok-multipliers.ensures is short (subst (λ (r : Inequality). FitsSigned w128 r.bound) (sym is) c.in_ok-row.ensures.fits) bound zeros), tt, tt, tt)
 
 pub returns-clause-ok : goal.returns-clause-ok
 returns-clause-ok c =

@@ -4,16 +4,17 @@ use Rattle.lin_arith.specs.Inequality.{Inequality}
 use Rattle.lin_arith.specs.Substitution.{Meets, form_of, put_in_all}
 use Rattle.lin_arith.proofs.ListLemmas.{get_or-any_default}
 use Rattle.lin_arith.proofs.SubstitutionLemmas.{true_of_ratio}
+use Rattle.lin_arith.proofs.GivenLemmas.{given_form}
 use Rattle.lin_arith.proofs.solver.checked.Goals as goal
 
 pub returns-in_err-left-clause-err : goal.returns-in_err-left-clause-err
 returns-in_err-left-clause-err c =
     let p = err_from_is_err_and c.from_residual.result c.from_residual.ensures.1 in
-    rw (p.1, p.2) (c.in_err-left.ensures.err c.args.rows.now)
+    rw (p.1, p.2) (c.in_err-left.ensures.err c.args.system.now.rows.now (given_form c.args.system.now.width c.args.system.now.rows.now c.loop-row.row-index c.row-item.result c.args.system.now.within (omega arith) c.row-item.is))
 
 pub loop-row-preserved : goal.loop-row-preserved
 loop-row-preserved c =
-    let rows = c.args.rows.now in
+    let rows = c.args.system.now.rows.now in
     let values = c.args.values.items in
     let i = c.loop-row.row-index in
     let row = c.row-item.result in

@@ -11,7 +11,7 @@ returns-clause-ok c = λ width rows u d. elim c.if-branch.branch [
       let old = c.args.self.now in
       let fresh = negated _ _ c.in_ok-insert.ensures.added w.if-branch.true in
       let found = w.in_ok-push.ensures.ok ∙ ap (λ (r : Inequality). old.found ++ r ∷ []) w.in_ok-try_clone.ensures in
-      under_way_with width rows old c.if-branch.self c.args.made c.in_ok-key_of.field-0 u d (ap (λ (e : Elimination). e.unknowns.items) w.self-is) (ap (λ (e : Elimination). e.live.items) w.self-is ∙ w.in_ok-push-2.ensures.items) (ap (λ (e : Elimination). e.found) w.self-is ∙ found) c.in_ok-key_of.ensures fresh (rw w.self-is c.in_ok-insert.ensures.updates) (rw w.self-is (let l = w.if-as_slice-ge-MOST_ROWS.false in rw w.as_slice.ensures at l))
+      under_way_with width rows old c.if-branch.self c.args.made c.in_ok-key_of.field-0 u d (ap (λ (e : Elimination). e.unknowns.items) w.self-is) (ap (λ (e : Elimination). e.live.items) w.self-is ∙ w.in_ok-push-2.ensures.items) (ap (λ (e : Elimination). e.found) w.self-is ∙ found) (ap (λ (e : Elimination). e.stages.items) w.self-is) c.in_ok-key_of.ensures fresh (rw w.self-is c.in_ok-insert.ensures.updates) (rw w.self-is (let l = w.if-as_slice-ge-MOST_ROWS.false in rw w.as_slice.ensures at l))
   | else-branch w ↦
       let same = rw w.if-branch.false at c.in_ok-insert.ensures.unchanged in
       rw w.self-is (under_way_same width rows c.args.self.now c.insert.new.self u (sym same))
@@ -23,4 +23,4 @@ returns-then-as_slice-ge-MOST_ROWS-clause-err c = λ width rows u d.
     let fresh = negated _ _ c.in_ok-insert.ensures.added c.if-branch.true in
     let found = c.in_ok-push.ensures.ok ∙ ap (λ (r : Inequality). old.found ++ r ∷ []) c.in_ok-try_clone.ensures in
     let many = rw c.as_slice.ensures at c.if-as_slice-ge-MOST_ROWS.true in
-    (tt, tt, limit_with width rows old c.insert.new.self c.replace-found.result c.args.made c.in_ok-key_of.field-0 u d (c.replace-found.ensures.value ∙ found) c.in_ok-key_of.ensures fresh c.in_ok-insert.ensures.updates (rw c.replace-found.ensures.value many))
+    (tt, tt, limit_with width rows old c.insert.new.self c.replace-found.result c.args.made c.in_ok-key_of.field-0 u d (c.replace-found.ensures.value ∙ found) c.in_ok-key_of.ensures fresh c.in_ok-insert.ensures.updates (rw c.replace-found.ensures.value many), tt)

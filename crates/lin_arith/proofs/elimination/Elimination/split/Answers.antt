@@ -1,6 +1,8 @@
-use Rattle.std.proofs.Common.{rules, refl, ◌≡◌, pos, ◌<ℤ◌, sym, ◌∙◌, FitsSigned, subst, arith, ℕ, ℤ, ◌∷◌, ◌++◌, []}
+use Rattle.std.proofs.Common.{rules, refl, ◌≡◌, pos, ◌<ℤ◌, ap, sym, ◌∙◌, FitsSigned, subst, arith, ℕ, ℤ, ◌∷◌, ◌++◌, []}
 use Rattle.std.specs.Int.{w128}
 use Rattle.std.proofs.lemmas.Int.{ints}
+use Rattle.std.specs.Global.{Vec}
+use Rattle.lin_arith.specs.declared.elimination.Stage.{Stage}
 use Rattle.lin_arith.specs.Inequality.{coefficient}
 use Rattle.lin_arith.proofs.StageLemmas.{head_derived, tail_derived, stage_with_upper, stage_with_lower, kept_derived, live_with, under_way_next}
 use Rattle.lin_arith.proofs.elimination.Elimination.split.Goals as goal
@@ -19,6 +21,7 @@ loop-made-preserved-in-Continue-branch-2 c =
       unknowns = inv.unknowns;
       found = inv.found;
       keys = inv.keys;
+      stages = inv.stages;
       rest = λ width rows u. tail_derived width rows us _ _ made (inv.rest width rows u) s;
       stage = λ width rows u. stage_with_upper width rows us c.loop-made.stage _ made (inv.stage width rows u) (head_derived width rows us _ _ made (inv.rest width rows u) s) (subst (λ (n : ℕ). pos 0 <ℤ coefficient n made.total) (sym inv.unknown) at) refl c.in_ok-push-2.ensures.items refl;
       live = inv.live;
@@ -38,6 +41,7 @@ loop-made-preserved-in-Continue-branch-3 c =
       unknowns = inv.unknowns;
       found = inv.found;
       keys = inv.keys;
+      stages = inv.stages;
       rest = λ width rows u. tail_derived width rows us _ _ made (inv.rest width rows u) s;
       stage = λ width rows u. stage_with_lower width rows us c.loop-made.stage _ made (inv.stage width rows u) (head_derived width rows us _ _ made (inv.rest width rows u) s) (subst (λ (n : ℕ). coefficient n made.total <ℤ pos 0) (sym inv.unknown) at) refl refl c.in_ok-push-3.ensures.items;
       live = inv.live;
@@ -56,6 +60,7 @@ loop-made-preserved c =
       unknowns = inv.unknowns;
       found = inv.found;
       keys = inv.keys;
+      stages = inv.stages;
       rest = λ width rows u. tail_derived width rows us _ _ made (inv.rest width rows u) s;
       stage = inv.stage;
       live = λ width rows u. live_with width rows (us ++ c.args.unknown ∷ []) _ _ made (inv.live width rows u) (kept_derived width rows us c.args.unknown made (head_derived width rows us _ _ made (inv.rest width rows u) s) (sym c.coefficient-coefficient.ensures ∙ none)) c.in_ok-push-4.ensures.items;
@@ -64,4 +69,4 @@ loop-made-preserved c =
 pub returns-clause-under_way : goal.returns-clause-under_way
 returns-clause-under_way c = λ width rows u.
     let inv = c.loop-made.invariant in
-    under_way_next width rows c.args.unknown c.args.self.now c.loop-made.self u inv.unknowns inv.found inv.keys (inv.live width rows u)
+    under_way_next width rows c.args.unknown c.args.self.now c.loop-made.self u inv.unknowns inv.found inv.keys (ap (λ (ss : Vec Stage). ss.items) inv.stages) (inv.live width rows u)

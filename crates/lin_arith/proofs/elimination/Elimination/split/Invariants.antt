@@ -10,6 +10,7 @@ invariant-loop-made l = record {
   unknowns : l.self.unknowns.items ≡ l.fn.self.unknowns.items ++ l.unknown ∷ [];
   found : l.self.found ≡ l.fn.self.found;
   keys : l.self.keys ≡ l.fn.self.keys;
+  stages : l.self.stages ≡ l.fn.self.stages;
   rest : (width : ℕ) (rows : List Inequality) → IsUnderWay width rows l.fn.self → All (IsDerived width rows l.fn.self.unknowns.items) l.made-iterator.rest.items;
   stage : (width : ℕ) (rows : List Inequality) → IsUnderWay width rows l.fn.self → IsStage width rows l.fn.self.unknowns.items l.stage;
   live : (width : ℕ) (rows : List Inequality) → IsUnderWay width rows l.fn.self → All (IsDerived width rows (l.fn.self.unknowns.items ++ l.unknown ∷ [])) l.self.live.items;

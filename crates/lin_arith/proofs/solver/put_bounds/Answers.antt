@@ -1,0 +1,49 @@
+use Rattle.std.proofs.Common.{rules, ◌≢◌, refl, arith, pos, ℤ, ◌*ℤ◌, ◌≤ℤ◌, FitsSigned}
+use Rattle.std.proofs.lemmas.Int.{ints, to_z-of_z}
+use Rattle.std.proofs.lemmas.List.Elements.{All-push}
+use Rattle.std.specs.Int.{w128}
+use Rattle.std.proofs.lemmas.Result.{err_from_is_err_and}
+use Rattle.lin_arith.specs.Bounds.{IsReached}
+use Rattle.lin_arith.specs.Inequality.{coefficient}
+use Rattle.lin_arith.specs.declared.bounds.Bound.{Bound}
+use Rattle.lin_arith.specs.Substitution.{form_of}
+use Rattle.lin_arith.specs.Wide.{IsPutIn}
+use Rattle.lin_arith.specs.Wide.IsWide.{unmet}
+use Rattle.lin_arith.proofs.StageLemmas.{form_of_derived}
+use Rattle.lin_arith.proofs.solver.put_bounds.Goals as goal
+use Rattle.lin_arith.proofs.solver.put_bounds.Goals.{then-bound-ne0+in_ok-push, else-bound-ne0}
+
+pub returns-in_err-left-clause-err : goal.returns-in_err-left-clause-err
+returns-in_err-left-clause-err c = λ width given unknowns within derived.
+    let p = err_from_is_err_and c.from_residual.result c.from_residual.ensures.1 in
+    let i = c.loop-made.made-index in
+    rw (p.1, p.2) (c.in_err-left.ensures.err given (form_of_derived width given unknowns c.args.rows.now i c.made-item.result within derived (omega arith) c.made-item.is))
+
+pub returns-then-not-is_within_reach-clause-err : goal.returns-then-not-is_within_reach-clause-err
+returns-then-not-is_within_reach-clause-err c = λ width given unknowns within derived.
+    let i = c.loop-made.made-index in
+    let left = c.in_ok-left.left in
+    let of_row = form_of_derived width given unknowns c.args.rows.now i c.made-item.result within derived (omega arith) c.made-item.is in
+    let put : IsPutIn given left = record { form = form_of c.made-item.result.row; of_row = of_row; values = c.args.values.now; positive = c.requires.values; is_ratio = c.in_ok-left.ensures.ok } in
+    let fc : FitsSigned w128 c.coefficient.result = search rules in
+    let fb : FitsSigned w128 c.bound.result = search rules in
+    let none = simp to_z-of_z at (c.if-not-is_within_reach.ensures.unmet refl) in
+    let far : (z : ℤ) → FitsSigned w128 z → ¬ ((coefficient c.args.unknown left *ℤ z) ≤ℤ left.bound) = rw (c.coefficient.ensures, c.bound.ensures) at none in
+    c.in_ok-wide.ensures given (unmet c.args.unknown put refl far)
+
+pub loop-made-preserved : goal.loop-made-preserved
+loop-made-preserved c =
+    let fc : FitsSigned w128 c.coefficient.result = search rules in
+    let fb : FitsSigned w128 c.bound.result = search rules in
+    let now : Bound = record { coefficient = c.coefficient.result; bound = c.bound.result } in
+    let reached : IsReached now = simp to_z-of_z at (c.if-not-is_within_reach.ensures.reached refl) in
+    elim c.if-bound-ne0.branch [
+      | then-bound-ne0+in_ok-push w ↦
+          let pushed = simp to_z-of_z at w.in_ok-push.ensures.items in
+          let nonzero : c.coefficient.result ≢ pos 0 = omega (arith, ints) in
+          rw (w.bounds-is, pushed) record {
+            nonzero = All-push (λ (b : Bound). b.coefficient ≢ pos 0) c.loop-made.bounds.items now c.loop-made.invariant.nonzero nonzero;
+            reached = All-push IsReached c.loop-made.bounds.items now c.loop-made.invariant.reached reached;
+          }
+      | else-bound-ne0 w ↦ rw w.bounds-is c.loop-made.invariant
+    ]
