@@ -1,5 +1,5 @@
 -- What a form promises of each function of its module: few parameters, and a body whose atoms are u64 values.
-use Rattle.std.proofs.Common.{◌≡◌, ℕ, ◌≤◌, Bool, true, ◌&&◌, List, [], ◌∷◌, Some, length}
+use Rattle.std.proofs.Common.{◌≡◌, ℕ, ◌≤◌, true, ◌&&◌, List, [], ◌∷◌, Some, length}
 use Rattle.std.specs.List.{AllByRecursion, list_all, flat_map}
 use Rattle.std.proofs.lemmas.Bool.{and_parts, leb-true}
 use Rattle.src_tree.specs.declared.token.Token.{Token}

@@ -32,7 +32,7 @@ use Rattle.ref_sem.specs.Semantics.{same_name}
 use Rattle.std.specs.Cmp.Lexicographic.{same_text}
 use Rattle.prove.specs.Reading.{Read, is_sign, is_word, after_sign, after_word, name_at, untyped, atom_of, atom_at, operator_of, operator_of_sign, operator_at, operand_at, operands_at, end_of_sum, sum_at, list_at, put_before, comparison_of, opens_types, comparison_at, compares_at, condition_at, kind_of_word, clause_kind_of, clause_at, clauses_at, parameter_at, next_parameter_at, more_parameters_at, parameters_at, heading_at, body_at, function_at, spec_at, member_at, members_at, number_at, module_name_at, module_at, at_end, file_at}
 use Rattle.prove.specs.Program.{IsScoped, IsScopedFile}
-use Rattle.prove.specs.Spelling.{Mark, word, number, sign, Matches, Spells, atom_marks, operator_sign, operand_marks, sum_marks, comparison_mark, condition_marks, kind_word, clause_marks, parameter_marks, next_parameter_marks, parameters_marks, member_marks, module_marks, IsName, IsProperAtom, IsProperSum, IsProperCondition, IsProperFunction, IsProperSpec, IsProperMember, IsProperModule, IsSpelledForm, IsFormOf, IsOfNoForm}
+use Rattle.prove.specs.Spelling.{Mark, word, number, sign, Matches, Spells, atom_marks, operator_sign, operand_marks, sum_marks, comparison_mark, condition_marks, kind_word, clause_marks, parameter_marks, next_parameter_marks, parameters_marks, member_marks, module_marks, IsName, IsProperAtom, IsProperSum, IsProperCondition, IsProperFunction, IsProperSpec, IsProperMember, IsProperModule, IsSpelledForm, IsOfNoForm}
 use Rattle.prove.proofs.SpellingLemmas.{some_one, Spells-split, length-Spells, after_sign-complete, after_word-complete, name_at-complete, number_at-complete, is_word-refl}
 
 -- ---- chains of steps

@@ -1,5 +1,5 @@
 -- The rules on a module's names, and what the table of clauses says of them.
-use Rattle.std.proofs.Common.{◌≡◌, ℕ, Bool, true, false, not, ◌&&◌, ◌||◌, cond, List, [], ◌∷◌, ◌++◌, map, Option, Some, None, refl, sym, ap, subst, ◌∙◌, append_assoc, append-nil, inl, inr}
+use Rattle.std.proofs.Common.{◌≡◌, ℕ, Bool, true, false, ◌&&◌, ◌||◌, cond, List, [], ◌∷◌, ◌++◌, map, Some, None, refl, sym, ap, subst, ◌∙◌, append_assoc, inl, inr}
 use Rattle.std.specs.Prelude.{is_some}
 use Rattle.std.specs.Option.{option_map, unwrap_or}
 use Rattle.std.specs.List.{list_all, list_any, flat_map}
@@ -10,10 +10,10 @@ use Rattle.ref_sem.specs.declared.form.Member.{Member}
 use Rattle.ref_sem.specs.declared.form.Member.TheVariants.{Function, Spec}
 use Rattle.ref_sem.specs.MemberData.{FunctionData, SpecData}
 use Rattle.ref_sem.specs.ModuleData.{ModuleData}
-use Rattle.ref_sem.specs.Semantics.{same_name, clauses_of, clauses_of_member}
+use Rattle.ref_sem.specs.Semantics.{same_name, clauses_of_member}
 use Rattle.prove.specs.Scope.{all_differ, is_one_of, is_closed, knows_clause}
 use Rattle.prove.specs.ProgramData.{SpecifiedFunctionData, ProgramData}
-use Rattle.prove.specs.Program.{functions_of, specs_of, functions_of_member, specs_of_member, names_among, is_spec_of, IsScoped, specified, program_of}
+use Rattle.prove.specs.Program.{functions_of, specs_of, specs_of_member, names_among, is_spec_of, IsScoped, specified, program_of}
 use Rattle.prove.specs.ClauseTable.{Table, clauses_of_spec, clauses_among, clauses_at, is_in, with_clauses, is_served, are_served}
 use Rattle.prove.proofs.TableLemmas.{same_name-is, is_one_of-middle, all_differ-again, all_differ-later, names-append}
 

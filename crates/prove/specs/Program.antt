@@ -1,7 +1,6 @@
 -- The functions of a module with the clauses of their spec blocks, and the rules on names that the module keeps.
-use Rattle.std.specs.Prelude.{◌≡◌, ℕ, Bool, true, ◌&&◌, if◌then◌else◌, List, [], ◌∷◌, Option, Some, None, map}
+use Rattle.std.specs.Prelude.{◌≡◌, ℕ, Bool, true, ◌&&◌, List, [], ◌∷◌, Option, Some, None, map}
 use Rattle.std.specs.List.{flat_map, list_all, list_any}
-use Rattle.ref_sem.specs.declared.form.Clause.{Clause}
 use Rattle.ref_sem.specs.declared.form.Member.{Member}
 use Rattle.ref_sem.specs.declared.form.Member.TheVariants.{Function, Spec}
 use Rattle.ref_sem.specs.MemberData.{FunctionData, SpecData}

@@ -1,9 +1,10 @@
 //! What no clause says: texts as a user sees them, and that each call succeeds where memory is ample.
 
-use ref_sem::form::Member;
+use crate::form_fault::FormFault;
 use crate::memory_sink::VecSink;
 use crate::memory_sources::MapSources;
 use crate::outside::{Fetched, Sink, Sources, Wrote};
+use crate::program::read_program;
 use crate::reading::read_form;
 use crate::report::{
     ConditionKind, ConditionRecord, ConditionVerdict, FunctionRecord, FunctionVerdict, Report,
@@ -17,6 +18,8 @@ use crate::writing::write_lines;
 use pv_base::lists::{Bytes, Calls, FileMap};
 use pv_base::name::Name;
 use pv_base::span::Span;
+use ref_sem::form::Member;
+use src_tree::scanner;
 use src_tree::token::{NumberLiteral, NumberSuffix, Punctuation, Token, TokenKind, Tokens};
 use std::alloc::Global;
 use std::test::Fail;
@@ -255,6 +258,62 @@ fn other_forms_are_refused(rt: HostRuntime) -> Result<(), Fail> {
     for (text, glued, is_read) in rows {
         let form = read_form(alloc, &tokens(alloc, text, glued)?);
         assert_eq!(rt; form.is_ok(), is_read);
+    }
+    Ok(())
+}
+
+const EIGHT: &[u8] =
+    b"module 0x1::m { fun f(a: u64, b: u64, c: u64, d: u64, e: u64, g: u64, h: u64, i: u64): u64 { i } }";
+
+const NINE: &[u8] =
+    b"module 0x1::m { fun f(a: u64, b: u64, c: u64, d: u64, e: u64, g: u64, h: u64, i: u64, j: u64): u64 { j } }";
+
+/// How many clauses the first function of the text has, or none where the text is not of the form.
+fn clause_count(alloc: Global, text: &[u8]) -> Result<Option<usize>, Fail> {
+    if text.len() > 1000 {
+        return Err("a long text".into());
+    }
+    let Ok(tokens) = scanner::tokens(alloc, 0, text) else {
+        return Err("no tokens".into());
+    };
+    match read_program(alloc, &tokens) {
+        Ok(Some(program)) => match program.functions.first() {
+            Some(first) => Ok(Some(first.clauses.len())),
+            None => Err("no function".into()),
+        },
+        Ok(None) => Err("no module".into()),
+        Err(FormFault::NotBuilt) => Ok(None),
+        Err(FormFault::NoMemory) => Err("no memory".into()),
+    }
+}
+
+#[test]
+fn programs_keep_the_rules_on_names(rt: HostRuntime) -> Result<(), Fail> {
+    let rows: [(&[u8], Option<usize>); 9] = [
+        (EIGHT, Some(0)),
+        (NINE, None),
+        (b"module 0x1::m { fun f(a: u64, a: u64): u64 { a } }", None),
+        (
+            b"module 0x1::m { fun f(): u64 { 1 } fun f(): u64 { 1 } }",
+            None,
+        ),
+        (b"module 0x1::m { fun f(): u64 { 1 } spec g { } }", None),
+        (
+            b"module 0x1::m { fun f(): u64 { 1 } spec f { requires result == 1; } }",
+            None,
+        ),
+        (
+            b"module 0x1::m { fun f(): u64 { 1 } spec f { ensures y == 1; } }",
+            None,
+        ),
+        (b"module 0x1::m { fun f(x: u64): u64 { y } }", None),
+        (
+            b"module 0x1::m { spec f { ensures result == 1; } fun f(): u64 { 1 } fun g(): u64 { 2 } spec g { ensures true; } spec f { aborts_if false; } }",
+            Some(2),
+        ),
+    ];
+    for (text, count) in rows {
+        assert_eq!(rt; clause_count(rt.alloc(), text)?, count);
     }
     Ok(())
 }

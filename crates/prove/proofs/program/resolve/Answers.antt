@@ -1,6 +1,5 @@
-use Rattle.std.proofs.Common.{◌≡◌, Bool, true, ap, ◌∙◌, cond, Some, [], None}
+use Rattle.std.proofs.Common.{◌≡◌, true, ap, ◌∙◌, cond, Some, [], None}
 use Rattle.std.specs.List.{list_all}
-use Rattle.ref_sem.specs.MemberData.{FunctionData}
 use Rattle.ref_sem.specs.ModuleData.{ModuleData}
 use Rattle.prove.specs.Scope.{is_one_of, is_closed}
 use Rattle.prove.specs.Program.{names_among, functions_of, specs_of}
