@@ -8,8 +8,8 @@ use Rattle.std.proofs.Math.IntN.{zero-*ℤ}
 use Rattle.std.proofs.lemmas.Int.{ints}
 use Rattle.std.proofs.lemmas.List.FromFn.{get_or-map-range_with_len, length-map-range_with_len}
 use Rattle.lin_arith.specs.Inequality.{Inequality, coefficient, IsWithinWidth}
-use Rattle.lin_arith.specs.Combination.{weighted_sum, StaysWithin, bound_of, combination, IsContradiction}
-use Rattle.lin_arith.specs.Elimination.{number, IsUnit}
+use Rattle.lin_arith.specs.Combination.{number, weighted_sum, StaysWithin, bound_of, combination, IsContradiction}
+use Rattle.lin_arith.specs.Elimination.{IsUnit}
 use Rattle.lin_arith.specs.Elimination.IsRowOfStage.{given}
 use Rattle.lin_arith.specs.Stages.{IsDerived}
 use Rattle.lin_arith.specs.Substitution.{form_of}

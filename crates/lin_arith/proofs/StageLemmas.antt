@@ -13,9 +13,9 @@ use Rattle.std.proofs.lemmas.List.FromFn.{length-map-range_with_len}
 use Rattle.std.proofs.lemmas.List.Elements.{All-push}
 use Rattle.std.proofs.lemmas.List.Quantifiers.{all_pairs_push}
 use Rattle.lin_arith.specs.Inequality.{Inequality, coefficient, IsWithinWidth}
-use Rattle.lin_arith.specs.Combination.{weighted_sum, combination}
+use Rattle.lin_arith.specs.Combination.{number, weighted_sum, combination}
 use Rattle.lin_arith.specs.Reduction.{IsReduced}
-use Rattle.lin_arith.specs.Elimination.{number, IsUnit, Cancels, IsLeastMix, as_row, IsCancellingSum, IsRowOfStage, IsFound, ReachesLimit}
+use Rattle.lin_arith.specs.Elimination.{IsUnit, Cancels, IsLeastMix, as_row, IsCancellingSum, IsRowOfStage, IsFound, ReachesLimit}
 use Rattle.lin_arith.specs.Elimination.IsRowOfStage.{kept, sum}
 use Rattle.lin_arith.specs.Substitution.{form_of}
 use Rattle.lin_arith.specs.Wide.{SumLeaves, IsFormOfRow, IsWide}

@@ -1,6 +1,6 @@
 -- Combinations of rows: each row times a multiplier, added up in the rows' order. By Farkas' lemma rows have no
 -- solution in fractions exactly where some combination with multipliers of at least 0 is a contradiction.
-use Rattle.std.specs.Prelude.{◌≡◌, ℕ, ◌<◌, List, map, [], ◌∷◌, length, pos, ◌+ℤ◌, ◌*ℤ◌, ◌≤ℤ◌, FitsSigned, All}
+use Rattle.std.specs.Prelude.{◌≡◌, ℕ, ◌<◌, List, map, [], ◌∷◌, length, pos, ◌+ℤ◌, ◌*ℤ◌, ◌≤ℤ◌, FitsSigned, All, slice_index_or}
 use Rattle.std.specs.Int.{w128}
 use Rattle.std.specs.List.{range_with_len}
 use Rattle.std.proofs.Common.{ℤ, ◌<ℤ◌}
@@ -55,3 +55,18 @@ pub record IsContradiction (rows : List Inequality) (multipliers : List ℤ) : T
   pub negative_bound : weighted_sum bound_of multipliers rows <ℤ pos 0
   pub coefficients_within : (unknown : ℕ) → StaysWithin (coefficient unknown) (pos 0) multipliers rows
   pub bounds_within : StaysWithin bound_of (pos 0) multipliers rows
+
+-- number k of a list; a missing one counts as 0
+abbrev pub number : ℕ → List ℤ → ℤ
+number k ms = slice_index_or ms k (pos 0)
+
+-- a total to which a multiple of a row's coefficient is added, and the new total
+pub record IsAddedTo (multiplier : ℤ) (unknown : ℕ) (row : Inequality) (total more : ℤ) : Type 0 where
+  pub is_added : IsAdded total (multiplier *ℤ coefficient unknown row)
+  pub is_sum : more ≡ total +ℤ (multiplier *ℤ coefficient unknown row)
+
+-- one of the new totals leaves 128 bits
+pub record AddedLeaves (multiplier : ℤ) (row : Inequality) (totals : List ℤ) : Type 0 where
+  pub unknown : ℕ
+  pub is_within : unknown < length totals
+  pub leaves : ¬ (IsAdded (number unknown totals) (multiplier *ℤ coefficient unknown row))

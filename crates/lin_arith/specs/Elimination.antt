@@ -8,12 +8,8 @@ use Rattle.std.specs.Int.{w128, IsGcd}
 use Rattle.std.specs.List.{AllPairs}
 use Rattle.std.proofs.Common.{ℤ, ◌<ℤ◌}
 use Rattle.lin_arith.specs.Inequality.{Inequality, coefficient, IsWithinWidth}
-use Rattle.lin_arith.specs.Combination.{IsAdded, combination}
+use Rattle.lin_arith.specs.Combination.{number, IsAdded, combination}
 use Rattle.lin_arith.specs.Reduction.{IsReduced}
-
--- number k of a list; a missing one counts as 0
-abbrev pub number : ℕ → List ℤ → ℤ
-number k ms = slice_index_or ms k (pos 0)
 
 -- the multipliers of given row i, which is 1 times itself
 pub record IsUnit (count i : ℕ) (ms : List ℤ) : Type 0 where

@@ -1,8 +1,8 @@
 //! Sums of rows, each times a multiplier.
 
-ghost use Rattle.std.specs.Prelude.{◌≡◌, length, pos, IfOk, ◌+ℤ◌, ◌*ℤ◌};
+ghost use Rattle.std.specs.Prelude.{◌≡◌, ℕ, ◌<◌, length, pos, IfOk, IfSome, IfNone, ◌+ℤ◌, ◌*ℤ◌};
 ghost use Rattle.std.specs.Option.{SomeIff};
-ghost use Rattle.lin_arith.specs.Combination.{IsAdded, weighted_sum, StaysWithin, part_of, combination, CombinesWithin};
+ghost use Rattle.lin_arith.specs.Combination.{IsAdded, weighted_sum, StaysWithin, part_of, combination, CombinesWithin, number, IsAddedTo, AddedLeaves};
 
 use crate::rows::LinRow;
 use pv_base::memory::NoMemory;
@@ -55,15 +55,38 @@ pub fn combined(
     requires { length multipliers.now ≡ length rows.now }
     ensures { IfOk result (λ made. SomeIff made (CombinesWithin width multipliers.now rows.now) (combination width multipliers.now rows.now)) }
 {
-    let mut coefficients = Vec::with_capacity(alloc, width)?;
-    for unknown in 0..width {
-        let Some(total) = weighted_sum(Part::Coefficient(unknown), multipliers, rows) else {
-            return Ok(None);
-        };
-        coefficients.push(total)?;
+    let mut totals = vec![in alloc; 0i128; width]?;
+    for i in 0..rows.len() {
+        if multipliers[i] != 0 {
+            let Some(more) = plus_row(alloc, totals.as_slice(), multipliers[i], &rows[i])? else {
+                return Ok(None);
+            };
+            totals = more;
+        }
     }
     let Some(bound) = weighted_sum(Part::Bound, multipliers, rows) else {
         return Ok(None);
     };
-    Ok(Some(LinRow::new(coefficients, bound)))
+    Ok(Some(LinRow::new(totals, bound)))
+}
+
+/// The totals and a multiple of a row's coefficients. None where a product or a sum leaves 128 bits.
+fn plus_row(
+    alloc: Global,
+    totals: &[i128],
+    multiplier: i128,
+    row: &LinRow,
+) -> Result<Option<Vec<i128>>, NoMemory>
+    ensures len { IfOk result (λ made. IfSome made (λ more. length more.items ≡ length totals.now)) }
+    ensures some { IfOk result (λ made. IfSome made (λ more. (u : ℕ) → u < length totals.now → IsAddedTo multiplier u row.now (number u totals.now) (number u more.items))) }
+    ensures none { IfOk result (λ made. IfNone made (AddedLeaves multiplier row.now totals.now)) }
+{
+    let mut more = Vec::with_capacity(alloc, totals.len())?;
+    for unknown in 0..totals.len() {
+        let Some(total) = plus_product(totals[unknown], multiplier, row.coefficient(unknown)) else {
+            return Ok(None);
+        };
+        more.push(total)?;
+    }
+    Ok(Some(more))
 }

@@ -1,11 +1,13 @@
-use Rattle.std.proofs.Common.{◌≡◌, ◌<◌, ℕ, pos, map}
-use Rattle.std.specs.List.{range_with_len}
+use Rattle.std.proofs.Common.{◌≡◌, ◌<◌, ℕ, pos, ◌+ℤ◌, drop, ◌↔◌, vec_len, FitsSigned}
+use Rattle.std.specs.Int.{w128}
 use Rattle.lin_arith.specs.Inequality.{coefficient}
-use Rattle.lin_arith.specs.Combination.{weighted_sum, StaysWithin}
+use Rattle.lin_arith.specs.Combination.{number, weighted_sum, StaysWithin}
 use Rattle.lin_arith.proofs.combination.combined.Given as goal
 
-abbrev pub invariant-loop-unknown : goal.invariant-loop-unknown
-invariant-loop-unknown l = record {
-  made : l.coefficients.items ≡ map (λ u. weighted_sum (coefficient u) l.multipliers l.rows) (range_with_len 0 l.unknown);
-  within : (u : ℕ) → u < l.unknown → StaysWithin (coefficient u) (pos 0) l.multipliers l.rows;
+abbrev pub invariant-loop-i : goal.invariant-loop-i
+invariant-loop-i l = record {
+  len : vec_len l.totals ≡ l.width;
+  fits : (u : ℕ) → u < l.width → FitsSigned w128 (number u l.totals.items);
+  value : (u : ℕ) → u < l.width → number u l.totals.items +ℤ weighted_sum (coefficient u) (drop l.i l.multipliers) (drop l.i l.rows) ≡ weighted_sum (coefficient u) l.multipliers l.rows;
+  within : (u : ℕ) → u < l.width → StaysWithin (coefficient u) (pos 0) l.multipliers l.rows ↔ StaysWithin (coefficient u) (number u l.totals.items) (drop l.i l.multipliers) (drop l.i l.rows);
 }

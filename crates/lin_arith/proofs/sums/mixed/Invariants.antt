@@ -1,5 +1,5 @@
 use Rattle.std.proofs.Common.{◌≡◌, ◌<◌, ℕ, pos, ◌+ℤ◌, ◌*ℤ◌, vec_len}
-use Rattle.lin_arith.specs.Elimination.{number}
+use Rattle.lin_arith.specs.Combination.{number}
 use Rattle.lin_arith.proofs.sums.mixed.Given as goal
 
 abbrev pub invariant-loop-k : goal.invariant-loop-k
