@@ -3,7 +3,7 @@
 -- unknown leaves to the next one its rows without the unknown, and the sums of two of its rows with multipliers that
 -- cancel the unknown. Each row of a stage carries multipliers of the given rows, whose combination is the row but for
 -- a positive factor.
-use Rattle.std.specs.Prelude.{◌≡◌, ◌≢◌, ℕ, ◌<◌, List, [], ◌∷◌, ◌++◌, length, pos, ◌+ℤ◌, ◌*ℤ◌, FitsSigned, All, slice_index_or}
+use Rattle.std.specs.Prelude.{◌≡◌, ◌≢◌, ℕ, ◌<◌, List, [], ◌∷◌, ◌++◌, length, pos, ◌+ℤ◌, ◌*ℤ◌, FitsSigned, All}
 use Rattle.std.specs.Int.{w128, IsGcd}
 use Rattle.std.specs.List.{AllPairs}
 use Rattle.std.proofs.Common.{ℤ, ◌<ℤ◌}

@@ -8,6 +8,9 @@ ghost use Rattle.lin_arith.specs.Floor.{IsFloor};
 pub fn greatest_common_divisor(a: u128, b: u128) -> u128
     ensures { IsGcd a b result }
 {
+    if a == 1 {
+        return 1;
+    }
     let mut greater = a;
     let mut less = b;
     while less != 0 {

@@ -13,7 +13,7 @@ pub fn reduced(alloc: Global, row: &LinRow) -> Result<LinRow, NoMemory>
     ensures { IfOk result (IsReduced row.now) }
 {
     let divisor = divisor_of(row);
-    if divisor == 0 {
+    if divisor <= 1 {
         row.try_clone(alloc)
     } else {
         divided(alloc, row, divisor)

@@ -55,6 +55,17 @@ pub fn mixed_number(weights: Weights, first: i128, second: i128) -> Option<i128>
     }
 }
 
+/// The same, where two numbers of 0 add up to 0 at once.
+fn mixed_at_once(weights: Weights, first: i128, second: i128) -> Option<i128>
+    ensures some { IfSome result (λ number. number ≡ (pos weights.first *ℤ first) +ℤ (pos weights.second *ℤ second)) }
+    ensures none { IfNone result (¬ (MixFits weights.first weights.second first second)) }
+{
+    if first == 0 && second == 0 {
+        return Some(0);
+    }
+    mixed_number(weights, first, second)
+}
+
 /// Two lists times their multipliers, added number by number. None where one leaves 128 bits.
 pub fn mixed(
     alloc: Global,
@@ -68,7 +79,7 @@ pub fn mixed(
     let mut numbers = Vec::with_capacity(alloc, first.len())?;
     for k in 0..first.len() {
         let other = second.get(k).copied().unwrap_or(0);
-        let Some(number) = mixed_number(weights, first[k], other) else {
+        let Some(number) = mixed_at_once(weights, first[k], other) else {
             return Ok(None);
         };
         numbers.push(number)?;

@@ -1,11 +1,11 @@
-use Rattle.std.proofs.Common.{rules, ◌≡◌, ◌<◌, ◌≤◌, ℕ, ℤ, List, pos, get_or, length, map, FitsSigned, refl, sym, ap, ◌∙◌, subst, arith}
+use Rattle.std.proofs.Common.{rules, ◌≡◌, ◌<◌, ◌≤◌, ℕ, ℤ, List, pos, get_or, length, map, FitsSigned, sym, ap, ◌∙◌, subst, arith}
 use Rattle.std.specs.Int.{w128}
 use Rattle.std.specs.List.{range_with_len}
 use Rattle.std.proofs.lemmas.Int.{ints, to_z-of_z}
 use Rattle.std.proofs.lemmas.List.{ext_get_or}
 use Rattle.std.proofs.lemmas.List.FromFn.{get_or-map-range_with_len, length-map-range_with_len}
 use Rattle.lin_arith.specs.Inequality.{Inequality, coefficient}
-use Rattle.lin_arith.specs.Combination.{weighted_sum, number, IsAddedTo, combination, CombinesWithin}
+use Rattle.lin_arith.specs.Combination.{weighted_sum, number, IsAddedTo}
 use Rattle.lin_arith.proofs.ListLemmas.{get_or-any_default}
 use Rattle.lin_arith.proofs.CombinationLemmas.{weighted_sum-step, StaysWithin-step, weighted_sum-skip, StaysWithin-skip, weighted_sum-end, StaysWithin-end}
 use Rattle.lin_arith.proofs.combination.combined.Goals as goal

@@ -1,7 +1,6 @@
-use Rattle.std.proofs.Common.{rules, ◌≡◌, ◌+◌, ◌∷◌, ◌++◌, [], List, ℕ, ℤ, pos, ◌+ℤ◌, ◌*ℤ◌, get_or, length, FitsSigned, arith, subst, ap, ◌∙◌}
+use Rattle.std.proofs.Common.{rules, ◌≡◌, ◌∷◌, ◌++◌, [], ℕ, ℤ, pos, ◌+ℤ◌, ◌*ℤ◌, get_or, FitsSigned, arith, subst, ap, ◌∙◌}
 use Rattle.std.specs.Int.{w128}
 use Rattle.std.proofs.lemmas.Int.{to_z-of_z}
-use Rattle.lin_arith.specs.Inequality.{coefficient}
 use Rattle.lin_arith.specs.Combination.{number, IsAdded, IsAddedTo}
 use Rattle.lin_arith.proofs.ListLemmas.{each-push}
 use Rattle.lin_arith.proofs.combination.plus_row.Goals as goal
