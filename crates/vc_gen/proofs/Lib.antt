@@ -1,0 +1,5 @@
+pub mod Words
+pub mod NumberTruth
+pub mod RunTruth
+pub mod ClauseTruth
+pub mod DecideProof

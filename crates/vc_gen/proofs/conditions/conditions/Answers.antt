@@ -1,0 +1,5 @@
+use Rattle.vc_gen.proofs.DecideProof.{decide_made}
+use Rattle.vc_gen.proofs.conditions.conditions.Goals as goal
+
+pub returns-clause-decide : goal.returns-clause-decide
+returns-clause-decide c = decide_made (λ made. made.items) c.args.function.now c.args.clauses.now c.generate.result c.generate.ensures

@@ -1,0 +1,6 @@
+//! Verification conditions: formulas that are valid exactly where a function keeps its contract.
+#![tactic(auto)]
+
+pub mod condition;
+pub mod conditions;
+mod translation;

@@ -1,0 +1,157 @@
+//! Sums and the conditions of clauses as terms and formulas.
+
+ghost use Rattle.std.specs.Prelude.{◌≡◌, ◌^◌, ◌≤◌, IfOk, length};
+ghost use Rattle.std.specs.List.{position};
+ghost use Rattle.ref_sem.specs.Semantics.{same_name};
+ghost use Rattle.vc_gen.specs.Translation.{atom_term, comparison_formula, condition_formula, free_term, greatest_term, operator_term, sum_term, word_term, zero_term};
+
+use fol::formula::{Formula, Term};
+use pv_base::memory::NoMemory;
+use pv_base::name::Name;
+use ref_sem::form::{Atom, Comparison, Condition, Operand, Operator, Sum};
+use std::alloc::Global;
+
+/// The greatest value of a parameter.
+const MAX_U64: i128 = 0xffff_ffff_ffff_ffff;
+
+/// The number 0.
+pub fn zero() -> Term
+    ensures { result ≡ zero_term }
+{
+    Term::number(0)
+}
+
+/// The greatest u64.
+pub fn greatest() -> Term
+    ensures { result ≡ greatest_term }
+{
+    Term::number(MAX_U64)
+}
+
+/// The term of a word that no parameter has.
+fn free(alloc: Global, returned: &Term, word: &[u8]) -> Result<Term, NoMemory>
+    ensures { IfOk result (λ made. made ≡ free_term returned.now word.now) }
+{
+    if word == b"MAX_U64".as_slice() {
+        Ok(greatest())
+    } else if word == b"result".as_slice() {
+        returned.try_clone(alloc)
+    } else {
+        Ok(zero())
+    }
+}
+
+/// The number of the first parameter that has this name.
+fn position_of(parameters: &[Name], word: &[u8]) -> Option<usize>
+    ensures { result ≡ position (same_name word.now) parameters.now }
+{
+    parameters.iter().position(|name| word == name.as_slice())
+}
+
+/// The term of a word: the variable of a parameter, or what else the word stands for.
+pub fn word(
+    alloc: Global,
+    parameters: &[Name],
+    returned: &Term,
+    word: &[u8],
+) -> Result<Term, NoMemory>
+    requires { length parameters.now ≤ 2 ^ 32 }
+    ensures { IfOk result (λ made. made ≡ word_term parameters.now returned.now word.now) }
+{
+    match position_of(parameters, word) {
+        Some(number) => Ok(Term::variable(number as u32)),
+        None => free(alloc, returned, word),
+    }
+}
+
+/// The term of an atom.
+pub fn atom(
+    alloc: Global,
+    parameters: &[Name],
+    returned: &Term,
+    atom: &Atom,
+) -> Result<Term, NoMemory>
+    requires { length parameters.now ≤ 2 ^ 32 }
+    ensures { IfOk result (λ made. made ≡ atom_term parameters.now returned.now atom.now) }
+{
+    match atom {
+        Atom::Number(number) => Ok(Term::number(i128::from(*number))),
+        Atom::Word(name) => word(alloc, parameters, returned, name.as_slice()),
+    }
+}
+
+/// The term of an operator at two terms.
+fn operation(alloc: Global, operator: Operator, left: Term, right: Term) -> Result<Term, NoMemory>
+    ensures { IfOk result (λ made. made ≡ operator_term operator left right) }
+{
+    match operator {
+        Operator::Plus => Term::sum(alloc, left, right),
+        Operator::Minus => Term::difference(alloc, left, right),
+    }
+}
+
+/// The term with one more operand.
+pub fn join(
+    alloc: Global,
+    parameters: &[Name],
+    returned: &Term,
+    total: Term,
+    operand: &Operand,
+) -> Result<Term, NoMemory>
+    requires { length parameters.now ≤ 2 ^ 32 }
+    ensures { IfOk result (λ made. made ≡ operator_term operand.now.operator total (atom_term parameters.now returned.now operand.now.atom)) }
+{
+    let right = atom(alloc, parameters, returned, &operand.atom)?;
+    operation(alloc, operand.operator, total, right)
+}
+
+/// The term of a sum.
+pub fn sum(alloc: Global, parameters: &[Name], returned: &Term, sum: &Sum) -> Result<Term, NoMemory>
+    requires { length parameters.now ≤ 2 ^ 32 }
+    ensures { IfOk result (λ made. made ≡ sum_term parameters.now returned.now sum.now) }
+{
+    let mut total = atom(alloc, parameters, returned, &sum.first)?;
+    for operand in &sum.rest {
+        total = join(alloc, parameters, returned, total, operand)?;
+    }
+    Ok(total)
+}
+
+/// The formula of a comparison of two terms.
+fn comparison(
+    alloc: Global,
+    comparison: Comparison,
+    left: Term,
+    right: Term,
+) -> Result<Formula, NoMemory>
+    ensures { IfOk result (λ made. made ≡ comparison_formula comparison left right) }
+{
+    match comparison {
+        Comparison::Equal => Ok(Formula::equal(left, right)),
+        Comparison::Less => Formula::not(alloc, Formula::at_most(right, left)),
+        Comparison::Greater => Formula::not(alloc, Formula::at_most(left, right)),
+        Comparison::LessEqual => Ok(Formula::at_most(left, right)),
+        Comparison::GreaterEqual => Ok(Formula::at_most(right, left)),
+    }
+}
+
+/// The formula of a clause's condition, in which `result` stands for the term that is returned.
+pub fn condition(
+    alloc: Global,
+    parameters: &[Name],
+    returned: &Term,
+    condition: &Condition,
+) -> Result<Formula, NoMemory>
+    requires { length parameters.now ≤ 2 ^ 32 }
+    ensures { IfOk result (λ made. made ≡ condition_formula parameters.now returned.now condition.now) }
+{
+    match condition {
+        Condition::True => Ok(Formula::all_of(Vec::new(alloc))),
+        Condition::False => Ok(Formula::any_of(Vec::new(alloc))),
+        Condition::Compares(left, by, right) => {
+            let left = sum(alloc, parameters, returned, left)?;
+            let right = sum(alloc, parameters, returned, right)?;
+            comparison(alloc, *by, left, right)
+        }
+    }
+}
