@@ -3,7 +3,8 @@
 
 mod file_sources;
 mod out_sink;
-mod stand_in;
+#[cfg(test)]
+mod rows;
 #[cfg(test)]
 mod tests;
 mod words;
@@ -15,11 +16,11 @@ ghost use Rattle.prove.specs.Status.{no_memory_line};
 
 use crate::file_sources::FileSources;
 use crate::out_sink::OutSink;
-use crate::stand_in::movep;
 use crate::words::collect_words;
 use prove::outside::{Sink, Sources};
 use prove::status::{Device, Status};
 use prove::status_text::no_memory_line;
+use prove::top::movep;
 use prove::writing::{SinkFault, write_piece};
 use pv_base::lists::Words;
 use pv_base::memory::NoMemory;

@@ -8,3 +8,7 @@ pub mod LineLemmas
 pub mod ProgramLemmas
 pub mod TableLemmas
 pub mod ClosedBody
+pub mod PairLemmas
+pub mod RunLemmas
+pub mod Verifiable
+pub mod Records

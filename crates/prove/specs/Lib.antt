@@ -17,3 +17,6 @@ pub mod Spelling
 pub mod Status
 pub mod Writing
 pub mod Stages
+pub mod Pairs
+pub mod Verified
+pub mod Run

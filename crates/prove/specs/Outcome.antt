@@ -1,6 +1,5 @@
 -- What is told of a run without a report.
-use Rattle.std.specs.Prelude.{◌≡◌, ℕ, List, Option}
-use Rattle.std.specs.Io.KnownBytes.{append_known}
+use Rattle.std.specs.Prelude.{ℕ, List}
 use Rattle.prove.specs.declared.stages.Stop.{Stop}
 use Rattle.prove.specs.declared.stages.Stop.TheVariants.{SourceFault, Limit as limit_stop, Refused as refused_stop, NoMemory as memory_stop}
 use Rattle.prove.specs.declared.status.Status.{Status}
@@ -20,8 +19,3 @@ stop_line name SourceFault = source_fault_line name
 stop_line name (limit_stop kind count) = limit_line name kind
 stop_line name (refused_stop rule line) = refusal_line name rule line
 stop_line name memory_stop = no_memory_line
-
--- The status is that of the stop and the sink took its line, unless memory ran out, of which the sink was told.
-abbrev pub WroteStop : List ℕ → Stop → Option (List ℕ) → Option (List ℕ) → Status → Type 0
-WroteStop name stop old new NoMemory = new ≡ append_known old no_memory_line
-WroteStop name stop old new status = (status ≡ status_of stop) × (new ≡ append_known old (stop_line name stop))

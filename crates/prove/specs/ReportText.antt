@@ -8,8 +8,8 @@ use Rattle.prove.specs.declared.report.FunctionVerdict.{FunctionVerdict}
 use Rattle.prove.specs.declared.report.FunctionVerdict.TheVariants.{Proved, Unknown}
 use Rattle.prove.specs.declared.report.ConditionVerdict.{ConditionVerdict}
 use Rattle.prove.specs.declared.report.ConditionVerdict.TheVariants.{Proved as condition_proved, Open}
-use Rattle.prove.specs.declared.report.ConditionKind.{ConditionKind}
-use Rattle.prove.specs.declared.report.ConditionKind.TheVariants.{Ensures, AbortsIf, Aborts}
+use Rattle.vc_gen.specs.declared.condition.ConditionKind.{ConditionKind}
+use Rattle.vc_gen.specs.declared.condition.ConditionKind.TheVariants.{Ensures, AbortsIf, Aborts}
 use Rattle.prove.specs.declared.report.ConditionRecord.{ConditionRecord}
 
 abbrev pub line_feed : List ℕ

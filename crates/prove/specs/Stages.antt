@@ -1,5 +1,6 @@
 -- What each stage of a run demands, and why it stops.
-use Rattle.std.specs.Prelude.{◌≡◌, ℕ, ◌<◌, ◌≤◌, Bool, false, ◌==◌, List, [], ◌∷◌, length, Option, Result, Err, IfSome}
+use Rattle.std.specs.Prelude.{◌≡◌, ℕ, ◌<◌, ◌≤◌, Bool, false, ◌==◌, List, [], ◌∷◌, length, Option, Some, Result, Err, IfSome}
+use Rattle.std.specs.FinMap as map
 use Rattle.src_tree.specs.Spelling.{IsBadAt, Spells}
 use Rattle.src_tree.specs.Weight.{greatest_weight}
 use Rattle.src_tree.specs.declared.token.Token.{Token}
@@ -18,6 +19,17 @@ begins_with_dash (b ∷ bs) = b == 45
 -- there is one word, and it is no option
 abbrev pub NamesFile : List (List ℕ) → List ℕ → Type 0
 NamesFile words name = (words ≡ name ∷ []) × (begins_with_dash name ≡ false)
+
+-- The file of this name has these bytes: where the source tells its files, they are those that it tells.
+pub record HasBytes (holds : Option Files) (name : List ℕ) (bytes : List ℕ) : Type 0 where
+  pub told : IfSome holds (λ files. map.get files name ≡ Some bytes)
+  pub short : length bytes ≤ 1048576
+
+-- The bytes have these tokens, which pass no limit.
+pub record HasTokenList (bytes : List ℕ) (tokens : List Token) : Type 0 where
+  pub spelled : Spells 0 tokens bytes
+  pub few : length tokens ≤ 200000
+  pub light : greatest_weight tokens ≤ 200
 
 -- a fact for every answer but a fault of the source
 abbrev pub UnlessSourceFault : {T : Type 0} → Result T Stop → Type 0 → Type 0

@@ -18,4 +18,6 @@ pub mod status_text;
 #[cfg(test)]
 mod tests;
 pub mod text;
+pub mod top;
+pub mod verify;
 pub mod writing;

@@ -1,15 +1,14 @@
 //! How a run ends that has no report.
 
-ghost use Rattle.std.specs.Prelude.{◌≡◌, IfOk, OnErr};
-ghost use Rattle.std.specs.Io.KnownBytes.{append_known};
-ghost use Rattle.prove.specs.Outcome.{WroteStop, status_of, stop_line};
-ghost use Rattle.prove.specs.Outside.{HasFaulted};
+ghost use Rattle.std.specs.Prelude.{◌≡◌, IfOk};
+ghost use Rattle.prove.specs.Outcome.{status_of, stop_line};
+ghost use Rattle.prove.specs.Run.{IsStopText, Writes};
 
 use crate::outside::Sink;
 use crate::stages::Stop;
 use crate::status::{Device, Refusal, Status};
 use crate::status_text::{limit_line, no_memory_line, refusal_line, source_fault_line};
-use crate::writing::{SinkFault, write_piece};
+use crate::writing::{SinkFault, write_text};
 use pv_base::lists::Bytes;
 use pv_base::memory::NoMemory;
 use pv_base::name::Name;
@@ -51,17 +50,10 @@ pub fn write_stop<W: Sink>(
     name: &Name,
     stop: Stop,
 ) -> Result<Status, SinkFault>
-    ensures wrote { IfOk result (WroteStop name.now stop (W.taken sink.old) (W.taken sink.new)) }
-    ensures fault { OnErr result (HasFaulted (W.faults sink.old) (W.faults sink.new)) }
+    ensures { Writes (IsStopText name.now stop) (W.taken sink.old) (W.taken sink.new) (W.faults sink.old) (W.faults sink.new) result }
 {
     match stop_line(alloc, name, stop) {
-        Ok(line) => {
-            write_piece(sink, line.as_slice())?;
-            Ok(status_of(stop))
-        }
-        Err(NoMemory) => {
-            write_piece(sink, no_memory_line())?;
-            Ok(Status::NoMemory)
-        }
+        Ok(line) => write_text(sink, line.as_slice(), status_of(stop)),
+        Err(NoMemory) => write_text(sink, no_memory_line(), Status::NoMemory),
     }
 }

@@ -8,17 +8,7 @@ use pv_base::memory::NoMemory;
 use pv_base::name::Name;
 use std::alloc::Global;
 use std::marker::Model;
-
-/// What a condition says of its function.
-#[derive(Clone, Copy, Debug, PartialEq, Eq)]
-pub enum ConditionKind {
-    /// The clause holds at each return.
-    Ensures,
-    /// The clause holds at no return.
-    AbortsIf,
-    /// Where the function aborts, one of its `aborts_if` clauses holds.
-    Aborts,
-}
+use vc_gen::condition::ConditionKind;
 
 /// What was found out of a condition.
 #[derive(Clone, Copy, Debug, PartialEq, Eq)]

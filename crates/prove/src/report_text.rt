@@ -3,25 +3,22 @@
 ghost use Rattle.std.specs.Prelude.{◌≡◌, ◌++◌, [], slice_index_or, IfOk, OnOk};
 ghost use Rattle.prove.specs.ReportText.{check_text, condition_line, condition_verdict_text, count_line, function_line, function_lines, function_verdict_text, kind_text, lines_of_report};
 
-use crate::report::{
-    ConditionKind, ConditionRecord, ConditionVerdict, FunctionRecord, FunctionVerdict, Report,
-};
+use crate::report::{ConditionRecord, ConditionVerdict, FunctionRecord, FunctionVerdict, Report};
 use crate::text::{Lines, push_decimal, push_hexadecimal};
 use pv_base::lists::Bytes;
 use pv_base::memory::NoMemory;
 use pv_base::name::Name;
 use std::alloc::Global;
+use vc_gen::condition::ConditionKind;
 
-impl ConditionKind {
-    /// The word that a report has for this kind.
-    pub fn text(self) -> &'static [u8]
-        ensures { result.now ≡ kind_text self }
-    {
-        match self {
-            ConditionKind::Ensures => b"ensures",
-            ConditionKind::AbortsIf => b"aborts_if",
-            ConditionKind::Aborts => b"aborts",
-        }
+/// The word that a report has for a kind of condition.
+fn kind_text(kind: ConditionKind) -> &'static [u8]
+    ensures { result.now ≡ kind_text kind }
+{
+    match kind {
+        ConditionKind::Ensures => b"ensures",
+        ConditionKind::AbortsIf => b"aborts_if",
+        ConditionKind::Aborts => b"aborts",
     }
 }
 
@@ -97,7 +94,7 @@ fn condition_line(
 {
     let mut line = Bytes::new(alloc);
     line.extend_from_slice(b"  ")?;
-    line.extend_from_slice(condition.kind.text())?;
+    line.extend_from_slice(kind_text(condition.kind))?;
     line.extend_from_slice(b" ")?;
     line.extend_from_slice(file_name(files, condition.file))?;
     line.extend_from_slice(b":")?;

@@ -9,7 +9,7 @@ ghost use Rattle.prove.specs.Lines.{line_feeds, line_of};
 ghost use Rattle.prove.specs.Outside.{HasFaulted, IsLongFile};
 ghost use Rattle.prove.specs.ProgramForm.{IsProgramOf};
 ghost use Rattle.prove.specs.Spelling.{IsOfNoForm};
-ghost use Rattle.prove.specs.Stages.{NamesFile, UnlessSourceFault, FetchStopped, FormStopped, TokensStopped, first_place};
+ghost use Rattle.prove.specs.Stages.{HasTokenList, NamesFile, UnlessSourceFault, FetchStopped, FormStopped, TokensStopped, first_place};
 
 use crate::form_fault::FormFault;
 use crate::lines::LineFeeds;
@@ -82,7 +82,7 @@ pub fn fetch<S: Sources>(alloc: Global, name: &Name, sources: &mut S) -> Result<
 pub fn read_tokens(alloc: Global, bytes: &[u8], feeds: &LineFeeds) -> Result<Tokens, Stop>
     requires short { length bytes.now ≤ FILE_LIMIT }
     requires feeds { feeds.now ≡ line_feeds bytes.now }
-    ensures ok { IfOk result (λ found. Spells 0 found bytes.now × (greatest_weight found < WEIGHT_LIMIT)) }
+    ensures ok { IfOk result (HasTokenList bytes.now) }
     ensures stopped { IfErr result (TokensStopped bytes.now) }
 {
     let found = match tokens(alloc, 0, bytes) {

@@ -6,9 +6,7 @@ use crate::memory_sources::MapSources;
 use crate::outside::{Fetched, Sink, Sources, Wrote};
 use crate::program::read_program;
 use crate::reading::read_form;
-use crate::report::{
-    ConditionKind, ConditionRecord, ConditionVerdict, FunctionRecord, FunctionVerdict, Report,
-};
+use crate::report::{ConditionRecord, ConditionVerdict, FunctionRecord, FunctionVerdict, Report};
 use crate::report_text::report_lines;
 use crate::scope::{is_closed, knows_clause};
 use crate::status::{Device, LimitKind, Refusal, Rule, Status};
@@ -23,6 +21,7 @@ use src_tree::scanner;
 use src_tree::token::{NumberLiteral, NumberSuffix, Punctuation, Token, TokenKind, Tokens};
 use std::alloc::Global;
 use std::test::Fail;
+use vc_gen::condition::ConditionKind;
 
 fn condition(kind: ConditionKind, line: u32, verdict: ConditionVerdict) -> ConditionRecord {
     ConditionRecord {

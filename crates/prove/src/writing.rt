@@ -3,9 +3,11 @@
 ghost use Rattle.std.specs.Prelude.{◌≡◌, ◌≤◌, OnOk, OnErr};
 ghost use Rattle.std.specs.Io.KnownBytes.{append_known};
 ghost use Rattle.prove.specs.Outside.{HasFaulted};
+ghost use Rattle.prove.specs.Run.{IsJust, Writes};
 ghost use Rattle.prove.specs.Writing.{TakesPrefix, joined};
 
 use crate::outside::{Sink, Wrote};
+use crate::status::Status;
 use crate::text::Lines;
 
 /// The sink failed before it took all.
@@ -29,6 +31,14 @@ pub fn write_piece<W: Sink>(sink: &mut W, piece: &[u8]) -> Result<(), SinkFault>
     Ok(())
 }
 
+/// Writes a text, and gives the status that goes with it.
+pub fn write_text<W: Sink>(sink: &mut W, text: &[u8], status: Status) -> Result<Status, SinkFault>
+    ensures { Writes (IsJust status text.now) (W.taken sink.old) (W.taken sink.new) (W.faults sink.old) (W.faults sink.new) result }
+{
+    write_piece(sink, text)?;
+    Ok(status)
+}
+
 /// Writes lines, one write for each, repeated for what was not taken. After a fault the bytes taken are a
 /// prefix of the lines.
 pub fn write_lines<W: Sink>(sink: &mut W, lines: &Lines) -> Result<(), SinkFault>
@@ -41,4 +51,12 @@ pub fn write_lines<W: Sink>(sink: &mut W, lines: &Lines) -> Result<(), SinkFault
         write_piece(sink, line.as_slice())?;
     }
     Ok(())
+}
+
+/// Writes lines, and gives the status that goes with them.
+pub fn write_all<W: Sink>(sink: &mut W, lines: &Lines, status: Status) -> Result<Status, SinkFault>
+    ensures { Writes (IsJust status (joined lines.now)) (W.taken sink.old) (W.taken sink.new) (W.faults sink.old) (W.faults sink.new) result }
+{
+    write_lines(sink, lines)?;
+    Ok(status)
 }

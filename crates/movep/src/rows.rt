@@ -1,0 +1,191 @@
+//! Files with what the verifier writes of them, worked out by hand.
+
+ghost use Rattle.std.specs.Prelude.{◌≡◌, ◌<◌};
+
+use prove::memory_sink::VecSink;
+use prove::memory_sources::MapSources;
+use prove::status::{Device, Status};
+use prove::top::movep;
+use pv_base::lists::{Bytes, Calls, FileMap, Words};
+use pv_base::memory::NoMemory;
+use pv_base::name::Name;
+use pv_base::steps::Steps;
+use std::alloc::Global;
+use std::marker::Brand;
+use std::sync::ledger::{Blank, Ledger};
+use std::test::Fail;
+
+/// Words, and the files that the source holds.
+fn words_of(alloc: Global, given: &[&[u8]]) -> Result<Words, NoMemory> {
+    let mut words = Words::new(alloc);
+    for word in given {
+        words.push(Name::from_slice(alloc, word)?)?;
+    }
+    Ok(words)
+}
+
+fn bytes_of(alloc: Global, text: &[u8]) -> Result<Bytes, NoMemory> {
+    let mut bytes = Bytes::new(alloc);
+    bytes.extend_from_slice(text)?;
+    Ok(bytes)
+}
+
+/// A source that holds one file `a.move`, and whose fetches with these numbers fail.
+fn source_of(alloc: Global, text: &[u8], fails: &[u64]) -> Result<MapSources, NoMemory> {
+    let mut files = FileMap::new(alloc);
+    files.insert(Name::from_slice(alloc, b"a.move")?, bytes_of(alloc, text)?)?;
+    Ok(MapSources::new(files, Calls::from_slice(alloc, fails)?))
+}
+
+/// Runs the verifier with a counter of its own.
+fn run<L: Ledger>(
+    alloc: Global,
+    words: &Words,
+    sources: &mut MapSources,
+    sink: &mut VecSink,
+    blank: Blank,
+) -> Status
+    requires name { blank.name ≡ L.name }
+    requires parts { blank.parts ≡ L.parts }
+    requires some { 0 < L.parts }
+{
+    let mut steps = Steps::<L>::new(blank);
+    movep(alloc, words, sources, sink, &mut steps)
+}
+
+const SUM: &[u8] =
+    b"module 0x1::m {\n    fun f(x: u64, y: u64): u64 { x + y }\n    spec f {\n        aborts_if x + y > MAX_U64;\n        ensures result == x + y;\n    }\n}\n";
+
+const SUM_REPORT: &[u8] =
+    b"0x1::m::f: proved\n  ensures a.move:5: proved\n  aborts_if a.move:4: proved\n  aborts a.move:2: proved\nproved 1 of 1\n";
+
+#[test]
+fn reports(rt: HostRuntime) -> Result<(), Fail> {
+    let alloc = rt.alloc();
+    let words = words_of(alloc, &[b"a.move"])?;
+    let rows: [(&[u8], &[u8], u8); 11] = [
+        (SUM, SUM_REPORT, 0),
+        (b"", b"proved 0 of 0\n", 0),
+        (b"/* a */ // b", b"proved 0 of 0\n", 0),
+        (
+            b"module 0x1::m { fun f(x: u64, y: u64): u64 { x - y } spec f { requires y <= x; ensures result + y == x; aborts_if false; } }",
+            b"0x1::m::f: proved\n  ensures a.move:1: proved\n  aborts_if a.move:1: proved\n  aborts a.move:1: proved\nproved 1 of 1\n",
+            0,
+        ),
+        (
+            b"module 0x1::m {\nfun f(a: u64, b: u64, c: u64): u64 { a - b - c }\nspec f { aborts_if a < b + c; ensures result + b + c == a; }\n}\n",
+            b"0x1::m::f: proved\n  ensures a.move:3: proved\n  aborts_if a.move:3: proved\n  aborts a.move:2: proved\nproved 1 of 1\n",
+            0,
+        ),
+        (
+            b"module 0xCafe::m { fun f(): u64 { 0 } fun g(): u64 { 18446744073709551615 } spec f { ensures result == 1; } }",
+            b"0xcafe::m::f: unknown\n  ensures a.move:1: open\n0xcafe::m::g: proved\nproved 1 of 2\n",
+            1,
+        ),
+        (
+            b"module 0x1::m { fun f(x: u64): u64 { x + 1 } spec f { requires false; ensures false; aborts_if true; } }",
+            b"0x1::m::f: proved\n  ensures a.move:1: proved\n  aborts_if a.move:1: proved\n  aborts a.move:1: proved\nproved 1 of 1\n",
+            0,
+        ),
+        (
+            b"module 0x1::m { fun f(x: u64): u64 { x + 1 } spec f { aborts_if x == MAX_U64; } spec f { ensures result > x; } }",
+            b"0x1::m::f: proved\n  ensures a.move:1: proved\n  aborts_if a.move:1: proved\n  aborts a.move:1: proved\nproved 1 of 1\n",
+            0,
+        ),
+        (b"module 0x1::m {", b"refused 18 NotBuilt a.move:1\n", 2),
+        (
+            b"\nmodule 0x1::m {\n /* x",
+            b"refused 1 BadToken a.move:3\n",
+            2,
+        ),
+        (
+            b"module 0x1::m { fun f(x: u64, x: u64): u64 { x } }",
+            b"refused 18 NotBuilt a.move:1\n",
+            2,
+        ),
+    ];
+    for (text, output, code) in rows {
+        let mut sources = source_of(alloc, text, &[])?;
+        let mut sink = VecSink::new(alloc, 1000, Calls::new(alloc))?;
+        let status = run::<Brand>(alloc, &words, &mut sources, &mut sink, Blank::new(1));
+        assert_eq!(rt; sink.bytes(), output);
+        assert_eq!(rt; status.code(), code);
+    }
+    Ok(())
+}
+
+#[test]
+fn words_that_are_refused(rt: HostRuntime) -> Result<(), Fail> {
+    let alloc = rt.alloc();
+    let rows: [&[&[u8]]; 4] = [&[], &[b"a.move", b"b.move"], &[b"--help"], &[b"-"]];
+    for given in rows {
+        let words = words_of(alloc, given)?;
+        let mut sources = source_of(alloc, SUM, &[])?;
+        let mut sink = VecSink::new(alloc, 1000, Calls::new(alloc))?;
+        let status = run::<Brand>(alloc, &words, &mut sources, &mut sink, Blank::new(1));
+        assert_eq!(rt; status, Status::BadWords);
+        assert_eq!(rt; sink.bytes(), b"usage: movep FILE\n".as_slice());
+    }
+    Ok(())
+}
+
+#[test]
+fn files_that_are_not_fetched(rt: HostRuntime) -> Result<(), Fail> {
+    let alloc = rt.alloc();
+    let rows: [(&[u8], &[u64], &[u8]); 2] = [
+        (b"b.move", &[], b"fault source b.move\n"),
+        (b"a.move", &[1], b"fault source a.move\n"),
+    ];
+    for (name, fails, output) in rows {
+        let words = words_of(alloc, &[name])?;
+        let mut sources = source_of(alloc, SUM, fails)?;
+        let mut sink = VecSink::new(alloc, 1000, Calls::new(alloc))?;
+        let status = run::<Brand>(alloc, &words, &mut sources, &mut sink, Blank::new(1));
+        assert_eq!(rt; status, Status::Fault(Device::Source));
+        assert_eq!(rt; sink.bytes(), output);
+    }
+    Ok(())
+}
+
+#[test]
+fn writes_that_fail(rt: HostRuntime) -> Result<(), Fail> {
+    let alloc = rt.alloc();
+    let words = words_of(alloc, &[b"a.move"])?;
+    // The number of the write that fails, and how many bytes the lines before it have.
+    for (call, taken) in [(1u64, 0usize), (2, 18), (3, 45), (4, 74), (5, 100)] {
+        let mut sources = source_of(alloc, SUM, &[])?;
+        let mut sink = VecSink::new(alloc, 1000, Calls::from_slice(alloc, &[call])?)?;
+        let status = run::<Brand>(alloc, &words, &mut sources, &mut sink, Blank::new(1));
+        assert_eq!(rt; status, Status::Fault(Device::Sink));
+        assert_eq!(rt; sink.bytes(), &SUM_REPORT[..taken]);
+    }
+    Ok(())
+}
+
+/// A file of one byte, many times.
+fn repeated(alloc: Global, byte: u8, count: usize) -> Result<Vec<u8>, NoMemory> {
+    Ok(vec![in alloc; byte; count]?)
+}
+
+#[test]
+fn limits(rt: HostRuntime) -> Result<(), Fail> {
+    let alloc = rt.alloc();
+    let words = words_of(alloc, &[b"a.move"])?;
+    let rows: [(u8, usize, &[u8], u8); 6] = [
+        (b' ', 1_048_576, b"proved 0 of 0\n", 0),
+        (b' ', 1_048_577, b"limit bytes a.move\n", 5),
+        (b'(', 200, b"refused 18 NotBuilt a.move:1\n", 2),
+        (b'(', 201, b"limit nesting a.move\n", 5),
+        (b';', 200_000, b"refused 18 NotBuilt a.move:1\n", 2),
+        (b';', 200_001, b"limit tokens a.move\n", 5),
+    ];
+    for (byte, count, output, code) in rows {
+        let text = repeated(alloc, byte, count)?;
+        let mut sources = source_of(alloc, text.as_slice(), &[])?;
+        let mut sink = VecSink::new(alloc, 1000, Calls::new(alloc))?;
+        let status = run::<Brand>(alloc, &words, &mut sources, &mut sink, Blank::new(1));
+        assert_eq!(rt; sink.bytes(), output);
+        assert_eq!(rt; status.code(), code);
+    }
+    Ok(())
+}

@@ -1,0 +1,60 @@
+-- What was written of one part of a run, read as what the whole run writes.
+use Rattle.std.proofs.Common.{◌≡◌, ℕ, List, Option, Result, Ok, Err, inl, inr, Bool, true, false, if◌then◌else◌}
+use Rattle.std.specs.List.{list_all}
+use Rattle.prove.specs.declared.stages.Stop.{Stop}
+use Rattle.prove.specs.declared.stages.Stop.TheVariants.{SourceFault, Limit as limit_stop, Refused as refused_stop, NoMemory as memory_stop}
+use Rattle.prove.specs.declared.status.Status.{Status}
+use Rattle.prove.specs.declared.status.Status.TheVariants.{AllProved, NotAllProved, Refused, Fault, BadWords, Limit, NoMemory}
+use Rattle.prove.specs.declared.status.Device.TheVariants.{Source, Sink}
+use Rattle.prove.specs.declared.writing.SinkFault.{SinkFault}
+use Rattle.prove.specs.Outcome.{status_of}
+use Rattle.prove.specs.Outside.{Files}
+use Rattle.prove.specs.ReportData.{ReportData}
+use Rattle.prove.specs.ReportText.{is_proved}
+use Rattle.prove.specs.Stages.{NamesFile}
+use Rattle.prove.specs.Status.{usage_line}
+use Rattle.prove.specs.Run.{RunStopped, IsVerified, IsOutput, IsStopText, IsReportText, IsJust, WroteAll, Writes, Ends}
+
+-- a text of one kind is one of another
+pub writes_as : (P Q : Status → List ℕ → Type 0) (old new : Option (List ℕ)) (old_faults new_faults : ℕ) (r : Result Status SinkFault) → ((status : Status) (text : List ℕ) → P status text → Q status text) → Writes P old new old_faults new_faults r → Writes Q old new old_faults new_faults r
+writes_as P Q old new old_faults new_faults (Ok status) h w = record { text = w.text; output = h status w.text w.output; taken = w.taken }
+writes_as P Q old new old_faults new_faults (Err fault) h w = record { status = w.status; text = w.text; output = h w.status w.text w.output; taken = w.taken; fault = w.fault }
+
+module _ (words : List (List ℕ)) (holds : Option Files) (old new : ℕ) where
+  pub usage_output : ((name : List ℕ) → NamesFile words name → ⊥) → (status : Status) (text : List ℕ) → IsJust BadWords usage_line status text → IsOutput words holds old new status text
+  usage_output h status text e = inl (record { refused = h; status_is = e.0; text_is = e.1 })
+
+  pub stop_output : (name : List ℕ) (stop : Stop) → NamesFile words name → RunStopped holds name old new stop → (status : Status) (text : List ℕ) → IsStopText name stop status text → IsOutput words holds old new status text
+  stop_output name stop named stopped status text (inl e) = inr (inl (record { name = name; named = named; stop = stop; stopped = stopped; status_is = e.0; text_is = e.1 }))
+  stop_output name stop named stopped status text (inr e) = inr (inr (inr e))
+
+  pub report_output : (name : List ℕ) (report : ReportData) → NamesFile words name → IsVerified holds name report → (status : Status) (text : List ℕ) → IsReportText report status text → IsOutput words holds old new status text
+  report_output name report named verified status text (inl e) = inr (inr (inl (record { name = name; named = named; report = report; verified = verified; status_is = e.0; text_is = e.1 })))
+  report_output name report named verified status text (inr e) = inr (inr (inr e))
+
+  -- no text goes with a fault of the sink
+  not_of_stop : (stop : Stop) → Fault Sink ≡ status_of stop → ⊥
+  not_of_stop SourceFault e = cc
+  not_of_stop (limit_stop kind count) e = cc
+  not_of_stop (refused_stop rule line) e = cc
+  not_of_stop memory_stop e = cc
+
+  not_of_report : (b : Bool) → Fault Sink ≡ (if b then AllProved else NotAllProved) → ⊥
+  not_of_report true e = cc
+  not_of_report false e = cc
+
+  no_sink_output : (text : List ℕ) → IsOutput words holds old new (Fault Sink) text → ⊥
+  no_sink_output text (inl u) = let e = u.status_is in cc
+  no_sink_output text (inr (inl s)) = not_of_stop s.stop s.status_is
+  no_sink_output text (inr (inr (inl r))) = not_of_report (list_all (λ f. is_proved f.verdict) r.report.functions) r.status_is
+  no_sink_output text (inr (inr (inr w))) = let e = w.status_is in cc
+
+  pub ends_whole : (taken taken' : Option (List ℕ)) (faults faults' : ℕ) (status : Status) → WroteAll (IsOutput words holds old new) taken taken' status → Ends (IsOutput words holds old new) taken taken' faults faults' status
+  ends_whole taken taken' faults faults' (Fault Sink) w = absurd (no_sink_output w.text w.output)
+  ends_whole taken taken' faults faults' (Fault Source) w = w
+  ends_whole taken taken' faults faults' AllProved w = w
+  ends_whole taken taken' faults faults' NotAllProved w = w
+  ends_whole taken taken' faults faults' (Refused refusal) w = w
+  ends_whole taken taken' faults faults' BadWords w = w
+  ends_whole taken taken' faults faults' (Limit kind count) w = w
+  ends_whole taken taken' faults faults' NoMemory w = w

@@ -1,0 +1,108 @@
+//! The top call: from the words of a command line to a report and a status.
+
+ghost use Rattle.std.specs.Prelude.{◌≡◌, IfOk, IfErr};
+ghost use Rattle.std.specs.List.{list_all};
+ghost use Rattle.prove.specs.ReportText.{is_proved};
+ghost use Rattle.prove.specs.Run.{Ends, IsOutput, IsReportText, IsVerified, RunStopped, Writes, report_status};
+
+use crate::lines::LineFeeds;
+use crate::outcome::write_stop;
+use crate::outside::{Sink, Sources};
+use crate::report::{FunctionRecord, FunctionVerdict, Report};
+use crate::report_text::report_lines;
+use crate::stages::{Stop, fetch, file_name, read_program, read_tokens};
+use crate::status::{Device, Status};
+use crate::status_text::{no_memory_line, usage_line};
+use crate::verify::verify;
+use crate::writing::{SinkFault, write_all, write_text};
+use pv_base::lists::Words;
+use pv_base::memory::NoMemory;
+use pv_base::name::Name;
+use pv_base::steps::Steps;
+use std::alloc::Global;
+use std::sync::ledger::Ledger;
+
+/// The report of the file of this name.
+fn report_of<S: Sources, L: Ledger>(
+    alloc: Global,
+    name: &Name,
+    sources: &mut S,
+    steps: &mut Steps<L>,
+) -> Result<Report, Stop>
+    ensures verified { IfOk result (IsVerified (S.holds sources.old) name.now) }
+    ensures stopped { IfErr result (RunStopped (S.holds sources.old) name.now (S.faults sources.old) (S.faults sources.new)) }
+{
+    let bytes = fetch(alloc, name, sources)?;
+    let feeds = LineFeeds::new(alloc, bytes.as_slice())?;
+    let found = read_tokens(alloc, bytes.as_slice(), &feeds)?;
+    let program = read_program(alloc, &found, &feeds)?;
+    Ok(verify(alloc, name, &feeds, &program, steps)?)
+}
+
+/// Whether each function is proved.
+fn are_proved(functions: &[FunctionRecord]) -> bool
+    ensures { result ≡ list_all (λ f. is_proved f.verdict) functions.now }
+{
+    functions
+        .iter()
+        .all(|function| function.verdict == FunctionVerdict::Proved)
+}
+
+/// The status of a run with this report.
+fn status_of_report(report: &Report) -> Status
+    ensures { result ≡ report_status report.now }
+{
+    if are_proved(report.functions.as_slice()) {
+        Status::AllProved
+    } else {
+        Status::NotAllProved
+    }
+}
+
+/// Writes a report whole, or that memory ran out, and gives the status that goes with it.
+fn write_report<W: Sink>(alloc: Global, sink: &mut W, report: &Report) -> Result<Status, SinkFault>
+    ensures { Writes (IsReportText report.now) (W.taken sink.old) (W.taken sink.new) (W.faults sink.old) (W.faults sink.new) result }
+{
+    match report_lines(alloc, report) {
+        Ok(lines) => write_all(sink, &lines, status_of_report(report)),
+        Err(NoMemory) => write_text(sink, no_memory_line(), Status::NoMemory),
+    }
+}
+
+/// Runs the verifier up to what it writes.
+fn run<S: Sources, W: Sink, L: Ledger>(
+    alloc: Global,
+    words: &Words,
+    sources: &mut S,
+    sink: &mut W,
+    steps: &mut Steps<L>,
+) -> Result<Status, SinkFault>
+    ensures { Writes (IsOutput words.now (S.holds sources.old) (S.faults sources.old) (S.faults sources.new)) (W.taken sink.old) (W.taken sink.new) (W.faults sink.old) (W.faults sink.new) result }
+{
+    match file_name(words) {
+        Some(name) => match report_of(alloc, name, sources, steps) {
+            Ok(report) => write_report(alloc, sink, &report),
+            Err(stop) => write_stop(alloc, sink, name, stop),
+        },
+        None => write_text(sink, usage_line(), Status::BadWords),
+    }
+}
+
+/// Verifies the file that the words name, and writes the report, or in one line why there is none.
+///
+/// The words are those of the command line after the program's name. The status says how the run ended,
+/// and each status has its cause; the steps of searches are counted in `steps`.
+pub fn movep<S: Sources, W: Sink, L: Ledger>(
+    alloc: Global,
+    words: &Words,
+    sources: &mut S,
+    sink: &mut W,
+    steps: &mut Steps<L>,
+) -> Status
+    ensures { Ends (IsOutput words.now (S.holds sources.old) (S.faults sources.old) (S.faults sources.new)) (W.taken sink.old) (W.taken sink.new) (W.faults sink.old) (W.faults sink.new) result }
+{
+    match run(alloc, words, sources, sink, steps) {
+        Ok(status) => status,
+        Err(SinkFault) => Status::Fault(Device::Sink),
+    }
+}
