@@ -7,7 +7,7 @@ use Rattle.std.specs.List.{range_with_len}
 use Rattle.std.proofs.Math.IntN.{zero-*ℤ}
 use Rattle.std.proofs.lemmas.Int.{ints}
 use Rattle.std.proofs.lemmas.List.FromFn.{get_or-map-range_with_len, length-map-range_with_len}
-use Rattle.lin_arith.specs.Inequality.{Inequality, coefficient, IsWithinWidth}
+use Rattle.lin_arith.specs.Inequality.{Inequality, coefficient, padded, IsWithinWidth}
 use Rattle.lin_arith.specs.Combination.{number, weighted_sum, StaysWithin, bound_of, combination, IsContradiction}
 use Rattle.lin_arith.specs.Elimination.{IsUnit}
 use Rattle.lin_arith.specs.Elimination.IsRowOfStage.{given}
@@ -15,6 +15,8 @@ use Rattle.lin_arith.specs.Stages.{IsDerived}
 use Rattle.lin_arith.specs.Substitution.{form_of}
 use Rattle.lin_arith.specs.Wide.{IsFormOfRow}
 use Rattle.lin_arith.specs.declared.elimination.Derived.{Derived}
+use Rattle.std.proofs.lemmas.List.Elements.{All-nil}
+use Rattle.lin_arith.proofs.ClosureLemmas.{IsMultiple, multiple_of_itself}
 use Rattle.lin_arith.proofs.IntegerLemmas.{one_mul}
 use Rattle.lin_arith.proofs.ListLemmas.{get_or-past, below_or_past}
 use Rattle.lin_arith.proofs.StageLemmas.{unit_multipliers, width_of_combination}
@@ -66,9 +68,6 @@ unit_within part (m ∷ ms) (row ∷ rows) (suc i) d e l one others f =
     let rest = unit_within part ms rows i d (omega (arith, e)) (omega (arith, l)) one (λ k n. others (suc k) (λ z. n (omega (arith, z)))) f in
     rw (here, zero-*ℤ (part row)) ((zero_fits, zero_fits), rest)
 
-abbrev pub padded : ℕ → Inequality → Inequality
-padded width row = record { coefficients = map (λ u. coefficient u row) (range_with_len 0 width); bound = row.bound }
-
 pub padded_is : (width : ℕ) (ms : List ℤ) (rows : List Inequality) (i : ℕ) (row : Inequality) → IsUnit (length rows) i ms → row ≡ get_or rows i row → padded width row ≡ combination width ms rows
 padded_is width ms rows i row h is = λ j. record {
   coefficients = map (λ (u : ℕ). at (coefficient u) j) (range_with_len 0 width);
@@ -101,12 +100,17 @@ given_contradicts width ms rows i row h is short f b zeros =
 
 -- a given row as a row of the first stage
 pub given_derived : (width : ℕ) (rows : List Inequality) (i : ℕ) (made : Derived) → IsUnit (length rows) i made.multipliers.items → made.row ≡ combination width made.multipliers.items rows → made.total ≡ combination width made.multipliers.items rows → IsDerived width rows [] made
-given_derived width rows i made unit is total = record {
-  of_stage = given i made.row made.multipliers.items unit is;
-  is_total = total;
-  multipliers = unit_multipliers rows i made.multipliers.items unit;
-  same_width = ap (λ (r : Inequality). length r.coefficients) is ∙ width_of_combination width made.multipliers.items rows;
-}
+given_derived width rows i made unit is total =
+    let scaled = subst (λ (r : Inequality). IsMultiple made.row r) (is ∙ sym total) (multiple_of_itself made.row) in record {
+      of_stage = given i made.row made.multipliers.items unit is;
+      is_total = total;
+      multipliers = unit_multipliers rows i made.multipliers.items unit;
+      same_width = ap (λ (r : Inequality). length r.coefficients) is ∙ width_of_combination width made.multipliers.items rows;
+      scale = scaled.scale;
+      positive = scaled.positive;
+      is_scaled = scaled.is_scaled;
+      without = All-nil (λ (u : ℕ). coefficient u made.row ≡ pos 0);
+    }
 
 -- the multipliers of a given row
 abbrev unit_number : ℕ → ℕ → ℤ

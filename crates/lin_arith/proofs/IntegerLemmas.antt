@@ -57,6 +57,24 @@ mul_not_negative (pos a) (pos b) h k = omega (arith, ints)
 mul_not_negative (pos a) (negsuc b) h k = absurd (omega (arith, ints, k))
 mul_not_negative (negsuc a) b h k = absurd (omega (arith, ints, h))
 
+pub mul_negative : (a b : ℤ) → pos 0 <ℤ a → b <ℤ pos 0 → (a *ℤ b) <ℤ pos 0
+mul_negative a (pos b) h k = absurd (omega (arith, ints, k))
+mul_negative (pos zero) (negsuc b) h k = absurd (omega (arith, ints, h))
+mul_negative (pos (suc a)) (negsuc b) h k = omega (arith, ints)
+mul_negative (negsuc a) (negsuc b) h k = absurd (omega (arith, ints, h))
+
+pub positive_of_multiple : (a b : ℤ) → pos 0 <ℤ a → pos 0 <ℤ (a *ℤ b) → pos 0 <ℤ b
+positive_of_multiple a (pos zero) h k = absurd (omega (arith, ints, k))
+positive_of_multiple a (pos (suc b)) h k = omega (arith, ints)
+positive_of_multiple (pos zero) (negsuc b) h k = absurd (omega (arith, ints, h))
+positive_of_multiple (pos (suc a)) (negsuc b) h k = absurd (omega (arith, ints, k))
+positive_of_multiple (negsuc a) (negsuc b) h k = absurd (omega (arith, ints, h))
+
+pub negative_of_multiple : (a b : ℤ) → pos 0 <ℤ a → (a *ℤ b) <ℤ pos 0 → b <ℤ pos 0
+negative_of_multiple a (negsuc b) h k = omega (arith, ints)
+negative_of_multiple (pos a) (pos b) h k = absurd (omega (arith, ints, k))
+negative_of_multiple (negsuc a) (pos b) h k = absurd (omega (arith, ints, h))
+
 -- a positive factor keeps the sign
 pub sign_of_multiple : (a b : ℤ) → pos 0 <ℤ a → pos 0 ≤ℤ (a *ℤ b) → pos 0 ≤ℤ b
 sign_of_multiple a (pos b) h k = omega (arith, ints)

@@ -1,8 +1,11 @@
 pub mod BoundLemmas
+pub mod ClosureLemmas
 pub mod CombinationLemmas
 pub mod ContradictionLemmas
 pub mod GivenLemmas
+pub mod GrowthLemmas
 pub mod IntegerLemmas
+pub mod KeyLemmas
 pub mod ListLemmas
 pub mod NumberLemmas
 pub mod ProductLemmas

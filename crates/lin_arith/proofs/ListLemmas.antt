@@ -1,5 +1,5 @@
 -- Elements of lists.
-use Rattle.std.proofs.Common.{◌≡◌, ℕ, zero, suc, ◌+◌, ◌<◌, ◌≤◌, List, [], ◌∷◌, ◌++◌, length, get_or, pos, ℤ, ◌*ℤ◌, refl, sym, subst, arith, below_more, ◌⊎◌, inl, inr, Option, Some, None, IfSome, IfNone}
+use Rattle.std.proofs.Common.{◌≡◌, ℕ, zero, suc, ◌+◌, ◌<◌, ◌≤◌, List, [], ◌∷◌, ◌++◌, length, get_or, pos, ℤ, ◌*ℤ◌, refl, sym, subst, arith, below_more, ◌⊎◌, inl, inr, Option, Some, None, IfSome, IfNone, Result, Ok, Err, OnOk}
 use Rattle.std.specs.Option.{SomeIff}
 use Rattle.std.proofs.Math.IntN.{*ℤ-zero}
 
@@ -51,3 +51,7 @@ if_some (Some x) P v Q h q = subst Q (sym h.1) q
 pub if_none : {T : Type 0} (r : Option T) (P : Type 0) (v : T) (Q : Type 0) → SomeIff r P v → (¬ P → Q) → IfNone r Q
 if_none None P v Q h q = q h
 if_none (Some x) P v Q h q = tt
+
+pub on_ok : {T E : Type 0} (r : Result T E) (P Q : Type 0) → (P → Q) → OnOk r P → OnOk r Q
+on_ok (Ok x) P Q f h = f h
+on_ok (Err e) P Q f h = tt

@@ -1,6 +1,6 @@
 -- Rows of the stages of an elimination: their multipliers, and what stands when one more is found.
 use Rattle.std.proofs.Common.{◌≡◌, ◌≢◌, ℕ, zero, suc, ◌<◌, ◌≤◌, Bool, true, false, cond, not, List, [], ◌∷◌, ◌++◌, length, get_or, pos, ℤ, ◌+ℤ◌, ◌≤ℤ◌, ◌<ℤ◌, refl, sym, ap, ◌∙◌, subst, arith, ◌⊎◌, inl, inr, length-append, append-nil, append_assoc}
-use Rattle.std.specs.Prelude.{All}
+use Rattle.std.specs.Prelude.{All, Contains}
 use Rattle.std.specs.List.{list_any}
 use Rattle.std.specs.BTreeMap.{is_at}
 use Rattle.std.specs.BTreeSet.{BTreeSet, contains, contains_by, Updates}
@@ -10,7 +10,7 @@ use Rattle.std.specs.Global.{Vec}
 use Rattle.std.proofs.lemmas.Bool.{false≢true}
 use Rattle.std.proofs.lemmas.Int.{ints}
 use Rattle.std.proofs.lemmas.List.FromFn.{length-map-range_with_len}
-use Rattle.std.proofs.lemmas.List.Elements.{All-push}
+use Rattle.std.proofs.lemmas.List.Elements.{All-push, All-contains, Contains-get_or, Contains-push, Contains-append_left}
 use Rattle.std.proofs.lemmas.List.Quantifiers.{all_pairs_push}
 use Rattle.lin_arith.specs.Inequality.{Inequality, coefficient, IsWithinWidth}
 use Rattle.lin_arith.specs.Combination.{number, weighted_sum, combination}
@@ -24,7 +24,11 @@ use Rattle.lin_arith.specs.Stages.{AreMultipliers, IsDerived, AreBefore, IsStage
 use Rattle.lin_arith.specs.declared.elimination.Stage.{Stage}
 use Rattle.lin_arith.specs.declared.elimination.Derived.{Derived}
 use Rattle.lin_arith.specs.declared.elimination.Elimination.{Elimination}
-use Rattle.lin_arith.proofs.IntegerLemmas.{mul_not_negative, sign_of_multiple}
+use Rattle.lin_arith.specs.Closure.{IsWithout, IsSumOf, IsElimination, IsDue}
+use Rattle.lin_arith.specs.Closure.IsDue.{sum as due}
+use Rattle.lin_arith.proofs.ClosureLemmas.{IsMultiple, AreSummed, size_positive, multiple_of_reduced, combinations_summed, sum_of_multiples, without_in_sum, without_one_more}
+use Rattle.lin_arith.proofs.IntegerLemmas.{mul_not_negative, sign_of_multiple, zero_of_multiple}
+use Rattle.lin_arith.proofs.KeyLemmas.{no_other_with}
 use Rattle.lin_arith.proofs.ListLemmas.{get_or-any_default}
 
 one_not_negative : pos 0 ≤ℤ pos 1
@@ -110,6 +114,10 @@ pub negated : (a b : Bool) → a ≡ not b → a ≡ true → b ≡ false
 negated a true e t = absurd (false≢true (sym e ∙ t))
 negated a false e t = refl
 
+pub negated_false : (a b : Bool) → a ≡ not b → a ≡ false → b ≡ true
+negated_false a true e f = refl
+negated_false a false e f = absurd (false≢true (sym f ∙ e))
+
 stays : (old new : BTreeSet (Vec ℤ)) (key : Vec ℤ) → Updates key_cmp old new key true → (row : Inequality) → HasKey old row → HasKey new row
 stays old new key updates row has = record {
   key = has.key;
@@ -127,6 +135,7 @@ found_with width rows unknowns old new found made key f d numbers fresh updates 
   same_width = All-push (λ (row : Inequality). length row.coefficients ≡ width) found made.row f.same_width d.same_width;
   different = all_pairs_push (λ (a b : Inequality). a ≢ b) found made.row f.different (λ k e l. not_found old key made.row (get_or found k e) fresh numbers (f.keyed k e l));
   keyed = All-push (HasKey new) found made.row (λ k e l. stays old new key updates (get_or found k e) (f.keyed k e l)) (record { key = key; numbers = numbers; stands = updates.1 });
+  no_other = no_other_with old new found made.row key numbers updates f.no_other;
 }
 
 -- an elimination with one more row
@@ -134,6 +143,7 @@ pub under_way_with : (width : ℕ) (rows : List Inequality) (old new : Eliminati
 under_way_with width rows old new made key u d unknowns live found stages numbers fresh updates limit = record {
   within = u.within;
   live = subst (λ (us : List ℕ). All (IsDerived width rows us) new.live.items) (sym unknowns) (subst (λ (ds : List Derived). All (IsDerived width rows old.unknowns.items) ds) (sym live) (All-push (IsDerived width rows old.unknowns.items) old.live.items made u.live d));
+  live_found = subst (λ (ds : List Derived). All (λ (m : Derived). Contains new.found m.row) ds) (sym live) (subst (λ (rs : List Inequality). All (λ (m : Derived). Contains rs m.row) (old.live.items ++ made ∷ [])) (sym found) (All-push (λ (m : Derived). Contains (old.found ++ made.row ∷ []) m.row) old.live.items made (λ k e l. Contains-append_left old.found (made.row ∷ []) (get_or old.live.items k e).row (u.live_found k e l)) (Contains-push old.found made.row)));
   are_found = subst (λ (us : List ℕ). AreFound width rows us new.keys new.found) (sym unknowns) (subst (λ (rs : List Inequality). AreFound width rows old.unknowns.items new.keys rs) (sym found) (found_with width rows old.unknowns.items old.keys new.keys old.found made key u.are_found d numbers fresh updates));
   stages = subst (λ (ss : List Stage). All (IsOfStages width rows) ss) (sym stages) u.stages;
   below_limit = limit;
@@ -159,35 +169,80 @@ pub under_way_same : (width : ℕ) (rows : List Inequality) (old : Elimination) 
 under_way_same width rows old keys u same = record {
   within = u.within;
   live = u.live;
+  live_found = u.live_found;
   are_found = record {
     of_stages = u.are_found.of_stages;
     same_width = u.are_found.same_width;
     different = u.are_found.different;
     keyed = λ k e l. let has = u.are_found.keyed k e l in record { key = has.key; numbers = has.numbers; stands = subst (λ (ks : List (Vec ℤ)). list_any (is_at (key_cmp has.key)) ks ≡ true) same has.stands };
+    no_other = λ row has. u.are_found.no_other row (record { key = has.key; numbers = has.numbers; stands = subst (λ (ks : List (Vec ℤ)). list_any (is_at (key_cmp has.key)) ks ≡ true) (sym same) has.stands });
   };
   stages = u.stages;
   below_limit = u.below_limit;
 }
 
--- the sum of two rows that cancels an unknown, as a row of the next stage
-pub sum_derived : (width : ℕ) (rows : List Inequality) (unknowns : List ℕ) (unknown x y : ℕ) (upper lower made : Derived) → AreBefore width rows unknowns unknown upper lower → Cancels (coefficient unknown upper.total) (coefficient unknown lower.total) x y → IsLeastMix x y upper.multipliers.items lower.multipliers.items made.multipliers.items → made.total ≡ combination width made.multipliers.items rows → IsReduced made.total made.row → IsDerived width rows unknowns made
-sum_derived width rows unknowns unknown x y upper lower made b cancels least is reduced =
+multiple_of_row : (width : ℕ) (rows : List Inequality) (unknowns : List ℕ) (made : Derived) → IsDerived width rows unknowns made → IsMultiple made.row made.total
+multiple_of_row width rows unknowns made d = record { scale = d.scale; positive = d.positive; is_scaled = d.is_scaled }
+
+-- the row that is made of two others by their multipliers is their sum
+pub sum_of_derived : (width : ℕ) (rows found : List Inequality) (unknowns : List ℕ) (unknown x y : ℕ) (upper lower made : Derived) → AreBefore width rows found unknowns unknown upper lower → Cancels (coefficient unknown upper.total) (coefficient unknown lower.total) x y → IsLeastMix x y upper.multipliers.items lower.multipliers.items made.multipliers.items → made.total ≡ combination width made.multipliers.items rows → IsReduced made.total made.row → IsSumOf unknown upper.row lower.row made.row
+sum_of_derived width rows found unknowns unknown x y upper lower made b cancels least is reduced =
     let u = b.upper_of_stage in
     let l = b.lower_of_stage in
-    let at = λ (r : Inequality). coefficient unknown r in
-    let of_sum : IsCancellingSum width rows unknown upper.multipliers.items lower.multipliers.items made.multipliers.items = record {
+    let least_multiple = multiple_of_reduced (as_row least.mixed) (as_row made.multipliers.items) least.is_least in
+    let summed = combinations_summed width x y least_multiple.scale upper.multipliers.items lower.multipliers.items least.mixed made.multipliers.items rows least.is_mix (l.multipliers.one_each ∙ sym u.multipliers.one_each) least_multiple.is_scaled in
+    let totals : AreSummed least_multiple.scale x y upper.total lower.total made.total = rw (u.is_total, l.is_total, is) summed in
+    sum_of_multiples unknown least_multiple.scale x y upper.row lower.row made.row upper.total lower.total made.total least_multiple.positive cancels (multiple_of_reduced made.total made.row reduced) (multiple_of_row width rows b.before upper u) (multiple_of_row width rows b.before lower l) totals
+
+cancelling_sum : (width : ℕ) (rows found : List Inequality) (unknowns : List ℕ) (unknown x y : ℕ) (upper lower : Derived) (ms : List ℤ) → AreBefore width rows found unknowns unknown upper lower → Cancels (coefficient unknown upper.total) (coefficient unknown lower.total) x y → IsLeastMix x y upper.multipliers.items lower.multipliers.items ms → IsCancellingSum width rows unknown upper.multipliers.items lower.multipliers.items ms
+cancelling_sum width rows found unknowns unknown x y upper lower ms b cancels least =
+    let u = b.upper_of_stage in
+    let l = b.lower_of_stage in
+    record {
       above = subst (λ (r : Inequality). pos 0 <ℤ coefficient unknown r) u.is_total b.above;
       below = subst (λ (r : Inequality). coefficient unknown r <ℤ pos 0) l.is_total b.below;
       x = x;
       y = y;
       cancels = subst (λ (r : Inequality). Cancels (coefficient unknown (combination width upper.multipliers.items rows)) (coefficient unknown r) x y) l.is_total (subst (λ (r : Inequality). Cancels (coefficient unknown r) (coefficient unknown lower.total) x y) u.is_total cancels);
       least = least;
-    } in
+    }
+
+-- the sum is due in the elimination that has the two rows
+pub sum_due : (width : ℕ) (rows found : List Inequality) (unknowns : List ℕ) (unknown x y : ℕ) (upper lower : Derived) (ms : List ℤ) → AreBefore width rows found unknowns unknown upper lower → Cancels (coefficient unknown upper.total) (coefficient unknown lower.total) x y → IsLeastMix x y upper.multipliers.items lower.multipliers.items ms → IsDue rows ms
+sum_due width rows found unknowns unknown x y upper lower ms b cancels least = due (record {
+  width = width;
+  done = b.before;
+  unknown = unknown;
+  found = found;
+  elimination = subst (λ (us : List ℕ). IsElimination width rows b.before us found) (sym b.is_last) b.elimination;
+  first = upper.row;
+  second = lower.row;
+  first_found = b.upper_found;
+  second_found = b.lower_found;
+  upper = upper.multipliers.items;
+  lower = lower.multipliers.items;
+  first_of_stage = b.upper_of_stage.of_stage;
+  second_of_stage = b.lower_of_stage.of_stage;
+  is_sum = cancelling_sum width rows found unknowns unknown x y upper lower ms b cancels least;
+})
+
+-- the sum of two rows that cancels an unknown, as a row of the next stage
+pub sum_derived : (width : ℕ) (rows found : List Inequality) (unknowns : List ℕ) (unknown x y : ℕ) (upper lower made : Derived) → AreBefore width rows found unknowns unknown upper lower → Cancels (coefficient unknown upper.total) (coefficient unknown lower.total) x y → IsLeastMix x y upper.multipliers.items lower.multipliers.items made.multipliers.items → made.total ≡ combination width made.multipliers.items rows → IsReduced made.total made.row → IsDerived width rows unknowns made
+sum_derived width rows found unknowns unknown x y upper lower made b cancels least is reduced =
+    let u = b.upper_of_stage in
+    let l = b.lower_of_stage in
+    let of_sum = cancelling_sum width rows found unknowns unknown x y upper lower made.multipliers.items b cancels least in
+    let scaled = multiple_of_reduced made.total made.row reduced in
+    let is_sum = sum_of_derived width rows found unknowns unknown x y upper lower made b cancels least is reduced in
     record {
       of_stage = subst (λ (us : List ℕ). IsRowOfStage width rows us made.row made.multipliers.items) b.is_last (sum b.before unknown upper.row lower.row made.row upper.multipliers.items lower.multipliers.items made.multipliers.items u.of_stage l.of_stage of_sum (subst (λ (r : Inequality). IsReduced r made.row) is reduced));
       is_total = is;
       multipliers = least_multipliers rows x y upper.multipliers.items lower.multipliers.items made.multipliers.items u.multipliers l.multipliers least;
       same_width = length_of_reduced made.total made.row reduced ∙ ap (λ (r : Inequality). length r.coefficients) is ∙ width_of_combination width made.multipliers.items rows;
+      scale = scaled.scale;
+      positive = scaled.positive;
+      is_scaled = scaled.is_scaled;
+      without = subst (λ (us : List ℕ). IsWithout us made.row) b.is_last (without_in_sum b.before unknown upper.row lower.row made.row is_sum u.without l.without);
     }
 
 first_of_rest : (P : Derived → Type 0) (rest more : List Derived) (made : Derived) → All P rest → rest ≡ made ∷ more → P made
@@ -231,6 +286,10 @@ kept_derived width rows unknowns unknown made d none = record {
   is_total = d.is_total;
   multipliers = d.multipliers;
   same_width = d.same_width;
+  scale = d.scale;
+  positive = d.positive;
+  is_scaled = d.is_scaled;
+  without = without_one_more unknowns unknown made.row d.without (zero_of_multiple (pos d.scale) (coefficient unknown made.row) (size_positive d.scale d.positive) (d.is_scaled.coefficients unknown ∙ none));
 }
 
 pub live_with : (width : ℕ) (rows : List Inequality) (unknowns : List ℕ) (old new : List Derived) (made : Derived) → All (IsDerived width rows unknowns) old → IsDerived width rows unknowns made → new ≡ old ++ made ∷ [] → All (IsDerived width rows unknowns) new
@@ -246,15 +305,17 @@ found_later width rows unknowns unknown row f = record {
 }
 
 -- an elimination that goes to the next stage
-pub under_way_next : (width : ℕ) (rows : List Inequality) (unknown : ℕ) (old new : Elimination) → IsUnderWay width rows old → new.unknowns.items ≡ old.unknowns.items ++ unknown ∷ [] → new.found ≡ old.found → new.keys ≡ old.keys → new.stages.items ≡ old.stages.items → All (IsDerived width rows (old.unknowns.items ++ unknown ∷ [])) new.live.items → IsUnderWay width rows new
-under_way_next width rows unknown old new u unknowns found keys stages live = record {
+pub under_way_next : (width : ℕ) (rows : List Inequality) (unknown : ℕ) (old new : Elimination) → IsUnderWay width rows old → new.unknowns.items ≡ old.unknowns.items ++ unknown ∷ [] → new.found ≡ old.found → new.keys ≡ old.keys → new.stages.items ≡ old.stages.items → All (IsDerived width rows (old.unknowns.items ++ unknown ∷ [])) new.live.items → ((made : Derived) → Contains new.live.items made → Contains old.live.items made) → IsUnderWay width rows new
+under_way_next width rows unknown old new u unknowns found keys stages live from = record {
   within = u.within;
   live = subst (λ (us : List ℕ). All (IsDerived width rows us) new.live.items) (sym unknowns) live;
+  live_found = λ k d l. subst (λ (rs : List Inequality). Contains rs (get_or new.live.items k d).row) (sym found) (All-contains (λ (m : Derived). Contains old.found m.row) old.live.items (get_or new.live.items k d) u.live_found (from (get_or new.live.items k d) (Contains-get_or new.live.items k d l)));
   are_found = subst (λ (us : List ℕ). AreFound width rows us new.keys new.found) (sym unknowns) (subst (λ (ks : BTreeSet (Vec ℤ)). AreFound width rows (old.unknowns.items ++ unknown ∷ []) ks new.found) (sym keys) (subst (λ (rs : List Inequality). AreFound width rows (old.unknowns.items ++ unknown ∷ []) old.keys rs) (sym found) (record {
     of_stages = λ k d l. found_later width rows old.unknowns.items unknown (get_or old.found k d) (u.are_found.of_stages k d l);
     same_width = u.are_found.same_width;
     different = u.are_found.different;
     keyed = u.are_found.keyed;
+    no_other = u.are_found.no_other;
   })));
   stages = subst (λ (ss : List Stage). All (IsOfStages width rows) ss) (sym stages) u.stages;
   below_limit = subst (λ (rs : List Inequality). length rs < 5000) (sym found) u.below_limit;
@@ -265,21 +326,25 @@ pub under_way_kept : (width : ℕ) (rows : List Inequality) (unknowns : List ℕ
 under_way_kept width rows unknowns stage old new u is_stage same live found keys stages = record {
   within = u.within;
   live = subst (λ (us : List ℕ). All (IsDerived width rows us) new.live.items) (sym same) (subst (λ (ds : List Derived). All (IsDerived width rows old.unknowns.items) ds) (sym live) u.live);
+  live_found = subst (λ (ds : List Derived). All (λ (m : Derived). Contains new.found m.row) ds) (sym live) (subst (λ (rs : List Inequality). All (λ (m : Derived). Contains rs m.row) old.live.items) (sym found) u.live_found);
   are_found = subst (λ (us : List ℕ). AreFound width rows us new.keys new.found) (sym same) (subst (λ (ks : BTreeSet (Vec ℤ)). AreFound width rows old.unknowns.items ks new.found) (sym keys) (subst (λ (rs : List Inequality). AreFound width rows old.unknowns.items old.keys rs) (sym found) u.are_found));
   stages = subst (λ (ss : List Stage). All (IsOfStages width rows) ss) (sym stages) (All-push (IsOfStages width rows) old.stages.items stage u.stages (record { unknowns = unknowns; is_stage = is_stage }));
   below_limit = subst (λ (rs : List Inequality). length rs < 5000) (sym found) u.below_limit;
 }
 
 -- two rows whose sum leaves 128 bits
-pub wide_sum : (width : ℕ) (rows : List Inequality) (unknowns : List ℕ) (unknown x y : ℕ) (upper lower : Derived) → IsWithinWidth width rows → AreBefore width rows unknowns unknown upper lower → Cancels (coefficient unknown upper.total) (coefficient unknown lower.total) x y → SumLeaves width rows x y upper.multipliers.items lower.multipliers.items → IsWide rows upper.row lower.row
-wide_sum width rows unknowns unknown x y upper lower within b cancels leaves =
+pub wide_sum : (width : ℕ) (rows found : List Inequality) (unknowns : List ℕ) (unknown x y : ℕ) (upper lower : Derived) → AreBefore width rows found unknowns unknown upper lower → Cancels (coefficient unknown upper.total) (coefficient unknown lower.total) x y → SumLeaves width rows x y upper.multipliers.items lower.multipliers.items → IsWide rows upper.row lower.row
+wide_sum width rows found unknowns unknown x y upper lower b cancels leaves =
     let u = b.upper_of_stage in
     let l = b.lower_of_stage in
     wide (record {
       width = width;
-      within = within;
       unknowns = b.before;
       unknown = unknown;
+      found = found;
+      elimination = subst (λ (us : List ℕ). IsElimination width rows b.before us found) (sym b.is_last) b.elimination;
+      first_found = b.upper_found;
+      second_found = b.lower_found;
       upper = upper.multipliers.items;
       lower = lower.multipliers.items;
       first_of_stage = u.of_stage;

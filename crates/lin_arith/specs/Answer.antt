@@ -3,6 +3,7 @@ use Rattle.std.specs.Prelude.{List, All}
 use Rattle.std.proofs.Common.{ℤ}
 use Rattle.lin_arith.specs.Inequality.{Inequality}
 use Rattle.lin_arith.specs.Combination.{IsContradiction}
+use Rattle.lin_arith.specs.Closure.{IsCompleteElimination, IsDue}
 use Rattle.lin_arith.specs.Elimination.{ReachesLimit}
 use Rattle.lin_arith.specs.Substitution.{Meets, ArePositive}
 use Rattle.lin_arith.specs.Wide.{IsWide}
@@ -47,7 +48,7 @@ pub record IsSolution (rows : List Inequality) (values : List Fraction) : Type 0
 
 -- the answer shows what it says of the rows
 abbrev pub Shows : List Inequality → LinAnswer → Type 0
-Shows rows answer = IfInfeasible answer (IsContradiction rows) × IfFeasible answer (IsSolution rows) × IfTooManyRows answer (ReachesLimit rows) × IfWide answer (IsWide rows)
+Shows rows answer = IfInfeasible answer (IsContradiction rows) × IfFeasible answer (IsSolution rows) × IfTooManyRows answer (ReachesLimit rows) × IfWide answer (IsWide rows) × IfFeasible answer (λ values. IsCompleteElimination rows) × IfInfeasible answer (IsDue rows)
 
 abbrev pub StopShows : List Inequality → Stop → Type 0
 StopShows rows (Answered answer) = Shows rows answer

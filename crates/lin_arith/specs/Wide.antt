@@ -1,8 +1,9 @@
 -- Two rows of an elimination whose sum leaves 128 bits.
-use Rattle.std.specs.Prelude.{◌≡◌, ◌≢◌, ℕ, ◌<◌, List, pos, ◌-ℤ◌, ◌*ℤ◌, ◌≤ℤ◌, FitsSigned}
+use Rattle.std.specs.Prelude.{◌≡◌, ◌≢◌, ℕ, ◌<◌, List, [], ◌∷◌, ◌++◌, Contains, pos, ◌-ℤ◌, ◌*ℤ◌, ◌≤ℤ◌, FitsSigned}
 use Rattle.std.specs.Int.{w128}
 use Rattle.std.proofs.Common.{ℤ, ◌<ℤ◌}
 use Rattle.lin_arith.specs.Inequality.{Inequality, coefficient, IsWithinWidth}
+use Rattle.lin_arith.specs.Closure.{IsElimination, IsCompleteElimination}
 use Rattle.lin_arith.specs.Combination.{combination, CombinesWithin}
 use Rattle.lin_arith.specs.Elimination.{Cancels, MixLeaves, IsLeastMix, IsRowOfStage}
 use Rattle.lin_arith.specs.Substitution.{LinearForm, form_of, put_in_all, IsRatio, ArePositive}
@@ -14,13 +15,17 @@ pub data SumLeaves (width : ℕ) (rows : List Inequality) (x y : ℕ) (first sec
   multiplier : MixLeaves x y first second → SumLeaves width rows x y first second
   number : (ms : List ℤ) → IsLeastMix x y first second ms → ¬ (CombinesWithin width ms rows) → SumLeaves width rows x y first second
 
--- two rows of one stage, in which an unknown stands with a coefficient above 0 and with one below, and whose sum with
--- the least multipliers that cancel it leaves 128 bits
+-- two rows that an elimination with fewer than 5,000 rows has found, of the stage that it has reached, in which the next
+-- unknown stands with a coefficient above 0 and with one below, and whose sum with the least multipliers that cancel it
+-- leaves 128 bits
 pub record IsWideSum (rows : List Inequality) (first second : Inequality) : Type 0 where
   pub width : ℕ
-  pub within : IsWithinWidth width rows
   pub unknowns : List ℕ
   pub unknown : ℕ
+  pub found : List Inequality
+  pub elimination : IsElimination width rows unknowns (unknowns ++ unknown ∷ []) found
+  pub first_found : Contains found first
+  pub second_found : Contains found second
   pub upper : List ℤ
   pub lower : List ℤ
   pub first_of_stage : IsRowOfStage width rows unknowns first upper
@@ -83,9 +88,10 @@ pub record PutInLeaves (row : Inequality) (value : Fraction) : Type 0 where
   pub is_weight : pos divisor *ℤ weight ≡ coefficient value.unknown row
   pub leaves : ¬ (PutInWithin factor weight row value)
 
--- two rows of an elimination whose sum leaves 128 bits: rows of one stage; a row with values put in, and the next
--- value as a row; or, twice, a row with values put in that no whole number of 128 bits meets as the bound of an unknown
+-- two rows of an elimination whose sum leaves 128 bits: rows of one stage; or, where the elimination came to its end
+-- with fewer than 5,000 rows, a row with values put in and the next value as a row, or, twice, a row with values put in
+-- that no whole number of 128 bits meets as the bound of an unknown
 pub data IsWide (rows : List Inequality) (first second : Inequality) : Type 0 where
   sum : IsWideSum rows first second → IsWide rows first second
-  value : (value : Fraction) → IsPutIn rows first → IsValueRow value second → PutInLeaves first value → IsWide rows first second
-  unmet : (unknown : ℕ) → IsPutIn rows first → second ≡ first → ((z : ℤ) → FitsSigned w128 z → (coefficient unknown first *ℤ z) ≤ℤ first.bound → ⊥) → IsWide rows first second
+  value : (value : Fraction) → IsCompleteElimination rows → IsPutIn rows first → IsValueRow value second → PutInLeaves first value → IsWide rows first second
+  unmet : (unknown : ℕ) → IsCompleteElimination rows → IsPutIn rows first → second ≡ first → ((z : ℤ) → FitsSigned w128 z → (coefficient unknown first *ℤ z) ≤ℤ first.bound → ⊥) → IsWide rows first second

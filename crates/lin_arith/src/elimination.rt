@@ -1,11 +1,13 @@
 //! The elimination of one unknown after another.
 
-ghost use Rattle.std.specs.Prelude.{◌≡◌, ◌<◌, ◌∷◌, ◌++◌, [], pos, ◌<ℤ◌, ◌≤ℤ◌, All, IfErr, IfOk, OnOk, IfSome, ℕ, length, List};
+ghost use Rattle.std.specs.Prelude.{◌≡◌, ◌<◌, ◌∷◌, ◌++◌, [], pos, ◌<ℤ◌, ◌≤ℤ◌, All, Contains, IfErr, IfOk, OnOk, IfSome, IfNone, ℕ, length, get_or, true, List};
 ghost use Rattle.std.specs.Option.{SomeIff};
-ghost use Rattle.lin_arith.specs.Inequality.{Inequality, coefficient};
+ghost use Rattle.lin_arith.specs.Inequality.{Inequality, coefficient, padded};
+ghost use Rattle.lin_arith.specs.Closure.{IsSumOf, HasSum, IsCompleteElimination, IsBegun, IsDue};
+ghost use Rattle.lin_arith.specs.declared.elimination.Derived.{Derived};
 ghost use Rattle.lin_arith.specs.Combination.{combination, CombinesWithin};
 ghost use Rattle.lin_arith.specs.Elimination.{IsUnit};
-ghost use Rattle.lin_arith.specs.Stages.{AreMultipliers, IsDerived, AreBefore, IsStage, IsStageBefore, IsUnderWay};
+ghost use Rattle.lin_arith.specs.Stages.{AreMultipliers, IsDerived, AreBefore, IsStage, IsStageBefore, IsUnderWay, HasKey, AreParted, HasGrown, IsCaughtUp, IsLeft, NoneIsLeft};
 ghost use Rattle.lin_arith.specs.Answer.{StopShows};
 
 use crate::combination::combined;
@@ -63,6 +65,7 @@ impl Elimination {
     /// The first stage: the given rows, none of them twice.
     pub fn new(alloc: Global, system: &System<'_>) -> Result<Elimination, Stop>
         ensures ok { IfOk result (IsUnderWay system.now.width system.now.rows.now) }
+        ensures caught_up { IfOk result (IsCaughtUp system.now.width system.now.rows.now) }
         ensures err { IfErr result (StopShows system.now.rows.now) }
     {
         let mut elimination = Elimination {
@@ -103,6 +106,8 @@ impl Elimination {
         ensures ok { (width : ℕ) (rows : List Inequality) → IsUnderWay width rows self.old → IsDerived width rows self.old.unknowns.items made → OnOk result (IsUnderWay width rows self.new) }
         ensures err { (width : ℕ) (rows : List Inequality) → IsUnderWay width rows self.old → IsDerived width rows self.old.unknowns.items made → IfErr result (StopShows rows) }
         ensures unknowns { OnOk result (self.new.unknowns.items ≡ self.old.unknowns.items) }
+        ensures grown { (width : ℕ) (rows : List Inequality) → IsUnderWay width rows self.old → IsDerived width rows self.old.unknowns.items made → OnOk result (HasGrown self.old self.new) }
+        ensures added { (width : ℕ) (rows : List Inequality) → IsUnderWay width rows self.old → OnOk result (Contains self.new.found made.row) }
     {
         if self.keys.insert(key_of(self.alloc, &made.row)?)? {
             self.found.push(made.row.try_clone(self.alloc)?)?;
@@ -116,30 +121,26 @@ impl Elimination {
     }
 
     /// Whether a row was made before.
-    fn stands(&self, row: &LinRow) -> Result<bool, NoMemory> {
+    fn stands(&self, row: &LinRow) -> Result<bool, NoMemory>
+        ensures { IfOk result (λ stands. stands ≡ true → HasKey self.now.keys row.now) }
+    {
         let key = key_of(self.alloc, row)?;
         Ok(self.keys.contains(&key))
     }
 
     /// The unknown with the fewest sums, or none where none is left.
-    fn next_unknown(&self, width: usize) -> Option<usize> {
+    fn next_unknown(&self, width: usize) -> Option<usize>
+        ensures some { IfSome result (λ unknown. (unknown < width) × IsLeft self.now.live.items unknown) }
+        ensures none { IfNone result (NoneIsLeft width self.now.live.items) }
+    {
         let mut best = None;
         let mut fewest = usize::MAX;
         for unknown in 0..width {
-            let upper = self
-                .live
-                .iter()
-                .filter(|made| made.row.coefficient(unknown) > 0)
-                .count();
-            let lower = self
-                .live
-                .iter()
-                .filter(|made| made.row.coefficient(unknown) < 0)
-                .count();
-            let sums = upper.saturating_mul(lower);
-            if (upper > 0 || lower > 0) && (best.is_none() || sums < fewest) {
-                best = Some(unknown);
-                fewest = sums;
+            if let Some(sums) = sums_with(self.live.as_slice(), unknown) {
+                if best.is_none() || sums < fewest {
+                    best = Some(unknown);
+                    fewest = sums;
+                }
             }
         }
         best
@@ -148,6 +149,8 @@ impl Elimination {
     /// Goes to the next stage, and takes the rows with the unknown out of it.
     fn split(&mut self, unknown: usize) -> Result<Stage, NoMemory>
         ensures unknown { IfOk result (λ stage. stage.unknown ≡ unknown) }
+        ensures parted { IfOk result (λ stage. AreParted unknown self.old.live.items stage.upper.items stage.lower.items self.new.live.items) }
+        ensures found { OnOk result (self.new.found ≡ self.old.found) }
         ensures unknowns { OnOk result (self.new.unknowns.items ≡ self.old.unknowns.items ++ unknown ∷ []) }
         ensures stage { (width : ℕ) (rows : List Inequality) → IsUnderWay width rows self.old → IfOk result (IsStage width rows self.old.unknowns.items) }
         ensures under_way { (width : ℕ) (rows : List Inequality) → IsUnderWay width rows self.old → OnOk result (IsUnderWay width rows self.new) }
@@ -174,8 +177,13 @@ impl Elimination {
 
     /// Goes to the next stage: the rows without the unknown, and the sums of two rows that cancel it.
     fn eliminate(&mut self, system: &System<'_>, unknown: usize) -> Result<(), Stop>
-        requires { IsUnderWay system.now.width system.now.rows.now self.old }
+        requires under_way { IsUnderWay system.now.width system.now.rows.now self.old }
+        requires caught_up { IsCaughtUp system.now.width system.now.rows.now self.old }
+        requires below { unknown < system.now.width }
+        requires left { IsLeft self.old.live.items unknown }
         ensures ok { OnOk result (IsUnderWay system.now.width system.now.rows.now self.new) }
+        ensures caught_up { OnOk result (IsCaughtUp system.now.width system.now.rows.now self.new) }
+        ensures unknowns { OnOk result (self.new.unknowns.items ≡ self.old.unknowns.items ++ unknown ∷ []) }
         ensures err { IfErr result (StopShows system.now.rows.now) }
     {
         let stage = self.split(unknown)?;
@@ -187,8 +195,10 @@ impl Elimination {
     /// Adds the sums of two rows that cancel the stage's unknown.
     fn add_sums(&mut self, system: &System<'_>, stage: &Stage) -> Result<(), Stop>
         requires under_way { IsUnderWay system.now.width system.now.rows.now self.old }
-        requires before { IsStageBefore system.now.width system.now.rows.now self.old.unknowns.items stage.now }
+        requires before { IsStageBefore system.now.width system.now.rows.now self.old.found self.old.unknowns.items stage.now }
         ensures ok { OnOk result (IsUnderWay system.now.width system.now.rows.now self.new) }
+        ensures grown { OnOk result (HasGrown self.old self.new) }
+        ensures sums { OnOk result (All (λ (upper : Derived). All (λ (lower : Derived). HasSum self.new.found stage.now.unknown upper.row lower.row) stage.now.lower.items) stage.now.upper.items) }
         ensures err { IfErr result (StopShows system.now.rows.now) }
     {
         for upper in stage.upper.iter() {
@@ -208,8 +218,10 @@ impl Elimination {
         lower: &Derived,
     ) -> Result<(), Stop>
         requires under_way { IsUnderWay system.now.width system.now.rows.now self.old }
-        requires before { AreBefore system.now.width system.now.rows.now self.old.unknowns.items unknown upper.now lower.now }
+        requires before { AreBefore system.now.width system.now.rows.now self.old.found self.old.unknowns.items unknown upper.now lower.now }
         ensures ok { OnOk result (IsUnderWay system.now.width system.now.rows.now self.new) }
+        ensures grown { OnOk result (HasGrown self.old self.new) }
+        ensures sum { OnOk result (HasSum self.new.found unknown upper.now.row lower.now.row) }
         ensures err { IfErr result (StopShows system.now.rows.now) }
         ensures unknowns { OnOk result (self.new.unknowns.items ≡ self.old.unknowns.items) }
     {
@@ -223,17 +235,38 @@ impl Elimination {
 
     /// Eliminates every unknown.
     pub fn run(&mut self, system: &System<'_>) -> Result<(), Stop>
-        requires { IsUnderWay system.now.width system.now.rows.now self.old }
+        requires under_way { IsUnderWay system.now.width system.now.rows.now self.old }
+        requires caught_up { IsCaughtUp system.now.width system.now.rows.now self.old }
         ensures ok { OnOk result (IsUnderWay system.now.width system.now.rows.now self.new) }
+        ensures complete { OnOk result (IsCompleteElimination system.now.rows.now) }
         ensures err { IfErr result (StopShows system.now.rows.now) }
     {
-        for _ in 0..system.width {
-            match self.next_unknown(system.width) {
-                Some(unknown) => self.eliminate(system, unknown)?,
-                None => return Ok(()),
-            }
+        while let Some(unknown) = self.next_unknown(system.width) {
+            self.eliminate(system, unknown)?;
         }
         Ok(())
+    }
+}
+
+/// How many sums eliminate an unknown from these rows. None where it stands in no row.
+fn sums_with(live: &[Derived], unknown: usize) -> Option<usize>
+    ensures some { IfSome result (λ _. IsLeft live.now unknown) }
+    ensures none { IfNone result (All (λ (made : Derived). coefficient unknown made.row ≡ pos 0) live.now) }
+{
+    let mut upper: usize = 0;
+    let mut lower: usize = 0;
+    for made in live {
+        let coefficient = made.row.coefficient(unknown);
+        if coefficient > 0 {
+            upper += 1;
+        } else if coefficient < 0 {
+            lower += 1;
+        }
+    }
+    if upper > 0 || lower > 0 {
+        Some(upper.saturating_mul(lower))
+    } else {
+        None
     }
 }
 
@@ -251,7 +284,8 @@ fn key_of(alloc: Global, row: &LinRow) -> Result<Vec<i128>, NoMemory>
 fn given(alloc: Global, system: &System<'_>, i: usize) -> Result<Derived, Stop>
     requires { i < length system.now.rows.now }
     ensures ok { IfOk result (IsDerived system.now.width system.now.rows.now []) }
-    ensures err { IfErr result (StopShows system.now.rows.now) }
+    ensures row { (row : Inequality) → IfOk result (λ made. made.row ≡ padded system.now.width (get_or system.now.rows.now i row)) }
+    ensures err { IsBegun system.now.rows.now i → IfErr result (StopShows system.now.rows.now) }
 {
     let multipliers = unit(alloc, system.rows.len(), i)?;
     let row = system.rows[i].padded(alloc, system.width)?;
@@ -286,8 +320,9 @@ fn sum_without(
 ) -> Result<Derived, Stop>
     requires upper { AreMultipliers system.now.rows.now upper.now.multipliers.items }
     requires lower { AreMultipliers system.now.rows.now lower.now.multipliers.items }
-    ensures ok { (unknowns : List ℕ) → AreBefore system.now.width system.now.rows.now unknowns unknown upper.now lower.now → IfOk result (IsDerived system.now.width system.now.rows.now unknowns) }
-    ensures err { (unknowns : List ℕ) → AreBefore system.now.width system.now.rows.now unknowns unknown upper.now lower.now → IfErr result (StopShows system.now.rows.now) }
+    ensures ok { (found : List Inequality) (unknowns : List ℕ) → AreBefore system.now.width system.now.rows.now found unknowns unknown upper.now lower.now → IfOk result (IsDerived system.now.width system.now.rows.now unknowns) }
+    ensures sum { (found : List Inequality) (unknowns : List ℕ) → AreBefore system.now.width system.now.rows.now found unknowns unknown upper.now lower.now → IfOk result (λ made. IsSumOf unknown upper.now.row lower.now.row made.row) }
+    ensures err { (found : List Inequality) (unknowns : List ℕ) → AreBefore system.now.width system.now.rows.now found unknowns unknown upper.now lower.now → IfErr result (StopShows system.now.rows.now) }
 {
     let weights = cancelling(
         upper.total.coefficient(unknown),
@@ -317,7 +352,7 @@ fn total_of(
 ) -> Result<Option<LinRow>, Stop>
     requires { AreMultipliers system.now.rows.now multipliers.now }
     ensures ok { IfOk result (λ made. SomeIff made (CombinesWithin system.now.width multipliers.now system.now.rows.now) (combination system.now.width multipliers.now system.now.rows.now)) }
-    ensures err { IfErr result (StopShows system.now.rows.now) }
+    ensures err { IsDue system.now.rows.now multipliers.now → IfErr result (StopShows system.now.rows.now) }
 {
     let total = combined(alloc, system.width, multipliers, system.rows)?;
     if let Some(row) = &total {

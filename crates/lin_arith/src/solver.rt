@@ -6,6 +6,7 @@ ghost use Rattle.lin_arith.specs.Stages.{IsDerived, IsOfStages};
 ghost use Rattle.lin_arith.specs.Wide.{IsWide};
 ghost use Rattle.lin_arith.specs.Combination.{IsContradiction};
 ghost use Rattle.lin_arith.specs.Bounds.{AreNonzero, AreWithinReach};
+ghost use Rattle.lin_arith.specs.Closure.{IsCompleteElimination, IsDue};
 ghost use Rattle.lin_arith.specs.Elimination.{ReachesLimit};
 ghost use Rattle.lin_arith.specs.Substitution.{ArePositive};
 ghost use Rattle.lin_arith.specs.Answer.{IfInfeasible, IfFeasible, IfTooManyRows, IfWide, IsSolution, Shows, StopShows};
@@ -29,11 +30,18 @@ use std::alloc::Global;
 /// meets. `TooManyRows` carries 5,000 different rows of the stages of one elimination. `NoMemory` comes
 /// where memory ran out.
 ///
+/// `TooManyRows` comes exactly where 5,000 different rows are reached: each other answer comes with an
+/// elimination that has all rows of its stages so far, and fewer than 5,000 different ones. `Infeasible`
+/// and a `Wide` pair of one stage come where that row or sum is due next, the other answers where the
+/// elimination has come to its end.
+///
 /// No clause says that the values of the last step, which are put into each row before they are returned,
 /// always meet it: where they did not, the answer would be `NoMemory`.
 pub fn solve(alloc: Global, rows: &Rows) -> Result<LinAnswer, NoMemory>
     ensures infeasible { IfOk result (λ answer. IfInfeasible answer (IsContradiction rows.now)) }
+    ensures due { IfOk result (λ answer. IfInfeasible answer (IsDue rows.now)) }
     ensures feasible { IfOk result (λ answer. IfFeasible answer (IsSolution rows.now)) }
+    ensures complete { IfOk result (λ answer. IfFeasible answer (λ values. IsCompleteElimination rows.now)) }
     ensures wide { IfOk result (λ answer. IfWide answer (IsWide rows.now)) }
     ensures too_many_rows { IfOk result (λ answer. IfTooManyRows answer (ReachesLimit rows.now)) }
 {
@@ -59,7 +67,7 @@ fn answered(alloc: Global, rows: &[LinRow]) -> Result<LinAnswer, Stop>
 /// The values, last unknown first. An unknown that no stage eliminated stands before all, and is 0.
 fn values(alloc: Global, width: usize, stages: &[Stage]) -> Result<Vec<Fraction>, Stop>
     ensures ok { IfOk result (λ values. ArePositive values.items) }
-    ensures err { (width : ℕ) (rows : List Inequality) → IsWithinWidth width rows → All (IsOfStages width rows) stages.now → IfErr result (StopShows rows) }
+    ensures err { (width : ℕ) (rows : List Inequality) → IsWithinWidth width rows → All (IsOfStages width rows) stages.now → IsCompleteElimination rows → IfErr result (StopShows rows) }
 {
     let mut values = Vec::with_capacity(alloc, width)?;
     for unknown in 0..width {
@@ -82,7 +90,7 @@ fn values(alloc: Global, width: usize, stages: &[Stage]) -> Result<Vec<Fraction>
 fn value_at(alloc: Global, stage: &Stage, values: &[Fraction]) -> Result<Fraction, Stop>
     requires { ArePositive values.now }
     ensures ok { IfOk result (λ value. pos 0 <ℤ value.denominator) }
-    ensures err { (width : ℕ) (rows : List Inequality) → IsWithinWidth width rows → IsOfStages width rows stage.now → IfErr result (StopShows rows) }
+    ensures err { (width : ℕ) (rows : List Inequality) → IsWithinWidth width rows → IsOfStages width rows stage.now → IsCompleteElimination rows → IfErr result (StopShows rows) }
 {
     let mut bounds = Vec::new(alloc);
     put_bounds(
@@ -118,7 +126,7 @@ fn put_bounds(
     requires reached { AreWithinReach bounds.old.items }
     ensures ok { OnOk result (AreNonzero bounds.new.items) }
     ensures reached { OnOk result (AreWithinReach bounds.new.items) }
-    ensures err { (width : ℕ) (given : List Inequality) (unknowns : List ℕ) → IsWithinWidth width given → All (IsDerived width given unknowns) rows.now → IfErr result (StopShows given) }
+    ensures err { (width : ℕ) (given : List Inequality) (unknowns : List ℕ) → IsWithinWidth width given → All (IsDerived width given unknowns) rows.now → IsCompleteElimination given → IfErr result (StopShows given) }
 {
     for made in rows {
         let left = put_in_all(alloc, &made.row, values)?;
@@ -138,7 +146,8 @@ fn put_bounds(
 
 /// The values as the answer, where they meet the rows.
 fn checked(alloc: Global, system: &System<'_>, values: Vec<Fraction>) -> Result<LinAnswer, Stop>
-    requires { ArePositive values.items }
+    requires positive { ArePositive values.items }
+    requires complete { IsCompleteElimination system.now.rows.now }
     ensures ok { IfOk result (Shows system.now.rows.now) }
     ensures err { IfErr result (StopShows system.now.rows.now) }
 {

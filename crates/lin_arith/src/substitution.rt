@@ -4,6 +4,7 @@ ghost use Rattle.std.specs.Prelude.{IfOk, IfErr, IfSome, IfNone, pos, ◌<ℤ◌
 ghost use Rattle.lin_arith.specs.Inequality.{Inequality, coefficient};
 ghost use Rattle.std.specs.Option.{SomeIff};
 ghost use Rattle.lin_arith.specs.Answer.{StopShows};
+ghost use Rattle.lin_arith.specs.Closure.{IsCompleteElimination};
 ghost use Rattle.lin_arith.specs.Substitution.{put_in, put_in_all, form_of, IsRatio, ArePositive};
 ghost use Rattle.lin_arith.specs.Wide.{DifferenceWithin, IsFormOfRow, IsValueRow, PutInLeaves, ScaledLeaves};
 
@@ -77,7 +78,7 @@ fn scaled_without(
 pub fn put_in_all(alloc: Global, row: &LinRow, values: &[Fraction]) -> Result<LinRow, Stop>
     requires { ArePositive values.now }
     ensures ok { IfOk result (IsRatio (put_in_all (form_of row.now) values.now)) }
-    ensures err { (rows : List Inequality) → IsFormOfRow rows (form_of row.now) → IfErr result (StopShows rows) }
+    ensures err { (rows : List Inequality) → IsFormOfRow rows (form_of row.now) → IsCompleteElimination rows → IfErr result (StopShows rows) }
 {
     let mut left = row.try_clone(alloc)?;
     for value in values {

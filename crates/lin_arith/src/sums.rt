@@ -2,6 +2,8 @@
 
 ghost use Rattle.std.specs.Prelude.{◌<◌, ◌≡◌, length, pos, ◌<ℤ◌, ◌+ℤ◌, ◌*ℤ◌, IfOk, IfSome, IfNone};
 ghost use Rattle.std.specs.Option.{SomeIff};
+ghost use Rattle.lin_arith.specs.Inequality.{coefficient};
+ghost use Rattle.lin_arith.specs.Closure.{IsSumOf};
 ghost use Rattle.lin_arith.specs.Elimination.{Cancels, IsMix, IsLeastMix, MixFits, MixLeaves};
 
 use crate::combination::plus_product;
@@ -112,7 +114,9 @@ pub fn sum_of_rows(
     unknown: usize,
     upper: &LinRow,
     lower: &LinRow,
-) -> Result<Option<LinRow>, NoMemory> {
+) -> Result<Option<LinRow>, NoMemory>
+    ensures { length upper.now.coefficients ≡ length lower.now.coefficients → pos 0 <ℤ coefficient unknown upper.now → coefficient unknown lower.now <ℤ pos 0 → IfOk result (λ made. IfSome made (IsSumOf unknown upper.now lower.now)) }
+{
     let weights = cancelling(upper.coefficient(unknown), lower.coefficient(unknown));
     let Some(coefficients) = mixed(alloc, weights, upper.coefficients(), lower.coefficients())?
     else {

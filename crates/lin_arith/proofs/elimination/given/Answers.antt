@@ -1,13 +1,15 @@
 use Rattle.std.proofs.Common.{refl, ◌≡◌, ◌≤◌, ◌<ℤ◌, pos, ap, ◌∙◌, sym, subst, length, List, ℤ, FitsSigned}
 use Rattle.std.specs.Prelude.{All}
 use Rattle.std.specs.Int.{w128}
-use Rattle.lin_arith.specs.Inequality.{Inequality}
+use Rattle.lin_arith.specs.Inequality.{Inequality, padded}
+use Rattle.lin_arith.specs.Closure.{IsDue}
+use Rattle.lin_arith.specs.Closure.IsDue.{given as due}
 use Rattle.lin_arith.specs.Combination.{IsContradiction}
-use Rattle.lin_arith.proofs.GivenLemmas.{padded, padded_is, given_contradicts, given_derived}
+use Rattle.lin_arith.proofs.GivenLemmas.{padded_is, given_contradicts, given_derived}
 use Rattle.lin_arith.proofs.elimination.given.Goals as goal
 
 pub returns-then-is_contradiction-clause-err : goal.returns-then-is_contradiction-clause-err
-returns-then-is_contradiction-clause-err c =
+returns-then-is_contradiction-clause-err c = λ begun.
     let system = c.args.system.now in
     let row = c.index-system-i.result in
     let is = c.index-system-i.is in
@@ -16,7 +18,7 @@ returns-then-is_contradiction-clause-err c =
     let e : c.in_ok-row.row ≡ padded system.width row = c.in_ok-row.ensures.padded ∙ ap (padded system.width) (sym is) in
     let bound = subst (λ (r : Inequality). r.bound <ℤ pos 0) e so.0 in
     let zeros = subst (λ (r : Inequality). All (λ c. c ≡ pos 0) r.coefficients) e so.1 in
-    (subst (λ (ms : List ℤ). IsContradiction system.rows.now ms) (sym c.new-shown.ensures) (given_contradicts system.width c.in_ok-multipliers.multipliers.items system.rows.now c.args.i row c.in_ok-multipliers.ensures is short (subst (λ (r : Inequality). FitsSigned w128 r.bound) (sym is) c.in_ok-row.ensures.fits) bound zeros), tt, tt, tt)
+    (subst (λ (ms : List ℤ). IsContradiction system.rows.now ms) (sym c.new-shown.ensures) (given_contradicts system.width c.in_ok-multipliers.multipliers.items system.rows.now c.args.i row c.in_ok-multipliers.ensures is short (subst (λ (r : Inequality). FitsSigned w128 r.bound) (sym is) c.in_ok-row.ensures.fits) bound zeros), tt, tt, tt, tt, subst (λ (ms : List ℤ). IsDue system.rows.now ms) (sym c.new-shown.ensures) (due c.args.i c.in_ok-multipliers.ensures begun))
 
 pub returns-clause-ok : goal.returns-clause-ok
 returns-clause-ok c =

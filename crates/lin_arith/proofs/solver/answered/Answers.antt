@@ -11,5 +11,5 @@ returns-in_err-values-clause-err c =
     let system = c.new-system.result in
     let u = c.in_ok-run.ensures.ok in
     let stages = subst (λ (ss : List Stage). All (IsOfStages system.width system.rows.now) ss) (sym (c.as_slice.ensures.value ∙ c.into_stages-stages.ensures)) u.stages in
-    let shown = c.in_err-values.ensures.err system.width system.rows.now u.within stages in
+    let shown = c.in_err-values.ensures.err system.width system.rows.now u.within stages c.in_ok-run.ensures.complete in
     rw (p.1, p.2) (rw c.new-system.ensures at shown)

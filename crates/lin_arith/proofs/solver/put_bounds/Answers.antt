@@ -14,13 +14,13 @@ use Rattle.lin_arith.proofs.solver.put_bounds.Goals as goal
 use Rattle.lin_arith.proofs.solver.put_bounds.Goals.{then-bound-ne0+in_ok-push, else-bound-ne0}
 
 pub returns-in_err-left-clause-err : goal.returns-in_err-left-clause-err
-returns-in_err-left-clause-err c = λ width given unknowns within derived.
+returns-in_err-left-clause-err c = λ width given unknowns within derived complete.
     let p = err_from_is_err_and c.from_residual.result c.from_residual.ensures.1 in
     let i = c.loop-made.made-index in
-    rw (p.1, p.2) (c.in_err-left.ensures.err given (form_of_derived width given unknowns c.args.rows.now i c.made-item.result within derived (omega arith) c.made-item.is))
+    rw (p.1, p.2) (c.in_err-left.ensures.err given (form_of_derived width given unknowns c.args.rows.now i c.made-item.result within derived (omega arith) c.made-item.is) complete)
 
 pub returns-then-not-is_within_reach-clause-err : goal.returns-then-not-is_within_reach-clause-err
-returns-then-not-is_within_reach-clause-err c = λ width given unknowns within derived.
+returns-then-not-is_within_reach-clause-err c = λ width given unknowns within derived complete.
     let i = c.loop-made.made-index in
     let left = c.in_ok-left.left in
     let of_row = form_of_derived width given unknowns c.args.rows.now i c.made-item.result within derived (omega arith) c.made-item.is in
@@ -29,7 +29,7 @@ returns-then-not-is_within_reach-clause-err c = λ width given unknowns within d
     let fb : FitsSigned w128 c.bound.result = search rules in
     let none = simp to_z-of_z at (c.if-not-is_within_reach.ensures.unmet refl) in
     let far : (z : ℤ) → FitsSigned w128 z → ¬ ((coefficient c.args.unknown left *ℤ z) ≤ℤ left.bound) = rw (c.coefficient.ensures, c.bound.ensures) at none in
-    c.in_ok-wide.ensures given (unmet c.args.unknown put refl far)
+    c.in_ok-wide.ensures given (unmet c.args.unknown complete put refl far)
 
 pub loop-made-preserved : goal.loop-made-preserved
 loop-made-preserved c =

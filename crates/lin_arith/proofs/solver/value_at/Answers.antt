@@ -1,9 +1,23 @@
-use Rattle.std.proofs.Common.{pos, ◌^◌, ◌-◌, FitsSigned, arith}
+use Rattle.std.proofs.Common.{pos, ◌^◌, ◌-◌, FitsSigned, List, arith, sym, subst}
+use Rattle.std.specs.Prelude.{All}
 use Rattle.std.specs.Int.{w128}
 use Rattle.std.proofs.lemmas.Int.{ints}
+use Rattle.std.proofs.lemmas.Result.{err_from_is_err_and}
+use Rattle.lin_arith.specs.Stages.{IsDerived}
+use Rattle.lin_arith.specs.declared.elimination.Derived.{Derived}
 use Rattle.lin_arith.proofs.solver.value_at.Goals as goal
 
 pub unreachable-requires : goal.unreachable-requires
 unreachable-requires c =
     let f : FitsSigned w128 (pos (2 ^ 127 - 1)) = omega (arith, ints) in
     c.in-None.ensures.none (pos (2 ^ 127 - 1)) f (rw c.as_slice-3.ensures.value c.in_ok-put_bounds-2.ensures.reached)
+
+pub returns-in_err-put_bounds-clause-err : goal.returns-in_err-put_bounds-clause-err
+returns-in_err-put_bounds-clause-err c = λ width rows within s complete.
+    let p = err_from_is_err_and c.from_residual.result c.from_residual.ensures.1 in
+    rw (p.1, p.2) (c.in_err-put_bounds.ensures.err width rows s.unknowns within (subst (λ (ds : List Derived). All (IsDerived width rows s.unknowns) ds) (sym c.as_slice.ensures.value) s.is_stage.upper) complete)
+
+pub returns-in_err-put_bounds-2-clause-err : goal.returns-in_err-put_bounds-2-clause-err
+returns-in_err-put_bounds-2-clause-err c = λ width rows within s complete.
+    let p = err_from_is_err_and c.from_residual-in_err-put_bounds-2.result c.from_residual-in_err-put_bounds-2.ensures.1 in
+    rw (p.1, p.2) (c.in_err-put_bounds-2.ensures.err width rows s.unknowns within (subst (λ (ds : List Derived). All (IsDerived width rows s.unknowns) ds) (sym c.as_slice-2.ensures.value) s.is_stage.lower) complete)

@@ -38,11 +38,11 @@ loop-value-preserved c =
     ]
 
 pub returns-in_default-clause-err : goal.returns-in_default-clause-err
-returns-in_default-clause-err c = λ rows of_row.
+returns-in_default-clause-err c = λ rows of_row complete.
     let values = c.args.values.now in
     let i = c.loop-value.value-index in
     let none : Fraction = record { unknown = 0; numerator = pos 0; denominator = pos 0 } in
     let chosen : Fraction = get_or values i none in
     let before : IsPutIn rows c.loop-value.left = record { form = form_of c.args.row.now; of_row = of_row; values = take i values; positive = All-take (λ (v : Fraction). pos 0 <ℤ v.denominator) i values c.requires; is_ratio = c.loop-value.invariant } in
     let leaves = rw c.in_default.is at c.in_ok-next.ensures.none in
-    (tt, tt, tt, rw c.left.view_is (value chosen before c.in_ok-value_row.ensures leaves))
+    (tt, tt, tt, rw c.left.view_is (value chosen complete before c.in_ok-value_row.ensures leaves), tt, tt)
