@@ -116,8 +116,8 @@ fn is_whole(formula: &Formula) -> bool
     }
 }
 
-// Whether the term is a whole number by its form.
-fn is_arithmetic(term: &Term) -> bool
+/// Whether the term is a whole number by its form.
+pub fn is_arithmetic(term: &Term) -> bool
     ensures { IsTrue result ↔ IsWhole term.now }
 {
     match &term.node {

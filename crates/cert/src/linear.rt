@@ -173,7 +173,8 @@ fn row_of<'a>(entry: Entry<'a>) -> Option<Row<'a>>
     }
 }
 
-fn plain_row<'a>(of: &'a Formula) -> Option<Row<'a>>
+/// The row that a formula says.
+pub fn plain_row<'a>(of: &'a Formula) -> Option<Row<'a>>
     ensures { option_map row_data result ≡ row_of of.now }
 {
     match &of.node {
@@ -208,8 +209,9 @@ fn negated_row<'a>(of: &'a Formula) -> Option<Row<'a>>
     }
 }
 
-// A part of the row as a sum: the lesser less the greater, and the gap.
-fn row_weight(part: Part<'_>, row: Option<Row<'_>>) -> Option<i128>
+/// A part of the row as a sum: the lesser less the greater, and the gap. None where a number on the
+/// way leaves 128 bits, or where there is no row.
+pub fn row_weight(part: Part<'_>, row: Option<Row<'_>>) -> Option<i128>
     ensures { result ≡ row_weight (part_of part.entry) (option_map row_data row.entry) }
 {
     match row {
@@ -262,7 +264,8 @@ fn unknown_weight(part: Part<'_>, term: &Term) -> i128
     }
 }
 
-fn numeral_of(term: &Term) -> Option<i128>
+/// The number of a numeral.
+pub fn numeral_of(term: &Term) -> Option<i128>
     ensures { result ≡ numeral_of term.now }
 {
     match &term.node {

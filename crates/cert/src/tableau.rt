@@ -85,8 +85,8 @@ fn are_negations(formulas: &[Formula], of: &[Formula]) -> bool
     true
 }
 
-// Whether the formula says both of two entries.
-fn is_both_of(formula: &Formula, left: Entry<'_>, right: Entry<'_>) -> bool
+/// Whether the formula says both of two entries.
+pub fn is_both_of(formula: &Formula, left: Entry<'_>, right: Entry<'_>) -> bool
     ensures { IsTrue result
         ↔ (formula.now ≡ both_of (entry_formula left.entry) (entry_formula right.entry)) }
 {

@@ -1,0 +1,5 @@
+pub mod MemberData
+pub mod FileData
+pub mod MemberSpelling
+pub mod MemberAfterCommas
+pub mod ProperMembers

@@ -1,0 +1,16 @@
+//! Source trees of Move, and the tokens that spell them.
+#![tactic(auto)]
+
+pub mod expression;
+pub mod lexeme;
+pub mod literal;
+pub mod operator;
+pub mod path;
+pub mod pattern;
+pub mod spec_tokens;
+pub mod spell_expression;
+pub mod spell_pattern;
+pub mod spell_type;
+#[cfg(test)]
+mod tests;
+pub mod types;

@@ -1,0 +1,444 @@
+//! The tokens of expressions, blocks and items.
+
+ghost use Rattle.std.specs.Prelude.{◌≡◌, [], ◌∷◌, ◌++◌, None, Some, OnOk, IfOk};
+ghost use Rattle.std.specs.List.{flat_map};
+ghost use Rattle.src_tree.specs.declared.token.Punctuation.TheVariants.{LeftParenthesis, RightParenthesis};
+ghost use Rattle.move_tree.specs.Lexemes.{sign, comma_list};
+ghost use Rattle.move_tree.specs.ExpressionView.{unboxed};
+ghost use Rattle.move_tree.specs.ExpressionData.{maybe_expression_of, expressions_of, items_of, field_values_of};
+ghost use Rattle.move_tree.specs.ExpressionSpelling.{ends_in_path, annotation_spelling, maybe_loop_spec_spelling, expression_spelling, maybe_expression_spelling, else_spelling, block_spelling, items_spelling, item_spelling, initial_spelling, field_value_spelling, expression_spellings, field_value_spellings, expression_after_comma, field_value_after_comma};
+
+use crate::expression::{Block, Expression, ExpressionNode, FieldValue, Item, ItemNode};
+use crate::lexeme::Lexemes;
+use crate::literal::spell_literal;
+use crate::operator::{spell_operator, spell_unary, spell_use};
+use crate::path::{spell_identifier, spell_path};
+use crate::spec_tokens::{LoopSpec, spell_loop_spec};
+use crate::spell_pattern::spell_pattern;
+use crate::spell_type::{spell_maybe_arguments, spell_type};
+use crate::types::SourceType;
+use pv_base::memory::NoMemory;
+use src_tree::token::Punctuation;
+use std::alloc::Global;
+
+/// Whether the last token of an expression belongs to a path.
+pub fn is_path_last(expression: &Expression) -> bool
+    ensures { result ≡ ends_in_path expression.now }
+{
+    match &expression.node {
+        ExpressionNode::Path(_) => true,
+        ExpressionNode::Binary { right, .. } => is_path_last(right),
+        ExpressionNode::Unary { operand, .. } => is_path_last(operand),
+        ExpressionNode::Assign { .. }
+        | ExpressionNode::If { .. }
+        | ExpressionNode::While { .. }
+        | ExpressionNode::Loop { .. }
+        | ExpressionNode::Return { .. }
+        | ExpressionNode::Abort { .. }
+        | ExpressionNode::Break(_)
+        | ExpressionNode::Continue(_)
+        | ExpressionNode::Use { .. }
+        | ExpressionNode::Field { .. }
+        | ExpressionNode::Literal(_)
+        | ExpressionNode::Call { .. }
+        | ExpressionNode::Pack { .. }
+        | ExpressionNode::Vector { .. }
+        | ExpressionNode::Assert { .. }
+        | ExpressionNode::Tuple { .. }
+        | ExpressionNode::Cast { .. }
+        | ExpressionNode::Block(_) => false,
+    }
+}
+
+/// The tokens of a type behind its colon, where there is one.
+pub fn spell_annotation(
+    alloc: Global,
+    annotation: &Option<SourceType>,
+    into: &mut Lexemes,
+) -> Result<(), NoMemory>
+    ensures { OnOk result (into.new ≡ into.old ++ annotation_spelling annotation.now) }
+{
+    match annotation {
+        None => Ok(()),
+        Some(annotation) => {
+            into.push_sign(Punctuation::Colon)?;
+            spell_type(alloc, annotation, into)
+        }
+    }
+}
+
+fn spell_maybe_loop_spec(
+    alloc: Global,
+    spec: &Option<LoopSpec>,
+    into: &mut Lexemes,
+) -> Result<(), NoMemory>
+    ensures { OnOk result (into.new ≡ into.old ++ maybe_loop_spec_spelling spec.now) }
+{
+    match spec {
+        None => Ok(()),
+        Some(spec) => {
+            spell_loop_spec(alloc, spec, into)?;
+            into.push_sign(Punctuation::Semicolon)
+        }
+    }
+}
+
+/// The tokens of an expression.
+#[cycle(spell_expression)]
+pub fn spell_expression(
+    alloc: Global,
+    expression: &Expression,
+    into: &mut Lexemes,
+) -> Result<(), NoMemory>
+    ensures { OnOk result (into.new ≡ into.old ++ expression_spelling expression.now) }
+{
+    match &expression.node {
+        ExpressionNode::Binary {
+            left,
+            operator,
+            place,
+            right,
+        } => {
+            spell_expression(alloc, left, into)?;
+            spell_operator(*operator, *place, is_path_last(left), into)?;
+            spell_expression(alloc, right, into)
+        }
+        ExpressionNode::Assign {
+            target,
+            place,
+            value,
+        } => {
+            spell_expression(alloc, target, into)?;
+            into.push_sign_at(*place, Punctuation::Equal)?;
+            spell_expression(alloc, value, into)
+        }
+        ExpressionNode::If {
+            place,
+            condition,
+            then_branch,
+            else_branch,
+        } => {
+            into.push_word(alloc, b"if", Some(*place))?;
+            spell_condition(alloc, condition, into)?;
+            spell_expression(alloc, then_branch, into)?;
+            spell_else(alloc, else_branch, into)
+        }
+        ExpressionNode::While {
+            place,
+            condition,
+            body,
+        } => {
+            into.push_word(alloc, b"while", Some(*place))?;
+            spell_condition(alloc, condition, into)?;
+            spell_expression(alloc, body, into)
+        }
+        ExpressionNode::Loop { place, body } => {
+            into.push_word(alloc, b"loop", Some(*place))?;
+            spell_expression(alloc, body, into)
+        }
+        ExpressionNode::Return { place, value } => {
+            into.push_word(alloc, b"return", Some(*place))?;
+            spell_returned(alloc, value, into)
+        }
+        ExpressionNode::Abort { place, code } => {
+            into.push_word(alloc, b"abort", Some(*place))?;
+            spell_expression(alloc, code, into)
+        }
+        ExpressionNode::Break(place) => into.push_word(alloc, b"break", Some(*place)),
+        ExpressionNode::Continue(place) => into.push_word(alloc, b"continue", Some(*place)),
+        ExpressionNode::Unary {
+            operator,
+            place,
+            operand,
+        } => {
+            spell_unary(alloc, *operator, *place, into)?;
+            spell_expression(alloc, operand, into)
+        }
+        ExpressionNode::Use { kind, place, local } => {
+            spell_use(alloc, *kind, *place, into)?;
+            spell_identifier(alloc, local, into)
+        }
+        ExpressionNode::Field { base, field } => {
+            spell_expression(alloc, base, into)?;
+            into.push_sign(Punctuation::Period)?;
+            spell_identifier(alloc, field, into)
+        }
+        ExpressionNode::Literal(literal) => spell_literal(alloc, literal, into),
+        ExpressionNode::Path(path) => spell_path(alloc, path, into),
+        ExpressionNode::Call {
+            function,
+            arguments,
+            values,
+            last_comma,
+        } => {
+            spell_path(alloc, function, into)?;
+            spell_maybe_arguments(alloc, Some(true), arguments, into)?;
+            into.push_sign(Punctuation::LeftParenthesis)?;
+            spell_expressions(alloc, values, *last_comma, into)?;
+            into.push_sign(Punctuation::RightParenthesis)
+        }
+        ExpressionNode::Pack {
+            path,
+            arguments,
+            fields,
+            last_comma,
+        } => {
+            spell_path(alloc, path, into)?;
+            spell_maybe_arguments(alloc, Some(true), arguments, into)?;
+            into.push_sign(Punctuation::LeftBrace)?;
+            spell_field_values(alloc, fields, *last_comma, into)?;
+            into.push_sign(Punctuation::RightBrace)
+        }
+        ExpressionNode::Vector {
+            place,
+            arguments,
+            items,
+            last_comma,
+        } => {
+            into.push_word(alloc, b"vector", Some(*place))?;
+            spell_maybe_arguments(alloc, None, arguments, into)?;
+            into.push_sign(Punctuation::LeftBracket)?;
+            spell_expressions(alloc, items, *last_comma, into)?;
+            into.push_sign(Punctuation::RightBracket)
+        }
+        ExpressionNode::Assert {
+            place,
+            condition,
+            code,
+        } => {
+            into.push_word(alloc, b"assert", Some(*place))?;
+            into.push_sign(Punctuation::Exclaim)?;
+            into.push_sign(Punctuation::LeftParenthesis)?;
+            spell_expression(alloc, condition, into)?;
+            into.push_sign(Punctuation::Comma)?;
+            spell_expression(alloc, code, into)?;
+            into.push_sign(Punctuation::RightParenthesis)
+        }
+        ExpressionNode::Tuple {
+            place,
+            items,
+            last_comma,
+        } => {
+            into.push_sign_at(*place, Punctuation::LeftParenthesis)?;
+            spell_expressions(alloc, items, *last_comma, into)?;
+            into.push_sign(Punctuation::RightParenthesis)
+        }
+        ExpressionNode::Cast {
+            place,
+            value,
+            target,
+        } => {
+            into.push_sign_at(*place, Punctuation::LeftParenthesis)?;
+            spell_expression(alloc, value, into)?;
+            into.push_word(alloc, b"as", None)?;
+            spell_type(alloc, target, into)?;
+            into.push_sign(Punctuation::RightParenthesis)
+        }
+        ExpressionNode::Block(block) => spell_block(alloc, block, into),
+    }
+}
+
+#[cycle(spell_expression)]
+fn spell_condition(
+    alloc: Global,
+    condition: &Expression,
+    into: &mut Lexemes,
+) -> Result<(), NoMemory>
+    ensures { OnOk result (into.new ≡ into.old ++ sign LeftParenthesis ∷ expression_spelling condition.now ++ sign RightParenthesis ∷ []) }
+{
+    into.push_sign(Punctuation::LeftParenthesis)?;
+    spell_expression(alloc, condition, into)?;
+    into.push_sign(Punctuation::RightParenthesis)
+}
+
+#[cycle(spell_expression)]
+fn spell_else(
+    alloc: Global,
+    branch: &Option<Box<Expression>>,
+    into: &mut Lexemes,
+) -> Result<(), NoMemory>
+    ensures { OnOk result (into.new ≡ into.old ++ else_spelling (maybe_expression_of (unboxed branch.now))) }
+{
+    match branch {
+        None => Ok(()),
+        Some(branch) => {
+            into.push_word(alloc, b"else", None)?;
+            spell_expression(alloc, branch, into)
+        }
+    }
+}
+
+#[cycle(spell_expression)]
+fn spell_returned(
+    alloc: Global,
+    value: &Option<Box<Expression>>,
+    into: &mut Lexemes,
+) -> Result<(), NoMemory>
+    ensures { OnOk result (into.new ≡ into.old ++ maybe_expression_spelling (maybe_expression_of (unboxed value.now))) }
+{
+    match value {
+        None => Ok(()),
+        Some(value) => spell_expression(alloc, value, into),
+    }
+}
+
+#[cycle(spell_expression)]
+fn spell_expressions(
+    alloc: Global,
+    expressions: &[Expression],
+    last_comma: bool,
+    into: &mut Lexemes,
+) -> Result<(), NoMemory>
+    ensures { OnOk result (into.new ≡ into.old ++ comma_list (expression_spellings (expressions_of expressions.now)) last_comma) }
+{
+    let Some((first, rest)) = expressions.split_first() else {
+        return into.push_last_comma(last_comma);
+    };
+    spell_expression(alloc, first, into)?;
+    spell_more_expressions(alloc, rest, into)?;
+    into.push_last_comma(last_comma)?;
+    Ok(())
+}
+
+#[cycle(spell_expression)]
+#[tactic(auto, using(crate::proofs::Smaller::expression_smaller))]
+fn spell_more_expressions(
+    alloc: Global,
+    expressions: &[Expression],
+    into: &mut Lexemes,
+) -> Result<(), NoMemory>
+    ensures { OnOk result (into.new ≡ into.old ++ flat_map expression_after_comma expressions.now) }
+{
+    for one in expressions {
+        into.push_sign(Punctuation::Comma)?;
+        spell_expression(alloc, one, into)?;
+    }
+    Ok(())
+}
+
+#[cycle(spell_expression)]
+fn spell_field_value(alloc: Global, field: &FieldValue, into: &mut Lexemes) -> Result<(), NoMemory>
+    ensures { OnOk result (into.new ≡ into.old ++ field_value_spelling field.now) }
+{
+    spell_identifier(alloc, &field.name, into)?;
+    match &field.value {
+        None => Ok(()),
+        Some(value) => {
+            into.push_sign(Punctuation::Colon)?;
+            spell_expression(alloc, value, into)
+        }
+    }
+}
+
+#[cycle(spell_expression)]
+fn spell_field_values(
+    alloc: Global,
+    fields: &[FieldValue],
+    last_comma: bool,
+    into: &mut Lexemes,
+) -> Result<(), NoMemory>
+    ensures { OnOk result (into.new ≡ into.old ++ comma_list (field_value_spellings (field_values_of fields.now)) last_comma) }
+{
+    let Some((first, rest)) = fields.split_first() else {
+        return into.push_last_comma(last_comma);
+    };
+    spell_field_value(alloc, first, into)?;
+    spell_more_field_values(alloc, rest, into)?;
+    into.push_last_comma(last_comma)?;
+    Ok(())
+}
+
+#[cycle(spell_expression)]
+#[tactic(auto, using(crate::proofs::Smaller::field_value_smaller))]
+fn spell_more_field_values(
+    alloc: Global,
+    fields: &[FieldValue],
+    into: &mut Lexemes,
+) -> Result<(), NoMemory>
+    ensures { OnOk result (into.new ≡ into.old ++ flat_map field_value_after_comma fields.now) }
+{
+    for one in fields {
+        into.push_sign(Punctuation::Comma)?;
+        spell_field_value(alloc, one, into)?;
+    }
+    Ok(())
+}
+
+/// The tokens of a block.
+#[cycle(spell_expression)]
+pub fn spell_block(alloc: Global, block: &Block, into: &mut Lexemes) -> Result<(), NoMemory>
+    ensures { OnOk result (into.new ≡ into.old ++ block_spelling block.now) }
+{
+    into.push_sign_at(block.place, Punctuation::LeftBrace)?;
+    spell_maybe_loop_spec(alloc, &block.spec, into)?;
+    spell_items(alloc, &block.items, into)?;
+    spell_value(alloc, &block.value, into)?;
+    into.push_sign(Punctuation::RightBrace)
+}
+
+#[cycle(spell_expression)]
+fn spell_value(
+    alloc: Global,
+    value: &Option<Expression>,
+    into: &mut Lexemes,
+) -> Result<(), NoMemory>
+    ensures { OnOk result (into.new ≡ into.old ++ maybe_expression_spelling (maybe_expression_of value.now)) }
+{
+    match value {
+        None => Ok(()),
+        Some(value) => spell_expression(alloc, value, into),
+    }
+}
+
+#[cycle(spell_expression)]
+#[tactic(auto, using(crate::proofs::Smaller::item_smaller))]
+fn spell_items(alloc: Global, items: &[Item], into: &mut Lexemes) -> Result<(), NoMemory>
+    ensures { OnOk result (into.new ≡ into.old ++ items_spelling (items_of items.now)) }
+{
+    for one in items {
+        spell_item(alloc, one, into)?;
+    }
+    Ok(())
+}
+
+/// The tokens of an item, with its semicolon.
+#[cycle(spell_expression)]
+pub fn spell_item(alloc: Global, item: &Item, into: &mut Lexemes) -> Result<(), NoMemory>
+    ensures { OnOk result (into.new ≡ into.old ++ item_spelling item.now) }
+{
+    match &item.node {
+        ItemNode::Expression(expression) => {
+            spell_expression(alloc, expression, into)?;
+            into.push_sign(Punctuation::Semicolon)
+        }
+        ItemNode::Let {
+            place,
+            pattern,
+            annotation,
+            value,
+        } => {
+            into.push_word(alloc, b"let", Some(*place))?;
+            spell_pattern(alloc, pattern, into)?;
+            spell_annotation(alloc, annotation, into)?;
+            spell_initial(alloc, value, into)?;
+            into.push_sign(Punctuation::Semicolon)
+        }
+    }
+}
+
+#[cycle(spell_expression)]
+fn spell_initial(
+    alloc: Global,
+    value: &Option<Expression>,
+    into: &mut Lexemes,
+) -> Result<(), NoMemory>
+    ensures { OnOk result (into.new ≡ into.old ++ initial_spelling (maybe_expression_of value.now)) }
+{
+    match value {
+        None => Ok(()),
+        Some(value) => {
+            into.push_sign(Punctuation::Equal)?;
+            spell_expression(alloc, value, into)
+        }
+    }
+}

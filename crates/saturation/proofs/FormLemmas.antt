@@ -1,0 +1,122 @@
+-- What is tested of a formula, from how it is stored.
+use Rattle.std.proofs.Common.{◌≡◌, ◌↔◌, ◌⊎◌, inl, inr, ℕ, zero, suc, List, [], ◌∷◌, Option, Some, Bool, true, false, refl, sym, ap, ◌∙◌, subst}
+use Rattle.std.specs.Prelude.{IsTrue, All, slice_get}
+use Rattle.std.proofs.lemmas.List.Elements.{All-nil, All-cons, All-head, All-tail}
+use Rattle.pv_base.specs.TypeData.{TypeData, IntType}
+use Rattle.pv_base.specs.TypeView.{type_of_node}
+use Rattle.pv_base.specs.declared.types.TypeNode.{TypeNode}
+use Rattle.pv_base.specs.declared.types.TypeNode.TheVariants.{Int, Address, Signer}
+use Rattle.pv_base.specs.declared.types.Width.{Width}
+use Rattle.pv_base.specs.declared.types.Width.TheVariants.{U8, U16, U32, U64, U128}
+use Rattle.fol.specs.FormulaData.{TermData, MaxTerm, FormulaData, EqFormula, NotFormula, ImpliesFormula, IffFormula, AnyOfFormula, FormulasData, formulas_of, formulas_of_injective}
+use Rattle.cert.specs.Parts.{parts_of_negated, cases_of, cases_of_negated, both_of}
+use Rattle.cert.specs.Axioms.{greatest, trichotomy_axiom, IsInstanceOf}
+use Rattle.cert.specs.declared.certificate.Axiom.TheVariants.{Trichotomy}
+use Rattle.cert.proofs.AxiomLemmas.{trichotomy_cases}
+use Rattle.saturation.specs.Branch.{IsNumber}
+use Rattle.saturation.specs.Saturated.{Stands, HasOne, AllStand, SomeStands}
+use Rattle.saturation.proofs.Walks.{is_true, not_true, holds}
+
+-- ---- lists of formulas
+
+pub number_in : (n : ℕ) (p : FormulaData) (o : Option (List FormulaData)) (xs : List FormulaData) (b : Bool) → o ≡ Some xs → IsTrue b ↔ (slice_get xs n ≡ Some p) → IsTrue b ↔ IsNumber n p o
+number_in n p o xs b e test = subst (λ ps. IsTrue b ↔ IsNumber n p ps) (sym e) test
+
+module _ (entries : List FormulaData) where
+  pub parts_in : (o : Option (List FormulaData)) (xs : List FormulaData) (b : Bool) → o ≡ Some xs → IsTrue b ↔ All (Stands entries) xs → IsTrue b ↔ AllStand entries o
+  parts_in o xs b e test = subst (λ ps. IsTrue b ↔ AllStand entries ps) (sym e) test
+
+  pub cases_in : (o : Option (List FormulaData)) (xs : List FormulaData) (b : Bool) → o ≡ Some xs → IsTrue b ↔ HasOne (Stands entries) xs → IsTrue b ↔ SomeStands entries o
+  cases_in o xs b e test = subst (λ ps. IsTrue b ↔ SomeStands entries ps) (sym e) test
+
+  -- two parts
+  pub two_stand : (p q : FormulaData) (a b : Bool) → IsTrue a ↔ Stands entries p → a ≡ true → IsTrue b ↔ Stands entries q → IsTrue b ↔ All (Stands entries) (p ∷ q ∷ [])
+  two_stand p q a b first t second = (
+    λ h. All-cons (Stands entries) p (q ∷ []) (first.0 (is_true a t)) (All-cons (Stands entries) q [] (second.0 h) (All-nil (Stands entries))),
+    λ all. second.1 (All-head (Stands entries) q [] (All-tail (Stands entries) p (q ∷ []) all)),
+  )
+
+  -- two cases
+  of_two : (p q : FormulaData) → HasOne (Stands entries) (p ∷ q ∷ []) → Stands entries p ⊎ Stands entries q
+  of_two p q found = go found.0 found.1 found.2 found.3
+    where
+      go : (i : ℕ) (r : FormulaData) → slice_get (p ∷ q ∷ []) i ≡ Some r → Stands entries r → Stands entries p ⊎ Stands entries q
+      go zero r e s = let same : r ≡ p = cc in inl (subst (Stands entries) same s)
+      go (suc zero) r e s = let same : r ≡ q = cc in inr (subst (Stands entries) same s)
+      go (suc (suc i)) r e s = absurd (cc)
+
+  pub first_stands : (p q : FormulaData) (a : Bool) → IsTrue a ↔ Stands entries p → a ≡ true → IsTrue a ↔ HasOne (Stands entries) (p ∷ q ∷ [])
+  first_stands p q a first t = (λ h. (0, p, refl, first.0 h), λ found. is_true a t)
+
+  pub second_stands : (p q : FormulaData) (a b : Bool) → IsTrue a ↔ Stands entries p → a ≡ false → IsTrue b ↔ Stands entries q → IsTrue b ↔ HasOne (Stands entries) (p ∷ q ∷ [])
+  second_stands p q a b first t second = (λ h. (1, q, refl, second.0 h), λ found. back (of_two p q found))
+    where
+      back : Stands entries p ⊎ Stands entries q → IsTrue b
+      back (inl s) = absurd (not_true a t (first.1 s))
+      back (inr s) = second.1 s
+
+-- ---- parts and cases of two formulas, each given once more
+
+pub implies_parts : (l r x y of : FormulaData) → ImpliesFormula l r ≡ of → x ≡ l → y ≡ r → parts_of_negated of ≡ Some (x ∷ NotFormula y ∷ [])
+implies_parts l r x y of stored e d =
+    ap parts_of_negated (sym stored) ∙ sym (λ i. Some (e i ∷ NotFormula (d i) ∷ []))
+
+pub implies_cases : (l r x y of : FormulaData) → ImpliesFormula l r ≡ of → x ≡ l → y ≡ r → cases_of of ≡ Some (NotFormula x ∷ y ∷ [])
+implies_cases l r x y of stored e d =
+    ap cases_of (sym stored) ∙ sym (λ i. Some (NotFormula (e i) ∷ d i ∷ []))
+
+pub iff_cases : (l r x y v w of : FormulaData) → IffFormula l r ≡ of → x ≡ l → y ≡ r → v ≡ l → w ≡ r → cases_of of ≡ Some (both_of x y ∷ both_of (NotFormula v) (NotFormula w) ∷ [])
+iff_cases l r x y v w of stored e d f g =
+    ap cases_of (sym stored) ∙ sym (λ i. Some (both_of (e i) (d i) ∷ both_of (NotFormula (f i)) (NotFormula (g i)) ∷ []))
+
+pub differ_cases : (l r x y v w of : FormulaData) → IffFormula l r ≡ of → x ≡ l → y ≡ r → v ≡ l → w ≡ r → cases_of_negated of ≡ Some (both_of x (NotFormula y) ∷ both_of (NotFormula v) w ∷ [])
+differ_cases l r x y v w of stored e d f g =
+    ap cases_of_negated (sym stored) ∙ sym (λ i. Some (both_of (e i) (NotFormula (d i)) ∷ both_of (NotFormula (f i)) (g i) ∷ []))
+
+-- ---- types with a range
+
+width_ranged : (w : Width) → (most : TermData) × (greatest (IntType w) ≡ Some most)
+width_ranged U8 = (_, refl)
+width_ranged U16 = (_, refl)
+width_ranged U32 = (_, refl)
+width_ranged U64 = (_, refl)
+width_ranged U128 = (_, refl)
+
+ranged : (n : TypeNode) → ((w : Width) × (n ≡ Int w)) ⊎ ((n ≡ Address) ⊎ (n ≡ Signer)) → (most : TermData) × (greatest (type_of_node n) ≡ Some most)
+ranged n (inl i) =
+    subst (λ m. (most : TermData) × (greatest (type_of_node m) ≡ Some most)) (sym i.1) (width_ranged i.0)
+ranged n (inr (inl e)) =
+    subst (λ m. (most : TermData) × (greatest (type_of_node m) ≡ Some most)) (sym e) (MaxTerm, refl)
+ranged n (inr (inr e)) =
+    subst (λ m. (most : TermData) × (greatest (type_of_node m) ≡ Some most)) (sym e) (MaxTerm, refl)
+
+pub has_range_at : (n : TypeNode) (a : TypeData) → type_of_node n ≡ a → ((w : Width) × (n ≡ Int w)) ⊎ ((n ≡ Address) ⊎ (n ≡ Signer)) → IsTrue true ↔ ((most : TermData) × (greatest a ≡ Some most))
+has_range_at n a stored form =
+    holds ((most : TermData) × (greatest a ≡ Some most)) (subst (λ b. (most : TermData) × (greatest b ≡ Some most)) stored (ranged n form))
+
+-- ---- trichotomy
+
+cases_inside : {ps qs : FormulasData} → AnyOfFormula ps ≡ AnyOfFormula qs → ps ≡ qs
+cases_inside e = cc
+
+left_inside : {t u v w : TermData} → Some (EqFormula t u) ≡ Some (EqFormula v w) → t ≡ v
+left_inside e = cc
+
+right_inside : {t u v w : TermData} → Some (EqFormula t u) ≡ Some (EqFormula v w) → u ≡ w
+right_inside e = cc
+
+third_case : (p : FormulaData) (xs : List FormulaData) (t u : TermData) → AnyOfFormula (formulas_of xs) ≡ p → p ≡ trichotomy_axiom t u → slice_get xs 2 ≡ Some (EqFormula t u)
+third_case p xs t u stored e =
+    ap (λ ys. slice_get ys 2) (formulas_of_injective xs (trichotomy_cases t u) (cases_inside (stored ∙ e)))
+
+pub trichotomy_at : (p : FormulaData) (xs : List FormulaData) (t u : TermData) (a b : Bool) → AnyOfFormula (formulas_of xs) ≡ p → IsTrue a ↔ (slice_get xs 2 ≡ Some (EqFormula t u)) → a ≡ true → IsTrue b ↔ IsInstanceOf Trichotomy p → IsTrue b ↔ (p ≡ trichotomy_axiom t u)
+trichotomy_at p xs t u a b stored equal h test = (
+  λ s. let found = test.0 s in
+      let same : Some (EqFormula found.0 found.1) ≡ Some (EqFormula t u) = sym (third_case p xs found.0 found.1 stored found.2) ∙ equal.0 (is_true a h) in
+      found.2 ∙ (λ i. trichotomy_axiom (left_inside same i) (right_inside same i)),
+  λ e. test.1 (t, u, e),
+)
+
+pub no_trichotomy : (p : FormulaData) (xs : List FormulaData) (t u : TermData) (a : Bool) → AnyOfFormula (formulas_of xs) ≡ p → IsTrue a ↔ (slice_get xs 2 ≡ Some (EqFormula t u)) → a ≡ false → IsTrue a ↔ (p ≡ trichotomy_axiom t u)
+no_trichotomy p xs t u a stored equal h =
+    (λ s. absurd (not_true a h s), λ e. absurd (not_true a h (equal.1 (third_case p xs t u stored e))))

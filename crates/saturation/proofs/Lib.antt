@@ -1,0 +1,4 @@
+pub mod Walks
+pub mod SystemLemmas
+pub mod TermLemmas
+pub mod FormLemmas

@@ -1,0 +1,5 @@
+pub mod Branch
+pub mod Saturated
+pub mod Subterms
+pub mod System
+pub mod Rest

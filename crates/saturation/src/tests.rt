@@ -1,0 +1,187 @@
+//! Branches and rows made by hand, and what becomes of them when they are spoilt.
+
+use crate::branch::{Branch, Origin};
+use crate::checker::is_saturated;
+use crate::system::is_system_of;
+use cert::certificate::Axiom;
+use fol::formula::{Formula, FormulaNode, Term};
+use lin_arith::{LinRow, Rows};
+use pv_base::memory::NoMemory;
+use pv_base::types::{TypeNode, TypeTerm};
+use std::alloc::Global;
+use std::test::Fail;
+
+// The formulas of the branches.
+#[derive(Clone, Copy)]
+enum Kind {
+    // Both parts.
+    Both,
+    // The first part: x is at most 3.
+    Bound,
+    // The second part, a disjunction.
+    Either,
+    // Its first case: y is at most x.
+    Below,
+    // Its second case: x is at most y.
+    Above,
+    // Its third case: x is not at most 3.
+    Past,
+    // 3 is a whole number.
+    Whole,
+}
+
+fn x() -> Term {
+    Term::variable(0)
+}
+
+fn y() -> Term {
+    Term::variable(1)
+}
+
+fn either(alloc: Global) -> Result<Formula, NoMemory> {
+    let mut cases = Vec::new(alloc);
+    cases.push(Formula::at_most(y(), x()))?;
+    cases.push(Formula::at_most(x(), y()))?;
+    cases.push(Formula::not(alloc, bound())?)?;
+    Ok(Formula {
+        node: FormulaNode::AnyOf(cases),
+    })
+}
+
+fn both(alloc: Global) -> Result<Formula, NoMemory> {
+    let mut parts = Vec::new(alloc);
+    parts.push(bound())?;
+    parts.push(either(alloc)?)?;
+    Ok(Formula::all_of(parts))
+}
+
+fn bound() -> Formula {
+    Formula::at_most(x(), Term::number(3))
+}
+
+fn whole() -> Formula {
+    let of = TypeTerm {
+        node: TypeNode::Num,
+    };
+    Formula::has_type(of, Term::number(3))
+}
+
+fn made(alloc: Global, kind: Kind) -> Result<Formula, NoMemory> {
+    match kind {
+        Kind::Both => both(alloc),
+        Kind::Bound => Ok(bound()),
+        Kind::Either => either(alloc),
+        Kind::Below => Ok(Formula::at_most(y(), x())),
+        Kind::Above => Ok(Formula::at_most(x(), y())),
+        Kind::Whole => Ok(whole()),
+        Kind::Past => Formula::not(alloc, bound()),
+    }
+}
+
+// Whether a saturated branch is one still, with this entry at this place among those after the first.
+fn is_accepted(alloc: Global, place: usize, kind: Kind, origin: Origin) -> Result<bool, NoMemory> {
+    let right = [
+        (Kind::Both, Origin::Part(0, 0)),
+        (Kind::Bound, Origin::Part(1, 0)),
+        (Kind::Either, Origin::Part(1, 1)),
+        (Kind::Below, Origin::Case(3, 0)),
+        (Kind::Whole, Origin::Axiom(Axiom::Whole)),
+    ];
+    let formula = Formula::not(alloc, both(alloc)?)?;
+    let mut entries = Vec::new(alloc);
+    let mut origins = Vec::new(alloc);
+    entries.push(Formula::not(alloc, Formula::not(alloc, both(alloc)?)?)?)?;
+    for i in 0..right.len() {
+        let (made_of, from) = if i == place { (kind, origin) } else { right[i] };
+        entries.push(made(alloc, made_of)?)?;
+        origins.push(from)?;
+    }
+    let branch = Branch { entries, origins };
+    Ok(is_saturated(&formula, &branch))
+}
+
+#[test]
+fn branches(rt: HostRuntime) -> Result<(), Fail> {
+    let whole = Origin::Axiom(Axiom::Whole);
+    for (place, kind, origin, accepted, what) in [
+        (3, Kind::Below, Origin::Case(3, 0), true, "first case"),
+        (3, Kind::Above, Origin::Case(3, 1), true, "second case"),
+        (
+            3,
+            Kind::Below,
+            Origin::Case(3, 1),
+            false,
+            "from another case",
+        ),
+        (3, Kind::Below, Origin::Part(1, 1), false, "from nowhere"),
+        (3, Kind::Past, Origin::Case(3, 2), false, "a clash"),
+        (3, Kind::Whole, whole, false, "no case"),
+        (1, Kind::Whole, whole, false, "a part missing"),
+        (4, Kind::Both, Origin::Part(0, 0), false, "no number"),
+        (0, Kind::Both, Origin::Part(2, 0), false, "from a later one"),
+    ] {
+        assert_eq!(rt;
+            is_accepted(rt.alloc(), place, kind, origin)?,
+            accepted,
+            "{what}"
+        );
+    }
+    Ok(())
+}
+
+// The first of the unknowns x, y and x.
+fn unknowns(alloc: Global, count: usize) -> Result<Vec<Term>, NoMemory> {
+    let mut made = Vec::new(alloc);
+    for i in 0..count {
+        made.push(if i == 1 { y() } else { x() })?;
+    }
+    Ok(made)
+}
+
+fn row(alloc: Global, first: i128, second: i128, bound: i128) -> Result<LinRow, NoMemory> {
+    let mut coefficients = Vec::new(alloc);
+    coefficients.push(first)?;
+    coefficients.push(second)?;
+    Ok(LinRow::new(coefficients, bound))
+}
+
+// Whether these are the rows of x at most 3 and x equal to y, over so many unknowns.
+fn are_accepted(
+    alloc: Global,
+    unknown_count: usize,
+    rows: &[(i128, i128, i128)],
+) -> Result<bool, NoMemory> {
+    let mut entries = Vec::new(alloc);
+    entries.push(bound())?;
+    entries.push(whole())?;
+    entries.push(Formula::equal(x(), y()))?;
+    let mut made = Rows::new(alloc);
+    for (first, second, bound) in rows {
+        made.push(row(alloc, *first, *second, *bound)?)?;
+    }
+    let unknowns = unknowns(alloc, unknown_count)?;
+    Ok(is_system_of(entries.as_slice(), unknowns.as_slice(), &made))
+}
+
+#[test]
+fn rows(rt: HostRuntime) -> Result<(), Fail> {
+    let right = (-1, 1, 0);
+    for (unknown_count, row_count, low, down, accepted, what) in [
+        (2, 3, (1, 0, 3), right, true, "right"),
+        (1, 3, (1, 0, 3), right, false, "an unknown is missing"),
+        (3, 3, (1, 0, 3), right, false, "an unknown twice"),
+        (2, 2, (1, 0, 3), right, false, "one side"),
+        (2, 4, (1, 0, 3), right, false, "one more"),
+        (2, 3, (1, 0, 4), right, false, "wrong bound"),
+        (2, 3, (2, 0, 3), right, false, "wrong coefficient"),
+        (2, 3, (1, 0, 3), (1, -1, 0), false, "one side twice"),
+    ] {
+        let rows = [low, (1, -1, 0), down, down];
+        assert_eq!(rt;
+            are_accepted(rt.alloc(), unknown_count, &rows[..row_count])?,
+            accepted,
+            "{what}"
+        );
+    }
+    Ok(())
+}
