@@ -3,8 +3,12 @@
 
 pub mod answer;
 mod expansion;
+mod growing;
+mod leaf;
 mod meter;
+mod numbers;
+pub mod prover;
 mod rows;
-pub mod tableau;
+mod tableau;
 #[cfg(test)]
 mod tests;

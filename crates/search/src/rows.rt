@@ -21,20 +21,61 @@ struct Origin {
     is_negated: bool,
 }
 
+/// The rows of the linear entries of a branch.
+#[derive(Drop)]
+pub struct System {
+    pub unknowns: Vec<Term>,
+    pub rows: Rows,
+}
+
+// The same, with where each row came from.
+#[derive(Drop)]
+struct LinearEntries<'a> {
+    unknowns: Vec<&'a Term>,
+    rows: Rows,
+    origins: Vec<Origin>,
+}
+
+/// The rows of the linear entries, and their unknowns. Entries whose numbers leave 128 bits are left
+/// out.
+pub fn system_of(alloc: Global, entries: &[Formula]) -> Result<System, NoMemory> {
+    let found = linear_entries(alloc, entries)?;
+    let mut unknowns = Vec::new(alloc);
+    for unknown in found.unknowns.iter() {
+        unknowns.push(unknown.try_clone(alloc)?)?;
+    }
+    Ok(System {
+        unknowns,
+        rows: found.rows,
+    })
+}
+
 /// Entries with multipliers whose combination says that a positive number is at most 0, if the
 /// linear entries of the branch have no solution. Entries whose numbers leave 128 bits are left out.
 pub fn contradiction(
     alloc: Global,
     entries: &[Formula],
 ) -> Result<Option<Vec<Multiple>>, NoMemory> {
+    let found = linear_entries(alloc, entries)?;
+    match solve(alloc, &found.rows)? {
+        LinAnswer::Infeasible(multipliers) => Ok(Some(multiples(
+            alloc,
+            multipliers.as_slice(),
+            found.origins.as_slice(),
+        )?)),
+        _ => Ok(None),
+    }
+}
+
+fn linear_entries<'a>(
+    alloc: Global,
+    entries: &'a [Formula],
+) -> Result<LinearEntries<'a>, NoMemory> {
     let mut unknowns = Vec::new(alloc);
     let mut rows = Rows::new(alloc);
     let mut origins = Vec::new(alloc);
-    for (number, formula) in entries.iter().enumerate() {
-        let entry = match u32::try_from(number) {
-            Ok(entry) => entry,
-            Err(_) => return Ok(None),
-        };
+    let mut entry: u32 = 0;
+    for formula in entries {
         add_entry(
             alloc,
             entry,
@@ -43,15 +84,13 @@ pub fn contradiction(
             &mut rows,
             &mut origins,
         )?;
+        entry = entry.saturating_add(1);
     }
-    match solve(alloc, &rows)? {
-        LinAnswer::Infeasible(multipliers) => Ok(Some(multiples(
-            alloc,
-            multipliers.as_slice(),
-            origins.as_slice(),
-        )?)),
-        _ => Ok(None),
-    }
+    Ok(LinearEntries {
+        unknowns,
+        rows,
+        origins,
+    })
 }
 
 fn multiples(

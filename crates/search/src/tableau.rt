@@ -1,72 +1,35 @@
 //! The search: straight steps as long as there are any, then a step that closes the branch, then a
 //! split.
 
-ghost use Rattle.std.specs.Prelude.{◌≡◌, ◌+◌, ◌≤◌, IfOk};
-ghost use Rattle.cert.specs.Closes.{Certifies};
-ghost use Rattle.search.specs.Answer.{IfProved};
+ghost use Rattle.std.specs.Prelude.{◌≡◌, ◌+◌};
 
-use crate::answer::Answer;
 use crate::expansion::{
-    cases, copies, is_disjunction, is_number, is_whole, negation, parts, range, trichotomy,
+    cases, copies, is_disjunction, is_number, is_whole, parts, range, trichotomy,
 };
+use crate::growing::{grow, shorten};
 use crate::meter::take_step;
 use crate::rows::contradiction;
 use cert::certificate::{Axiom, Case, Cert, End, Step, StepNode};
-use cert::checker::check;
 use fol::formula::{Formula, FormulaNode, Term, TermNode};
 use fol::same::{same_formula, same_term};
-use fol::shapes::Shapes;
 use pv_base::memory::NoMemory;
 use pv_base::steps::Steps;
 use pv_base::types::TypeTerm;
+use saturation::branch::{Branch, Origin};
+use saturation::claim::range_axiom_stands;
 use std::alloc::Global;
 use std::sync::ledger::Ledger;
 
-// The greatest number of entries of a branch that is looked at.
-const MOST_ENTRIES: usize = 4_000;
+/// The greatest number of entries of a branch.
+pub const MOST_ENTRIES: usize = 4_000;
 
-// The greatest number of splits on a branch: the search recurses so deep.
-const MOST_SPLITS: u32 = 400;
-
-/// Looks for a certificate of a formula over these shapes of structs. It takes at most `budget`
-/// steps, each of them counted, and answers `Open` where they or the limits of a branch don't suffice.
-/// A certificate that is found is one that the checker accepts.
-pub fn prove<L: Ledger>(
-    alloc: Global,
-    shapes: &Shapes,
-    formula: &Formula,
-    budget: u64,
-    steps: &mut Steps<L>,
-) -> Result<Answer, NoMemory>
-    ensures proved { IfOk result (λ answer. IfProved answer (λ cert. Certifies cert formula.now)) }
-    ensures budget { steps.new ≤ steps.old + budget }
-{
-    let mut left = budget;
-    let mut entries = Vec::new(alloc);
-    entries.push(negation(alloc, formula)?)?;
-    match close(alloc, &mut entries, 0, &[], MOST_SPLITS, steps, &mut left)? {
-        Some(cert) => Ok(checked(shapes, formula, cert)),
-        None => Ok(Answer::Open),
-    }
-}
-
-// The certificate, if the checker accepts it.
-fn checked(shapes: &Shapes, formula: &Formula, cert: Cert) -> Answer
-    ensures { IfProved result (λ found. Certifies found formula.now) }
-{
-    if check(shapes, formula, &cert) {
-        Answer::Proved(cert)
-    } else {
-        Answer::Open
-    }
-}
-
-// A certificate that closes the branch. Its entries from `from` on were not looked at yet, and of
-// those before, the disjunctions that are waiting were not split.
+/// A certificate that closes the branch. Its entries from `from` on were not looked at yet, and of
+/// those before, the disjunctions that are waiting were not split. Where none is found, the branch is
+/// left as the one that could not be closed.
 #[cycle(close)]
-fn close<L: Ledger>(
+pub fn close<L: Ledger>(
     alloc: Global,
-    entries: &mut Vec<Formula>,
+    branch: &mut Branch,
     from: usize,
     waiting: &[u32],
     splits: u32,
@@ -79,7 +42,7 @@ fn close<L: Ledger>(
     let mut disjunctions = Vec::from_slice(alloc, waiting)?;
     if !saturate(
         alloc,
-        entries,
+        branch,
         from,
         &mut straight,
         &mut disjunctions,
@@ -88,13 +51,13 @@ fn close<L: Ledger>(
     )? {
         return Ok(None);
     }
-    if let Some(end) = closing(alloc, entries.as_slice(), disjunctions.as_slice())? {
+    if let Some(end) = closing(alloc, branch.entries.as_slice(), disjunctions.as_slice())? {
         return Ok(Some(Cert {
             steps: straight,
             end,
         }));
     }
-    match split(alloc, entries, disjunctions, splits, steps, left)? {
+    match split(alloc, branch, disjunctions, splits, steps, left)? {
         Some(end) => Ok(Some(Cert {
             steps: straight,
             end,
@@ -107,7 +70,7 @@ fn close<L: Ledger>(
 #[cycle(close)]
 fn split<L: Ledger>(
     alloc: Global,
-    entries: &mut Vec<Formula>,
+    branch: &mut Branch,
     mut disjunctions: Vec<u32>,
     splits: u32,
     steps: &mut Steps<L>,
@@ -118,36 +81,34 @@ fn split<L: Ledger>(
     if splits == 0 {
         return Ok(None);
     }
-    let index = match next_split(entries.as_slice(), &mut disjunctions) {
+    let index = match next_split(branch.entries.as_slice(), &mut disjunctions) {
         Some(index) => index,
         None => return Ok(None),
     };
-    let formulas = match entries.get(index as usize) {
-        Some(entry) => match cases(alloc, entry)? {
-            Some(formulas) => formulas,
-            None => return Ok(None),
-        },
+    let formulas = match cases_at(alloc, branch, index)? {
+        Some(formulas) => formulas,
         None => return Ok(None),
     };
     if !take_step(steps, left) {
         return Ok(None);
     }
-    let mark = entries.len();
+    let mark = branch.entries.len();
     let mut closed = Vec::new(alloc);
+    let mut number: u32 = 0;
     for formula in formulas {
         // Boxed, since it lives on across each step that may fail.
         let formula = Box::new(alloc, formula)?;
-        entries.push(formula.try_clone(alloc)?)?;
+        grow(alloc, branch, &formula, Origin::Case(index, number))?;
+        number = number.saturating_add(1);
         let found = close(
             alloc,
-            entries,
+            branch,
             mark,
             disjunctions.as_slice(),
             splits - 1,
             steps,
             left,
         )?;
-        entries.truncate(mark);
         match found {
             Some(cert) => closed.push(Case {
                 formula: Box::into_inner(formula),
@@ -155,8 +116,17 @@ fn split<L: Ledger>(
             })?,
             None => return Ok(None),
         }
+        shorten(branch, mark);
     }
     Ok(Some(End::Split(index, closed)))
+}
+
+// The cases of an entry.
+fn cases_at(alloc: Global, branch: &Branch, index: u32) -> Result<Option<Vec<Formula>>, NoMemory> {
+    match branch.entries.get(index as usize) {
+        Some(entry) => cases(alloc, entry),
+        None => Ok(None),
+    }
 }
 
 // Takes the disjunction out that is to be split next: an equivalence first, since one of its two
@@ -181,7 +151,7 @@ fn next_split(entries: &[Formula], disjunctions: &mut Vec<u32>) -> Option<u32> {
 // Takes each straight step that the entries from `from` on call for; false where a limit was met.
 fn saturate<L: Ledger>(
     alloc: Global,
-    entries: &mut Vec<Formula>,
+    branch: &mut Branch,
     from: usize,
     straight: &mut Vec<Step>,
     disjunctions: &mut Vec<u32>,
@@ -191,10 +161,10 @@ fn saturate<L: Ledger>(
     ensures { steps.new + left.new ≡ steps.old + left.old }
 {
     for next in from..MOST_ENTRIES {
-        if next >= entries.len() {
+        if next >= branch.entries.len() {
             return Ok(true);
         }
-        if !expand(alloc, entries, next, straight, disjunctions, steps, left)? {
+        if !expand(alloc, branch, next, straight, disjunctions, steps, left)? {
             return Ok(false);
         }
     }
@@ -204,7 +174,7 @@ fn saturate<L: Ledger>(
 // Takes the straight steps that one entry calls for.
 fn expand<L: Ledger>(
     alloc: Global,
-    entries: &mut Vec<Formula>,
+    branch: &mut Branch,
     next: usize,
     straight: &mut Vec<Step>,
     disjunctions: &mut Vec<u32>,
@@ -217,7 +187,7 @@ fn expand<L: Ledger>(
         Ok(index) => index,
         Err(_) => return Ok(false),
     };
-    let entry = match entries.get(next) {
+    let entry = match branch.entries.get(next) {
         Some(entry) => entry,
         None => return Ok(false),
     };
@@ -227,21 +197,34 @@ fn expand<L: Ledger>(
     }
     match parts(alloc, entry)? {
         Some(formulas) => {
-            for formula in copies(alloc, formulas.as_slice())? {
-                entries.push(formula)?;
-            }
+            add_parts(alloc, branch, index, formulas.as_slice())?;
             straight.push(Step {
                 node: StepNode::Parts(index, formulas),
             })?;
             Ok(take_step(steps, left))
         }
-        None => add_axioms(alloc, entries, next, straight, steps, left),
+        None => add_axioms(alloc, branch, next, straight, steps, left),
     }
+}
+
+// Adds the parts of the entry with this number.
+fn add_parts(
+    alloc: Global,
+    branch: &mut Branch,
+    index: u32,
+    formulas: &[Formula],
+) -> Result<(), NoMemory> {
+    let mut number: u32 = 0;
+    for formula in formulas {
+        grow(alloc, branch, formula, Origin::Part(index, number))?;
+        number = number.saturating_add(1);
+    }
+    Ok(())
 }
 
 fn add_axioms<L: Ledger>(
     alloc: Global,
-    entries: &mut Vec<Formula>,
+    branch: &mut Branch,
     next: usize,
     straight: &mut Vec<Step>,
     steps: &mut Steps<L>,
@@ -249,9 +232,9 @@ fn add_axioms<L: Ledger>(
 ) -> Result<bool, NoMemory>
     ensures { steps.new + left.new ≡ steps.old + left.old }
 {
-    let due = instances(alloc, entries.as_slice(), next)?;
+    let due = instances(alloc, branch.entries.as_slice(), next)?;
     for step in due.iter() {
-        add_instance(alloc, entries, step)?;
+        add_instance(alloc, branch, step)?;
         if !take_step(steps, left) {
             return Ok(false);
         }
@@ -262,36 +245,53 @@ fn add_axioms<L: Ledger>(
     Ok(true)
 }
 
-fn add_instance(alloc: Global, entries: &mut Vec<Formula>, step: &Step) -> Result<(), NoMemory> {
-    if let StepNode::Axiom(_, formula) = &step.node {
-        entries.push(formula.try_clone(alloc)?)?;
+fn add_instance(alloc: Global, branch: &mut Branch, step: &Step) -> Result<(), NoMemory> {
+    match &step.node {
+        StepNode::Axiom(name, formula) => grow(alloc, branch, formula, Origin::Axiom(*name)),
+        StepNode::Parts(_, _) => Ok(()),
     }
-    Ok(())
 }
 
 // The instances of axioms that an entry calls for, as steps.
 fn instances(alloc: Global, entries: &[Formula], next: usize) -> Result<Vec<Step>, NoMemory> {
     match entries.get(next) {
         Some(entry) => match &entry.node {
-            FormulaNode::Is(of, term) => {
-                if is_ranged(entries, entry) {
-                    Ok(Vec::new(alloc))
-                } else {
-                    range_step(alloc, of, term)
-                }
-            }
-            FormulaNode::Not(inner) => match &inner.node {
-                FormulaNode::Eq(left, right) => trichotomy_steps(alloc, left, right),
-                _ => Ok(Vec::new(alloc)),
-            },
+            FormulaNode::Is(of, term) => range_step(alloc, entries, of, term),
+            FormulaNode::Not(inner) => instances_at_denied(alloc, entries, inner),
             _ => Ok(Vec::new(alloc)),
         },
         None => Ok(Vec::new(alloc)),
     }
 }
 
-fn range_step(alloc: Global, of: &TypeTerm, term: &Term) -> Result<Vec<Step>, NoMemory> {
+// The same at an entry that is the negation of a formula.
+fn instances_at_denied(
+    alloc: Global,
+    entries: &[Formula],
+    of: &Formula,
+) -> Result<Vec<Step>, NoMemory> {
+    match &of.node {
+        FormulaNode::Eq(left, right) => trichotomy_steps(alloc, left, right),
+        FormulaNode::Is(of, term) => {
+            let mut steps = range_step(alloc, entries, of, term)?;
+            add_whole(alloc, &mut steps, term)?;
+            Ok(steps)
+        }
+        _ => Ok(Vec::new(alloc)),
+    }
+}
+
+// The range axiom, unless it stands on the branch already.
+fn range_step(
+    alloc: Global,
+    entries: &[Formula],
+    of: &TypeTerm,
+    term: &Term,
+) -> Result<Vec<Step>, NoMemory> {
     let mut steps = Vec::new(alloc);
+    if range_axiom_stands(entries, of, term) {
+        return Ok(steps);
+    }
     if let Some(formula) = range(alloc, of, term)? {
         steps.push(instance(Axiom::Range, formula))?;
     }
@@ -300,28 +300,24 @@ fn range_step(alloc: Global, of: &TypeTerm, term: &Term) -> Result<Vec<Step>, No
 
 fn trichotomy_steps(alloc: Global, left: &Term, right: &Term) -> Result<Vec<Step>, NoMemory> {
     let mut steps = Vec::new(alloc);
-    if is_whole(left) {
-        steps.push(instance(Axiom::Whole, is_number(alloc, left)?))?;
-    }
-    if is_whole(right) {
-        steps.push(instance(Axiom::Whole, is_number(alloc, right)?))?;
-    }
+    add_whole(alloc, &mut steps, left)?;
+    add_whole(alloc, &mut steps, right)?;
     steps.push(instance(Axiom::Trichotomy, trichotomy(alloc, left, right)?))?;
     Ok(steps)
+}
+
+// That a term is a whole number, where it is one by its form.
+fn add_whole(alloc: Global, steps: &mut Vec<Step>, term: &Term) -> Result<(), NoMemory> {
+    if is_whole(term) {
+        steps.push(instance(Axiom::Whole, is_number(alloc, term)?))?;
+    }
+    Ok(())
 }
 
 fn instance(name: Axiom, formula: Formula) -> Step {
     Step {
         node: StepNode::Axiom(name, formula),
     }
-}
-
-// Whether the range axiom stands on the branch already at this claim of a type.
-fn is_ranged(entries: &[Formula], claim: &Formula) -> bool {
-    entries.iter().any(|entry| match &entry.node {
-        FormulaNode::Iff(left, _) => same_formula(left, claim),
-        _ => false,
-    })
 }
 
 // A step that closes the branch, if there is one. Rows are combined only once no equivalence waits

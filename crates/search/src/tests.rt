@@ -3,7 +3,7 @@
 ghost use Rattle.std.specs.Prelude.{◌≡◌, ◌<◌};
 
 use crate::answer::Answer;
-use crate::tableau::prove;
+use crate::prover::prove;
 use fol::formula::{Formula, FormulaNode, Term};
 use fol::shapes::Shapes;
 use pv_base::memory::NoMemory;
@@ -16,28 +16,42 @@ use std::test::Fail;
 
 const MAX_U64: i128 = 0xffff_ffff_ffff_ffff;
 
-// Whether the search proves that a claim follows from premises on a sum.
-fn follows<L: Ledger>(
+/// The word for what a search answers.
+fn word(answer: &Answer) -> &'static str {
+    match answer {
+        Answer::Proved(_) => "proved",
+        Answer::Open(_, _) => "open",
+        Answer::Wide(_, _, _) => "wide",
+        Answer::Rows(_, _) => "rows",
+        Answer::Budget => "budget",
+        Answer::Size(_) => "size",
+    }
+}
+
+/// What the search finds out of a formula within a budget.
+fn found<L: Ledger>(
     alloc: Global,
-    in_range: bool,
-    claim: Box<Formula>,
+    formula: Box<Formula>,
+    budget: u64,
     blank: Blank,
-) -> Result<bool, NoMemory>
+) -> Result<&'static str, NoMemory>
     requires name { blank.name ≡ L.name }
     requires parts { blank.parts ≡ L.parts }
     requires some { 0 < L.parts }
 {
     let mut steps = Steps::<L>::new(blank);
     let shapes = Shapes::new(alloc);
+    let answer = prove(alloc, &shapes, &formula, budget, &mut steps)?;
+    Ok(word(&answer))
+}
+
+/// That a claim follows from premises on a sum.
+fn follows(alloc: Global, in_range: bool, claim: Box<Formula>) -> Result<Box<Formula>, NoMemory> {
     let premises = Box::new(alloc, premises(alloc, in_range)?)?;
-    let formula = Box::new(
-        alloc,
-        Formula {
-            node: FormulaNode::Implies(premises, claim),
-        },
-    )?;
-    let answer = prove(alloc, &shapes, &formula, 20_000, &mut steps)?;
-    Ok(matches!(answer, Answer::Proved(_)))
+    let formula = Formula {
+        node: FormulaNode::Implies(premises, claim),
+    };
+    Ok(Box::new(alloc, formula)?)
 }
 
 fn x() -> Term {
@@ -91,28 +105,61 @@ fn overflows(alloc: Global) -> Result<Formula, NoMemory> {
     Formula::not(alloc, Formula::at_most(sum(alloc)?, Term::number(MAX_U64)))
 }
 
+// Nothing: no formula of none is true.
+fn nothing(alloc: Global) -> Formula {
+    Formula::any_of(Vec::new(alloc))
+}
+
+// That a number of formulas `x <= 0` are not all false.
+fn one_of_many(alloc: Global, count: usize) -> Result<Box<Formula>, NoMemory> {
+    let mut all = Vec::new(alloc);
+    for _ in 0..count {
+        all.push(Formula::at_most(x(), Term::number(0)))?;
+    }
+    Ok(Box::new(alloc, Formula::any_of(all))?)
+}
+
+// A large multiple of the first is at most the second, and the other way round it is below it: the sum of
+// the two rows leaves 128 bits.
+fn large_multiples(alloc: Global) -> Result<Box<Formula>, NoMemory> {
+    let large = 1_i128 << 100;
+    let mut all = Vec::new(alloc);
+    let left = Term::product(alloc, Term::number(large), x())?;
+    all.push(Formula::at_most(left, y()))?;
+    let left = Term::product(alloc, Term::number(large), y())?;
+    all.push(Formula::at_most(left, Term::difference(alloc, x(), Term::number(1))?))?;
+    let both = Box::new(alloc, Formula::all_of(all))?;
+    Ok(Box::new(
+        alloc,
+        Formula {
+            node: FormulaNode::Not(both),
+        },
+    )?)
+}
+
 #[test]
-fn conditions_of_a_sum(rt: HostRuntime) -> Result<(), Fail> {
+fn answers(rt: HostRuntime) -> Result<(), Fail> {
     let alloc = rt.alloc();
-    let claim = Box::new(alloc, commutes(alloc)?)?;
-    assert!(rt;
-        follows::<Brand>(alloc, true, claim, Blank::new(1))?,
-        "ensures"
-    );
+    let returns = follows(alloc, true, Box::new(alloc, commutes(alloc)?)?)?;
     let claim = Box::new(alloc, Formula::not(alloc, overflows(alloc)?)?)?;
-    assert!(rt;
-        follows::<Brand>(alloc, true, claim, Blank::new(1))?,
-        "aborts_if"
-    );
-    let claim = Box::new(alloc, overflows(alloc)?)?;
-    assert!(rt;
-        follows::<Brand>(alloc, false, claim, Blank::new(1))?,
-        "aborts"
-    );
-    let claim = Box::new(alloc, Formula::any_of(Vec::new(alloc)))?;
-    assert!(rt;
-        !follows::<Brand>(alloc, false, claim, Blank::new(1))?,
-        "open"
-    );
+    let aborts_if = follows(alloc, true, claim)?;
+    let aborts = follows(alloc, false, Box::new(alloc, overflows(alloc)?)?)?;
+    let open = follows(alloc, false, Box::new(alloc, nothing(alloc))?)?;
+    let short = follows(alloc, false, Box::new(alloc, nothing(alloc))?)?;
+    let rows: [(Box<Formula>, u64, &str); 7] = [
+        (returns, 20_000, "proved"),
+        (aborts_if, 20_000, "proved"),
+        (aborts, 20_000, "proved"),
+        (open, 20_000, "open"),
+        (short, 3, "budget"),
+        (one_of_many(alloc, 4_100)?, 20_000, "size"),
+        (large_multiples(alloc)?, 20_000, "wide"),
+    ];
+    for (formula, budget, wanted) in rows {
+        assert_eq!(rt;
+            found::<Brand>(alloc, formula, budget, Blank::new(1))?,
+            wanted
+        );
+    }
     Ok(())
 }

@@ -1,0 +1,68 @@
+//! What an open branch shows.
+
+ghost use Rattle.std.specs.Prelude.{◌≡◌, ◌↔◌, IfOk, IsTrue, false};
+ghost use Rattle.search.specs.Answer.{Shows, is_spent};
+ghost use Rattle.search.specs.Leaf.{IsLeafOf};
+
+use crate::answer::{Answer, Leaf};
+use crate::growing::shorten;
+use crate::numbers::add_numbers;
+use crate::rows::system_of;
+use crate::tableau::MOST_ENTRIES;
+use fol::formula::Formula;
+use lin_arith::{LinAnswer, solve};
+use pv_base::memory::NoMemory;
+use saturation::branch::Branch;
+use saturation::checker::is_saturated;
+use saturation::growth::is_branch_of;
+use saturation::system::is_system_of;
+use std::alloc::Global;
+
+/// The answer of a branch on which the search had nothing left to do. It counts only where the checkers
+/// accept the branch and its rows; that they do where the search ends there is tested, not proved.
+pub fn answer_at(alloc: Global, formula: &Formula, mut branch: Branch) -> Result<Answer, NoMemory>
+    ensures shown { IfOk result (Shows formula.now) }
+    ensures unspent { IfOk result (λ answer. is_spent answer ≡ false) }
+{
+    add_numbers(alloc, &mut branch)?;
+    let found = system_of(alloc, branch.entries.as_slice())?;
+    let leaf = Leaf {
+        branch,
+        unknowns: found.unknowns,
+        rows: found.rows,
+    };
+    if !is_leaf_of(formula, &leaf) {
+        return Err(NoMemory);
+    }
+    match solve(alloc, &leaf.rows)? {
+        LinAnswer::Feasible(values) => Ok(Answer::Open(leaf, values)),
+        LinAnswer::Wide(first, second) => Ok(Answer::Wide(leaf, first, second)),
+        LinAnswer::TooManyRows(rows) => Ok(Answer::Rows(leaf, rows)),
+        LinAnswer::Infeasible(_) => Err(NoMemory),
+    }
+}
+
+/// The answer of a branch that grew too long.
+pub fn outgrown(formula: &Formula, mut branch: Branch) -> Result<Answer, NoMemory>
+    ensures shown { IfOk result (Shows formula.now) }
+    ensures unspent { IfOk result (λ answer. is_spent answer ≡ false) }
+{
+    shorten(&mut branch, MOST_ENTRIES);
+    if branch.entries.len() == MOST_ENTRIES && is_branch_of(formula, &branch) {
+        Ok(Answer::Size(branch))
+    } else {
+        Err(NoMemory)
+    }
+}
+
+// Whether nothing is left to do on the leaf's branch, and its rows are those of the branch.
+fn is_leaf_of(formula: &Formula, leaf: &Leaf) -> bool
+    ensures { IsTrue result ↔ IsLeafOf formula.now leaf.now }
+{
+    is_saturated(formula, &leaf.branch)
+        && is_system_of(
+            leaf.branch.entries.as_slice(),
+            leaf.unknowns.as_slice(),
+            &leaf.rows,
+        )
+}

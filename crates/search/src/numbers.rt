@@ -1,0 +1,142 @@
+//! The terms of a branch that are whole numbers by their form.
+
+use crate::expansion::{is_number, is_whole};
+use crate::growing::grow;
+use cert::certificate::Axiom;
+use fol::formula::{Formula, FormulaNode, Term, TermNode};
+use pv_base::memory::NoMemory;
+use saturation::branch::{Branch, Origin};
+use saturation::claim::number_stands;
+use std::alloc::Global;
+
+/// Adds to the branch that these terms are whole numbers, where it does not say so.
+pub fn add_numbers(alloc: Global, branch: &mut Branch) -> Result<(), NoMemory> {
+    let mut missing = Vec::new(alloc);
+    for entry in branch.entries.iter() {
+        add_missing(alloc, branch.entries.as_slice(), entry, &mut missing)?;
+    }
+    for formula in missing.iter() {
+        grow(alloc, branch, formula, Origin::Axiom(Axiom::Whole))?;
+    }
+    Ok(())
+}
+
+// Adds what is missing for the terms of a formula outside quantifiers.
+#[cycle(missing)]
+fn add_missing(
+    alloc: Global,
+    entries: &[Formula],
+    formula: &Formula,
+    missing: &mut Vec<Formula>,
+) -> Result<(), NoMemory> {
+    match &formula.node {
+        FormulaNode::Eq(t, u) | FormulaNode::Le(t, u) => {
+            add_missing_of(alloc, entries, t, missing)?;
+            add_missing_of(alloc, entries, u, missing)
+        }
+        FormulaNode::Is(_, t) | FormulaNode::Holds(t) => add_missing_of(alloc, entries, t, missing),
+        FormulaNode::Not(p) => add_missing(alloc, entries, p, missing),
+        FormulaNode::AllOf(ps) | FormulaNode::AnyOf(ps) => {
+            add_all_missing(alloc, entries, ps.as_slice(), missing)
+        }
+        FormulaNode::Implies(p, q) | FormulaNode::Iff(p, q) => {
+            add_missing(alloc, entries, p, missing)?;
+            add_missing(alloc, entries, q, missing)
+        }
+        FormulaNode::ForAll(_, _, _) | FormulaNode::Exists(_, _, _) => Ok(()),
+    }
+}
+
+#[cycle(missing)]
+#[tactic(auto, using(fol::proofs::Smaller::formula_smaller))]
+fn add_all_missing(
+    alloc: Global,
+    entries: &[Formula],
+    formulas: &[Formula],
+    missing: &mut Vec<Formula>,
+) -> Result<(), NoMemory> {
+    for formula in formulas {
+        add_missing(alloc, entries, formula, missing)?;
+    }
+    Ok(())
+}
+
+// Adds what is missing for a term and the terms in it.
+#[cycle(missing)]
+fn add_missing_of(
+    alloc: Global,
+    entries: &[Formula],
+    term: &Term,
+    missing: &mut Vec<Formula>,
+) -> Result<(), NoMemory> {
+    add_missing_at(alloc, entries, term, missing)?;
+    match &term.node {
+        TermNode::Var(_)
+        | TermNode::Num(_)
+        | TermNode::Max
+        | TermNode::True
+        | TermNode::False
+        | TermNode::Nothing
+        | TermNode::Blank
+        | TermNode::Empty
+        | TermNode::Wide(_) => Ok(()),
+        TermNode::Len(a) | TermNode::Pop(a) | TermNode::Field(_, _, a) => {
+            add_missing_of(alloc, entries, a, missing)
+        }
+        TermNode::Add(a, b)
+        | TermNode::Sub(a, b)
+        | TermNode::Mul(a, b)
+        | TermNode::Div(a, b)
+        | TermNode::Mod(a, b)
+        | TermNode::And(a, b)
+        | TermNode::Or(a, b)
+        | TermNode::Xor(a, b)
+        | TermNode::Shl(_, a, b)
+        | TermNode::Shr(_, a, b)
+        | TermNode::Select(a, b)
+        | TermNode::At(a, b)
+        | TermNode::Push(a, b)
+        | TermNode::SetField(_, _, a, b) => {
+            add_missing_of(alloc, entries, a, missing)?;
+            add_missing_of(alloc, entries, b, missing)
+        }
+        TermNode::Store(a, b, c) | TermNode::Set(a, b, c) => {
+            add_missing_of(alloc, entries, a, missing)?;
+            add_missing_of(alloc, entries, b, missing)?;
+            add_missing_of(alloc, entries, c, missing)
+        }
+        TermNode::Pack(_, ts) => add_missing_of_all(alloc, entries, ts.as_slice(), missing),
+        TermNode::If(p, a, b) => {
+            add_missing(alloc, entries, p, missing)?;
+            add_missing_of(alloc, entries, a, missing)?;
+            add_missing_of(alloc, entries, b, missing)
+        }
+    }
+}
+
+#[cycle(missing)]
+#[tactic(auto, using(fol::proofs::Smaller::term_smaller))]
+fn add_missing_of_all(
+    alloc: Global,
+    entries: &[Formula],
+    terms: &[Term],
+    missing: &mut Vec<Formula>,
+) -> Result<(), NoMemory> {
+    for term in terms {
+        add_missing_of(alloc, entries, term, missing)?;
+    }
+    Ok(())
+}
+
+// Adds that the term is a whole number, where it is one by its form and neither list says so.
+fn add_missing_at(
+    alloc: Global,
+    entries: &[Formula],
+    term: &Term,
+    missing: &mut Vec<Formula>,
+) -> Result<(), NoMemory> {
+    if is_whole(term) && !number_stands(entries, term) && !number_stands(missing.as_slice(), term) {
+        missing.push(is_number(alloc, term)?)?;
+    }
+    Ok(())
+}
