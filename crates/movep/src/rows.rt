@@ -4,6 +4,7 @@ ghost use Rattle.std.specs.Prelude.{◌≡◌, ◌<◌};
 
 use prove::memory_sink::VecSink;
 use prove::memory_sources::MapSources;
+use prove::outside::{Sink, Wrote};
 use prove::status::{Device, Status};
 use prove::top::movep;
 use pv_base::lists::{Bytes, Calls, FileMap, Words};
@@ -37,12 +38,31 @@ fn source_of(alloc: Global, text: &[u8], fails: &[u64]) -> Result<MapSources, No
     Ok(MapSources::new(files, Calls::from_slice(alloc, fails)?))
 }
 
+/// A sink that takes one byte at a time, and does not tell what it took.
+#[derive(Drop)]
+struct SlowSink {
+    inner: VecSink,
+}
+
+impl Sink for SlowSink {
+    ghost taken = { λ _. Rattle.std.specs.Prelude.None };
+
+    ghost faults = { λ s. s.inner.faults };
+
+    fn write(&mut self, piece: &[u8]) -> Wrote {
+        match piece {
+            [] => Wrote::Taken(0),
+            [first, ..] => self.inner.write(&[*first]),
+        }
+    }
+}
+
 /// Runs the verifier with a counter of its own.
-fn run<L: Ledger>(
+fn run<W: Sink, L: Ledger>(
     alloc: Global,
     words: &Words,
     sources: &mut MapSources,
-    sink: &mut VecSink,
+    sink: &mut W,
     blank: Blank,
 ) -> Status
     requires name { blank.name ≡ L.name }
@@ -63,7 +83,7 @@ const SUM_REPORT: &[u8] =
 fn reports(rt: HostRuntime) -> Result<(), Fail> {
     let alloc = rt.alloc();
     let words = words_of(alloc, &[b"a.move"])?;
-    let rows: [(&[u8], &[u8], u8); 11] = [
+    let rows: [(&[u8], &[u8], u8); 19] = [
         (SUM, SUM_REPORT, 0),
         (b"", b"proved 0 of 0\n", 0),
         (b"/* a */ // b", b"proved 0 of 0\n", 0),
@@ -92,14 +112,50 @@ fn reports(rt: HostRuntime) -> Result<(), Fail> {
             b"0x1::m::f: proved\n  ensures a.move:1: proved\n  aborts_if a.move:1: proved\n  aborts a.move:1: proved\nproved 1 of 1\n",
             0,
         ),
+        (
+            b"module 0x1::m {\n    fun f(x: u64, y: u64): u64 { x + y }\n    spec f {\n        aborts_if false;\n        ensures result == x + y;\n    }\n}\n",
+            b"0x1::m::f: unknown\n  ensures a.move:5: proved\n  aborts_if a.move:4: proved\n  aborts a.move:2: open\n    x = 18446744073709551615\n    y = 1\nproved 0 of 1\n",
+            1,
+        ),
+        (
+            b"module 0x1::m { fun f(x: u64, y: u64): u64 { x } spec f { requires y + y == x; ensures result + 1 == y; ensures result < 10; } }",
+            b"0x1::m::f: unknown\n  ensures a.move:1: open\n    x = 0\n    y = 0\n  ensures a.move:1: open\n    x = 10\n    y = 5\nproved 0 of 1\n",
+            1,
+        ),
         (b"module 0x1::m {", b"refused 18 NotBuilt a.move:1\n", 2),
         (
             b"\nmodule 0x1::m {\n /* x",
             b"refused 1 BadToken a.move:3\n",
             2,
         ),
+        (b"module 0x1::m { /* x", b"refused 1 BadToken a.move:1\n", 2),
         (
             b"module 0x1::m { fun f(x: u64, x: u64): u64 { x } }",
+            b"refused 18 NotBuilt a.move:1\n",
+            2,
+        ),
+        (
+            b"module 0x1::m { fun f(): u64 { 1 } fun f(): u64 { 2 } }",
+            b"refused 18 NotBuilt a.move:1\n",
+            2,
+        ),
+        (
+            b"module 0x1::m { fun f(): u64 { 1 } spec g { } }",
+            b"refused 18 NotBuilt a.move:1\n",
+            2,
+        ),
+        (
+            b"module 0x1::m { fun f(): u64 { 18446744073709551616 } }",
+            b"refused 18 NotBuilt a.move:1\n",
+            2,
+        ),
+        (
+            b"module 0x1::m { fun f(a: u64, b: u64, c: u64, d: u64, e: u64, g: u64, h: u64, i: u64): u64 { i } }",
+            b"0x1::m::f: proved\nproved 1 of 1\n",
+            0,
+        ),
+        (
+            b"module 0x1::m { fun f(a: u64, b: u64, c: u64, d: u64, e: u64, g: u64, h: u64, i: u64, j: u64): u64 { j } }",
             b"refused 18 NotBuilt a.move:1\n",
             2,
         ),
@@ -107,7 +163,7 @@ fn reports(rt: HostRuntime) -> Result<(), Fail> {
     for (text, output, code) in rows {
         let mut sources = source_of(alloc, text, &[])?;
         let mut sink = VecSink::new(alloc, 1000, Calls::new(alloc))?;
-        let status = run::<Brand>(alloc, &words, &mut sources, &mut sink, Blank::new(1));
+        let status = run::<_, Brand>(alloc, &words, &mut sources, &mut sink, Blank::new(1));
         assert_eq!(rt; sink.bytes(), output);
         assert_eq!(rt; status.code(), code);
     }
@@ -122,7 +178,7 @@ fn words_that_are_refused(rt: HostRuntime) -> Result<(), Fail> {
         let words = words_of(alloc, given)?;
         let mut sources = source_of(alloc, SUM, &[])?;
         let mut sink = VecSink::new(alloc, 1000, Calls::new(alloc))?;
-        let status = run::<Brand>(alloc, &words, &mut sources, &mut sink, Blank::new(1));
+        let status = run::<_, Brand>(alloc, &words, &mut sources, &mut sink, Blank::new(1));
         assert_eq!(rt; status, Status::BadWords);
         assert_eq!(rt; sink.bytes(), b"usage: movep FILE\n".as_slice());
     }
@@ -140,7 +196,7 @@ fn files_that_are_not_fetched(rt: HostRuntime) -> Result<(), Fail> {
         let words = words_of(alloc, &[name])?;
         let mut sources = source_of(alloc, SUM, fails)?;
         let mut sink = VecSink::new(alloc, 1000, Calls::new(alloc))?;
-        let status = run::<Brand>(alloc, &words, &mut sources, &mut sink, Blank::new(1));
+        let status = run::<_, Brand>(alloc, &words, &mut sources, &mut sink, Blank::new(1));
         assert_eq!(rt; status, Status::Fault(Device::Source));
         assert_eq!(rt; sink.bytes(), output);
     }
@@ -155,9 +211,28 @@ fn writes_that_fail(rt: HostRuntime) -> Result<(), Fail> {
     for (call, taken) in [(1u64, 0usize), (2, 18), (3, 45), (4, 74), (5, 100)] {
         let mut sources = source_of(alloc, SUM, &[])?;
         let mut sink = VecSink::new(alloc, 1000, Calls::from_slice(alloc, &[call])?)?;
-        let status = run::<Brand>(alloc, &words, &mut sources, &mut sink, Blank::new(1));
+        let status = run::<_, Brand>(alloc, &words, &mut sources, &mut sink, Blank::new(1));
         assert_eq!(rt; status, Status::Fault(Device::Sink));
         assert_eq!(rt; sink.bytes(), &SUM_REPORT[..taken]);
+    }
+    Ok(())
+}
+
+#[test]
+fn a_slow_sink_takes_all(rt: HostRuntime) -> Result<(), Fail> {
+    let alloc = rt.alloc();
+    let words = words_of(alloc, &[b"a.move"])?;
+    let rows: [(&[u8], &[u8], u8); 2] = [
+        (SUM, SUM_REPORT, 0),
+        (b"module 0x1::m {", b"refused 18 NotBuilt a.move:1\n", 2),
+    ];
+    for (text, output, code) in rows {
+        let mut sources = source_of(alloc, text, &[])?;
+        let inner = VecSink::new(alloc, 1000, Calls::new(alloc))?;
+        let mut sink = SlowSink { inner };
+        let status = run::<_, Brand>(alloc, &words, &mut sources, &mut sink, Blank::new(1));
+        assert_eq!(rt; sink.inner.bytes(), output);
+        assert_eq!(rt; status.code(), code);
     }
     Ok(())
 }
@@ -183,7 +258,7 @@ fn limits(rt: HostRuntime) -> Result<(), Fail> {
         let text = repeated(alloc, byte, count)?;
         let mut sources = source_of(alloc, text.as_slice(), &[])?;
         let mut sink = VecSink::new(alloc, 1000, Calls::new(alloc))?;
-        let status = run::<Brand>(alloc, &words, &mut sources, &mut sink, Blank::new(1));
+        let status = run::<_, Brand>(alloc, &words, &mut sources, &mut sink, Blank::new(1));
         assert_eq!(rt; sink.bytes(), output);
         assert_eq!(rt; status.code(), code);
     }

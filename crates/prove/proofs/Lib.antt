@@ -11,4 +11,8 @@ pub mod ClosedBody
 pub mod PairLemmas
 pub mod RunLemmas
 pub mod Verifiable
+pub mod ReportLemmas
+pub mod ValueLemmas
+pub mod Findings
 pub mod Records
+pub mod CauseLemmas

@@ -18,5 +18,7 @@ pub mod Status
 pub mod Writing
 pub mod Stages
 pub mod Pairs
+pub mod OpenValues
 pub mod Verified
 pub mod Run
+pub mod Causes

@@ -19,5 +19,6 @@ pub mod status_text;
 mod tests;
 pub mod text;
 pub mod top;
+mod values;
 pub mod verify;
 pub mod writing;

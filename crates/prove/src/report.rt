@@ -3,6 +3,7 @@
 ghost use Rattle.std.specs.Prelude.{◌≡◌, IfOk};
 ghost use Rattle.prove.specs.ReportText.{function_line, condition_line, count_line, lines_of_report};
 
+use lin_arith::Fraction;
 use pv_base::lists::Bytes;
 use pv_base::memory::NoMemory;
 use pv_base::name::Name;
@@ -15,8 +16,17 @@ use vc_gen::condition::ConditionKind;
 pub enum ConditionVerdict {
     /// A certificate for it was checked.
     Proved,
-    /// No certificate was found.
+    /// A branch of its tableau is open: nothing is left to do on it, nothing closes it, and values meet
+    /// its rows.
     Open,
+    /// An elimination of the rows of such a branch meets two rows whose sum leaves 128 bits.
+    Wide,
+    /// An elimination of the rows of such a branch has 5,000 rows.
+    Rows,
+    /// The search took this many steps, its whole budget.
+    Budget(u64),
+    /// A branch of its tableau has 4,000 entries.
+    Size,
 }
 
 /// What was found out of a function.
@@ -28,8 +38,23 @@ pub enum FunctionVerdict {
     Unknown,
 }
 
+/// The value of a parameter on an open branch: a fraction, whose denominator is above 0.
+#[derive(Drop)]
+pub struct ParameterValue {
+    pub name: Name,
+    pub value: Fraction,
+}
+
+impl Model for ParameterValue {
+    ghost use Rattle.prove.specs.ReportData.{ParameterValueData};
+
+    ghost Value = { ParameterValueData };
+
+    ghost view = { λ v. record { name = v.name; numerator = v.value.numerator; denominator = v.value.denominator } };
+}
+
 /// A condition, by its kind and its place, and its verdict.
-#[derive(Clone, Copy, Debug, PartialEq, Eq)]
+#[derive(Drop)]
 pub struct ConditionRecord {
     pub kind: ConditionKind,
     /// The number of the clause's file, counted from 0 in the order of the report's files.
@@ -39,6 +64,16 @@ pub struct ConditionRecord {
     /// The line of the check, where it stands apart from the clause.
     pub check_line: Option<u32>,
     pub verdict: ConditionVerdict,
+    /// Where the verdict is `Open`, the values of the function's parameters on the branch, in order.
+    pub values: Vec<ParameterValue>,
+}
+
+impl Model for ConditionRecord {
+    ghost use Rattle.prove.specs.ReportData.{ConditionRecordData};
+
+    ghost Value = { ConditionRecordData };
+
+    ghost view = { λ c. record { kind = c.kind; file = c.file; line = c.line; check_line = c.check_line; verdict = c.verdict; values = c.values.items } };
 }
 
 /// A function, its verdict, and the verdicts of its conditions in the report's order.

@@ -1,10 +1,12 @@
 //! The lines of a report.
 
 ghost use Rattle.std.specs.Prelude.{◌≡◌, ◌++◌, [], slice_index_or, IfOk, OnOk};
-ghost use Rattle.prove.specs.ReportText.{check_text, condition_line, condition_verdict_text, count_line, function_line, function_lines, function_verdict_text, kind_text, lines_of_report};
+ghost use Rattle.prove.specs.ReportText.{check_text, condition_line, condition_lines, condition_verdict_text, denominator_text, value_line, count_line, function_line, function_lines, function_verdict_text, kind_text, lines_of_report};
 
-use crate::report::{ConditionRecord, ConditionVerdict, FunctionRecord, FunctionVerdict, Report};
-use crate::text::{Lines, push_decimal, push_hexadecimal};
+use crate::report::{
+    ConditionRecord, ConditionVerdict, FunctionRecord, FunctionVerdict, ParameterValue, Report,
+};
+use crate::text::{Lines, push_decimal, push_hexadecimal, push_whole};
 use pv_base::lists::Bytes;
 use pv_base::memory::NoMemory;
 use pv_base::name::Name;
@@ -22,15 +24,20 @@ fn kind_text(kind: ConditionKind) -> &'static [u8]
     }
 }
 
-impl ConditionVerdict {
-    /// The word that a report has for this verdict.
-    pub fn text(self) -> &'static [u8]
-        ensures { result.now ≡ condition_verdict_text self }
-    {
-        match self {
-            ConditionVerdict::Proved => b"proved",
-            ConditionVerdict::Open => b"open",
+/// Puts the words that a report has for a condition's verdict at the end.
+fn push_verdict(alloc: Global, text: &mut Bytes, verdict: ConditionVerdict) -> Result<(), NoMemory>
+    ensures { OnOk result (text.new ≡ text.old ++ condition_verdict_text verdict) }
+{
+    match verdict {
+        ConditionVerdict::Proved => text.extend_from_slice(b"proved"),
+        ConditionVerdict::Open => text.extend_from_slice(b"open"),
+        ConditionVerdict::Wide => text.extend_from_slice(b"wide"),
+        ConditionVerdict::Rows => text.extend_from_slice(b"rows"),
+        ConditionVerdict::Budget(steps) => {
+            text.extend_from_slice(b"budget ")?;
+            push_decimal(alloc, text, steps)
         }
+        ConditionVerdict::Size => text.extend_from_slice(b"size certificate"),
     }
 }
 
@@ -101,9 +108,50 @@ fn condition_line(
     push_decimal(alloc, &mut line, u64::from(condition.line))?;
     push_check_line(alloc, &mut line, condition.check_line)?;
     line.extend_from_slice(b": ")?;
-    line.extend_from_slice(condition.verdict.text())?;
+    push_verdict(alloc, &mut line, condition.verdict)?;
     line.extend_from_slice(b"\n")?;
     Ok(line)
+}
+
+/// Puts what stands under a fraction at the end, unless that is 1.
+fn push_denominator(alloc: Global, text: &mut Bytes, denominator: i128) -> Result<(), NoMemory>
+    ensures { OnOk result (text.new ≡ text.old ++ denominator_text denominator) }
+{
+    if denominator == 1 {
+        return Ok(());
+    }
+    text.extend_from_slice(b"/")?;
+    push_whole(alloc, text, denominator)
+}
+
+/// The line of a parameter's value.
+fn value_line(alloc: Global, value: &ParameterValue) -> Result<Bytes, NoMemory>
+    ensures { IfOk result (λ line. line ≡ value_line value.now) }
+{
+    let mut line = Bytes::new(alloc);
+    line.extend_from_slice(b"    ")?;
+    line.extend_from_slice(value.name.as_slice())?;
+    line.extend_from_slice(b" = ")?;
+    push_whole(alloc, &mut line, value.value.numerator)?;
+    push_denominator(alloc, &mut line, value.value.denominator)?;
+    line.extend_from_slice(b"\n")?;
+    Ok(line)
+}
+
+/// Puts the line of a condition, and those of its values, at the end.
+fn push_condition_lines(
+    alloc: Global,
+    lines: &mut Lines,
+    files: &[Name],
+    condition: &ConditionRecord,
+) -> Result<(), NoMemory>
+    ensures { OnOk result (lines.new ≡ lines.old ++ condition_lines files.now condition.now) }
+{
+    lines.push(condition_line(alloc, files, condition)?)?;
+    for value in &condition.values {
+        lines.push(value_line(alloc, value)?)?;
+    }
+    Ok(())
 }
 
 /// The line that counts the proved functions.
@@ -134,7 +182,7 @@ fn push_function_lines(
 {
     lines.push(function_line(alloc, function)?)?;
     for condition in &function.conditions {
-        lines.push(condition_line(alloc, files, condition)?)?;
+        push_condition_lines(alloc, lines, files, condition)?;
     }
     Ok(())
 }

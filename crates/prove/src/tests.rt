@@ -6,13 +6,16 @@ use crate::memory_sources::MapSources;
 use crate::outside::{Fetched, Sink, Sources, Wrote};
 use crate::program::read_program;
 use crate::reading::read_form;
-use crate::report::{ConditionRecord, ConditionVerdict, FunctionRecord, FunctionVerdict, Report};
+use crate::report::{
+    ConditionRecord, ConditionVerdict, FunctionRecord, FunctionVerdict, ParameterValue, Report,
+};
 use crate::report_text::report_lines;
 use crate::scope::{is_closed, knows_clause};
 use crate::status::{Device, LimitKind, Refusal, Rule, Status};
 use crate::status_text::{limit_line, refusal_line, source_fault_line};
 use crate::text::push_hexadecimal;
 use crate::writing::write_lines;
+use lin_arith::Fraction;
 use pv_base::lists::{Bytes, Calls, FileMap};
 use pv_base::name::Name;
 use pv_base::span::Span;
@@ -23,23 +26,66 @@ use std::alloc::Global;
 use std::test::Fail;
 use vc_gen::condition::ConditionKind;
 
-fn condition(kind: ConditionKind, line: u32, verdict: ConditionVerdict) -> ConditionRecord {
+fn condition(
+    kind: ConditionKind,
+    line: u32,
+    verdict: ConditionVerdict,
+    values: Vec<ParameterValue>,
+) -> ConditionRecord {
     ConditionRecord {
         kind,
         file: 0,
         line,
         check_line: None,
         verdict,
+        values,
     }
+}
+
+// Values of a parameter, one below 0 and one that is no whole number.
+fn values(alloc: Global) -> Result<Vec<ParameterValue>, Fail> {
+    Ok(vec![in alloc;
+        ParameterValue {
+            name: Name::from_slice(alloc, b"x")?,
+            value: Fraction {
+                unknown: 0,
+                numerator: -3,
+                denominator: 1,
+            },
+        },
+        ParameterValue {
+            name: Name::from_slice(alloc, b"y")?,
+            value: Fraction {
+                unknown: 1,
+                numerator: 170_141_183_460_469_231_731_687_303_715_884_105_727,
+                denominator: 2,
+            },
+        },
+    ]?)
 }
 
 fn report(alloc: Global) -> Result<Report, Fail> {
     let conditions = vec![in alloc;
-        condition(ConditionKind::Ensures, 5, ConditionVerdict::Proved),
-        condition(ConditionKind::AbortsIf, 4, ConditionVerdict::Open),
+        condition(
+            ConditionKind::Ensures,
+            5,
+            ConditionVerdict::Proved,
+            Vec::new(alloc),
+        ),
+        condition(
+            ConditionKind::AbortsIf,
+            4,
+            ConditionVerdict::Open,
+            values(alloc)?,
+        ),
         ConditionRecord {
             check_line: Some(7),
-            ..condition(ConditionKind::Aborts, 2, ConditionVerdict::Proved)
+            ..condition(
+                ConditionKind::Aborts,
+                2,
+                ConditionVerdict::Budget(20_000),
+                Vec::new(alloc),
+            )
         },
     ]?;
     let f = FunctionRecord {
@@ -63,7 +109,7 @@ fn report(alloc: Global) -> Result<Report, Fail> {
 }
 
 const REPORT: &[u8] =
-    b"0x1::m::f: unknown\n  ensures a.move:5: proved\n  aborts_if a.move:4: open\n  aborts a.move:2 at 7: proved\n0xcafe::m::g: proved\nproved 1 of 2\n";
+    b"0x1::m::f: unknown\n  ensures a.move:5: proved\n  aborts_if a.move:4: open\n    x = -3\n    y = 170141183460469231731687303715884105727/2\n  aborts a.move:2 at 7: budget 20000\n0xcafe::m::g: proved\nproved 1 of 2\n";
 
 #[test]
 fn reports_are_written_whole_or_up_to_a_fault(rt: HostRuntime) -> Result<(), Fail> {

@@ -2,7 +2,7 @@
 
 ghost use Rattle.std.specs.Prelude.{◌≡◌, ◌≤◌, ◌∷◌, ◌++◌, [], drop, false, ◌<◌, OnOk, OnErr};
 ghost use Rattle.std.specs.Fmt.{decimal, digit_glyph};
-ghost use Rattle.prove.specs.ReportText.{hexadecimal};
+ghost use Rattle.prove.specs.ReportText.{hexadecimal, whole_text};
 
 use pv_base::lists::Bytes;
 use pv_base::memory::NoMemory;
@@ -56,6 +56,17 @@ pub fn push_decimal(alloc: Global, text: &mut Bytes, number: u64) -> Result<(), 
     ensures err { OnErr result (text.new ≡ text.old) }
 {
     let digits = number.to_string(alloc)?;
+    text.extend_from_slice(digits.as_bytes())
+}
+
+/// Puts a whole number at the end in decimal, with a sign where it is below 0.
+pub fn push_whole(alloc: Global, text: &mut Bytes, number: i128) -> Result<(), NoMemory>
+    ensures { OnOk result (text.new ≡ text.old ++ whole_text number) }
+{
+    let digits = number.unsigned_abs().to_string(alloc)?;
+    if number < 0 {
+        text.extend_from_slice(b"-")?;
+    }
     text.extend_from_slice(digits.as_bytes())
 }
 

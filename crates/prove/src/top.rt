@@ -1,8 +1,11 @@
 //! The top call: from the words of a command line to a report and a status.
 
-ghost use Rattle.std.specs.Prelude.{◌≡◌, IfOk, IfErr};
+ghost use Rattle.std.specs.Prelude.{◌≡◌, ℕ, List, Option, IfOk, IfErr};
 ghost use Rattle.std.specs.List.{list_all};
+ghost use Rattle.prove.specs.Causes.{Causes};
+ghost use Rattle.prove.specs.Outside.{Files};
 ghost use Rattle.prove.specs.ReportText.{is_proved};
+ghost use Rattle.prove.specs.declared.status.Status.{Status};
 ghost use Rattle.prove.specs.Run.{Ends, IsOutput, IsReportText, IsVerified, RunStopped, Writes, report_status};
 
 use crate::lines::LineFeeds;
@@ -19,6 +22,7 @@ use pv_base::lists::Words;
 use pv_base::memory::NoMemory;
 use pv_base::name::Name;
 use pv_base::steps::Steps;
+use src_tree::scanner::{one_spelling, spelled_or_bad};
 use std::alloc::Global;
 use std::sync::ledger::Ledger;
 
@@ -88,10 +92,21 @@ fn run<S: Sources, W: Sink, L: Ledger>(
     }
 }
 
+/// A law: how a run ends tells the causes of its status in both directions, since they exclude each other.
+fn causes_of_ends()
+    ensures { (words : List (List ℕ)) (told : Option Files) (counted counted_after : ℕ) (taken taken_after : Option (List ℕ)) (failed failed_after : ℕ) (status : Status)
+        → Ends (IsOutput words told counted counted_after) taken taken_after failed failed_after status → Causes words told counted counted_after status }
+{
+    one_spelling();
+    spelled_or_bad();
+}
+
 /// Verifies the file that the words name, and writes the report, or in one line why there is none.
 ///
 /// The words are those of the command line after the program's name. The status says how the run ended,
-/// and each status has its cause; the steps of searches are counted in `steps`.
+/// and what was written goes with it. Where the source tells its files and does not fail, each status comes
+/// exactly where its cause holds, unless memory runs out or the sink fails. The steps of searches are counted
+/// in `steps`.
 pub fn movep<S: Sources, W: Sink, L: Ledger>(
     alloc: Global,
     words: &Words,
@@ -99,8 +114,10 @@ pub fn movep<S: Sources, W: Sink, L: Ledger>(
     sink: &mut W,
     steps: &mut Steps<L>,
 ) -> Status
-    ensures { Ends (IsOutput words.now (S.holds sources.old) (S.faults sources.old) (S.faults sources.new)) (W.taken sink.old) (W.taken sink.new) (W.faults sink.old) (W.faults sink.new) result }
+    ensures ends { Ends (IsOutput words.now (S.holds sources.old) (S.faults sources.old) (S.faults sources.new)) (W.taken sink.old) (W.taken sink.new) (W.faults sink.old) (W.faults sink.new) result }
+    ensures causes { Causes words.now (S.holds sources.old) (S.faults sources.old) (S.faults sources.new) result }
 {
+    causes_of_ends();
     match run(alloc, words, sources, sink, steps) {
         Ok(status) => status,
         Err(SinkFault) => Status::Fault(Device::Sink),

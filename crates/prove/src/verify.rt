@@ -1,16 +1,21 @@
 //! The verification of functions.
 
-ghost use Rattle.std.specs.Prelude.{◌≡◌, ℕ, List, Option, [], true, All, IfOk};
+ghost use Rattle.std.specs.Prelude.{◌≡◌, ℕ, List, Option, [], All, IfOk};
+ghost use Rattle.cert.specs.Closes.{Certifies};
 ghost use Rattle.fol.specs.Validity.{Valid};
 ghost use Rattle.vc_gen.specs.Conditions.{conditions_of};
 ghost use Rattle.prove.specs.Lines.{line_feeds};
 ghost use Rattle.prove.specs.Pairs.{Paired};
-ghost use Rattle.prove.specs.Verified.{AreVerifiable, IsConditionRecord, IsFunctionRecord, IsReportOf, IsVerifiable, are_proved, is_condition_proved};
+ghost use Rattle.prove.specs.Verified.{AreVerifiable, IsConditionRecord, IsFunctionRecord, IsReportOf, IsShown, IsVerifiable, are_proved};
 ghost use Rattle.prove.specs.ReportText.{is_proved};
 
 use crate::lines::LineFeeds;
 use crate::program::{Program, SpecifiedFunction};
-use crate::report::{ConditionRecord, ConditionVerdict, FunctionRecord, FunctionVerdict, Report};
+use crate::report::{
+    ConditionRecord, ConditionVerdict, FunctionRecord, FunctionVerdict, ParameterValue, Report,
+};
+use crate::values::values_of;
+use cert::certificate::Cert;
 use cert::checker::check;
 use fol::formula::Formula;
 use fol::shapes::Shapes;
@@ -19,7 +24,7 @@ use pv_base::name::Name;
 use pv_base::steps::Steps;
 use ref_sem::form::{Clause, Function};
 use search::answer::Answer;
-use search::tableau::prove;
+use search::prover::prove;
 use std::alloc::Global;
 use std::sync::ledger::Ledger;
 use vc_gen::condition::VerificationCondition;
@@ -28,40 +33,84 @@ use vc_gen::conditions::conditions;
 /// The greatest number of search steps for one condition.
 const BUDGET: u64 = 20_000;
 
-/// Whether a certificate of a formula is found. It counts only where the checker accepts it.
-fn verdict_of<L: Ledger>(
-    alloc: Global,
-    shapes: &Shapes,
-    formula: &Formula,
-    steps: &mut Steps<L>,
-) -> Result<ConditionVerdict, NoMemory>
-    ensures { IfOk result (λ verdict. is_condition_proved verdict ≡ true → Valid shapes.now formula.now) }
+/// A verdict on a condition, with the values of the parameters where it is `Open`.
+#[derive(Drop)]
+struct Finding {
+    verdict: ConditionVerdict,
+    values: Vec<ParameterValue>,
+}
+
+/// A verdict that comes with no values.
+fn bare(alloc: Global, verdict: ConditionVerdict) -> Finding
+    ensures verdict { result.verdict ≡ verdict }
+    ensures values { result.values.items ≡ [] }
 {
-    match prove(alloc, shapes, formula, BUDGET, steps)? {
-        Answer::Proved(certificate) if check(shapes, formula, &certificate) => {
-            Ok(ConditionVerdict::Proved)
-        }
-        _ => Ok(ConditionVerdict::Open),
+    Finding {
+        verdict,
+        values: Vec::new(alloc),
     }
 }
 
-/// The record of a condition. Formulas of this form speak of no structs.
+/// A formula with a certificate is valid: the checker accepts the certificate once more.
+fn confirm(alloc: Global, formula: &Formula, certificate: &Cert)
+    requires { Certifies certificate.now formula.now }
+    ensures { Valid [] formula.now }
+{
+    let shapes = Shapes::new(alloc);
+    if !check(&shapes, formula, certificate) {
+        unreachable!();
+    }
+}
+
+/// What the search finds out of a formula that speaks of no structs.
+fn finding_of<L: Ledger>(
+    alloc: Global,
+    formula: &Formula,
+    parameters: &[Name],
+    steps: &mut Steps<L>,
+) -> Result<Finding, NoMemory>
+    ensures { IfOk result (λ found. IsShown formula.now parameters.now found.verdict found.values.items) }
+{
+    let shapes = Shapes::new(alloc);
+    match prove(alloc, &shapes, formula, BUDGET, steps)? {
+        Answer::Proved(certificate) => {
+            confirm(alloc, formula, &certificate);
+            Ok(bare(alloc, ConditionVerdict::Proved))
+        }
+        Answer::Open(leaf, fractions) => Ok(Finding {
+            verdict: ConditionVerdict::Open,
+            values: values_of(
+                alloc,
+                leaf.unknowns.as_slice(),
+                fractions.as_slice(),
+                parameters,
+            )?,
+        }),
+        Answer::Wide(_, _, _) => Ok(bare(alloc, ConditionVerdict::Wide)),
+        Answer::Rows(_, _) => Ok(bare(alloc, ConditionVerdict::Rows)),
+        Answer::Budget => Ok(bare(alloc, ConditionVerdict::Budget(BUDGET))),
+        Answer::Size(_) => Ok(bare(alloc, ConditionVerdict::Size)),
+    }
+}
+
+/// The record of a condition of a function with these parameters.
 fn verify_condition<L: Ledger>(
     alloc: Global,
     feeds: &LineFeeds,
+    parameters: &[Name],
     condition: &VerificationCondition,
     steps: &mut Steps<L>,
 ) -> Result<ConditionRecord, NoMemory>
-    ensures { (bytes : List ℕ) → feeds.now ≡ line_feeds bytes → IfOk result (IsConditionRecord bytes condition.now) }
+    ensures { (bytes : List ℕ) → feeds.now ≡ line_feeds bytes → IfOk result (IsConditionRecord bytes parameters.now condition.now) }
 {
-    let shapes = Shapes::new(alloc);
-    let verdict = verdict_of(alloc, &shapes, &condition.formula, steps)?;
+    let Finding { verdict, values } = finding_of(alloc, &condition.formula, parameters, steps)?;
     Ok(ConditionRecord {
         kind: condition.kind,
         file: 0,
         line: feeds.line(condition.start),
         check_line: None,
         verdict,
+        values,
     })
 }
 
@@ -69,14 +118,15 @@ fn verify_condition<L: Ledger>(
 fn verify_conditions<L: Ledger>(
     alloc: Global,
     feeds: &LineFeeds,
+    parameters: &[Name],
     conditions: &[VerificationCondition],
     steps: &mut Steps<L>,
 ) -> Result<Vec<ConditionRecord>, NoMemory>
-    ensures { (bytes : List ℕ) → feeds.now ≡ line_feeds bytes → IfOk result (λ found. Paired (IsConditionRecord bytes) conditions.now found.items) }
+    ensures { (bytes : List ℕ) → feeds.now ≡ line_feeds bytes → IfOk result (λ found. Paired (IsConditionRecord bytes parameters.now) conditions.now found.items) }
 {
     let mut found = Vec::new(alloc);
     for condition in conditions {
-        found.push(verify_condition(alloc, feeds, condition, steps)?)?;
+        found.push(verify_condition(alloc, feeds, parameters, condition, steps)?)?;
     }
     Ok(found)
 }
@@ -115,7 +165,13 @@ fn verify_function<L: Ledger>(
     ensures { (bytes : List ℕ) → feeds.now ≡ line_feeds bytes → IfOk result (IsFunctionRecord bytes address module_name.now (record { function = function.now; clauses = clauses.now })) }
 {
     let claims = conditions(alloc, function, clauses)?;
-    let found = verify_conditions(alloc, feeds, claims.as_slice(), steps)?;
+    let found = verify_conditions(
+        alloc,
+        feeds,
+        function.parameters.as_slice(),
+        claims.as_slice(),
+        steps,
+    )?;
     let module_name = module_name.try_clone(alloc)?;
     let name = function.name.try_clone(alloc)?;
     let verdict = verdict_of_function(found.as_slice());

@@ -8,7 +8,7 @@ pub loop-condition-preserved : goal.loop-condition-preserved
 loop-condition-preserved g c = λ bytes e.
     let i = c.loop-condition.condition-index in
     let found = c.in_ok-verify_condition.field-0 in
-    let here : IsConditionRecord bytes c.condition-item.result found = c.in_ok-verify_condition.ensures bytes e in
-    subst (λ ys. Paired (IsConditionRecord bytes) (take (i + 1) c.args.conditions.now) ys) (sym c.in_ok-push.ensures.items)
-    (paired_more (IsConditionRecord bytes) c.args.conditions.now i c.condition-item.result c.loop-condition.found.items found c.loop-condition-test.true (c.loop-condition.invariant bytes e)
-    (subst (λ v. IsConditionRecord bytes v found) c.condition-item.is here))
+    let here : IsConditionRecord bytes c.args.parameters.now c.condition-item.result found = c.in_ok-verify_condition.ensures bytes e in
+    subst (λ ys. Paired (IsConditionRecord bytes c.args.parameters.now) (take (i + 1) c.args.conditions.now) ys) (sym c.in_ok-push.ensures.items)
+    (paired_more (IsConditionRecord bytes c.args.parameters.now) c.args.conditions.now i c.condition-item.result c.loop-condition.found.items found c.loop-condition-test.true (c.loop-condition.invariant bytes e)
+    (subst (λ v. IsConditionRecord bytes c.args.parameters.now v found) c.condition-item.is here))
