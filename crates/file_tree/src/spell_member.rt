@@ -268,7 +268,8 @@ fn spell_more_parameter_list(
     Ok(())
 }
 
-fn spell_parameters(
+/// The tokens of the type parameters that a declaration has.
+pub fn spell_parameters(
     alloc: Global,
     parameters: &Option<TypeParameters>,
     into: &mut Lexemes,
@@ -285,7 +286,8 @@ fn spell_parameters(
     }
 }
 
-fn spell_typed_name(alloc: Global, name: &TypedName, into: &mut Lexemes) -> Result<(), NoMemory>
+/// The tokens of a name with its type.
+pub fn spell_typed_name(alloc: Global, name: &TypedName, into: &mut Lexemes) -> Result<(), NoMemory>
     ensures { OnOk result (into.new ≡ into.old ++ typed_name_spelling name.now) }
 {
     spell_identifier(alloc, &name.name, into)?;
@@ -453,7 +455,8 @@ fn spell_function_name(
     spell_parameters(alloc, &function.parameters, into)
 }
 
-fn spell_inputs(alloc: Global, inputs: &TypedNames, into: &mut Lexemes) -> Result<(), NoMemory>
+/// The tokens of the parameters of a function, with their parentheses.
+pub fn spell_inputs(alloc: Global, inputs: &TypedNames, into: &mut Lexemes) -> Result<(), NoMemory>
     ensures { OnOk result (into.new ≡ into.old ++ inputs_spelling inputs.now) }
 {
     into.push_sign(Punctuation::LeftParenthesis)?;

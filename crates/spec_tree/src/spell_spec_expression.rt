@@ -194,8 +194,9 @@ fn spell_spec_field(alloc: Global, field: &SpecField, into: &mut Lexemes) -> Res
     }
 }
 
+/// The tokens of spec expressions with commas between them.
 #[cycle(spell_spec)]
-fn spell_spec_expressions(
+pub fn spell_spec_expressions(
     alloc: Global,
     expressions: &[SpecExpression],
     last_comma: bool,
@@ -258,8 +259,9 @@ fn spell_more_binds(alloc: Global, binds: &[Bind], into: &mut Lexemes) -> Result
     Ok(())
 }
 
+/// The tokens of fields and what they are set to, with commas between them.
 #[cycle(spell_spec)]
-fn spell_spec_fields(
+pub fn spell_spec_fields(
     alloc: Global,
     fields: &[SpecField],
     last_comma: bool,

@@ -1,0 +1,5 @@
+pub mod ClauseData
+pub mod ClauseSpelling
+pub mod ClauseAfterCommas
+pub mod Slots
+pub mod ProperClauses

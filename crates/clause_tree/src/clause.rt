@@ -1,0 +1,191 @@
+//! Spec blocks and their clauses.
+
+use file_tree::member::{TypeParameters, TypedName, TypedNames};
+use move_tree::lexeme::{Identifier, Numeral};
+use move_tree::path::Path;
+use move_tree::types::{SourceType, TypeArguments};
+use pv_base::span::Span;
+use spec_tree::spec_expression::{SpecExpression, SpecField};
+use std::marker::Model;
+
+/// What a pragma is set to.
+#[derive(Drop)]
+pub enum PragmaValue {
+    Truth { place: Span, value: bool },
+    Number(Numeral),
+}
+
+/// A pragma, and what it is set to, where that is written.
+#[derive(Drop)]
+pub struct Pragma {
+    pub name: Identifier,
+    pub value: Option<PragmaValue>,
+}
+
+/// Pragmas between commas.
+#[derive(Drop)]
+pub struct Pragmas {
+    pub items: Vec<Pragma>,
+    pub last_comma: bool,
+}
+
+/// The code that an `aborts_if` speaks of.
+#[derive(Drop)]
+pub enum AbortCode {
+    /// None is written.
+    Bare,
+    /// That of an abort without a code.
+    Failure,
+    Code(SpecExpression),
+}
+
+/// The places of storage that a `modifies` names.
+#[derive(Drop)]
+pub struct Targets {
+    pub items: Vec<SpecExpression>,
+    pub last_comma: bool,
+}
+
+/// What stands for the variables of a schema.
+#[derive(Drop)]
+pub struct Bindings {
+    pub items: Vec<SpecField>,
+    pub last_comma: bool,
+}
+
+#[derive(Drop)]
+pub struct Include {
+    pub place: Span,
+    pub schema: Path,
+    pub arguments: Option<TypeArguments>,
+    pub bindings: Option<Bindings>,
+}
+
+/// A clause of a spec block.
+#[derive(Drop)]
+pub enum Clause {
+    Pragma {
+        place: Span,
+        pragmas: Pragmas,
+    },
+    Requires {
+        place: Span,
+        condition: SpecExpression,
+    },
+    Ensures {
+        place: Span,
+        condition: SpecExpression,
+    },
+    AbortsIf {
+        place: Span,
+        condition: SpecExpression,
+        code: AbortCode,
+    },
+    Modifies {
+        place: Span,
+        targets: Targets,
+    },
+    Invariant {
+        place: Span,
+        is_update: bool,
+        condition: SpecExpression,
+    },
+    Let {
+        place: Span,
+        is_post: bool,
+        name: Identifier,
+        value: SpecExpression,
+    },
+    Include(Include),
+    /// A variable of a schema.
+    Variable(TypedName),
+}
+
+/// The clauses between the braces of a block.
+#[derive(Drop)]
+pub struct Clauses {
+    pub items: Vec<Clause>,
+}
+
+#[derive(Drop)]
+pub struct Schema {
+    pub place: Span,
+    pub name: Identifier,
+    pub parameters: Option<TypeParameters>,
+    pub clauses: Clauses,
+}
+
+/// A function for specifications alone.
+#[derive(Drop)]
+pub struct SpecFunction {
+    pub place: Span,
+    pub name: Identifier,
+    pub parameters: Option<TypeParameters>,
+    pub inputs: TypedNames,
+    pub result: SourceType,
+    pub body: SpecExpression,
+}
+
+/// A spec block.
+#[derive(Drop)]
+pub enum Spec {
+    /// That of the module around it.
+    Module {
+        place: Span,
+        clauses: Clauses,
+    },
+    /// That of a struct or a function, by its name.
+    Named {
+        place: Span,
+        name: Identifier,
+        clauses: Clauses,
+    },
+    Schema(Schema),
+    Function(SpecFunction),
+}
+
+impl Model for Pragmas {
+    ghost use Rattle.clause_tree.specs.ClauseData.{PragmasData};
+
+    ghost Value = { PragmasData };
+
+    ghost view = { λ a. record { items = a.items.items; last_comma = a.last_comma } };
+}
+
+impl Model for Targets {
+    ghost use Rattle.std.specs.Coded.{codes};
+    ghost use Rattle.spec_tree.specs.SpecExpressionCodes.{coded_spec_expression};
+    ghost use Rattle.clause_tree.specs.ClauseData.{TargetsData};
+
+    ghost Value = { TargetsData };
+
+    ghost coded = { Prim.hlevel (codes, coded_spec_expression) };
+
+    ghost view = { λ a. record { items = a.items.items; last_comma = a.last_comma } };
+}
+
+impl Model for Bindings {
+    ghost use Rattle.std.specs.Coded.{codes};
+    ghost use Rattle.spec_tree.specs.SpecExpressionCodes.{coded_spec_field};
+    ghost use Rattle.clause_tree.specs.ClauseData.{BindingsData};
+
+    ghost Value = { BindingsData };
+
+    ghost coded = { Prim.hlevel (codes, coded_spec_field) };
+
+    ghost view = { λ a. record { items = a.items.items; last_comma = a.last_comma } };
+}
+
+impl Model for Clauses {
+    ghost use Rattle.std.specs.Coded.{codes};
+    ghost use Rattle.std.specs.Prelude.{List};
+    ghost use Rattle.move_tree.specs.TypeTreeCodes.{coded_source_type, coded_arguments};
+    ghost use Rattle.spec_tree.specs.SpecExpressionCodes.{coded_spec_expression, coded_spec_field};
+    ghost use Rattle.clause_tree.specs.declared.clause.Clause.{Clause};
+
+    ghost Value = { List Clause };
+
+    ghost coded = { Prim.hlevel (codes, coded_source_type, coded_arguments, coded_spec_expression, coded_spec_field) };
+
+    ghost view = { λ a. a.items.items };
+}

@@ -1,0 +1,5 @@
+//! Source trees of spec blocks and their clauses, and the tokens that spell them.
+#![tactic(auto)]
+
+pub mod clause;
+pub mod spell_clause;
