@@ -3,3 +3,5 @@
 
 pub mod clause;
 pub mod spell_clause;
+#[cfg(test)]
+mod tests;
