@@ -5,10 +5,6 @@ ghost use Rattle.search.specs.Answer.{Shows, is_spent};
 ghost use Rattle.search.specs.Leaf.{IsLeafOf};
 
 use crate::answer::{Answer, Leaf};
-use crate::growing::shorten;
-use crate::numbers::add_numbers;
-use crate::rows::system_of;
-use crate::tableau::MOST_ENTRIES;
 use fol::formula::Formula;
 use lin_arith::{LinAnswer, solve};
 use pv_base::memory::NoMemory;
@@ -17,20 +13,18 @@ use saturation::checker::is_saturated;
 use saturation::growth::is_branch_of;
 use saturation::system::is_system_of;
 use std::alloc::Global;
+use tableaux::growing::shorten;
+use tableaux::numbers::add_numbers;
+use tableaux::rows::system_of;
+use tableaux::straight::MOST_ENTRIES;
 
 /// The answer of a branch on which the search had nothing left to do. It counts only where the checkers
 /// accept the branch and its rows; that they do where the search ends there is tested, not proved.
-pub fn answer_at(alloc: Global, formula: &Formula, mut branch: Branch) -> Result<Answer, NoMemory>
+pub fn answer_at(alloc: Global, formula: &Formula, branch: Branch) -> Result<Answer, NoMemory>
     ensures shown { IfOk result (Shows formula.now) }
     ensures unspent { IfOk result (λ answer. is_spent answer ≡ false) }
 {
-    add_numbers(alloc, &mut branch)?;
-    let found = system_of(alloc, branch.entries.as_slice())?;
-    let leaf = Leaf {
-        branch,
-        unknowns: found.unknowns,
-        rows: found.rows,
-    };
+    let leaf = leaf_at(alloc, branch)?;
     if !is_leaf_of(formula, &leaf) {
         return Err(NoMemory);
     }
@@ -40,6 +34,17 @@ pub fn answer_at(alloc: Global, formula: &Formula, mut branch: Branch) -> Result
         LinAnswer::TooManyRows(rows) => Ok(Answer::Rows(leaf, rows)),
         LinAnswer::Infeasible(_) => Err(NoMemory),
     }
+}
+
+// The branch with what is due on numbers added, and the rows of its entries.
+fn leaf_at(alloc: Global, mut branch: Branch) -> Result<Leaf, NoMemory> {
+    add_numbers(alloc, &mut branch)?;
+    let found = system_of(alloc, branch.entries.as_slice())?;
+    Ok(Leaf {
+        branch,
+        unknowns: found.unknowns,
+        rows: found.rows,
+    })
 }
 
 /// The answer of a branch that grew too long.

@@ -2,13 +2,7 @@
 #![tactic(auto)]
 
 pub mod answer;
-mod expansion;
-mod growing;
 mod leaf;
-mod meter;
-mod numbers;
 pub mod prover;
-mod rows;
-mod tableau;
 #[cfg(test)]
 mod tests;

@@ -4,9 +4,7 @@ ghost use Rattle.std.specs.Prelude.{◌≡◌, ◌+◌, ◌≤◌, IfOk, true, f
 ghost use Rattle.search.specs.Answer.{Shows, is_spent};
 
 use crate::answer::Answer;
-use crate::expansion::negation;
 use crate::leaf::{answer_at, outgrown};
-use crate::tableau::{MOST_ENTRIES, close};
 use cert::certificate::Cert;
 use cert::checker::check;
 use fol::formula::Formula;
@@ -16,6 +14,9 @@ use pv_base::steps::Steps;
 use saturation::branch::Branch;
 use std::alloc::Global;
 use std::sync::ledger::Ledger;
+use tableaux::expansion::negation;
+use tableaux::straight::MOST_ENTRIES;
+use tableaux::tableau::close;
 
 // The greatest number of splits on a branch: each of them adds an entry.
 const MOST_SPLITS: u32 = 4_000;

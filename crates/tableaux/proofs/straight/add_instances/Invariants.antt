@@ -1,5 +1,5 @@
 use Rattle.std.proofs.Common.{◌≡◌, ◌+◌}
-use Rattle.search.proofs.tableau.add_axioms.Given as goal
+use Rattle.tableaux.proofs.straight.add_instances.Given as goal
 
 -- the steps taken and those left make what there was
 abbrev pub invariant-loop-step : goal.invariant-loop-step

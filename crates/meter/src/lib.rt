@@ -1,4 +1,5 @@
-//! How many steps a search may still take.
+//! Counts the steps of a search against its budget.
+#![tactic(auto)]
 
 ghost use Rattle.std.specs.Prelude.{◌≡◌, ◌+◌};
 

@@ -1,5 +1,5 @@
 use Rattle.std.proofs.Common.{◌≡◌, ◌+◌}
-use Rattle.search.proofs.tableau.saturate.Given as goal
+use Rattle.tableaux.proofs.straight.saturate.Given as goal
 
 -- the steps taken and those left make what there was
 abbrev pub invariant-loop-next : goal.invariant-loop-next

@@ -71,10 +71,10 @@ pub fn is_disjunction(formula: &Formula) -> bool {
 
 /// The range axiom at a term and a type of whole numbers from 0; none at another type.
 pub fn range(alloc: Global, of: &TypeTerm, term: &Term) -> Result<Option<Formula>, NoMemory> {
-    match greatest(of) {
-        Some(most) => {
+    match width_of(of) {
+        Some(width) => {
             let claim = Box::new(alloc, has_type(alloc, of, term)?)?;
-            let bounds = Box::new(alloc, Formula::all_of(bounds(alloc, term, most)?))?;
+            let bounds = Box::new(alloc, Formula::all_of(bounds(alloc, term, width)?))?;
             Ok(Some(Formula {
                 node: FormulaNode::Iff(claim, bounds),
             }))
@@ -88,25 +88,43 @@ fn has_type(alloc: Global, of: &TypeTerm, term: &Term) -> Result<Formula, NoMemo
     Ok(Formula::has_type(copy_type(alloc, of)?, copy))
 }
 
-// The claims that the term is a whole number from 0 to the greatest.
-fn bounds(alloc: Global, term: &Term, most: Term) -> Result<Vec<Formula>, NoMemory> {
+// The claims that the term is a whole number, and from 0 to the greatest of the width.
+fn bounds(alloc: Global, term: &Term, width: Width) -> Result<Vec<Formula>, NoMemory> {
     let mut parts = Vec::new(alloc);
     parts.push(is_number(alloc, term)?)?;
-    parts.push(Formula::at_most(Term::number(0), term.try_clone(alloc)?))?;
-    parts.push(Formula::at_most(term.try_clone(alloc)?, most))?;
+    parts.push(is_at_least_zero(alloc, term)?)?;
+    parts.push(is_within(alloc, term, width)?)?;
     Ok(parts)
 }
 
-fn greatest(of: &TypeTerm) -> Option<Term> {
+fn is_at_least_zero(alloc: Global, term: &Term) -> Result<Formula, NoMemory> {
+    let copy = term.try_clone(alloc)?;
+    Ok(Formula::at_most(Term::number(0), copy))
+}
+
+fn is_within(alloc: Global, term: &Term, width: Width) -> Result<Formula, NoMemory> {
+    let copy = term.try_clone(alloc)?;
+    Ok(Formula::at_most(copy, greatest(width)))
+}
+
+// The width of a type of whole numbers from 0. Addresses and signers are as wide as u128.
+fn width_of(of: &TypeTerm) -> Option<Width> {
     match &of.node {
-        TypeNode::Int(Width::U8) => Some(Term::number(0xff)),
-        TypeNode::Int(Width::U16) => Some(Term::number(0xffff)),
-        TypeNode::Int(Width::U32) => Some(Term::number(0xffff_ffff)),
-        TypeNode::Int(Width::U64) => Some(Term::number(0xffff_ffff_ffff_ffff)),
-        TypeNode::Int(Width::U128) | TypeNode::Address | TypeNode::Signer => Some(Term {
-            node: TermNode::Max,
-        }),
+        TypeNode::Int(width) => Some(*width),
+        TypeNode::Address | TypeNode::Signer => Some(Width::U128),
         _ => None,
+    }
+}
+
+fn greatest(width: Width) -> Term {
+    match width {
+        Width::U8 => Term::number(0xff),
+        Width::U16 => Term::number(0xffff),
+        Width::U32 => Term::number(0xffff_ffff),
+        Width::U64 => Term::number(0xffff_ffff_ffff_ffff),
+        Width::U128 => Term {
+            node: TermNode::Max,
+        },
     }
 }
 
@@ -143,7 +161,7 @@ pub fn trichotomy(alloc: Global, left: &Term, right: &Term) -> Result<Formula, N
     let mut cases = Vec::new(alloc);
     cases.push(is_no_number(alloc, left)?)?;
     cases.push(is_no_number(alloc, right)?)?;
-    cases.push(Formula::equal(left.try_clone(alloc)?, right.try_clone(alloc)?))?;
+    cases.push(equal(alloc, left, right)?)?;
     cases.push(is_less(alloc, left, right)?)?;
     cases.push(is_less(alloc, right, left)?)?;
     Ok(Formula::any_of(cases))

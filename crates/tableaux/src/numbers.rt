@@ -31,8 +31,7 @@ fn add_missing(
 ) -> Result<(), NoMemory> {
     match &formula.node {
         FormulaNode::Eq(t, u) | FormulaNode::Le(t, u) => {
-            add_missing_of(alloc, entries, t, missing)?;
-            add_missing_of(alloc, entries, u, missing)
+            add_missing_of_two(alloc, entries, t, u, missing)
         }
         FormulaNode::Is(_, t) | FormulaNode::Holds(t) => add_missing_of(alloc, entries, t, missing),
         FormulaNode::Not(p) => add_missing(alloc, entries, p, missing),
@@ -40,11 +39,22 @@ fn add_missing(
             add_all_missing(alloc, entries, ps.as_slice(), missing)
         }
         FormulaNode::Implies(p, q) | FormulaNode::Iff(p, q) => {
-            add_missing(alloc, entries, p, missing)?;
-            add_missing(alloc, entries, q, missing)
+            add_missing_in_two(alloc, entries, p, q, missing)
         }
         FormulaNode::ForAll(_, _, _) | FormulaNode::Exists(_, _, _) => Ok(()),
     }
+}
+
+#[cycle(missing)]
+fn add_missing_in_two(
+    alloc: Global,
+    entries: &[Formula],
+    first: &Formula,
+    second: &Formula,
+    missing: &mut Vec<Formula>,
+) -> Result<(), NoMemory> {
+    add_missing(alloc, entries, first, missing)?;
+    add_missing(alloc, entries, second, missing)
 }
 
 #[cycle(missing)]
@@ -96,22 +106,51 @@ fn add_missing_of(
         | TermNode::Select(a, b)
         | TermNode::At(a, b)
         | TermNode::Push(a, b)
-        | TermNode::SetField(_, _, a, b) => {
-            add_missing_of(alloc, entries, a, missing)?;
-            add_missing_of(alloc, entries, b, missing)
-        }
+        | TermNode::SetField(_, _, a, b) => add_missing_of_two(alloc, entries, a, b, missing),
         TermNode::Store(a, b, c) | TermNode::Set(a, b, c) => {
-            add_missing_of(alloc, entries, a, missing)?;
-            add_missing_of(alloc, entries, b, missing)?;
-            add_missing_of(alloc, entries, c, missing)
+            add_missing_of_three(alloc, entries, a, b, c, missing)
         }
         TermNode::Pack(_, ts) => add_missing_of_all(alloc, entries, ts.as_slice(), missing),
-        TermNode::If(p, a, b) => {
-            add_missing(alloc, entries, p, missing)?;
-            add_missing_of(alloc, entries, a, missing)?;
-            add_missing_of(alloc, entries, b, missing)
-        }
+        TermNode::If(p, a, b) => add_missing_of_choice(alloc, entries, p, a, b, missing),
     }
+}
+
+#[cycle(missing)]
+fn add_missing_of_two(
+    alloc: Global,
+    entries: &[Formula],
+    first: &Term,
+    second: &Term,
+    missing: &mut Vec<Formula>,
+) -> Result<(), NoMemory> {
+    add_missing_of(alloc, entries, first, missing)?;
+    add_missing_of(alloc, entries, second, missing)
+}
+
+#[cycle(missing)]
+fn add_missing_of_three(
+    alloc: Global,
+    entries: &[Formula],
+    first: &Term,
+    second: &Term,
+    third: &Term,
+    missing: &mut Vec<Formula>,
+) -> Result<(), NoMemory> {
+    add_missing_of_two(alloc, entries, first, second, missing)?;
+    add_missing_of(alloc, entries, third, missing)
+}
+
+#[cycle(missing)]
+fn add_missing_of_choice(
+    alloc: Global,
+    entries: &[Formula],
+    condition: &Formula,
+    first: &Term,
+    second: &Term,
+    missing: &mut Vec<Formula>,
+) -> Result<(), NoMemory> {
+    add_missing(alloc, entries, condition, missing)?;
+    add_missing_of_two(alloc, entries, first, second, missing)
 }
 
 #[cycle(missing)]
