@@ -1,7 +1,6 @@
 -- What a search answers, and what shows it.
 use Rattle.std.specs.Prelude.{◌≡◌, Bool, true, false, List, length}
 use Rattle.fol.specs.FormulaData.{FormulaData}
-use Rattle.cert.specs.CertData.{CertData}
 use Rattle.cert.specs.Closes.{Certifies, most_entries}
 use Rattle.lin_arith.specs.Answer.{IsSolution}
 use Rattle.lin_arith.specs.Elimination.{ReachesLimit}
