@@ -167,7 +167,7 @@ met_at_quotient u b p q hu hq value le =
     ap (λ (w : ℤ). u.coefficient *ℤ w) (*ℤ_comm b.bound q) ∙ mul_swap u.coefficient q b.bound in
     le_of_mul u.coefficient (b.coefficient *ℤ p) (b.bound *ℤ q) hu (omega (arith, ints, one, e1, e2))
 
-side_of : (c : ℤ) → c ≢ pos 0 → (pos 0 <ℤ c) ⊎ (c <ℤ pos 0)
+pub side_of : (c : ℤ) → c ≢ pos 0 → (pos 0 <ℤ c) ⊎ (c <ℤ pos 0)
 side_of (pos zero) h = absurd (h refl)
 side_of (pos (suc n)) h = inl (omega (arith, ints))
 side_of (negsuc n) h = inr (omega (arith, ints))

@@ -52,7 +52,7 @@ mix_step x y a b p s t m r e f =
     regroup : (a b c d : ℤ) → (a +ℤ b) +ℤ (c +ℤ d) ≡ (a +ℤ c) +ℤ (b +ℤ d)
     regroup a b c d = omega (arith, ints)
 
-no_mix : (x y : ℤ) → pos 0 ≡ (x *ℤ pos 0) +ℤ (y *ℤ pos 0)
+pub no_mix : (x y : ℤ) → pos 0 ≡ (x *ℤ pos 0) +ℤ (y *ℤ pos 0)
 no_mix x y = rw (*ℤ-zero x, *ℤ-zero y) refl
 
 -- sums of multipliers give sums of weighted sums

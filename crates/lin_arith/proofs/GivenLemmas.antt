@@ -1,19 +1,17 @@
 -- A given row is the combination of the given rows in which it alone has a multiplier, of 1.
-use Rattle.std.proofs.Common.{◌≡◌, ◌≢◌, ℕ, zero, suc, ◌<◌, ◌≤◌, Bool, true, false, List, [], ◌∷◌, length, get_or, pos, ℤ, ◌+ℤ◌, ◌<ℤ◌, FitsSigned, refl, sym, ap, ◌∙◌, subst, arith, map, inl, inr}
-use Rattle.std.specs.Prelude.{All, if◌then◌else◌, ◌==◌}
-use Rattle.std.proofs.lemmas.Bool.{eqb-true, eq-eqb}
+use Rattle.std.proofs.Common.{◌≡◌, ◌≢◌, ℕ, zero, suc, ◌<◌, ◌≤◌, List, [], ◌∷◌, length, get_or, pos, ℤ, ◌+ℤ◌, ◌<ℤ◌, FitsSigned, refl, sym, ap, ◌∙◌, subst, arith, map, inl, inr}
+use Rattle.std.specs.Prelude.{All}
 use Rattle.std.specs.Int.{w128}
 use Rattle.std.specs.List.{range_with_len}
 use Rattle.std.proofs.Math.IntN.{zero-*ℤ}
 use Rattle.std.proofs.lemmas.Int.{ints}
 use Rattle.std.proofs.lemmas.List.FromFn.{get_or-map-range_with_len, length-map-range_with_len}
-use Rattle.lin_arith.specs.Inequality.{Inequality, coefficient, padded, IsWithinWidth}
+use Rattle.lin_arith.specs.Inequality.{Inequality, coefficient, padded}
 use Rattle.lin_arith.specs.Combination.{number, weighted_sum, StaysWithin, bound_of, combination, IsContradiction}
 use Rattle.lin_arith.specs.Elimination.{IsUnit}
 use Rattle.lin_arith.specs.Elimination.IsRowOfStage.{given}
-use Rattle.lin_arith.specs.Stages.{IsDerived}
+use Rattle.lin_arith.specs.Stages.{IsDerived, IsSound}
 use Rattle.lin_arith.specs.Substitution.{form_of}
-use Rattle.lin_arith.specs.Wide.{IsFormOfRow}
 use Rattle.lin_arith.specs.declared.elimination.Derived.{Derived}
 use Rattle.std.proofs.lemmas.List.Elements.{All-nil}
 use Rattle.lin_arith.proofs.ClosureLemmas.{IsMultiple, multiple_of_itself}
@@ -99,8 +97,8 @@ given_contradicts width ms rows i row h is short f b zeros =
     }
 
 -- a given row as a row of the first stage
-pub given_derived : (width : ℕ) (rows : List Inequality) (i : ℕ) (made : Derived) → IsUnit (length rows) i made.multipliers.items → made.row ≡ combination width made.multipliers.items rows → made.total ≡ combination width made.multipliers.items rows → IsDerived width rows [] made
-given_derived width rows i made unit is total =
+pub given_derived : (width : ℕ) (rows : List Inequality) (i : ℕ) (made : Derived) → IsUnit (length rows) i made.multipliers.items → made.row ≡ combination width made.multipliers.items rows → made.total ≡ combination width made.multipliers.items rows → IsSound made.row → IsDerived width rows [] made
+given_derived width rows i made unit is total sound =
     let scaled = subst (λ (r : Inequality). IsMultiple made.row r) (is ∙ sym total) (multiple_of_itself made.row) in record {
       of_stage = given i made.row made.multipliers.items unit is;
       is_total = total;
@@ -110,34 +108,11 @@ given_derived width rows i made unit is total =
       positive = scaled.positive;
       is_scaled = scaled.is_scaled;
       without = All-nil (λ (u : ℕ). coefficient u made.row ≡ pos 0);
+      sound = sound;
     }
 
--- the multipliers of a given row
-abbrev unit_number : ℕ → ℕ → ℤ
-unit_number i k = if k == i then pos 1 else pos 0
-
-abbrev unit_list : ℕ → ℕ → List ℤ
-unit_list n i = map (unit_number i) (range_with_len 0 n)
-
-unit_number-other : (i k : ℕ) (t : Bool) → (k == i) ≡ t → k ≢ i → (if t then pos 1 else pos 0) ≡ pos 0
-unit_number-other i k true e n = absurd (n (eqb-true k i e))
-unit_number-other i k false e n = refl
-
-unit_number-itself : (i : ℕ) → unit_number i i ≡ pos 1
-unit_number-itself i = ap (λ (t : Bool). if t then pos 1 else pos 0) (eq-eqb i i refl)
-
-is_unit : (n i : ℕ) → i < n → IsUnit n i (unit_list n i)
-is_unit n i l = record {
-  one_each = length-map-range_with_len (unit_number i) 0 n;
-  is_one = l;
-  itself = get_or-map-range_with_len (unit_number i) 0 n i i (pos 0) l (omega arith) ∙ unit_number-itself i;
-  others = λ k ne. elim (below_or_past k n) [
-    | inl b ↦ get_or-map-range_with_len (unit_number i) 0 n k k (pos 0) b (omega arith) ∙ unit_number-other i k (k == i) refl ne
-    | inr b ↦ get_or-past (unit_list n i) k (pos 0) (let e = length-map-range_with_len (unit_number i) 0 n in omega (arith, e, b))
-  ];
-}
-
-padded_form : (width : ℕ) (row : Inequality) → length row.coefficients ≤ width → form_of (padded width row) ≡ form_of row
+-- a given row has the form of its row of the first stage
+pub padded_form : (width : ℕ) (row : Inequality) → length row.coefficients ≤ width → form_of (padded width row) ≡ form_of row
 padded_form width row short = λ j. record { at = λ (u : ℕ). same u j; bound = row.bound }
   where
     same : (u : ℕ) → coefficient u (padded width row) ≡ coefficient u row
@@ -147,18 +122,3 @@ padded_form width row short = λ j. record { at = λ (u : ℕ). same u j; bound 
           let len = length-map-range_with_len (λ v. coefficient v row) 0 width in
           get_or-past (padded width row).coefficients u (pos 0) (omega (arith, len, l)) ∙ sym (get_or-past row.coefficients u (pos 0) (omega (arith, short, l)))
     ]
-
--- a given row has the form of one of the first stage
-pub given_form : (width : ℕ) (rows : List Inequality) (i : ℕ) (row : Inequality) → IsWithinWidth width rows → i < length rows → row ≡ get_or rows i row → IsFormOfRow rows (form_of row)
-given_form width rows i row within l is =
-    let unit = is_unit (length rows) i l in
-    let short : length row.coefficients ≤ width = subst (λ (r : Inequality). length r.coefficients ≤ width) (sym is) (within i row l) in
-    record {
-      width = width;
-      within = within;
-      unknowns = [];
-      row = padded width row;
-      multipliers = unit_list (length rows) i;
-      of_stage = given i (padded width row) (unit_list (length rows) i) unit (padded_is width (unit_list (length rows) i) rows i row unit is);
-      is_form = padded_form width row short;
-    }

@@ -11,7 +11,7 @@ use Rattle.std.proofs.lemmas.Map.Made.{IsDistinct-from_AllPairs}
 use Rattle.std.proofs.lemmas.Map.Steps.{length-le_from_distinct_below}
 use Rattle.std.proofs.lemmas.Map.Views.{Contains-from_any}
 use Rattle.lin_arith.specs.Inequality.{Inequality, coefficient, padded}
-use Rattle.lin_arith.specs.Closure.{IsWithout, HasSum, IsClosed, IsCompleteElimination, IsBegun}
+use Rattle.lin_arith.specs.Closure.{IsWithout, HasSum, HasSums, IsClosed, IsCompleteElimination, IsBegun}
 use Rattle.lin_arith.specs.Elimination.{IsFound}
 use Rattle.lin_arith.specs.Closure.IsClosed.{none, next}
 use Rattle.lin_arith.specs.Stages.{IsDerived, AreBefore, IsStage, IsStageBefore, IsUnderWay, StandsIn, KeepsRows, AreParted, HasGrown, IsCaughtUp, IsLeft, NoneIsLeft}
@@ -23,8 +23,9 @@ use Rattle.lin_arith.proofs.IntegerLemmas.{mul_positive, mul_negative, positive_
 use Rattle.lin_arith.proofs.ListLemmas.{get_or-past, below_or_past}
 
 -- the same rows, the same unknowns
-pub grown_same : (old new : Elimination) → new.unknowns.items ≡ old.unknowns.items → new.found ≡ old.found → new.live.items ≡ old.live.items → HasGrown old new
-grown_same old new unknowns found live = record {
+pub grown_same : (old new : Elimination) → new.unknowns.items ≡ old.unknowns.items → new.found ≡ old.found → new.live.items ≡ old.live.items → new.stages.items ≡ old.stages.items → HasGrown old new
+grown_same old new unknowns found live stages = record {
+  stages = stages;
   unknowns = unknowns;
   found = λ row h. subst (λ (rs : List Inequality). Contains rs row) (sym found) h;
   live = λ made h. subst (λ (ds : List Derived). Contains ds made) (sym live) h;
@@ -32,8 +33,9 @@ grown_same old new unknowns found live = record {
 }
 
 -- one more row
-pub grown_with : (width : ℕ) (rows : List Inequality) (old new : Elimination) (made : Derived) → IsDerived width rows old.unknowns.items made → new.unknowns.items ≡ old.unknowns.items → new.found ≡ old.found ++ made.row ∷ [] → new.live.items ≡ old.live.items ++ made ∷ [] → HasGrown old new
-grown_with width rows old new made d unknowns found live = record {
+pub grown_with : (width : ℕ) (rows : List Inequality) (old new : Elimination) (made : Derived) → IsDerived width rows old.unknowns.items made → new.unknowns.items ≡ old.unknowns.items → new.found ≡ old.found ++ made.row ∷ [] → new.live.items ≡ old.live.items ++ made ∷ [] → new.stages.items ≡ old.stages.items → HasGrown old new
+grown_with width rows old new made d unknowns found live stages = record {
+  stages = stages;
   unknowns = unknowns;
   found = λ row h. subst (λ (rs : List Inequality). Contains rs row) (sym found) (Contains-append_left old.found (made.row ∷ []) row h);
   live = λ other h. subst (λ (ds : List Derived). Contains ds other) (sym live) (Contains-append_left old.live.items (made ∷ []) other h);
@@ -51,6 +53,7 @@ lives_on old new row live s = record { made = s.made; is_live = live s.made s.is
 
 pub grown_twice : (old mid new : Elimination) → HasGrown old mid → HasGrown mid new → HasGrown old new
 grown_twice old mid new a b = record {
+  stages = b.stages ∙ a.stages;
   unknowns = b.unknowns ∙ a.unknowns;
   found = λ row h. b.found row (a.found row h);
   live = λ made h. b.live made (a.live made h);
@@ -87,18 +90,18 @@ row_above width rows unknowns unknown made d h = positive_of_multiple (pos d.sca
 pub row_below : (width : ℕ) (rows : List Inequality) (unknowns : List ℕ) (unknown : ℕ) (made : Derived) → IsDerived width rows unknowns made → coefficient unknown made.total <ℤ pos 0 → coefficient unknown made.row <ℤ pos 0
 row_below width rows unknowns unknown made d h = negative_of_multiple (pos d.scale) (coefficient unknown made.row) (size_positive d.scale d.positive) (subst (λ (z : ℤ). z <ℤ pos 0) (sym (d.is_scaled.coefficients unknown)) h)
 
-live_derived : (width : ℕ) (rows : List Inequality) (old : Elimination) (row : Inequality) (s : StandsIn old.live.items row) → IsUnderWay width rows old → IsDerived width rows old.unknowns.items s.made
+pub live_derived : (width : ℕ) (rows : List Inequality) (old : Elimination) (row : Inequality) (s : StandsIn old.live.items row) → IsUnderWay width rows old → IsDerived width rows old.unknowns.items s.made
 live_derived width rows old row s u = All-contains (IsDerived width rows old.unknowns.items) old.live.items s.made u.live s.is_live
 
 -- rows of a stage, when it is parted by an unknown
-stands_above : (width : ℕ) (rows : List Inequality) (old : Elimination) (unknown : ℕ) (uppers lowers others : List Derived) → IsUnderWay width rows old → AreParted unknown old.live.items uppers lowers others → (row : Inequality) → StandsIn old.live.items row → pos 0 <ℤ coefficient unknown row → StandsIn uppers row
+pub stands_above : (width : ℕ) (rows : List Inequality) (old : Elimination) (unknown : ℕ) (uppers lowers others : List Derived) → IsUnderWay width rows old → AreParted unknown old.live.items uppers lowers others → (row : Inequality) → StandsIn old.live.items row → pos 0 <ℤ coefficient unknown row → StandsIn uppers row
 stands_above width rows old unknown uppers lowers others u parted row s above = record {
   made = s.made;
   is_live = parted.upper s.made s.is_live (total_above width rows old.unknowns.items unknown s.made (live_derived width rows old row s u) (subst (λ (r : Inequality). pos 0 <ℤ coefficient unknown r) (sym s.same) above));
   same = s.same;
 }
 
-stands_below : (width : ℕ) (rows : List Inequality) (old : Elimination) (unknown : ℕ) (uppers lowers others : List Derived) → IsUnderWay width rows old → AreParted unknown old.live.items uppers lowers others → (row : Inequality) → StandsIn old.live.items row → coefficient unknown row <ℤ pos 0 → StandsIn lowers row
+pub stands_below : (width : ℕ) (rows : List Inequality) (old : Elimination) (unknown : ℕ) (uppers lowers others : List Derived) → IsUnderWay width rows old → AreParted unknown old.live.items uppers lowers others → (row : Inequality) → StandsIn old.live.items row → coefficient unknown row <ℤ pos 0 → StandsIn lowers row
 stands_below width rows old unknown uppers lowers others u parted row s below = record {
   made = s.made;
   is_live = parted.lower s.made s.is_live (total_below width rows old.unknowns.items unknown s.made (live_derived width rows old row s u) (subst (λ (r : Inequality). coefficient unknown r <ℤ pos 0) (sym s.same) below));
@@ -121,12 +124,39 @@ not_left width rows old unknown u left k d l e =
     let derived = All-contains (IsDerived width rows old.unknowns.items) old.live.items left.made u.live left.is_live in
     left.stands (subst (λ (n : ℕ). coefficient n left.made.row ≡ pos 0) e (derived.without k d l))
 
+-- what the next stage keeps of the rows that were found, and what it adds to them
+pub next_keeps : (old mid new : Elimination) → mid.found ≡ old.found → HasGrown mid new → (row : Inequality) → Contains old.found row → Contains new.found row
+next_keeps old mid new found g row h = g.found row (subst (λ (rs : List Inequality). Contains rs row) (sym found) h)
+
+pub next_fresh : (unknown : ℕ) (old mid new : Elimination) → mid.found ≡ old.found → mid.unknowns.items ≡ old.unknowns.items ++ unknown ∷ [] → HasGrown mid new → (row : Inequality) → Contains new.found row → Contains old.found row ⊎ IsWithout (old.unknowns.items ++ unknown ∷ []) row
+next_fresh unknown old mid new found unknowns g row h = elim (g.fresh row h) [
+  | inl m ↦ inl (subst (λ (rs : List Inequality). Contains rs row) found m)
+  | inr f ↦ inr (subst (λ (ns : List ℕ). IsWithout ns row) (g.unknowns ∙ unknowns) f.without)
+]
+
+-- a row with the unknown was there before
+pub next_old : (unknown : ℕ) (old mid new : Elimination) → mid.found ≡ old.found → mid.unknowns.items ≡ old.unknowns.items ++ unknown ∷ [] → HasGrown mid new → (row : Inequality) → Contains new.found row → coefficient unknown row ≢ pos 0 → Contains old.found row
+next_old unknown old mid new found unknowns g row h n = elim (next_fresh unknown old mid new found unknowns g row h) [ inl o ↦ o | inr w ↦ absurd (n (without_last old.unknowns.items unknown row w)) ]
+
+pub next_sums : (width : ℕ) (rows : List Inequality) (unknown : ℕ) (uppers lowers : List Derived) (old mid new : Elimination) → IsUnderWay width rows old → IsCaughtUp width rows old → AreParted unknown old.live.items uppers lowers mid.live.items → mid.found ≡ old.found → mid.unknowns.items ≡ old.unknowns.items ++ unknown ∷ [] → HasGrown mid new → HaveSums new.found unknown uppers lowers → HasSums new.found old.unknowns.items unknown
+next_sums width rows unknown uppers lowers old mid new u c parted found unknowns g sums = record {
+  sums = λ upper lower a b wa wb above below. pair upper lower (next_old unknown old mid new found unknowns g upper a (λ z. not_zero_above _ z above)) (next_old unknown old mid new found unknowns g lower b (λ z. not_zero_below _ z below)) wa wb above below;
+}
+  where
+    pair : (upper lower : Inequality) → Contains old.found upper → Contains old.found lower → IsWithout old.unknowns.items upper → IsWithout old.unknowns.items lower → pos 0 <ℤ coefficient unknown upper → coefficient unknown lower <ℤ pos 0 → HasSum new.found unknown upper lower
+    pair upper lower a b wa wb above below =
+        let s = stands_above width rows old unknown uppers lowers mid.live.items u parted upper (c.keeps upper a wa) above in
+        let t = stands_below width rows old unknown uppers lowers mid.live.items u parted lower (c.keeps lower b wb) below in
+        let each = All-contains (λ (x : Derived). All (λ (y : Derived). HasSum new.found unknown x.row y.row) lowers) uppers s.made sums s.is_live in
+        let sum = All-contains (λ (y : Derived). HasSum new.found unknown s.made.row y.row) lowers t.made each t.is_live in
+        subst (λ (r : Inequality). HasSum new.found unknown upper r) t.same (subst (λ (r : Inequality). HasSum new.found unknown r t.made.row) s.same sum)
+
 -- the next stage of an elimination, once the sums that cancel its unknown were added
 pub caught_up_next : (width : ℕ) (rows : List Inequality) (unknown : ℕ) (uppers lowers : List Derived) (old mid new : Elimination) → IsUnderWay width rows old → IsCaughtUp width rows old → unknown < width → IsLeft old.live.items unknown → AreParted unknown old.live.items uppers lowers mid.live.items → mid.found ≡ old.found → mid.unknowns.items ≡ old.unknowns.items ++ unknown ∷ [] → HasGrown mid new → HaveSums new.found unknown uppers lowers → IsCaughtUp width rows new
 caught_up_next width rows unknown uppers lowers old mid new u c below left parted found unknowns g sums = record {
-  begins = λ k d l. keep (padded width (get_or rows k d)) (c.begins k d l);
+  begins = λ k d l. next_keeps old mid new found g (padded width (get_or rows k d)) (c.begins k d l);
   keeps = keeps_grown mid new g (λ row h w. let w' = subst (λ (us : List ℕ). IsWithout us row) unknowns w in stands_still width rows old unknown uppers lowers mid.live.items u parted row (c.keeps row (subst (λ (rs : List Inequality). Contains rs row) found h) (without_others us unknown row w')) (without_last us unknown row w'));
-  closed = subst (λ (us : List ℕ). IsClosed new.found us) (sym same) (next us unknown (closed_stays old.found new.found keep us (λ row h. elim (fresh row h) [ inl o ↦ inl o | inr w ↦ inr (without_others us unknown row w) ]) c.closed) (record { sums = λ upper lower a b wa wb above below. pair upper lower (old_row upper a (λ z. not_zero_above _ z above)) (old_row lower b (λ z. not_zero_below _ z below)) wa wb above below }));
+  closed = subst (λ (us : List ℕ). IsClosed new.found us) (sym same) (next us unknown (closed_stays old.found new.found (next_keeps old mid new found g) us (λ row h. elim (next_fresh unknown old mid new found unknowns g row h) [ inl o ↦ inl o | inr w ↦ inr (without_others us unknown row w) ]) c.closed) (next_sums width rows unknown uppers lowers old mid new u c parted found unknowns g sums));
   below = subst (λ (us : List ℕ). All (λ u. u < width) us) (sym same) (All-push (λ (u : ℕ). u < width) us unknown c.below below);
   different = subst (λ (us : List ℕ). AllPairs (λ a b. a ≢ b) us) (sym same) (all_pairs_push (λ (a b : ℕ). a ≢ b) us unknown c.different (not_left width rows old unknown u left));
 }
@@ -136,26 +166,6 @@ caught_up_next width rows unknown uppers lowers old mid new u c below left parte
 
     same : new.unknowns.items ≡ old.unknowns.items ++ unknown ∷ []
     same = g.unknowns ∙ unknowns
-
-    keep : (row : Inequality) → Contains old.found row → Contains new.found row
-    keep row h = g.found row (subst (λ (rs : List Inequality). Contains rs row) (sym found) h)
-
-    fresh : (row : Inequality) → Contains new.found row → Contains old.found row ⊎ IsWithout (old.unknowns.items ++ unknown ∷ []) row
-    fresh row h = elim (g.fresh row h) [
-      | inl m ↦ inl (subst (λ (rs : List Inequality). Contains rs row) found m)
-      | inr f ↦ inr (subst (λ (ns : List ℕ). IsWithout ns row) same f.without)
-    ]
-
-    old_row : (row : Inequality) → Contains new.found row → (coefficient unknown row ≡ pos 0 → ⊥) → Contains old.found row
-    old_row row h n = elim (fresh row h) [ inl o ↦ o | inr w ↦ absurd (n (without_last old.unknowns.items unknown row w)) ]
-
-    pair : (upper lower : Inequality) → Contains old.found upper → Contains old.found lower → IsWithout old.unknowns.items upper → IsWithout old.unknowns.items lower → pos 0 <ℤ coefficient unknown upper → coefficient unknown lower <ℤ pos 0 → HasSum new.found unknown upper lower
-    pair upper lower a b wa wb above below =
-        let s = stands_above width rows old unknown uppers lowers mid.live.items u parted upper (c.keeps upper a wa) above in
-        let t = stands_below width rows old unknown uppers lowers mid.live.items u parted lower (c.keeps lower b wb) below in
-        let each = All-contains (λ (x : Derived). All (λ (y : Derived). HasSum new.found unknown x.row y.row) lowers) uppers s.made sums s.is_live in
-        let sum = All-contains (λ (y : Derived). HasSum new.found unknown s.made.row y.row) lowers t.made each t.is_live in
-        subst (λ (r : Inequality). HasSum new.found unknown upper r) t.same (subst (λ (r : Inequality). HasSum new.found unknown r t.made.row) s.same sum)
 
 -- the first stage, with all given rows
 pub caught_up_first : (width : ℕ) (rows : List Inequality) (new : Elimination) → new.unknowns.items ≡ [] → KeepsRows new → ((k : ℕ) (d : Inequality) → k < length rows → Contains new.found (padded width (get_or rows k d))) → IsCaughtUp width rows new
@@ -173,7 +183,14 @@ unknowns_within width rows elimination c =
     let us = elimination.unknowns.items in
     length-le_from_distinct_below us width (IsDistinct-from_AllPairs Decides-eqb us c.different) (λ q h. All-contains (λ (u : ℕ). u < width) us q c.below (Contains-from_any (λ x y e. eqb-true x y e) q us h))
 
--- where no unknown is left in the stage that was reached, the elimination is complete
+-- where no unknown is left in the stage that was reached, none is left in a row without those that were eliminated
+pub none_left : (width : ℕ) (rows : List Inequality) (elimination : Elimination) → IsUnderWay width rows elimination → IsCaughtUp width rows elimination → NoneIsLeft width elimination.live.items → (row : Inequality) → Contains elimination.found row → IsWithout elimination.unknowns.items row → (n : ℕ) → coefficient n row ≡ pos 0
+none_left width rows elimination u c left row h w n = elim (below_or_past n width) as (λ _. coefficient n row ≡ pos 0) [
+  | inl l ↦ let s = c.keeps row h w in ap (λ (r : Inequality). coefficient n r) (sym s.same) ∙ All-contains (λ (made : Derived). coefficient n made.row ≡ pos 0) elimination.live.items s.made (left n l) s.is_live
+  | inr l ↦ get_or-past row.coefficients n (pos 0) (let w = All-contains (λ (r : Inequality). length r.coefficients ≡ width) elimination.found row u.are_found.same_width h in omega (arith, w, l))
+]
+
+-- and the elimination is complete
 pub complete : (width : ℕ) (rows : List Inequality) (elimination : Elimination) → IsUnderWay width rows elimination → IsCaughtUp width rows elimination → NoneIsLeft width elimination.live.items → IsCompleteElimination rows
 complete width rows elimination u c left = record {
   width = width;
@@ -187,10 +204,7 @@ complete width rows elimination u c left = record {
     closed = c.closed;
     below_limit = u.below_limit;
   };
-  no_unknown_left = λ row h w n. elim (below_or_past n width) as (λ _. coefficient n row ≡ pos 0) [
-    | inl l ↦ let s = c.keeps row h w in ap (λ (r : Inequality). coefficient n r) (sym s.same) ∙ All-contains (λ (made : Derived). coefficient n made.row ≡ pos 0) elimination.live.items s.made (left n l) s.is_live
-    | inr l ↦ get_or-past row.coefficients n (pos 0) (let w = All-contains (λ (r : Inequality). length r.coefficients ≡ width) elimination.found row u.are_found.same_width h in omega (arith, w, l))
-  ];
+  no_unknown_left = none_left width rows elimination u c left;
 }
 
 Contains-cons_cases : {A : Type 0} (y : A) (ys : List A) (x : A) → Contains (y ∷ ys) x → (y ≡ x) ⊎ Contains ys x

@@ -1,4 +1,6 @@
 pub mod BoundLemmas
+pub mod BoundsPutLemmas
+pub mod ChoiceLemmas
 pub mod ClosureLemmas
 pub mod CombinationLemmas
 pub mod ContradictionLemmas
@@ -12,3 +14,5 @@ pub mod ProductLemmas
 pub mod StageLemmas
 pub mod SubstitutionLemmas
 pub mod SumLemmas
+pub mod ValueLemmas
+pub mod WholeLemmas

@@ -1,5 +1,5 @@
 -- Rows of the stages of an elimination: their multipliers, and what stands when one more is found.
-use Rattle.std.proofs.Common.{◌≡◌, ◌≢◌, ℕ, zero, suc, ◌<◌, ◌≤◌, Bool, true, false, cond, not, List, [], ◌∷◌, ◌++◌, length, get_or, pos, ℤ, ◌+ℤ◌, ◌≤ℤ◌, ◌<ℤ◌, refl, sym, ap, ◌∙◌, subst, arith, ◌⊎◌, inl, inr, length-append, append-nil, append_assoc}
+use Rattle.std.proofs.Common.{◌≡◌, ◌≢◌, ℕ, zero, suc, ◌<◌, ◌≤◌, Bool, true, false, cond, not, List, [], ◌∷◌, ◌++◌, length, get_or, pos, ℤ, ◌+ℤ◌, ◌*ℤ◌, ◌≤ℤ◌, ◌<ℤ◌, refl, sym, ap, ◌∙◌, subst, arith, ◌⊎◌, inl, inr, length-append, append-nil, append_assoc}
 use Rattle.std.specs.Prelude.{All, Contains}
 use Rattle.std.specs.List.{list_any}
 use Rattle.std.specs.BTreeMap.{is_at}
@@ -8,7 +8,8 @@ use Rattle.std.specs.Ordering.{int_cmp}
 use Rattle.std.specs.Cmp.Lexicographic.{slice_cmp}
 use Rattle.std.specs.Global.{Vec}
 use Rattle.std.proofs.lemmas.Bool.{false≢true}
-use Rattle.std.proofs.lemmas.Int.{ints}
+use Rattle.std.proofs.lemmas.Int.{ints, by_lt_z}
+use Rattle.std.proofs.Math.IntN.{*ℤ-zero}
 use Rattle.std.proofs.lemmas.List.FromFn.{length-map-range_with_len}
 use Rattle.std.proofs.lemmas.List.Elements.{All-push, All-contains, Contains-get_or, Contains-push, Contains-append_left}
 use Rattle.std.proofs.lemmas.List.Quantifiers.{all_pairs_push}
@@ -20,7 +21,7 @@ use Rattle.lin_arith.specs.Elimination.IsRowOfStage.{kept, sum}
 use Rattle.lin_arith.specs.Substitution.{form_of}
 use Rattle.lin_arith.specs.Wide.{SumLeaves, IsFormOfRow, IsWide}
 use Rattle.lin_arith.specs.Wide.IsWide.{sum as wide}
-use Rattle.lin_arith.specs.Stages.{AreMultipliers, IsDerived, AreBefore, IsStage, IsOfStages, HasKey, key_cmp, AreFound, IsUnderWay}
+use Rattle.lin_arith.specs.Stages.{AreMultipliers, IsDerived, AreBefore, IsStage, IsOfStages, HasKey, key_cmp, AreFound, IsUnderWay, IsSound}
 use Rattle.lin_arith.specs.declared.elimination.Stage.{Stage}
 use Rattle.lin_arith.specs.declared.elimination.Derived.{Derived}
 use Rattle.lin_arith.specs.declared.elimination.Elimination.{Elimination}
@@ -128,6 +129,14 @@ stays old new key updates row has = record {
 found_of_derived : (width : ℕ) (rows : List Inequality) (unknowns : List ℕ) (made : Derived) → IsDerived width rows unknowns made → IsFound width rows unknowns made.row
 found_of_derived width rows unknowns made d = record { before = unknowns; after = []; parts = append-nil unknowns; multipliers = made.multipliers.items; of_stage = d.of_stage }
 
+-- a row that is no contradiction says nothing false where no unknown stands in it
+pub sound_of : (row : Inequality) → ¬ ((row.bound <ℤ pos 0) × All (λ c. c ≡ pos 0) row.coefficients) → IsSound row
+sound_of row h none = by_lt_z row.bound (pos 0) (λ l. absurd (h (l, λ k d b. get_or-any_default row.coefficients k d (pos 0) b ∙ none k))) (λ l. l)
+
+sound_of_multiple : (row total : Inequality) → IsMultiple row total → IsSound total → IsSound row
+sound_of_multiple row total m h none =
+    sign_of_multiple (pos m.scale) row.bound (size_positive m.scale m.positive) (subst (λ (z : ℤ). pos 0 ≤ℤ z) (sym m.is_scaled.bound) (h (λ u. sym (m.is_scaled.coefficients u) ∙ ap (λ (z : ℤ). pos m.scale *ℤ z) (none u) ∙ *ℤ-zero (pos m.scale))))
+
 -- the rows found with one more, of which no key was there
 pub found_with : (width : ℕ) (rows : List Inequality) (unknowns : List ℕ) (old new : BTreeSet (Vec ℤ)) (found : List Inequality) (made : Derived) (key : Vec ℤ) → AreFound width rows unknowns old found → IsDerived width rows unknowns made → key.items ≡ made.row.bound ∷ made.row.coefficients → contains key_cmp old key ≡ false → Updates key_cmp old new key true → AreFound width rows unknowns new (found ++ made.row ∷ [])
 found_with width rows unknowns old new found made key f d numbers fresh updates = record {
@@ -136,6 +145,7 @@ found_with width rows unknowns old new found made key f d numbers fresh updates 
   different = all_pairs_push (λ (a b : Inequality). a ≢ b) found made.row f.different (λ k e l. not_found old key made.row (get_or found k e) fresh numbers (f.keyed k e l));
   keyed = All-push (HasKey new) found made.row (λ k e l. stays old new key updates (get_or found k e) (f.keyed k e l)) (record { key = key; numbers = numbers; stands = updates.1 });
   no_other = no_other_with old new found made.row key numbers updates f.no_other;
+  sound = All-push IsSound found made.row f.sound d.sound;
 }
 
 -- an elimination with one more row
@@ -176,6 +186,7 @@ under_way_same width rows old keys u same = record {
     different = u.are_found.different;
     keyed = λ k e l. let has = u.are_found.keyed k e l in record { key = has.key; numbers = has.numbers; stands = subst (λ (ks : List (Vec ℤ)). list_any (is_at (key_cmp has.key)) ks ≡ true) same has.stands };
     no_other = λ row has. u.are_found.no_other row (record { key = has.key; numbers = has.numbers; stands = subst (λ (ks : List (Vec ℤ)). list_any (is_at (key_cmp has.key)) ks ≡ true) (sym same) has.stands });
+    sound = u.are_found.sound;
   };
   stages = u.stages;
   below_limit = u.below_limit;
@@ -227,8 +238,8 @@ sum_due width rows found unknowns unknown x y upper lower ms b cancels least = d
 })
 
 -- the sum of two rows that cancels an unknown, as a row of the next stage
-pub sum_derived : (width : ℕ) (rows found : List Inequality) (unknowns : List ℕ) (unknown x y : ℕ) (upper lower made : Derived) → AreBefore width rows found unknowns unknown upper lower → Cancels (coefficient unknown upper.total) (coefficient unknown lower.total) x y → IsLeastMix x y upper.multipliers.items lower.multipliers.items made.multipliers.items → made.total ≡ combination width made.multipliers.items rows → IsReduced made.total made.row → IsDerived width rows unknowns made
-sum_derived width rows found unknowns unknown x y upper lower made b cancels least is reduced =
+pub sum_derived : (width : ℕ) (rows found : List Inequality) (unknowns : List ℕ) (unknown x y : ℕ) (upper lower made : Derived) → AreBefore width rows found unknowns unknown upper lower → Cancels (coefficient unknown upper.total) (coefficient unknown lower.total) x y → IsLeastMix x y upper.multipliers.items lower.multipliers.items made.multipliers.items → made.total ≡ combination width made.multipliers.items rows → IsReduced made.total made.row → IsSound made.total → IsDerived width rows unknowns made
+sum_derived width rows found unknowns unknown x y upper lower made b cancels least is reduced sound =
     let u = b.upper_of_stage in
     let l = b.lower_of_stage in
     let of_sum = cancelling_sum width rows found unknowns unknown x y upper lower made.multipliers.items b cancels least in
@@ -243,6 +254,7 @@ sum_derived width rows found unknowns unknown x y upper lower made b cancels lea
       positive = scaled.positive;
       is_scaled = scaled.is_scaled;
       without = subst (λ (us : List ℕ). IsWithout us made.row) b.is_last (without_in_sum b.before unknown upper.row lower.row made.row is_sum u.without l.without);
+      sound = sound_of_multiple made.row made.total scaled sound;
     }
 
 first_of_rest : (P : Derived → Type 0) (rest more : List Derived) (made : Derived) → All P rest → rest ≡ made ∷ more → P made
@@ -290,6 +302,7 @@ kept_derived width rows unknowns unknown made d none = record {
   positive = d.positive;
   is_scaled = d.is_scaled;
   without = without_one_more unknowns unknown made.row d.without (zero_of_multiple (pos d.scale) (coefficient unknown made.row) (size_positive d.scale d.positive) (d.is_scaled.coefficients unknown ∙ none));
+  sound = d.sound;
 }
 
 pub live_with : (width : ℕ) (rows : List Inequality) (unknowns : List ℕ) (old new : List Derived) (made : Derived) → All (IsDerived width rows unknowns) old → IsDerived width rows unknowns made → new ≡ old ++ made ∷ [] → All (IsDerived width rows unknowns) new
@@ -316,6 +329,7 @@ under_way_next width rows unknown old new u unknowns found keys stages live from
     different = u.are_found.different;
     keyed = u.are_found.keyed;
     no_other = u.are_found.no_other;
+    sound = u.are_found.sound;
   })));
   stages = subst (λ (ss : List Stage). All (IsOfStages width rows) ss) (sym stages) u.stages;
   below_limit = subst (λ (rs : List Inequality). length rs < 5000) (sym found) u.below_limit;

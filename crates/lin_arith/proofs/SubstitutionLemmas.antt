@@ -1,15 +1,14 @@
 -- Rows into which values were put, against the same without a division.
-use Rattle.std.proofs.Common.{◌≡◌, ℕ, zero, suc, ◌<◌, Bool, true, false, length, pos, ℤ, ◌-ℤ◌, ◌*ℤ◌, ◌≤ℤ◌, ◌<ℤ◌, refl, sym, ap, ◌∙◌, subst, arith, ◌⊎◌, inl, inr}
-use Rattle.std.specs.Prelude.{if◌then◌else◌, ◌==◌, All}
+use Rattle.std.proofs.Common.{◌≡◌, ℕ, zero, suc, ◌<◌, Bool, true, false, pos, ℤ, ◌-ℤ◌, ◌*ℤ◌, ◌<ℤ◌, refl, sym, ap, ◌∙◌, subst, arith, ◌⊎◌, inl, inr}
+use Rattle.std.specs.Prelude.{if◌then◌else◌, ◌==◌}
 use Rattle.std.proofs.Math.IntN.{*ℤ-zero, zero-*ℤ}
 use Rattle.std.proofs.lemmas.Int.{ints}
 use Rattle.std.proofs.lemmas.Bool.{eqb-true}
 use Rattle.lin_arith.specs.Inequality.{Inequality, coefficient}
 use Rattle.lin_arith.specs.Reduction.{IsReduced}
-use Rattle.lin_arith.specs.Substitution.{LinearForm, form_of, put_in, IsRatio, IsTrueForm}
+use Rattle.lin_arith.specs.Substitution.{LinearForm, form_of, put_in, IsRatio}
 use Rattle.lin_arith.specs.declared.rows.Fraction.{Fraction}
-use Rattle.lin_arith.proofs.IntegerLemmas.{mul_assoc, mul_sub, mul_positive, mul_swap, mul_not_negative, one_mul}
-use Rattle.lin_arith.proofs.ListLemmas.{below_or_past, get_or-past}
+use Rattle.lin_arith.proofs.IntegerLemmas.{mul_assoc, mul_sub, mul_positive, mul_swap, one_mul}
 
 zero_or_positive : (n : ℕ) → (n ≡ 0) ⊎ (0 < n)
 zero_or_positive zero = inl refl
@@ -82,10 +81,3 @@ ratio_skip form left value r p z =
   where
     sub_zero : (a b : ℤ) → b ≡ pos 0 → a ≡ a -ℤ b
     sub_zero a b e = omega (arith, ints, e)
-
--- a form that is a true row but for a factor is true
-pub true_of_ratio : (form : LinearForm) (left : Inequality) → IsRatio form left → pos 0 ≤ℤ left.bound → All (λ c. c ≡ pos 0) left.coefficients → IsTrueForm form
-true_of_ratio form left r b zeros = record {
-  no_unknown_left = λ u. sym (r.coefficients u) ∙ ap (λ (c : ℤ). r.scale *ℤ c) (elim (below_or_past u (length left.coefficients)) [ inl l ↦ zeros u (pos 0) l | inr l ↦ get_or-past left.coefficients u (pos 0) l ]) ∙ *ℤ-zero r.scale;
-  not_negative = subst (λ (c : ℤ). pos 0 ≤ℤ c) r.bound (mul_not_negative r.scale left.bound (omega (arith, ints, r.positive)) b);
-}

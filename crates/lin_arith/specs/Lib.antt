@@ -1,5 +1,6 @@
 pub mod Answer
 pub mod Bounds
+pub mod Choice
 pub mod Closure
 pub mod Combination
 pub mod Elimination

@@ -1,5 +1,6 @@
 -- What the rows that an elimination keeps are to the given rows.
-use Rattle.std.specs.Prelude.{◌≡◌, ◌≢◌, ◌⊎◌, ℕ, ◌<◌, true, List, [], ◌∷◌, ◌++◌, length, pos, ◌≤ℤ◌, All, Contains}
+use Rattle.std.specs.Prelude.{◌≡◌, ◌≢◌, ◌⊎◌, ℕ, ◌<◌, true, List, [], ◌∷◌, ◌++◌, length, map, pos, ◌≤ℤ◌, All, Contains}
+use Rattle.std.proofs.Common.{get_or, take}
 use Rattle.std.specs.List.{AllPairs}
 use Rattle.std.proofs.Common.{ℤ, ◌<ℤ◌}
 use Rattle.std.specs.BTreeSet.{BTreeSet, contains}
@@ -8,7 +9,7 @@ use Rattle.std.specs.declared.cmp.Ordering.{Ordering}
 use Rattle.std.specs.Ordering.{int_cmp}
 use Rattle.std.specs.Cmp.Lexicographic.{slice_cmp}
 use Rattle.lin_arith.specs.Inequality.{Inequality, coefficient, padded, IsWithinWidth}
-use Rattle.lin_arith.specs.Closure.{IsWithout, IsClosed, IsElimination}
+use Rattle.lin_arith.specs.Closure.{IsWithout, HasSums, IsClosed, IsElimination, IsCompleteElimination}
 use Rattle.lin_arith.specs.Reduction.{IsTimes}
 use Rattle.lin_arith.specs.Combination.{combination}
 use Rattle.lin_arith.specs.Elimination.{IsRowOfStage, IsFound, AreDifferent}
@@ -21,6 +22,10 @@ pub record AreMultipliers (rows : List Inequality) (ms : List ℤ) : Type 0 wher
   pub one_each : length ms ≡ length rows
   pub not_negative : All (λ m. pos 0 ≤ℤ m) ms
 
+-- where no unknown stands in the row, 0 is at most its bound
+abbrev pub IsSound : Inequality → Type 0
+IsSound row = ((unknown : ℕ) → coefficient unknown row ≡ pos 0) → pos 0 ≤ℤ row.bound
+
 -- a row of the stage after these unknowns
 pub record IsDerived (width : ℕ) (rows : List Inequality) (unknowns : List ℕ) (made : Derived) : Type 0 where
   pub of_stage : IsRowOfStage width rows unknowns made.row made.multipliers.items
@@ -31,6 +36,7 @@ pub record IsDerived (width : ℕ) (rows : List Inequality) (unknowns : List ℕ
   pub positive : 0 < scale
   pub is_scaled : IsTimes scale made.row made.total
   pub without : IsWithout unknowns made.row
+  pub sound : IsSound made.row
 
 -- two rows that an elimination has found, of the stage after these unknowns, all but the last, and the last one cancels
 -- between them
@@ -82,6 +88,7 @@ pub record AreFound (width : ℕ) (rows : List Inequality) (unknowns : List ℕ)
   pub different : AreDifferent found
   pub keyed : All (HasKey keys) found
   pub no_other : (row : Inequality) → HasKey keys row → Contains found row
+  pub sound : All IsSound found
 
 -- what an elimination under way keeps
 pub record IsUnderWay (width : ℕ) (rows : List Inequality) (elimination : Elimination) : Type 0 where
@@ -121,6 +128,26 @@ pub record HasGrown (old new : Elimination) : Type 0 where
   pub found : (row : Inequality) → Contains old.found row → Contains new.found row
   pub live : (made : Derived) → Contains old.live.items made → Contains new.live.items made
   pub fresh : (row : Inequality) → Contains new.found row → Contains old.found row ⊎ IsFresh new row
+  pub stages : new.stages.items ≡ old.stages.items
+
+-- the numbers of the row are those of a row that the stage left behind
+abbrev pub StandsInStage : Stage → Inequality → Type 0
+StandsInStage stage row = StandsIn stage.upper.items row ⊎ StandsIn stage.lower.items row
+
+-- of the rows found, the stage after these unknowns left behind all in which its own unknown stands, and each sum that
+-- cancels it is found
+pub record IsWhole (found : List Inequality) (unknowns : List ℕ) (stage : Stage) : Type 0 where
+  pub is_found : (row : Inequality) → StandsInStage stage row → Contains found row
+  pub without : (row : Inequality) → StandsInStage stage row → IsWithout unknowns row
+  pub whole : (row : Inequality) → Contains found row → IsWithout unknowns row → coefficient stage.unknown row ≢ pos 0 → StandsInStage stage row
+  pub sums : HasSums found unknowns stage.unknown
+
+abbrev pub unknowns_of : List Stage → List ℕ
+unknowns_of stages = map (λ (stage : Stage). stage.unknown) stages
+
+-- each of the stages is so, after the unknowns of those before it
+abbrev pub AreWhole : List Inequality → List Stage → Type 0
+AreWhole found stages = (k : ℕ) (d : Stage) → k < length stages → IsWhole found (unknowns_of (take k stages)) (get_or stages k d)
 
 -- the elimination has the given rows and, for the unknowns that were eliminated, all sums
 pub record IsCaughtUp (width : ℕ) (rows : List Inequality) (elimination : Elimination) : Type 0 where
@@ -129,6 +156,11 @@ pub record IsCaughtUp (width : ℕ) (rows : List Inequality) (elimination : Elim
   pub closed : IsClosed elimination.found elimination.unknowns.items
   pub below : All (λ unknown. unknown < width) elimination.unknowns.items
   pub different : AllPairs (λ first second. first ≢ second) elimination.unknowns.items
+
+-- it keeps a stage for each unknown that was eliminated
+pub record KeepsStages (elimination : Elimination) : Type 0 where
+  pub whole : AreWhole elimination.found elimination.stages.items
+  pub unknowns : unknowns_of elimination.stages.items ≡ elimination.unknowns.items
 
 -- an unknown stands in one of the rows
 pub record IsLeft (live : List Derived) (unknown : ℕ) : Type 0 where
@@ -139,3 +171,16 @@ pub record IsLeft (live : List Derived) (unknown : ℕ) : Type 0 where
 -- none of the first `width` unknowns stands in one of the rows
 abbrev pub NoneIsLeft : ℕ → List Derived → Type 0
 NoneIsLeft width live = (unknown : ℕ) → unknown < width → All (λ (made : Derived). coefficient unknown made.row ≡ pos 0) live
+
+-- all stages of an elimination that came to its end, and the rows that it has found
+pub record HasAllStages (width : ℕ) (rows : List Inequality) (stages : List Stage) : Type 0 where
+  pub found : List Inequality
+  pub within : IsWithinWidth width rows
+  pub begins : All (λ row. Contains found (padded width row)) rows
+  pub same_width : All (λ row. length row.coefficients ≡ width) found
+  pub sound : All IsSound found
+  pub whole : AreWhole found stages
+  pub different : AllPairs (λ first second. first ≢ second) (unknowns_of stages)
+  pub no_unknown_left : (row : Inequality) → Contains found row → IsWithout (unknowns_of stages) row → (unknown : ℕ) → coefficient unknown row ≡ pos 0
+  pub of_stages : All (IsOfStages width rows) stages
+  pub complete : IsCompleteElimination rows

@@ -3,11 +3,11 @@
 ghost use Rattle.std.specs.Prelude.{◌≡◌, ◌<◌, ◌∷◌, ◌++◌, [], pos, ◌<ℤ◌, ◌≤ℤ◌, All, Contains, IfErr, IfOk, OnOk, IfSome, IfNone, ℕ, length, get_or, true, List};
 ghost use Rattle.std.specs.Option.{SomeIff};
 ghost use Rattle.lin_arith.specs.Inequality.{Inequality, coefficient, padded};
-ghost use Rattle.lin_arith.specs.Closure.{IsSumOf, HasSum, IsCompleteElimination, IsBegun, IsDue};
+ghost use Rattle.lin_arith.specs.Closure.{IsSumOf, HasSum, IsBegun, IsDue};
 ghost use Rattle.lin_arith.specs.declared.elimination.Derived.{Derived};
 ghost use Rattle.lin_arith.specs.Combination.{combination, CombinesWithin};
 ghost use Rattle.lin_arith.specs.Elimination.{IsUnit};
-ghost use Rattle.lin_arith.specs.Stages.{AreMultipliers, IsDerived, AreBefore, IsStage, IsStageBefore, IsUnderWay, HasKey, AreParted, HasGrown, IsCaughtUp, IsLeft, NoneIsLeft};
+ghost use Rattle.lin_arith.specs.Stages.{AreMultipliers, IsDerived, AreBefore, IsStage, IsStageBefore, IsUnderWay, HasKey, AreParted, HasGrown, IsCaughtUp, IsLeft, NoneIsLeft, IsSound, KeepsStages, HasAllStages};
 ghost use Rattle.lin_arith.specs.Answer.{StopShows};
 
 use crate::combination::combined;
@@ -66,6 +66,7 @@ impl Elimination {
     pub fn new(alloc: Global, system: &System<'_>) -> Result<Elimination, Stop>
         ensures ok { IfOk result (IsUnderWay system.now.width system.now.rows.now) }
         ensures caught_up { IfOk result (IsCaughtUp system.now.width system.now.rows.now) }
+        ensures stages { IfOk result KeepsStages }
         ensures err { IfErr result (StopShows system.now.rows.now) }
     {
         let mut elimination = Elimination {
@@ -151,6 +152,7 @@ impl Elimination {
         ensures unknown { IfOk result (λ stage. stage.unknown ≡ unknown) }
         ensures parted { IfOk result (λ stage. AreParted unknown self.old.live.items stage.upper.items stage.lower.items self.new.live.items) }
         ensures found { OnOk result (self.new.found ≡ self.old.found) }
+        ensures stages { OnOk result (self.new.stages ≡ self.old.stages) }
         ensures unknowns { OnOk result (self.new.unknowns.items ≡ self.old.unknowns.items ++ unknown ∷ []) }
         ensures stage { (width : ℕ) (rows : List Inequality) → IsUnderWay width rows self.old → IfOk result (IsStage width rows self.old.unknowns.items) }
         ensures under_way { (width : ℕ) (rows : List Inequality) → IsUnderWay width rows self.old → OnOk result (IsUnderWay width rows self.new) }
@@ -179,10 +181,12 @@ impl Elimination {
     fn eliminate(&mut self, system: &System<'_>, unknown: usize) -> Result<(), Stop>
         requires under_way { IsUnderWay system.now.width system.now.rows.now self.old }
         requires caught_up { IsCaughtUp system.now.width system.now.rows.now self.old }
+        requires stages { KeepsStages self.old }
         requires below { unknown < system.now.width }
         requires left { IsLeft self.old.live.items unknown }
         ensures ok { OnOk result (IsUnderWay system.now.width system.now.rows.now self.new) }
         ensures caught_up { OnOk result (IsCaughtUp system.now.width system.now.rows.now self.new) }
+        ensures stages { OnOk result (KeepsStages self.new) }
         ensures unknowns { OnOk result (self.new.unknowns.items ≡ self.old.unknowns.items ++ unknown ∷ []) }
         ensures err { IfErr result (StopShows system.now.rows.now) }
     {
@@ -237,8 +241,9 @@ impl Elimination {
     pub fn run(&mut self, system: &System<'_>) -> Result<(), Stop>
         requires under_way { IsUnderWay system.now.width system.now.rows.now self.old }
         requires caught_up { IsCaughtUp system.now.width system.now.rows.now self.old }
+        requires stages { KeepsStages self.old }
         ensures ok { OnOk result (IsUnderWay system.now.width system.now.rows.now self.new) }
-        ensures complete { OnOk result (IsCompleteElimination system.now.rows.now) }
+        ensures stages { OnOk result (HasAllStages system.now.width system.now.rows.now self.new.stages.items) }
         ensures err { IfErr result (StopShows system.now.rows.now) }
     {
         while let Some(unknown) = self.next_unknown(system.width) {
@@ -352,6 +357,7 @@ fn total_of(
 ) -> Result<Option<LinRow>, Stop>
     requires { AreMultipliers system.now.rows.now multipliers.now }
     ensures ok { IfOk result (λ made. SomeIff made (CombinesWithin system.now.width multipliers.now system.now.rows.now) (combination system.now.width multipliers.now system.now.rows.now)) }
+    ensures sound { IfOk result (λ made. IfSome made IsSound) }
     ensures err { IsDue system.now.rows.now multipliers.now → IfErr result (StopShows system.now.rows.now) }
 {
     let total = combined(alloc, system.width, multipliers, system.rows)?;

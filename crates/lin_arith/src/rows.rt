@@ -267,12 +267,4 @@ impl LinRow {
     {
         self.bound < 0 && self.is_without_unknowns()
     }
-
-    /// Whether no unknown is left and 0 is at most the bound.
-    pub fn is_true(&self) -> bool
-        ensures { IsTrue result
-            ↔ ((pos 0 ≤ℤ self.now.bound) × All (λ c. c ≡ pos 0) self.now.coefficients) }
-    {
-        self.bound >= 0 && self.is_without_unknowns()
-    }
 }

@@ -1,12 +1,15 @@
 //! The answer to a system of rows.
 
-ghost use Rattle.std.specs.Prelude.{pos, ◌<ℤ◌, ℕ, All, IfOk, IfErr, OnOk, List};
+ghost use Rattle.std.specs.Prelude.{◌≡◌, ◌≢◌, ◌⊎◌, ◌↔◌, pos, ◌<ℤ◌, ℕ, All, Contains, IsTrue, IfOk, IfErr, OnOk, List};
 ghost use Rattle.lin_arith.specs.Inequality.{Inequality, IsWithinWidth};
-ghost use Rattle.lin_arith.specs.Stages.{IsDerived, IsOfStages};
+ghost use Rattle.lin_arith.specs.Stages.{IsDerived, IsOfStages, HasAllStages};
 ghost use Rattle.lin_arith.specs.Wide.{IsWide};
 ghost use Rattle.lin_arith.specs.Combination.{IsContradiction};
 ghost use Rattle.lin_arith.specs.Bounds.{AreNonzero, AreWithinReach};
+ghost use Rattle.lin_arith.specs.Choice.{HaveBounds, IsOfRow, AreCompatible, MeetsStage};
 ghost use Rattle.lin_arith.specs.Closure.{IsCompleteElimination, IsDue};
+ghost use Rattle.lin_arith.specs.declared.bounds.Bound.{Bound};
+ghost use Rattle.lin_arith.specs.declared.elimination.Stage.{Stage};
 ghost use Rattle.lin_arith.specs.Elimination.{ReachesLimit};
 ghost use Rattle.lin_arith.specs.Substitution.{ArePositive};
 ghost use Rattle.lin_arith.specs.Answer.{IfInfeasible, IfFeasible, IfTooManyRows, IfWide, IsSolution, Shows, StopShows};
@@ -34,9 +37,6 @@ use std::alloc::Global;
 /// elimination that has all rows of its stages so far, and fewer than 5,000 different ones. `Infeasible`
 /// and a `Wide` pair of one stage come where that row or sum is due next, the other answers where the
 /// elimination has come to its end.
-///
-/// No clause says that the values of the last step, which are put into each row before they are returned,
-/// always meet it: where they did not, the answer would be `NoMemory`.
 pub fn solve(alloc: Global, rows: &Rows) -> Result<LinAnswer, NoMemory>
     ensures infeasible { IfOk result (λ answer. IfInfeasible answer (IsContradiction rows.now)) }
     ensures due { IfOk result (λ answer. IfInfeasible answer (IsDue rows.now)) }
@@ -60,18 +60,19 @@ fn answered(alloc: Global, rows: &[LinRow]) -> Result<LinAnswer, Stop>
     let mut elimination = Elimination::new(alloc, &system)?;
     elimination.run(&system)?;
     let stages = elimination.into_stages();
-    let values = values(alloc, system.width, stages.as_slice())?;
-    checked(alloc, &system, values)
+    let values = values(alloc, &system, stages.as_slice())?;
+    Ok(LinAnswer::Feasible(Fractions::from_values(values)))
 }
 
 /// The values, last unknown first. An unknown that no stage eliminated stands before all, and is 0.
-fn values(alloc: Global, width: usize, stages: &[Stage]) -> Result<Vec<Fraction>, Stop>
-    ensures ok { IfOk result (λ values. ArePositive values.items) }
-    ensures err { (width : ℕ) (rows : List Inequality) → IsWithinWidth width rows → All (IsOfStages width rows) stages.now → IsCompleteElimination rows → IfErr result (StopShows rows) }
+fn values(alloc: Global, system: &System<'_>, stages: &[Stage]) -> Result<Vec<Fraction>, Stop>
+    requires { HasAllStages system.now.width system.now.rows.now stages.now }
+    ensures ok { IfOk result (λ values. IsSolution system.now.rows.now values.items) }
+    ensures err { IfErr result (StopShows system.now.rows.now) }
 {
-    let mut values = Vec::with_capacity(alloc, width)?;
-    for unknown in 0..width {
-        if stages.iter().all(|stage| stage.unknown != unknown) {
+    let mut values = Vec::with_capacity(alloc, system.width)?;
+    for unknown in 0..system.width {
+        if is_kept(unknown, stages) {
             values.push(Fraction {
                 unknown,
                 numerator: 0,
@@ -79,17 +80,27 @@ fn values(alloc: Global, width: usize, stages: &[Stage]) -> Result<Vec<Fraction>
             })?;
         }
     }
-    for stage in stages.iter().rev() {
-        let value = value_at(alloc, stage, values.as_slice())?;
+    for i in (0..stages.len()).rev() {
+        let value = value_at(alloc, &stages[i], values.as_slice())?;
         values.push(value)?;
     }
     Ok(values)
 }
 
+/// Whether no stage eliminated the unknown.
+fn is_kept(unknown: usize, stages: &[Stage]) -> bool
+    ensures { IsTrue result ↔ All (λ (stage : Stage). stage.unknown ≢ unknown) stages.now }
+{
+    stages.iter().all(|stage| stage.unknown != unknown)
+}
+
 /// The value of a stage's unknown, after those that were chosen before.
 fn value_at(alloc: Global, stage: &Stage, values: &[Fraction]) -> Result<Fraction, Stop>
-    requires { ArePositive values.now }
-    ensures ok { IfOk result (λ value. pos 0 <ℤ value.denominator) }
+    requires values { ArePositive values.now }
+    requires compatible { AreCompatible stage.now values.now }
+    ensures unknown { IfOk result (λ value. value.unknown ≡ stage.now.unknown) }
+    ensures positive { IfOk result (λ value. pos 0 <ℤ value.denominator) }
+    ensures met { IfOk result (MeetsStage stage.now values.now) }
     ensures err { (width : ℕ) (rows : List Inequality) → IsWithinWidth width rows → IsOfStages width rows stage.now → IsCompleteElimination rows → IfErr result (StopShows rows) }
 {
     let mut bounds = Vec::new(alloc);
@@ -126,6 +137,9 @@ fn put_bounds(
     requires reached { AreWithinReach bounds.old.items }
     ensures ok { OnOk result (AreNonzero bounds.new.items) }
     ensures reached { OnOk result (AreWithinReach bounds.new.items) }
+    ensures kept { OnOk result ((bound : Bound) → Contains bounds.old.items bound → Contains bounds.new.items bound) }
+    ensures put { OnOk result (HaveBounds rows.now values.now unknown bounds.new.items) }
+    ensures from { OnOk result ((bound : Bound) → Contains bounds.new.items bound → Contains bounds.old.items bound ⊎ IsOfRow rows.now values.now unknown bound) }
     ensures err { (width : ℕ) (given : List Inequality) (unknowns : List ℕ) → IsWithinWidth width given → All (IsDerived width given unknowns) rows.now → IsCompleteElimination given → IfErr result (StopShows given) }
 {
     for made in rows {
@@ -142,20 +156,4 @@ fn put_bounds(
         }
     }
     Ok(())
-}
-
-/// The values as the answer, where they meet the rows.
-fn checked(alloc: Global, system: &System<'_>, values: Vec<Fraction>) -> Result<LinAnswer, Stop>
-    requires positive { ArePositive values.items }
-    requires complete { IsCompleteElimination system.now.rows.now }
-    ensures ok { IfOk result (Shows system.now.rows.now) }
-    ensures err { IfErr result (StopShows system.now.rows.now) }
-{
-    for row in system.rows {
-        let left = put_in_all(alloc, row, values.as_slice())?;
-        if !left.is_true() {
-            return Err(Stop::OutOfMemory);
-        }
-    }
-    Ok(LinAnswer::Feasible(Fractions::from_values(values)))
 }

@@ -6,6 +6,9 @@ use Rattle.lin_arith.specs.Closure.{IsDue}
 use Rattle.lin_arith.specs.Closure.IsDue.{given as due}
 use Rattle.lin_arith.specs.Combination.{IsContradiction}
 use Rattle.lin_arith.proofs.GivenLemmas.{padded_is, given_contradicts, given_derived}
+use Rattle.std.proofs.lemmas.Bool.{false≢true}
+use Rattle.lin_arith.specs.Stages.{IsSound}
+use Rattle.lin_arith.proofs.StageLemmas.{sound_of}
 use Rattle.lin_arith.proofs.elimination.given.Goals as goal
 
 pub returns-then-is_contradiction-clause-err : goal.returns-then-is_contradiction-clause-err
@@ -25,4 +28,4 @@ returns-clause-ok c =
     let system = c.args.system.now in
     let row = c.index-system-i.result in
     let made = c.in_ok-row.ensures.padded ∙ ap (padded system.width) (sym c.index-system-i.is) ∙ padded_is system.width c.in_ok-multipliers.multipliers.items system.rows.now c.args.i row c.in_ok-multipliers.ensures c.index-system-i.is in
-    given_derived system.width system.rows.now c.args.i _ c.in_ok-multipliers.ensures (c.in_ok-try_clone.ensures ∙ made) made
+    given_derived system.width system.rows.now c.args.i _ c.in_ok-multipliers.ensures (c.in_ok-try_clone.ensures ∙ made) made (subst (λ (r : Inequality). IsSound r) (sym c.in_ok-try_clone.ensures) (sound_of c.in_ok-row.row (λ h. false≢true (c.if-is_contradiction.ensures.1 h))))

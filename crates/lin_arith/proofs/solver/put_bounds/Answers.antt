@@ -1,4 +1,4 @@
-use Rattle.std.proofs.Common.{rules, ◌≢◌, refl, arith, pos, ℤ, ◌*ℤ◌, ◌≤ℤ◌, FitsSigned}
+use Rattle.std.proofs.Common.{rules, ◌≡◌, ◌≢◌, ◌<◌, length, refl, sym, ◌∙◌, arith, pos, ℤ, ◌*ℤ◌, ◌≤ℤ◌, FitsSigned}
 use Rattle.std.proofs.lemmas.Int.{ints, to_z-of_z}
 use Rattle.std.proofs.lemmas.List.Elements.{All-push}
 use Rattle.std.specs.Int.{w128}
@@ -9,6 +9,7 @@ use Rattle.lin_arith.specs.declared.bounds.Bound.{Bound}
 use Rattle.lin_arith.specs.Substitution.{form_of}
 use Rattle.lin_arith.specs.Wide.{IsPutIn}
 use Rattle.lin_arith.specs.Wide.IsWide.{unmet}
+use Rattle.lin_arith.proofs.BoundsPutLemmas.{put_none, put_one, put_skip, have_bounds}
 use Rattle.lin_arith.proofs.StageLemmas.{form_of_derived}
 use Rattle.lin_arith.proofs.solver.put_bounds.Goals as goal
 use Rattle.lin_arith.proofs.solver.put_bounds.Goals.{then-bound-ne0+in_ok-push, else-bound-ne0}
@@ -37,13 +38,39 @@ loop-made-preserved c =
     let fb : FitsSigned w128 c.bound.result = search rules in
     let now : Bound = record { coefficient = c.coefficient.result; bound = c.bound.result } in
     let reached : IsReached now = simp to_z-of_z at (c.if-not-is_within_reach.ensures.reached refl) in
+    let rows = c.args.rows.now in
+    let values = c.args.values.now in
+    let unknown = c.args.unknown in
+    let old = c.args.bounds.now.items in
+    let i = c.loop-made.made-index in
+    let inv = c.loop-made.invariant in
+    let lt : i < length rows = omega arith in
     elim c.if-bound-ne0.branch [
       | then-bound-ne0+in_ok-push w ↦
           let pushed = simp to_z-of_z at w.in_ok-push.ensures.items in
           let nonzero : c.coefficient.result ≢ pos 0 = omega (arith, ints) in
           rw (w.bounds-is, pushed) record {
-            nonzero = All-push (λ (b : Bound). b.coefficient ≢ pos 0) c.loop-made.bounds.items now c.loop-made.invariant.nonzero nonzero;
-            reached = All-push IsReached c.loop-made.bounds.items now c.loop-made.invariant.reached reached;
+            nonzero = All-push (λ (b : Bound). b.coefficient ≢ pos 0) c.loop-made.bounds.items now inv.nonzero nonzero;
+            reached = All-push IsReached c.loop-made.bounds.items now inv.reached reached;
+            put = put_one rows values unknown old c.loop-made.bounds.items i c.made-item.result c.in_ok-left.left now lt c.made-item.is c.in_ok-left.ensures.ok c.coefficient.ensures c.bound.ensures inv.put;
           }
-      | else-bound-ne0 w ↦ rw w.bounds-is c.loop-made.invariant
+      | else-bound-ne0 w ↦
+          let zero : c.coefficient.result ≡ pos 0 = omega (arith, ints) in
+          rw w.bounds-is record {
+            nonzero = inv.nonzero;
+            reached = inv.reached;
+            put = put_skip rows values unknown old c.loop-made.bounds.items i c.made-item.result c.in_ok-left.left lt c.made-item.is c.in_ok-left.ensures.ok (sym c.coefficient.ensures ∙ zero) inv.put;
+          }
     ]
+
+pub loop-made-init : goal.loop-made-init
+loop-made-init c = record { nonzero = c.requires.bounds; reached = c.requires.reached; put = put_none c.args.rows.now c.args.values.now c.args.unknown c.args.bounds.now.items }
+
+pub returns-clause-kept : goal.returns-clause-kept
+returns-clause-kept c = c.loop-made.invariant.put.kept
+
+pub returns-clause-put : goal.returns-clause-put
+returns-clause-put c = have_bounds c.args.rows.now c.args.values.now c.args.unknown c.args.bounds.now.items c.loop-made.bounds.items c.loop-made.made-index c.loop-made.invariant.put (omega arith)
+
+pub returns-clause-from : goal.returns-clause-from
+returns-clause-from c = c.loop-made.invariant.put.from

@@ -1,5 +1,10 @@
 use Rattle.lin_arith.specs.Bounds.{AreNonzero, AreWithinReach}
+use Rattle.lin_arith.proofs.BoundsPutLemmas.{ArePut}
 use Rattle.lin_arith.proofs.solver.put_bounds.Given as goal
 
 abbrev pub invariant-loop-made : goal.invariant-loop-made
-invariant-loop-made l = record { nonzero : AreNonzero l.bounds.items; reached : AreWithinReach l.bounds.items }
+invariant-loop-made l = record {
+  nonzero : AreNonzero l.bounds.items;
+  reached : AreWithinReach l.bounds.items;
+  put : ArePut l.rows l.values l.unknown l.fn.bounds.items l.made-index l.bounds.items;
+}

@@ -5,6 +5,7 @@ use Rattle.std.proofs.lemmas.Int.{ints}
 use Rattle.std.proofs.lemmas.Result.{err_from_is_err_and}
 use Rattle.lin_arith.specs.Stages.{IsDerived}
 use Rattle.lin_arith.specs.declared.elimination.Derived.{Derived}
+use Rattle.lin_arith.proofs.BoundsPutLemmas.{stage_met}
 use Rattle.lin_arith.proofs.solver.value_at.Goals as goal
 
 pub unreachable-requires : goal.unreachable-requires
@@ -21,3 +22,16 @@ pub returns-in_err-put_bounds-2-clause-err : goal.returns-in_err-put_bounds-2-cl
 returns-in_err-put_bounds-2-clause-err c = λ width rows within s complete.
     let p = err_from_is_err_and c.from_residual-in_err-put_bounds-2.result c.from_residual-in_err-put_bounds-2.ensures.1 in
     rw (p.1, p.2) (c.in_err-put_bounds-2.ensures.err width rows s.unknowns within (subst (λ (ds : List Derived). All (IsDerived width rows s.unknowns) ds) (sym c.as_slice-2.ensures.value) s.is_stage.lower) complete)
+
+pub returns-clause-met : goal.returns-clause-met
+returns-clause-met c =
+    let stage = c.args.stage.now in
+    let values = c.args.values.now in
+    let first = c.put_bounds.new.bounds.items in
+    let second = c.put_bounds-2.new.bounds.items in
+    let a = rw (c.as_slice.ensures.value, c.new-bounds.ensures.items) at c.in_ok-put_bounds.ensures.from in
+    let b = rw c.as_slice-2.ensures.value at c.in_ok-put_bounds-2.ensures.from in
+    let upper = rw c.as_slice.ensures.value at c.in_ok-put_bounds.ensures.put in
+    let lower = rw c.as_slice-2.ensures.value at c.in_ok-put_bounds-2.ensures.put in
+    let met = rw c.as_slice-3.ensures.value at c.in-Some.ensures.met in
+    stage_met stage values first second c.in-Some.value c.requires.compatible a b c.in_ok-put_bounds-2.ensures.kept upper lower met c.in-Some.ensures.unknown

@@ -1,4 +1,8 @@
-use Rattle.std.proofs.Common.{refl, ◌∙◌, subst, ℕ}
+use Rattle.std.proofs.Common.{refl, sym, ap, ◌∙◌, subst, ℕ, List, ◌∷◌, ◌++◌, []}
+use Rattle.std.specs.Global.{Vec}
+use Rattle.lin_arith.specs.Stages.{AreParted, AreWhole, unknowns_of}
+use Rattle.lin_arith.specs.declared.elimination.Stage.{Stage}
+use Rattle.lin_arith.proofs.WholeLemmas.{stages_next}
 use Rattle.lin_arith.proofs.GrowthLemmas.{HaveSums, caught_up_next, stage_left}
 use Rattle.lin_arith.proofs.StageLemmas.{under_way_kept}
 use Rattle.lin_arith.proofs.elimination.Elimination.eliminate.Goals as goal
@@ -31,3 +35,19 @@ returns-clause-caught_up c =
 
 pub returns-clause-unknowns : goal.returns-clause-unknowns
 returns-clause-unknowns c = c.in_ok-add_sums.ensures.grown.unknowns ∙ c.in_ok-stage.ensures.unknowns
+
+pub returns-clause-stages : goal.returns-clause-stages
+returns-clause-stages c =
+    let system = c.args.system.now in
+    let stage = c.in_ok-stage.stage in
+    let e = c.in_ok-stage.ensures in
+    let new = c.add_sums.new.self in
+    let grown = c.in_ok-add_sums.ensures.grown in
+    let stages = grown.stages ∙ ap (λ (ss : Vec Stage). ss.items) e.stages in
+    let parted = subst (λ (n : ℕ). AreParted n c.args.self.now.live.items stage.upper.items stage.lower.items c.split.new.self.live.items) (sym e.unknown) e.parted in
+    let unknowns = e.unknowns ∙ ap (λ (n : ℕ). c.args.self.now.unknowns.items ++ n ∷ []) (sym e.unknown) in
+    let done = stages_next system.width system.rows.now stage c.args.self.now c.split.new.self new c.requires.under_way c.requires.caught_up c.requires.stages parted e.found unknowns stages grown c.in_ok-add_sums.ensures.sums in
+    record {
+      whole = subst (λ (ss : List Stage). AreWhole new.found ss) (sym c.in_ok-push.ensures.items) done.0;
+      unknowns = ap unknowns_of c.in_ok-push.ensures.items ∙ done.1;
+    }

@@ -4,6 +4,7 @@ use Rattle.std.proofs.lemmas.Result.{err_from_is_err_and}
 use Rattle.lin_arith.specs.Inequality.{Inequality, padded}
 use Rattle.lin_arith.specs.Stages.{IsDerived}
 use Rattle.lin_arith.proofs.GrowthLemmas.{keeps_grown, caught_up_first, begun}
+use Rattle.lin_arith.proofs.WholeLemmas.{no_stages}
 use Rattle.lin_arith.proofs.elimination.Elimination.new.Goals as goal
 
 pub loop-i-preserved : goal.loop-i-preserved
@@ -16,6 +17,7 @@ loop-i-preserved c =
     let derived : IsDerived width rows old.unknowns.items c.in_ok-given.field-0 = rw inv.unknowns c.in_ok-given.ensures.ok in
     let grown = c.in_ok-add.ensures.grown width rows inv.under_way derived in
     record {
+      stages = grown.stages ∙ inv.stages;
       unknowns = c.in_ok-add.ensures.unknowns ∙ inv.unknowns;
       under_way = c.in_ok-add.ensures.ok width rows inv.under_way derived;
       keeps = keeps_grown old new grown inv.keeps;
@@ -26,6 +28,11 @@ pub returns-clause-caught_up : goal.returns-clause-caught_up
 returns-clause-caught_up c =
     let inv = c.loop-i.invariant in
     caught_up_first c.args.system.now.width c.args.system.now.rows.now c.loop-i.elimination inv.unknowns inv.keeps (λ k d l. inv.begins k d (omega (arith, l)))
+
+pub returns-clause-stages : goal.returns-clause-stages
+returns-clause-stages c =
+    let inv = c.loop-i.invariant in
+    no_stages c.loop-i.elimination inv.stages inv.unknowns
 
 pub returns-in_err-given-clause-err : goal.returns-in_err-given-clause-err
 returns-in_err-given-clause-err c =

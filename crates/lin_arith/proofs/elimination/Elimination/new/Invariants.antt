@@ -7,6 +7,7 @@ use Rattle.lin_arith.proofs.elimination.Elimination.new.Given as goal
 abbrev pub invariant-loop-i : goal.invariant-loop-i
 invariant-loop-i l = record {
   unknowns : l.elimination.unknowns.items ≡ [];
+  stages : l.elimination.stages.items ≡ [];
   under_way : IsUnderWay l.system.width l.system.rows.now l.elimination;
   keeps : KeepsRows l.elimination;
   begins : (k : ℕ) (d : Inequality) → k < l.i → Contains l.elimination.found (padded l.system.width (get_or l.system.rows.now k d));

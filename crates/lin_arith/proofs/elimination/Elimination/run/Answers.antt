@@ -1,5 +1,6 @@
 use Rattle.std.proofs.Common.{ap, ◌∙◌, ℕ, List, length, [], ◌∷◌, arith, length-append}
-use Rattle.lin_arith.proofs.GrowthLemmas.{unknowns_within, complete}
+use Rattle.lin_arith.proofs.GrowthLemmas.{unknowns_within}
+use Rattle.lin_arith.proofs.WholeLemmas.{all_stages}
 use Rattle.lin_arith.proofs.elimination.Elimination.run.Goals as goal
 
 pub loop-unknown-smaller : goal.loop-unknown-smaller
@@ -9,8 +10,8 @@ loop-unknown-smaller c =
     let len = ap (λ (us : List ℕ). length us) c.in_ok-eliminate.ensures.unknowns ∙ length-append c.loop-unknown.self.unknowns.items (c.in-Some.unknown ∷ []) in
     omega (arith, within, len)
 
-pub returns-clause-complete : goal.returns-clause-complete
-returns-clause-complete c =
+pub returns-clause-stages : goal.returns-clause-stages
+returns-clause-stages c =
     let system = c.args.system.now in
     let inv = c.loop-unknown.invariant in
-    complete system.width system.rows.now c.loop-unknown.self inv.under_way inv.caught_up c.in_default.ensures.none
+    all_stages system.width system.rows.now c.loop-unknown.self inv.under_way inv.caught_up inv.stages c.in_default.ensures.none

@@ -1,0 +1,108 @@
+-- Values for the unknowns of all stages, the last stage first.
+use Rattle.std.proofs.Common.{◌≡◌, ◌≢◌, ℕ, zero, suc, ◌+◌, ◌<◌, List, [], ◌∷◌, ◌++◌, length, get_or, take, pos, ◌<ℤ◌, sym, ap, ◌∙◌, subst, arith, ◌⊎◌, inl, inr, below_more}
+use Rattle.std.specs.Prelude.{All, Contains}
+use Rattle.std.proofs.lemmas.Bool.Decides.{eqb_tells}
+use Rattle.std.proofs.lemmas.List.{get_or-map, get_or-take, length-map, length-take-le, map_more, take_all}
+use Rattle.std.proofs.lemmas.List.Elements.{All-nil, All-push, All-contains, Contains-push, Contains-push_cases, Contains-append_left}
+use Rattle.lin_arith.specs.Inequality.{Inequality, coefficient, padded}
+use Rattle.lin_arith.specs.Answer.{IsSolution}
+use Rattle.lin_arith.specs.Choice.{AreCompatible, MeetsStage}
+use Rattle.lin_arith.specs.Stages.{IsSound, unknowns_of, HasAllStages}
+use Rattle.lin_arith.specs.Substitution.{LinearForm, IsTrueForm, put_in_all, ArePositive}
+use Rattle.lin_arith.specs.declared.elimination.Stage.{Stage}
+use Rattle.lin_arith.specs.declared.rows.Fraction.{Fraction}
+use Rattle.lin_arith.proofs.ChoiceLemmas.{HasValue, AreChosen, met_by_all, stage_compatible, chosen_next}
+use Rattle.lin_arith.proofs.GivenLemmas.{padded_form}
+
+-- an unknown is that of a stage, or of none
+one_or_none : (stages : List Stage) (u : ℕ) → All (λ (stage : Stage). stage.unknown ≢ u) stages ⊎ Contains (unknowns_of stages) u
+one_or_none [] u = inl (All-nil (λ (stage : Stage). stage.unknown ≢ u))
+one_or_none (s ∷ ss) u = elim (eqb_tells s.unknown u) [
+  | inl e ↦ inr (0, omega arith, e.1)
+  | inr n ↦ elim (one_or_none ss u) [
+    | inr h ↦ inr (suc h.0, (let l = h.1 in omega (arith, l)), h.2)
+    | inl all ↦ inl (each n.1 all)
+  ]
+]
+  where
+    each : s.unknown ≢ u → All (λ (stage : Stage). stage.unknown ≢ u) ss → All (λ (stage : Stage). stage.unknown ≢ u) (s ∷ ss)
+    each n all zero d l = n
+    each n all (suc k) d l = all k d (omega (arith, l))
+
+contains_none : (stages : List Stage) (u : ℕ) → All (λ (stage : Stage). stage.unknown ≢ u) stages → Contains (unknowns_of stages) u → ⊥
+contains_none [] u n (k, l, e) = absurd (omega (arith, l))
+contains_none (s ∷ ss) u n (zero, l, e) = n 0 s (omega arith) e
+contains_none (s ∷ ss) u n (suc k, l, e) = contains_none ss u (λ i d m. n (suc i) d (omega (arith, m))) (k, omega (arith, l), e)
+
+-- values for the first unknowns that no stage eliminated
+pub record AreBegun (stages : List Stage) (count : ℕ) (values : List Fraction) : Type 0 where
+  pub positive : ArePositive values
+  pub covered : (u : ℕ) → u < count → Contains (unknowns_of stages) u ⊎ HasValue values u
+  pub others : (value : Fraction) → Contains values value → Contains (unknowns_of stages) value.unknown → ⊥
+
+pub none_begun : (stages : List Stage) (values : List Fraction) → values ≡ [] → AreBegun stages 0 values
+none_begun stages values e = subst (λ (vs : List Fraction). AreBegun stages 0 vs) (sym e) (record {
+  positive = All-nil (λ (v : Fraction). pos 0 <ℤ v.denominator);
+  covered = λ u l. absurd (omega (arith, l));
+  others = λ v h. absurd (let l = h.1 in omega (arith, l));
+})
+
+pub one_begun : (stages : List Stage) (count : ℕ) (values : List Fraction) (value : Fraction) → AreBegun stages count values → value.unknown ≡ count → pos 0 <ℤ value.denominator → All (λ (stage : Stage). stage.unknown ≢ count) stages → AreBegun stages (count + 1) (values ++ value ∷ [])
+one_begun stages count values value b same p kept = record {
+  positive = All-push (λ (v : Fraction). pos 0 <ℤ v.denominator) values value b.positive p;
+  covered = λ u l. below_more (λ (u : ℕ). Contains (unknowns_of stages) u ⊎ HasValue (values ++ value ∷ []) u) count (λ u l. elim (b.covered u l) [
+    | inl h ↦ inl h
+    | inr v ↦ inr (record { value = v.value; is_in = Contains-append_left values (value ∷ []) v.value v.is_in; same = v.same })
+  ]) (inr (record { value = value; is_in = Contains-push values value; same = same })) u l;
+  others = λ v h in_them. elim (Contains-push_cases values value v h) [
+    | inl o ↦ b.others v o in_them
+    | inr e ↦ contains_none stages count kept (subst (λ (u : ℕ). Contains (unknowns_of stages) u) (ap (λ (f : Fraction). f.unknown) (sym e) ∙ same) in_them)
+  ];
+}
+
+pub skip_begun : (stages : List Stage) (count : ℕ) (values : List Fraction) → AreBegun stages count values → (All (λ (stage : Stage). stage.unknown ≢ count) stages → ⊥) → AreBegun stages (count + 1) values
+skip_begun stages count values b gone = record {
+  positive = b.positive;
+  covered = λ u l. below_more (λ (u : ℕ). Contains (unknowns_of stages) u ⊎ HasValue values u) count b.covered (elim (one_or_none stages count) [ inr h ↦ inl h | inl all ↦ absurd (gone all) ]) u l;
+  others = b.others;
+}
+
+pub chosen_first : (width : ℕ) (rows : List Inequality) (stages : List Stage) (values : List Fraction) (all : HasAllStages width rows stages) → AreBegun stages width values → AreChosen width all.found (unknowns_of (take (length stages) stages)) values
+chosen_first width rows stages values all b = subst (λ (ss : List Stage). AreChosen width all.found (unknowns_of ss) values) (sym (take_all (length stages) stages (omega arith))) (record {
+  positive = b.positive;
+  met = λ row h w. met_by_all row values b.positive (All-contains IsSound all.found row all.sound h) (all.no_unknown_left row h w);
+  covered = b.covered;
+  others = b.others;
+})
+
+with_next : (stages : List Stage) (i : ℕ) (d : Stage) → i < length stages → unknowns_of (take (i + 1) stages) ≡ unknowns_of (take i stages) ++ (get_or stages i d).unknown ∷ []
+with_next stages i d l = map_more (λ (stage : Stage). stage.unknown) stages i d l
+
+not_before : (width : ℕ) (rows : List Inequality) (stages : List Stage) (i : ℕ) (d : Stage) → HasAllStages width rows stages → i < length stages → Contains (unknowns_of (take i stages)) (get_or stages i d).unknown → ⊥
+not_before width rows stages i d all l h =
+    let f = λ (stage : Stage). stage.unknown in
+    let u = (get_or stages i d).unknown in
+    let len = length-map stages f in
+    let some = length-map (take i stages) f in
+    let short = length-take-le i stages (omega (arith, l)) in
+    let m = h.1 in
+    let j = h.0 in
+    let before : j < i = omega (arith, some, short, m) in
+    let at_j : get_or (unknowns_of stages) j u ≡ (get_or stages j d).unknown = get_or-map f stages j d u (omega (arith, before, l)) in
+    let at_i : get_or (unknowns_of stages) i u ≡ u = get_or-map f stages i d u l in
+    let there : get_or (unknowns_of (take i stages)) j u ≡ (get_or stages j d).unknown = get_or-map f (take i stages) j d u (omega (arith, before, short)) ∙ ap f (get_or-take i stages j d before) in
+    all.different j i u before (omega (arith, len, l)) (at_j ∙ sym there ∙ h.2 ∙ sym at_i)
+
+pub compatible_back : (width : ℕ) (rows : List Inequality) (stages : List Stage) (values : List Fraction) (i : ℕ) (d : Stage) (all : HasAllStages width rows stages) → i < length stages → AreChosen width all.found (unknowns_of (take (i + 1) stages)) values → AreCompatible (get_or stages i d) values
+compatible_back width rows stages values i d all l c = stage_compatible width all.found (unknowns_of (take i stages)) (get_or stages i d) values (all.whole i d l) (subst (λ (us : List ℕ). AreChosen width all.found us values) (with_next stages i d l) c)
+
+pub chosen_back : (width : ℕ) (rows : List Inequality) (stages : List Stage) (values : List Fraction) (value : Fraction) (i : ℕ) (d : Stage) (all : HasAllStages width rows stages) → i < length stages → AreChosen width all.found (unknowns_of (take (i + 1) stages)) values → value.unknown ≡ (get_or stages i d).unknown → pos 0 <ℤ value.denominator → MeetsStage (get_or stages i d) values value → AreChosen width all.found (unknowns_of (take i stages)) (values ++ value ∷ [])
+chosen_back width rows stages values value i d all l c same p meets = chosen_next width all.found (unknowns_of (take i stages)) (get_or stages i d) values value all.same_width (all.whole i d l) (subst (λ (us : List ℕ). AreChosen width all.found us values) (with_next stages i d l) c) same p meets (not_before width rows stages i d all l)
+
+pub solved : (width : ℕ) (rows : List Inequality) (stages : List Stage) (values : List Fraction) (all : HasAllStages width rows stages) → AreChosen width all.found (unknowns_of (take 0 stages)) values → IsSolution rows values
+solved width rows stages values all c = record {
+  positive = c.positive;
+  met = λ k d l.
+      let row = get_or rows k d in
+      subst (λ (f : LinearForm). IsTrueForm (put_in_all f values)) (padded_form width row (all.within k d l)) (c.met (padded width row) (all.begins k d l) (All-nil (λ (u : ℕ). coefficient u (padded width row) ≡ pos 0)));
+}
