@@ -1,6 +1,6 @@
 //! Sums of rows, each times a multiplier.
 
-ghost use Rattle.std.specs.Prelude.{◌≡◌, ℕ, ◌<◌, length, pos, IfOk, IfSome, IfNone, ◌+ℤ◌, ◌*ℤ◌};
+ghost use Rattle.std.specs.Prelude.{◌≡◌, ℕ, ◌<◌, length, pos, false, IsTrue, IfOk, ◌+ℤ◌, ◌*ℤ◌};
 ghost use Rattle.std.specs.Option.{SomeIff};
 ghost use Rattle.lin_arith.specs.Combination.{IsAdded, weighted_sum, StaysWithin, part_of, combination, CombinesWithin, number, IsAddedTo, AddedLeaves};
 
@@ -19,7 +19,7 @@ pub enum Part {
 pub fn plus_product(total: i128, multiplier: i128, number: i128) -> Option<i128>
     ensures { SomeIff result (IsAdded total (multiplier *ℤ number)) (total +ℤ (multiplier *ℤ number)) }
 {
-    if multiplier == 0 {
+    if multiplier == 0 || number == 0 {
         return Some(total);
     }
     match multiplier.checked_mul(number) {
@@ -58,10 +58,9 @@ pub fn combined(
     let mut totals = vec![in alloc; 0i128; width]?;
     for i in 0..rows.len() {
         if multipliers[i] != 0 {
-            let Some(more) = plus_row(alloc, totals.as_slice(), multipliers[i], &rows[i])? else {
+            if !add_row(&mut totals, multipliers[i], &rows[i]) {
                 return Ok(None);
-            };
-            totals = more;
+            }
         }
     }
     let Some(bound) = weighted_sum(Part::Bound, multipliers, rows) else {
@@ -70,23 +69,18 @@ pub fn combined(
     Ok(Some(LinRow::new(totals, bound)))
 }
 
-/// The totals and a multiple of a row's coefficients. None where a product or a sum leaves 128 bits.
-fn plus_row(
-    alloc: Global,
-    totals: &[i128],
-    multiplier: i128,
-    row: &LinRow,
-) -> Result<Option<Vec<i128>>, NoMemory>
-    ensures len { IfOk result (λ made. IfSome made (λ more. length more.items ≡ length totals.now)) }
-    ensures some { IfOk result (λ made. IfSome made (λ more. (u : ℕ) → u < length totals.now → IsAddedTo multiplier u row.now (number u totals.now) (number u more.items))) }
-    ensures none { IfOk result (λ made. IfNone made (AddedLeaves multiplier row.now totals.now)) }
+/// Adds a multiple of a row's coefficients to the totals. Whether each product and each sum stays within
+/// 128 bits: where one does not, the totals are of no more use.
+fn add_row(totals: &mut Vec<i128>, multiplier: i128, row: &LinRow) -> bool
+    ensures len { length totals.new.items ≡ length totals.old.items }
+    ensures added { IsTrue result → (u : ℕ) → u < length totals.old.items → IsAddedTo multiplier u row.now (number u totals.old.items) (number u totals.new.items) }
+    ensures leaves { result ≡ false → AddedLeaves multiplier row.now totals.old.items }
 {
-    let mut more = Vec::with_capacity(alloc, totals.len())?;
     for unknown in 0..totals.len() {
         let Some(total) = plus_product(totals[unknown], multiplier, row.coefficient(unknown)) else {
-            return Ok(None);
+            return false;
         };
-        more.push(total)?;
+        totals[unknown] = total;
     }
-    Ok(Some(more))
+    true
 }

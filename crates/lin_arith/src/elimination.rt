@@ -279,7 +279,7 @@ fn sums_with(live: &[Derived], unknown: usize) -> Option<usize>
 fn key_of(alloc: Global, row: &LinRow) -> Result<Vec<i128>, NoMemory>
     ensures { IfOk result (λ key. key.items ≡ row.now.bound ∷ row.now.coefficients) }
 {
-    let mut key = Vec::with_capacity(alloc, 1)?;
+    let mut key = Vec::with_capacity(alloc, row.coefficients().len() + 1)?;
     key.push(row.bound())?;
     key.extend_from_slice(row.coefficients())?;
     Ok(key)
@@ -342,7 +342,7 @@ fn sum_without(
         return Err(wide(alloc, &upper.row, &lower.row)?);
     };
     Ok(Derived {
-        row: reduced(alloc, &total)?,
+        row: reduced(alloc, total.try_clone(alloc)?)?,
         total,
         multipliers,
     })

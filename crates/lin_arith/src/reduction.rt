@@ -9,14 +9,14 @@ use pv_base::memory::NoMemory;
 use std::alloc::Global;
 
 /// The row with its numbers divided by their greatest common divisor.
-pub fn reduced(alloc: Global, row: &LinRow) -> Result<LinRow, NoMemory>
-    ensures { IfOk result (IsReduced row.now) }
+pub fn reduced(alloc: Global, row: LinRow) -> Result<LinRow, NoMemory>
+    ensures { IfOk result (IsReduced row) }
 {
-    let divisor = divisor_of(row);
+    let divisor = divisor_of(&row);
     if divisor <= 1 {
-        row.try_clone(alloc)
+        Ok(row)
     } else {
-        divided(alloc, row, divisor)
+        divided(alloc, &row, divisor)
     }
 }
 

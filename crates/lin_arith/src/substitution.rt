@@ -34,7 +34,7 @@ fn put_in(alloc: Global, row: &LinRow, value: &Fraction) -> Result<Option<LinRow
     let Some(bound) = difference(factor, row.bound(), weight, value.numerator) else {
         return Ok(None);
     };
-    Ok(Some(reduced(alloc, &LinRow::new(coefficients, bound))?))
+    Ok(Some(reduced(alloc, LinRow::new(coefficients, bound))?))
 }
 
 /// The difference of two products. None where a product or the difference leaves 128 bits.

@@ -103,7 +103,7 @@ pub fn least_mixed(
     let Some(numbers) = mixed(alloc, weights, first, second)? else {
         return Ok(None);
     };
-    let least = reduced(alloc, &LinRow::new(numbers, 0))?;
+    let least = reduced(alloc, LinRow::new(numbers, 0))?;
     Ok(Some(least.into_coefficients()))
 }
 
@@ -125,5 +125,5 @@ pub fn sum_of_rows(
     let Some(bound) = mixed_number(weights, upper.bound(), lower.bound()) else {
         return Ok(None);
     };
-    Ok(Some(reduced(alloc, &LinRow::new(coefficients, bound))?))
+    Ok(Some(reduced(alloc, LinRow::new(coefficients, bound))?))
 }

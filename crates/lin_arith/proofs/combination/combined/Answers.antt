@@ -9,7 +9,7 @@ use Rattle.lin_arith.specs.Combination.{weighted_sum, number, IsAddedTo}
 use Rattle.lin_arith.proofs.ListLemmas.{get_or-any_default}
 use Rattle.lin_arith.proofs.CombinationLemmas.{weighted_sum-step, StaysWithin-step, weighted_sum-skip, StaysWithin-skip, weighted_sum-end, StaysWithin-end}
 use Rattle.lin_arith.proofs.combination.combined.Goals as goal
-use Rattle.lin_arith.proofs.combination.combined.Goals.{then-multipliers-i-ne0+in_ok-more+in-Some, else-multipliers-i-ne0}
+use Rattle.lin_arith.proofs.combination.combined.Goals.{then-multipliers-i-ne0+else-not-add_row, else-multipliers-i-ne0}
 
 pub loop-i-preserved : goal.loop-i-preserved
 loop-i-preserved c =
@@ -21,15 +21,13 @@ loop-i-preserved c =
     let in_rows : i < length rows = omega arith in
     let inv = c.loop-i.invariant in
     elim c.if-multipliers-i-ne0.branch [
-      | then-multipliers-i-ne0+in_ok-more+in-Some w ↦
-          let some = rw w.in-Some.is at w.in_ok-more.ensures.some in
-          let len0 = rw w.in-Some.is at w.in_ok-more.ensures.len in
+      | then-multipliers-i-ne0+else-not-add_row w ↦
           let fm : FitsSigned w128 (get_or ms i (pos 0)) = search rules in
-          let s0 = simp to_z-of_z at some in
           let row = w.index-rows-i.result in
-          let more = w.in-Some.more.items in
-          let s : (u : ℕ) → u < length old → IsAddedTo (get_or ms i (pos 0)) u row (number u old) (number u more) = rw w.as_slice.ensures.value at s0 in
-          let len : length more ≡ length old = rw w.as_slice.ensures.value at len0 in
+          let more = w.add_row.new.totals.items in
+          let s0 = w.add_row.ensures.added w.if-not-add_row.false in
+          let s : (u : ℕ) → u < length old → IsAddedTo (get_or ms i (pos 0)) u row (number u old) (number u more) = simp to_z-of_z at s0 in
+          let len : length more ≡ length old = w.add_row.ensures.len in
           let within : length old ≡ c.args.width = omega arith in
           rw w.totals-is record {
             len = omega (arith, len, within);
@@ -72,12 +70,12 @@ returns c =
     let made : length (map sums (range_with_len 0 width)) ≡ width = length-map-range_with_len sums 0 width in
     let same : totals ≡ map sums (range_with_len 0 width) = ext_get_or (pos 0) totals (map sums (range_with_len 0 width)) (omega (arith, len, made)) (λ u l.
     weighted_sum-end (coefficient u) ms rows c.loop-i.i (number u totals) (sums u) ended (inv.value u (omega (arith, len, l))) ∙ sym (get_or-map-range_with_len sums 0 width u u (pos 0) (omega (arith, len, l)) (omega arith))) in
-    let fb : FitsSigned w128 c.in-Some-weighted_sum.bound = search rules in
-    let bound = c.in-Some-weighted_sum.ensures in
-    let is : c.new.result ≡ record { coefficients = totals; bound = c.in-Some-weighted_sum.bound } = simp to_z-of_z at c.new.ensures in (
+    let fb : FitsSigned w128 c.in-Some.bound = search rules in
+    let bound = c.in-Some.ensures in
+    let is : c.new.result ≡ record { coefficients = totals; bound = c.in-Some.bound } = simp to_z-of_z at c.new.ensures in (
       record {
         coefficients = λ u l. (inv.within u l).1 (StaysWithin-end (coefficient u) ms rows c.loop-i.i (number u totals) ended);
         bound = bound.0;
       },
-      is ∙ ap (λ (xs : List ℤ). record { coefficients = xs; bound = c.in-Some-weighted_sum.bound }) same ∙ ap (λ (z : ℤ). record { coefficients = map sums (range_with_len 0 width); bound = z }) bound.1,
+      is ∙ ap (λ (xs : List ℤ). record { coefficients = xs; bound = c.in-Some.bound }) same ∙ ap (λ (z : ℤ). record { coefficients = map sums (range_with_len 0 width); bound = z }) bound.1,
     )

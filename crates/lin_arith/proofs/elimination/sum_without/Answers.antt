@@ -3,7 +3,8 @@ use Rattle.std.specs.Int.{w128}
 use Rattle.std.proofs.lemmas.Int.{to_z-of_z}
 use Rattle.std.proofs.lemmas.Result.{err_from_is_err_and}
 use Rattle.lin_arith.specs.Closure.{IsDue}
-use Rattle.lin_arith.specs.Inequality.{coefficient}
+use Rattle.lin_arith.specs.Inequality.{Inequality, coefficient}
+use Rattle.lin_arith.specs.Reduction.{IsReduced}
 use Rattle.lin_arith.specs.Combination.{combination, CombinesWithin}
 use Rattle.lin_arith.specs.Elimination.{Cancels, IsLeastMix, MixLeaves}
 use Rattle.lin_arith.specs.Wide.SumLeaves.{multiplier, number}
@@ -33,7 +34,7 @@ returns-clause-ok c = λ found unknowns before.
     let k = simp to_z-of_z at c.cancelling-weights.ensures in
     let cancels : Cancels c.coefficient.result c.coefficient-2.result weights.first weights.second = k above below in
     let cancelled : Cancels (coefficient c.args.unknown upper.total) (coefficient c.args.unknown lower.total) weights.first weights.second = rw (c.coefficient.ensures, c.coefficient-2.ensures) at cancels in
-    sum_derived system.width system.rows.now found unknowns c.args.unknown weights.first weights.second upper lower _ before cancelled least total c.in_ok-reduced.ensures (rw c.in-Some-2.is at c.in_ok-total.ensures.sound)
+    sum_derived system.width system.rows.now found unknowns c.args.unknown weights.first weights.second upper lower _ before cancelled least total (subst (λ (r : Inequality). IsReduced r c.in_ok-reduced.field-0) c.in_ok-try_clone.ensures c.in_ok-reduced.ensures) (rw c.in-Some-2.is at c.in_ok-total.ensures.sound)
 
 pub returns-in_default-clause-err : goal.returns-in_default-clause-err
 returns-in_default-clause-err c = λ found unknowns before.
@@ -88,7 +89,7 @@ returns-clause-sum c = λ found unknowns before.
     let k = simp to_z-of_z at c.cancelling-weights.ensures in
     let cancels : Cancels c.coefficient.result c.coefficient-2.result weights.first weights.second = k above below in
     let cancelled : Cancels (coefficient c.args.unknown upper.total) (coefficient c.args.unknown lower.total) weights.first weights.second = rw (c.coefficient.ensures, c.coefficient-2.ensures) at cancels in
-    sum_of_derived system.width system.rows.now found unknowns c.args.unknown weights.first weights.second upper lower (record { row = c.in_ok-reduced.field-0; total = c.in-Some-2.total; multipliers = c.in-Some.multipliers }) before cancelled least total c.in_ok-reduced.ensures
+    sum_of_derived system.width system.rows.now found unknowns c.args.unknown weights.first weights.second upper lower (record { row = c.in_ok-reduced.field-0; total = c.in-Some-2.total; multipliers = c.in-Some.multipliers }) before cancelled least total (subst (λ (r : Inequality). IsReduced r c.in_ok-reduced.field-0) c.in_ok-try_clone.ensures c.in_ok-reduced.ensures)
 
 pub returns-in_err-total-clause-err : goal.returns-in_err-total-clause-err
 returns-in_err-total-clause-err c = λ found unknowns before.
