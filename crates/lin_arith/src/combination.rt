@@ -22,6 +22,9 @@ pub fn plus_product(total: i128, multiplier: i128, number: i128) -> Option<i128>
     if multiplier == 0 || number == 0 {
         return Some(total);
     }
+    if multiplier == 1 {
+        return total.checked_add(number);
+    }
     match multiplier.checked_mul(number) {
         Some(product) => total.checked_add(product),
         None => None,

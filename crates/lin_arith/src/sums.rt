@@ -57,13 +57,16 @@ pub fn mixed_number(weights: Weights, first: i128, second: i128) -> Option<i128>
     }
 }
 
-/// The same, where two numbers of 0 add up to 0 at once.
+/// The same, with no product for two numbers of 0 or two multipliers of 1.
 fn mixed_at_once(weights: Weights, first: i128, second: i128) -> Option<i128>
     ensures some { IfSome result (λ number. number ≡ (pos weights.first *ℤ first) +ℤ (pos weights.second *ℤ second)) }
     ensures none { IfNone result (¬ (MixFits weights.first weights.second first second)) }
 {
     if first == 0 && second == 0 {
         return Some(0);
+    }
+    if weights.first == 1 && weights.second == 1 {
+        return first.checked_add(second);
     }
     mixed_number(weights, first, second)
 }
