@@ -26,6 +26,9 @@ fn divisor_of(row: &LinRow) -> u128
 {
     let mut divisor = row.bound().unsigned_abs();
     for coefficient in row.coefficients() {
+        if divisor == 1 {
+            return 1;
+        }
         divisor = greatest_common_divisor(divisor, coefficient.unsigned_abs());
     }
     divisor

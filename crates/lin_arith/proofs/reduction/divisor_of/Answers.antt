@@ -1,8 +1,9 @@
-use Rattle.std.proofs.Common.{rules, ◌≡◌, pos, ℤ, List, get_or, length, FitsSigned, arith, ap, ◌∙◌, subst, below_more}
+use Rattle.std.proofs.Common.{rules, ◌≡◌, ℕ, pos, ℤ, List, get_or, length, FitsSigned, arith, ap, ◌∙◌, subst, below_more}
 use Rattle.std.specs.Prelude.{unsigned_abs}
 use Rattle.std.specs.Int.{w128, ◌∣◌}
 use Rattle.std.proofs.lemmas.Int.{to_z-of_z}
 use Rattle.std.proofs.lemmas.Nat.Gcd.{dvd_refl, dvd_trans}
+use Rattle.std.proofs.Math.Nat.{one-dvd}
 use Rattle.lin_arith.proofs.ListLemmas.{get_or-any_default}
 use Rattle.lin_arith.proofs.reduction.divisor_of.Goals as goal
 
@@ -31,6 +32,17 @@ loop-coefficient-preserved c =
       bound = dvd_trans new g.0 old.bound;
       before = below_more _ _ (λ k h. dvd_trans new g.0 (old.before k h)) g.1;
       greatest = λ d b h. g.2 d (old.greatest d b (λ k l. h k (omega arith))) (h i (omega arith));
+    }
+
+pub returns-then-divisor-eq1 : goal.returns-then-divisor-eq1
+returns-then-divisor-eq1 c =
+    let items : c.coefficients-coefficient-items.result.now ≡ c.args.row.now.coefficients = c.coefficients-coefficient-items.ensures in
+    let len : length c.coefficients-coefficient-items.result.now ≡ length c.args.row.now.coefficients = ap length items in
+    let inv = c.loop-coefficient.invariant in
+    let one : c.loop-coefficient.divisor ≡ 1 = omega arith in
+    record {
+      divides = record { coefficients = λ k d h. one-dvd _; bound = one-dvd _ };
+      greatest = λ d h. subst (λ (n : ℕ). d ∣ n) one (inv.greatest d h.bound (λ k l. h.coefficients k (pos 0) (omega arith)));
     }
 
 pub returns : goal.returns
