@@ -1,4 +1,4 @@
-use Rattle.std.proofs.Common.{rules, ◌≡◌, ◌<◌, ◌+◌, ℕ, ℤ, List, length, pos, ◌+ℤ◌, ◌*ℤ◌, get_or, set, FitsSigned, arith, subst, ap, sym, ◌∙◌, below_more}
+use Rattle.std.proofs.Common.{rules, ◌≡◌, ◌<◌, ◌+◌, ℕ, ℤ, List, length, pos, ◌+ℤ◌, ◌*ℤ◌, set, FitsSigned, arith, subst, ap, sym, ◌∙◌, below_more}
 use Rattle.std.specs.Int.{w128}
 use Rattle.std.proofs.lemmas.Int.{to_z-of_z}
 use Rattle.std.proofs.lemmas.List.{get_or-set_same, get_or-set_other, length-set}
