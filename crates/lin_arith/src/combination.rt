@@ -39,10 +39,12 @@ pub fn weighted_sum(part: Part, multipliers: &[i128], rows: &[LinRow]) -> Option
 {
     let mut total: i128 = 0;
     for i in 0..rows.len() {
-        let Some(more) = plus_product(total, multipliers[i], rows[i].part(part)) else {
-            return None;
-        };
-        total = more;
+        if multipliers[i] != 0 {
+            let Some(more) = plus_product(total, multipliers[i], rows[i].part(part)) else {
+                return None;
+            };
+            total = more;
+        }
     }
     Some(total)
 }
