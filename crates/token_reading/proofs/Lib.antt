@@ -1,0 +1,10 @@
+pub mod Steps
+pub mod BeginLemmas
+pub mod TokenLemmas
+pub mod FirstLemmas
+pub mod ListLemmas
+pub mod ListSteps
+pub mod BalanceLemmas
+pub mod SpelledTokens
+pub mod ChainLemmas
+pub mod ChainSteps
