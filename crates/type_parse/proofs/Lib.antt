@@ -1,0 +1,4 @@
+pub mod Turns
+pub mod PathLemmas
+pub mod TypeLemmas
+pub mod PatternLemmas

@@ -1,0 +1,3 @@
+pub mod PathReading
+pub mod TypeReading
+pub mod PatternReading
