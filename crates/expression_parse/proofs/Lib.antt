@@ -1,0 +1,11 @@
+pub mod LeafLemmas
+pub mod Loops
+pub mod OperatorLemmas
+pub mod OpenLemmas
+pub mod Operators
+pub mod EndLemmas
+pub mod Sound
+pub mod TermComplete
+pub mod KindLemmas
+pub mod Complete
+pub mod BlockLemmas

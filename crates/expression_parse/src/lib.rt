@@ -1,0 +1,12 @@
+//! Expressions and blocks are read from tokens.
+#![tactic(auto)]
+
+pub mod block;
+pub mod control;
+pub mod expression;
+pub mod leaf;
+pub mod lists;
+pub mod operator;
+pub mod term;
+#[cfg(test)]
+mod tests;

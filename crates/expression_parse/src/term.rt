@@ -1,0 +1,294 @@
+//! Operands: operators before them, terms, and the fields behind terms.
+
+ghost use Rattle.std.specs.Prelude.{◌≡◌, None, Some, MatchResult};
+ghost use Rattle.move_tree.specs.TypeTreeData.{maybe_arguments_of};
+ghost use Rattle.token_reading.specs.ReadFault.{IfNoTree};
+ghost use Rattle.expression_parse.specs.ExpressionReading.{assert_at, operand_at, parenthesized_at, path_term_at, readers, several, term_at, vector_at, whole_fields_at};
+
+use crate::block::read_contents;
+use crate::expression::read_expression;
+use crate::leaf::{
+    BehindFirst, PathForm, place_of_assert, place_of_vector, read_behind_first, read_cast_target,
+    read_glued_arguments, read_path_form, read_plain_literal, read_prefix, read_use,
+};
+use crate::lists::{read_expressions, read_field_values};
+use move_tree::expression::{Block, Expression, ExpressionNode};
+use move_tree::literal::Literal;
+use pv_base::span::Span;
+use src_tree::token::{Punctuation, Token};
+use std::alloc::Global;
+use token_reading::fault::ReadFault;
+use token_reading::tokens::{expect_sign, place_of_sign, read_identifier, skip_sign};
+use type_parse::path::{read_address, read_path};
+use type_parse::types::read_maybe_arguments;
+
+/// The level of operators before an operand.
+const UNARY_LEVEL: usize = 13;
+
+/// An operand, and the tokens behind it.
+#[cycle(expression)]
+#[tactic(auto, unfolding(crate::specs::ExpressionReading::operand_at))]
+pub fn read_operand(
+    alloc: Global,
+    tokens: &[Token],
+    budget: usize,
+) -> Result<(Expression, &[Token]), ReadFault>
+    ensures { MatchResult result (λ read. operand_at (readers budget) tokens.now ≡ Some (read.0, read.1.now)) (λ fault. IfNoTree fault (operand_at (readers budget) tokens.now ≡ None)) }
+{
+    if let Some((operator, place, rest)) = read_prefix(tokens) {
+        let (operand, rest) = read_expression(alloc, UNARY_LEVEL, rest, budget)?;
+        let node = ExpressionNode::Unary {
+            operator,
+            place,
+            operand: Box::new(alloc, operand)?,
+        };
+        return Ok((Expression { node }, rest));
+    }
+    if let Some((kind, place, rest)) = read_use(tokens) {
+        let (local, rest) = read_identifier(alloc, rest)?;
+        let node = ExpressionNode::Use { kind, place, local };
+        return Ok((Expression { node }, rest));
+    }
+    let (term, rest) = read_term(alloc, tokens, budget)?;
+    read_fields(alloc, term, rest)
+}
+
+/// The fields of fields behind a term.
+fn read_fields(
+    alloc: Global,
+    term: Expression,
+    tokens: &[Token],
+) -> Result<(Expression, &[Token]), ReadFault>
+    ensures { MatchResult result (λ read. whole_fields_at term tokens.now ≡ Some (read.0, read.1.now)) (λ fault. IfNoTree fault (whole_fields_at term tokens.now ≡ None)) }
+{
+    let mut base = Box::new(alloc, term)?;
+    let mut rest = tokens;
+    for _ in 0..tokens.len() + 1 {
+        let Some(behind) = skip_sign(rest, Punctuation::Period) else {
+            return Ok((Box::into_inner(base), rest));
+        };
+        let (field, behind) = read_identifier(alloc, behind)?;
+        let node = ExpressionNode::Field { base, field };
+        base = Box::new(alloc, Expression { node })?;
+        rest = behind;
+    }
+    Err(ReadFault::NoTree { left: 0 })
+}
+
+/// A term, and the tokens behind it.
+#[cycle(expression)]
+#[tactic(auto, unfolding(crate::specs::ExpressionReading::term_at, crate::specs::ExpressionReading::block_at))]
+fn read_term(
+    alloc: Global,
+    tokens: &[Token],
+    budget: usize,
+) -> Result<(Expression, &[Token]), ReadFault>
+    ensures { MatchResult result (λ read. term_at (readers budget) tokens.now ≡ Some (read.0, read.1.now)) (λ fault. IfNoTree fault (term_at (readers budget) tokens.now ≡ None)) }
+{
+    if let Some((place, rest)) = place_of_sign(tokens, Punctuation::LeftParenthesis) {
+        return read_parenthesized(alloc, place, rest, budget);
+    }
+    if let Some((place, rest)) = place_of_sign(tokens, Punctuation::LeftBrace) {
+        let (items, value, rest) = read_contents(alloc, rest, budget)?;
+        let block = Block {
+            place,
+            spec: None,
+            items,
+            value,
+        };
+        let node = ExpressionNode::Block(Box::new(alloc, block)?);
+        return Ok((Expression { node }, rest));
+    }
+    if let Some((place, rest)) = place_of_sign(tokens, Punctuation::AtSign) {
+        let (address, rest) = read_address(alloc, rest)?;
+        let node = ExpressionNode::Literal(Literal::Address { place, address });
+        return Ok((Expression { node }, rest));
+    }
+    if let Some((literal, rest)) = read_plain_literal(alloc, tokens)? {
+        let node = ExpressionNode::Literal(literal);
+        return Ok((Expression { node }, rest));
+    }
+    if let Some((place, rest)) = place_of_vector(tokens) {
+        return read_vector(alloc, place, rest, budget);
+    }
+    if let Some((place, rest)) = place_of_assert(tokens) {
+        return read_assert(alloc, place, rest, budget);
+    }
+    read_path_term(alloc, tokens, budget)
+}
+
+/// What stands in parentheses, behind the first of them.
+#[cycle(expression)]
+#[tactic(auto, unfolding(crate::specs::ExpressionReading::parenthesized_at))]
+fn read_parenthesized(
+    alloc: Global,
+    place: Span,
+    tokens: &[Token],
+    budget: usize,
+) -> Result<(Expression, &[Token]), ReadFault>
+    ensures { MatchResult result (λ read. parenthesized_at (readers budget) place tokens.now ≡ Some (read.0, read.1.now)) (λ fault. IfNoTree fault (parenthesized_at (readers budget) place tokens.now ≡ None)) }
+{
+    if let Some(rest) = skip_sign(tokens, Punctuation::RightParenthesis) {
+        let node = ExpressionNode::Tuple {
+            place,
+            items: Vec::new(alloc),
+            last_comma: false,
+        };
+        return Ok((Expression { node }, rest));
+    }
+    let (first, rest) = read_expression(alloc, 0, tokens, budget)?;
+    let first = Box::new(alloc, first)?;
+    match read_behind_first(rest)? {
+        (BehindFirst::Close, rest) => {
+            let mut items = Vec::new(alloc);
+            items.push(Box::into_inner(first))?;
+            let node = ExpressionNode::Tuple {
+                place,
+                items,
+                last_comma: false,
+            };
+            Ok((Expression { node }, rest))
+        }
+        (BehindFirst::As, rest) => {
+            let (target, rest) = read_cast_target(alloc, rest, budget)?;
+            let node = ExpressionNode::Cast {
+                place,
+                value: first,
+                target,
+            };
+            Ok((Expression { node }, rest))
+        }
+        (BehindFirst::Comma, rest) => {
+            let (more, last_comma, rest) = read_expressions(
+                alloc,
+                Punctuation::RightParenthesis,
+                rest,
+                budget,
+            )?;
+            several(place, first, more, last_comma, rest)
+        }
+    }
+}
+
+/// Several expressions in parentheses, the first of which was read before the others.
+#[tactic(auto, using(crate::proofs::Loops::several_none, crate::proofs::Loops::several_some))]
+fn several(
+    place: Span,
+    first: Box<Expression>,
+    more: Vec<Expression>,
+    last_comma: bool,
+    rest: &[Token],
+) -> Result<(Expression, &[Token]), ReadFault>
+    ensures { MatchResult result (λ read. several place first.value (more.items, last_comma) rest.now ≡ Some (read.0, read.1.now)) (λ fault. IfNoTree fault (several place first.value (more.items, last_comma) rest.now ≡ None)) }
+{
+    if more.is_empty() {
+        return Err(ReadFault::NoTree { left: rest.len() });
+    }
+    let mut items = more;
+    items.insert(0, Box::into_inner(first))?;
+    let node = ExpressionNode::Tuple {
+        place,
+        items,
+        last_comma,
+    };
+    Ok((Expression { node }, rest))
+}
+
+/// A call, a pack, or a path alone.
+#[cycle(expression)]
+#[tactic(auto, unfolding(crate::specs::ExpressionReading::path_term_at))]
+fn read_path_term(
+    alloc: Global,
+    tokens: &[Token],
+    budget: usize,
+) -> Result<(Expression, &[Token]), ReadFault>
+    ensures { MatchResult result (λ read. path_term_at (readers budget) tokens.now ≡ Some (read.0, read.1.now)) (λ fault. IfNoTree fault (path_term_at (readers budget) tokens.now ≡ None)) }
+{
+    let (path, rest) = read_path(alloc, tokens)?;
+    let (arguments, rest) = read_glued_arguments(alloc, rest, budget)?;
+    match read_path_form(arguments.is_some(), &path, rest)? {
+        (PathForm::Call, rest) => {
+            let (values, last_comma, rest) = read_expressions(
+                alloc,
+                Punctuation::RightParenthesis,
+                rest,
+                budget,
+            )?;
+            let node = ExpressionNode::Call {
+                function: path,
+                arguments,
+                values,
+                last_comma,
+            };
+            Ok((Expression { node }, rest))
+        }
+        (PathForm::Pack, rest) => {
+            let (fields, last_comma, rest) = read_field_values(alloc, rest, budget)?;
+            let node = ExpressionNode::Pack {
+                path,
+                arguments,
+                fields,
+                last_comma,
+            };
+            Ok((Expression { node }, rest))
+        }
+        (PathForm::Alone, rest) => {
+            let node = ExpressionNode::Path(path);
+            Ok((Expression { node }, rest))
+        }
+    }
+}
+
+/// A vector behind its word.
+#[cycle(expression)]
+#[tactic(auto, unfolding(crate::specs::ExpressionReading::vector_at))]
+fn read_vector(
+    alloc: Global,
+    place: Span,
+    tokens: &[Token],
+    budget: usize,
+) -> Result<(Expression, &[Token]), ReadFault>
+    ensures { MatchResult result (λ read. vector_at (readers budget) place tokens.now ≡ Some (read.0, read.1.now)) (λ fault. IfNoTree fault (vector_at (readers budget) place tokens.now ≡ None)) }
+{
+    let (arguments, rest) = read_maybe_arguments(alloc, tokens, budget)?;
+    let rest = expect_sign(rest, Punctuation::LeftBracket)?;
+    let (items, last_comma, rest) = read_expressions(
+        alloc,
+        Punctuation::RightBracket,
+        rest,
+        budget,
+    )?;
+    let node = ExpressionNode::Vector {
+        place,
+        arguments,
+        items,
+        last_comma,
+    };
+    Ok((Expression { node }, rest))
+}
+
+/// The condition and the code behind `assert!`.
+#[cycle(expression)]
+#[tactic(auto, unfolding(crate::specs::ExpressionReading::assert_at))]
+fn read_assert(
+    alloc: Global,
+    place: Span,
+    tokens: &[Token],
+    budget: usize,
+) -> Result<(Expression, &[Token]), ReadFault>
+    ensures { MatchResult result (λ read. assert_at (readers budget) place tokens.now ≡ Some (read.0, read.1.now)) (λ fault. IfNoTree fault (assert_at (readers budget) place tokens.now ≡ None)) }
+{
+    let rest = expect_sign(tokens, Punctuation::LeftParenthesis)?;
+    let (condition, rest) = read_expression(alloc, 0, rest, budget)?;
+    let condition = Box::new(alloc, condition)?;
+    let rest = expect_sign(rest, Punctuation::Comma)?;
+    let (code, rest) = read_expression(alloc, 0, rest, budget)?;
+    let code = Box::new(alloc, code)?;
+    let rest = expect_sign(rest, Punctuation::RightParenthesis)?;
+    let node = ExpressionNode::Assert {
+        place,
+        condition,
+        code,
+    };
+    Ok((Expression { node }, rest))
+}
