@@ -1,0 +1,3 @@
+pub mod Markers
+pub mod MarkerReading
+pub mod ParseFault
