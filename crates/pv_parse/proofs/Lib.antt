@@ -1,0 +1,5 @@
+pub mod HeadLemmas
+pub mod MemberLemmas
+pub mod FileLemmas
+pub mod FileSteps
+pub mod DenotedLemmas

@@ -1,0 +1,3 @@
+pub mod MemberReading
+pub mod FileReading
+pub mod Denoted

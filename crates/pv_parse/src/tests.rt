@@ -1,0 +1,168 @@
+//! Files that are read from texts, and why others are not.
+
+use crate::denoted::modules;
+use left_out::explain::ParseFault;
+use left_out::marker::Marker;
+use src_tree::scanner::tokens;
+use src_tree::token::Tokens;
+use std::alloc::Global;
+use std::process::Abort;
+
+fn scan(rt: &impl Abort, alloc: Global, text: &[u8]) -> Tokens {
+    assert!(rt; text.len() < 1000);
+    match tokens(alloc, 0, text) {
+        Ok(found) => found,
+        Err(fault) => {
+            assert!(rt; false, "{fault:?}");
+            Tokens::new(alloc)
+        }
+    }
+}
+
+/// The modules of the text have this many members in all.
+fn reads(rt: &impl Abort, alloc: Global, text: &[u8], members: usize) {
+    match modules(alloc, &scan(rt, alloc, text)) {
+        Ok(file) => {
+            let mut count: usize = 0;
+            for module in file.modules.iter() {
+                count = count.saturating_add(module.members.len());
+            }
+            assert_eq!(rt; count, members);
+        }
+        Err(fault) => assert!(rt; false, "{fault:?}"),
+    }
+}
+
+fn fails(rt: &impl Abort, alloc: Global, text: &[u8], expected: ParseFault) {
+    match modules(alloc, &scan(rt, alloc, text)) {
+        Ok(_) => assert!(rt; false, "a file"),
+        Err(fault) => assert_eq!(rt; fault, expected),
+    }
+}
+
+#[test]
+fn files_of_texts(rt: HostRuntime) {
+    let alloc = rt.alloc();
+    reads(&rt, alloc, b"", 0);
+    reads(
+        &rt,
+        alloc,
+        b"module 0x1::m { } module 0x2::n { fun f() { } }",
+        1,
+    );
+    reads(
+        &rt,
+        alloc,
+        b"module 0x1::m { use 0x1::n; friend 0x1::n; struct S has key, store { a: u64, b: S, } const C: u64 = 1; fun f() { } spec f { aborts_if a [b]; } }",
+        6,
+    );
+    reads(
+        &rt,
+        alloc,
+        b"module 0x1::m { #[test] public(friend) entry fun f<T: store>(x: &mut T,): (u64, u8) acquires S { (1, 2u8) } }",
+        1,
+    );
+    reads(&rt, alloc, b"module 0x1::m { fun f() { i < n } }", 1);
+    reads(
+        &rt,
+        alloc,
+        b"module 0x1::m { fun f() { assert(a); assert!(a, 1) } }",
+        1,
+    );
+    reads(
+        &rt,
+        alloc,
+        b"module 0x1::m { fun f() { if (a) if (b) c else d } }",
+        1,
+    );
+    reads(
+        &rt,
+        alloc,
+        b"module 0x1::m { spec module { pragma verify = true; } spec schema S<T> { ensures true; } }",
+        2,
+    );
+}
+
+#[test]
+fn texts_of_no_file(rt: HostRuntime) {
+    let alloc = rt.alloc();
+    fails(
+        &rt,
+        alloc,
+        b"module 0x1::m { fun f() { i<n } }",
+        ParseFault::Grammar(30),
+    );
+    fails(
+        &rt,
+        alloc,
+        b"module 0x1::m { } fun",
+        ParseFault::Grammar(18),
+    );
+    fails(&rt, alloc, b"module 0x1::m {", ParseFault::Grammar(14));
+    fails(
+        &rt,
+        alloc,
+        b"module 0x1::m { const c: u64 = 1; }",
+        ParseFault::Grammar(22),
+    );
+    fails(
+        &rt,
+        alloc,
+        b"module 0x1::m { fun f() { a > > b } }",
+        ParseFault::Grammar(30),
+    );
+    fails(
+        &rt,
+        alloc,
+        b"module 0x1::m { spec f ( { } ) { } }",
+        ParseFault::Grammar(25),
+    );
+    fails(
+        &rt,
+        alloc,
+        b"module 0x1::m { inline fun f() { } }",
+        ParseFault::LeftOut(Marker::Inline, 16),
+    );
+    fails(
+        &rt,
+        alloc,
+        b"script { fun f() { } }",
+        ParseFault::LeftOut(Marker::Script, 0),
+    );
+    fails(
+        &rt,
+        alloc,
+        b"module 0x1::m { fun f(x: u256) { } }",
+        ParseFault::LeftOut(Marker::WideType, 25),
+    );
+    fails(
+        &rt,
+        alloc,
+        b"module 0x1::m { fun f() { 1u256 } }",
+        ParseFault::LeftOut(Marker::WideNumber, 26),
+    );
+    fails(
+        &rt,
+        alloc,
+        b"module 0x1::m { fun f() { b\"hi\" } }",
+        ParseFault::LeftOut(Marker::Bytes, 26),
+    );
+    fails(
+        &rt,
+        alloc,
+        b"module 0x1::m { fun f() { x\"00\" } }",
+        ParseFault::LeftOut(Marker::HexBytes, 26),
+    );
+    fails(
+        &rt,
+        alloc,
+        b"module 0x1::m { fun f() { assert a } }",
+        ParseFault::LeftOut(Marker::Assert, 26),
+    );
+    fails(
+        &rt,
+        alloc,
+        b"module 0x1::m { native fun f(); inline }",
+        ParseFault::LeftOut(Marker::Native, 16),
+    );
+}
