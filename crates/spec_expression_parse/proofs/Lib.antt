@@ -1,0 +1,15 @@
+pub mod RepeatLemmas
+pub mod GluedLemmas
+pub mod OperatorLemmas
+pub mod LeafLemmas
+pub mod ShapeLemmas
+pub mod Lists
+pub mod JoinLemmas
+pub mod TermSound
+pub mod FormSound
+pub mod TermComplete
+pub mod OperandComplete
+pub mod FormComplete
+pub mod Turns
+pub mod OperatedSteps
+pub mod TriggerSteps

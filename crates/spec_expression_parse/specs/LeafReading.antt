@@ -1,0 +1,71 @@
+-- How the parts of a spec expression are read that hold no other: numbers, truth values, and the words of quantifiers.
+use Rattle.std.specs.Prelude.{Bool, true, false, ◌&&◌, ◌||◌, if◌then◌else◌, List, [], ◌∷◌, Option, Some, None, is_some, option_and_then, codes}
+use Rattle.std.specs.Option.{option_map, option_map_or}
+use Rattle.pv_base.specs.declared.span.Span.{Span}
+use Rattle.src_tree.specs.declared.token.Token.{Token}
+use Rattle.src_tree.specs.declared.token.TokenKind.{TokenKind}
+use Rattle.src_tree.specs.declared.token.TokenKind.TheVariants.{Word, Number, ByteString, Punctuation}
+use Rattle.src_tree.specs.declared.token.NumberLiteral.{NumberLiteral}
+use Rattle.src_tree.specs.declared.token.NumberSuffix.{NumberSuffix}
+use Rattle.src_tree.specs.declared.token.NumberSuffix.TheVariants.{U256}
+use Rattle.src_tree.specs.declared.token.Punctuation.TheVariants.{LeftBrace, LeftBracket, Colon, ColonColon, Period}
+use Rattle.move_tree.specs.declared.lexeme.Numeral.{Numeral}
+use Rattle.move_tree.specs.declared.literal.Literal.{Literal}
+use Rattle.move_tree.specs.declared.literal.Literal.TheVariants.{Number as number_literal, Truth, Address}
+use Rattle.move_tree.specs.declared.path.Path.{Path}
+use Rattle.move_tree.specs.ProperTypes.{last_name}
+use Rattle.spec_tree.specs.declared.spec_operator.Quantifier.{Quantifier}
+use Rattle.spec_tree.specs.declared.spec_operator.Quantifier.TheVariants.{ForAll, Exists}
+use Rattle.token_reading.specs.TokenReading.{Read, after_sign, after_word, word_place_at, identifier_at, begins_capital}
+use Rattle.type_parse.specs.PathReading.{address_at}
+
+-- ---- literals
+
+-- a number whose type is not wider than u128
+abbrev pub not_wider : NumberLiteral → NumberSuffix → Option NumberLiteral
+not_wider literal U256 = None
+not_wider literal _ = Some literal
+
+abbrev pub number_of : TokenKind → Option NumberLiteral
+number_of (Number literal) = not_wider literal literal.suffix
+number_of (Word name) = None
+number_of (ByteString text) = None
+number_of (Punctuation sign) = None
+
+-- a number that begins no path
+unfoldable pub number_at : List Token → Read Numeral
+number_at [] = None
+number_at (t ∷ ts) =
+    option_and_then (λ literal. if is_some (after_sign ColonColon ts) then None else Some (record { literal = literal; place = t.span }, ts)) (number_of t.kind)
+
+-- a number or a truth value
+unfoldable pub plain_literal_at : List Token → Read Literal
+plain_literal_at ts =
+    option_map_or (λ n. Some (number_literal n.0, n.1)) (number_at ts)
+    (option_map_or (λ p. Some (Truth p.0 true, p.1)) (word_place_at (codes "true") ts) (option_map (λ p. (Truth p.0 false, p.1)) (word_place_at (codes "false") ts)))
+
+-- an address behind its `@`
+unfoldable pub address_literal_at : Span → List Token → Read Literal
+address_literal_at place ts = option_map (λ a. (Address place a.0, a.1)) (address_at ts)
+
+-- ---- what begins other parts
+
+-- whether a bind stands here: a name with a type or a range
+unfoldable pub opens_bind : List Token → Bool
+opens_bind ts = option_map_or (λ name. is_some (after_sign Colon name.1) || is_some (after_word (codes "in") name.1)) (identifier_at ts) false
+
+unfoldable pub quantifier_word_at : List Token → Read (Quantifier × Span)
+quantifier_word_at ts =
+    option_map_or (λ p. Some ((ForAll, p.0), p.1)) (word_place_at (codes "forall") ts) (option_map (λ p. ((Exists, p.0), p.1)) (word_place_at (codes "exists") ts))
+
+-- the word of a quantifier, where a bind stands behind it: elsewhere it is a name
+unfoldable pub quantifier_at : List Token → Read (Quantifier × Span)
+quantifier_at ts = option_and_then (λ q. if opens_bind q.1 then Some (q.0, q.1) else None) (quantifier_word_at ts)
+
+-- whether a field or an index stands behind a term
+unfoldable pub has_postfix : List Token → Bool
+has_postfix ts = is_some (after_sign Period ts) || is_some (after_sign LeftBracket ts)
+
+-- whether fields are set behind a path, where a pack may stand
+unfoldable pub pack_opened : Bool → Path → List Token → Option (List Token)
+pack_opened packs path ts = if packs && begins_capital (last_name path) then after_sign LeftBrace ts else None

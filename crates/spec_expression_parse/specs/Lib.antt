@@ -1,0 +1,5 @@
+pub mod RepeatReading
+pub mod GluedReading
+pub mod OperatorReading
+pub mod LeafReading
+pub mod SpecReading

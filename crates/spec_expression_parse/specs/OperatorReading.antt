@@ -1,0 +1,74 @@
+-- How the operators of spec expressions are read, and what they join.
+use Rattle.std.specs.Prelude.{Bool, true, false, ◌&&◌, if◌then◌else◌, List, [], ◌∷◌, Option, Some, None, option_and_then}
+use Rattle.std.specs.Option.{option_map_or}
+use Rattle.pv_base.specs.declared.span.Span.{Span}
+use Rattle.src_tree.specs.declared.token.Token.{Token}
+use Rattle.src_tree.specs.declared.token.TokenKind.{TokenKind}
+use Rattle.src_tree.specs.declared.token.TokenKind.TheVariants.{Word, Number, ByteString, Punctuation}
+use Rattle.src_tree.specs.declared.token.Punctuation.{Punctuation as Sign}
+use Rattle.src_tree.specs.declared.token.Punctuation.TheVariants.{PeriodPeriod, EqualEqual, EqualEqualGreater, ExclaimEqual, Less as less_sign, LessEqual as less_equal_sign, LessEqualEqualGreater, LessLess, Greater as greater_sign, GreaterEqual as greater_equal_sign, Plus, Minus, Star, Slash, Percent, Ampersand, AmpersandAmpersand, Pipe, PipePipe, Caret}
+use Rattle.move_tree.specs.declared.operator.BinaryOperator.TheVariants.{Or, And, Equal, NotEqual, Less, LessEqual, Greater, GreaterEqual, BitOr, BitXor, BitAnd, ShiftLeft, ShiftRight, Add, Subtract, Multiply, Divide, Remainder}
+use Rattle.spec_tree.specs.declared.spec_operator.SpecOperator.{SpecOperator}
+use Rattle.spec_tree.specs.declared.spec_operator.SpecOperator.TheVariants.{Equivalent, Implies, Range, Common}
+use Rattle.spec_tree.specs.SpecExpressionData.{SpecExpressionData, SpecBinary}
+use Rattle.spec_tree.specs.SpecExpressionSpelling.{ends_in_path}
+use Rattle.spec_tree.specs.ProperSpecExpressions.{spec_operator_level, right_level}
+use Rattle.token_reading.specs.TokenReading.{Read}
+use Rattle.token_reading.specs.ChainReading.{Joints}
+use Rattle.spec_expression_parse.specs.GluedReading.{after_glued}
+
+-- the operator that begins with a sign: of `>` the comparison
+abbrev pub sign_operator : Sign → Option SpecOperator
+sign_operator LessEqualEqualGreater = Some Equivalent
+sign_operator EqualEqualGreater = Some Implies
+sign_operator PeriodPeriod = Some Range
+sign_operator PipePipe = Some (Common Or)
+sign_operator AmpersandAmpersand = Some (Common And)
+sign_operator EqualEqual = Some (Common Equal)
+sign_operator ExclaimEqual = Some (Common NotEqual)
+sign_operator less_sign = Some (Common Less)
+sign_operator less_equal_sign = Some (Common LessEqual)
+sign_operator greater_sign = Some (Common Greater)
+sign_operator greater_equal_sign = Some (Common GreaterEqual)
+sign_operator Pipe = Some (Common BitOr)
+sign_operator Caret = Some (Common BitXor)
+sign_operator Ampersand = Some (Common BitAnd)
+sign_operator LessLess = Some (Common ShiftLeft)
+sign_operator Plus = Some (Common Add)
+sign_operator Minus = Some (Common Subtract)
+sign_operator Star = Some (Common Multiply)
+sign_operator Slash = Some (Common Divide)
+sign_operator Percent = Some (Common Remainder)
+sign_operator _ = None
+
+abbrev pub kind_operator : TokenKind → Option SpecOperator
+kind_operator (Punctuation sign) = sign_operator sign
+kind_operator (Word name) = None
+kind_operator (Number number) = None
+kind_operator (ByteString text) = None
+
+-- whether an operator would open type arguments where it is glued to a path
+abbrev pub opens_arguments : SpecOperator → Bool
+opens_arguments (Common Less) = true
+opens_arguments (Common ShiftLeft) = true
+opens_arguments _ = false
+
+-- the operator with what follows its first sign: a `>` glued to a `>` makes a shift
+abbrev pub lengthened : SpecOperator → Span → List Token → (SpecOperator × Span) × List Token
+lengthened (Common Greater) place ts = option_map_or (λ rest. ((Common ShiftRight, place), rest)) (after_glued greater_sign ts) ((Common Greater, place), ts)
+lengthened operator place ts = ((operator, place), ts)
+
+-- an operator and its place, behind a path or not
+unfoldable pub spec_operator_at : Bool → List Token → Read (SpecOperator × Span)
+spec_operator_at after_path [] = None
+spec_operator_at after_path (t ∷ ts) =
+    option_and_then (λ operator. if after_path && (t.glued && opens_arguments operator) then None else Some (lengthened operator t.span ts)) (kind_operator t.kind)
+
+-- how operators join spec expressions
+abbrev pub spec_joints : Joints SpecExpressionData (SpecOperator × Span)
+spec_joints = record {
+  operator_at = λ left ts. spec_operator_at (ends_in_path left) ts;
+  level = λ operator. spec_operator_level operator.0;
+  right = λ operator. right_level operator.0;
+  join = λ left operator right. SpecBinary left operator.0 operator.1 right;
+}

@@ -1,0 +1,196 @@
+//! The parts of a spec expression that hold no other: literals, and the words of quantifiers.
+
+ghost use Rattle.std.specs.Prelude.{◌≡◌, None, Some, MatchResult, IfOk};
+ghost use Rattle.std.specs.Option.{option_map};
+ghost use Rattle.move_tree.specs.ProperTypes.{last_name};
+ghost use Rattle.token_reading.specs.ReadFault.{IfNoTree};
+ghost use Rattle.token_reading.specs.ListReading.{separator_at};
+ghost use Rattle.spec_expression_parse.specs.LeafReading.{address_literal_at, has_postfix, number_at, number_of, opens_bind, pack_opened, plain_literal_at, quantifier_at, quantifier_word_at};
+ghost use Rattle.spec_expression_parse.specs.SpecReading.{binds_end};
+
+use move_tree::lexeme::Numeral;
+use move_tree::literal::Literal;
+use move_tree::path::Path;
+use pv_base::memory::NoMemory;
+use pv_base::span::Span;
+use spec_tree::spec_operator::Quantifier;
+use src_tree::token::{NumberLiteral, NumberSuffix, Punctuation, Token, TokenKind};
+use std::alloc::Global;
+use token_reading::fault::ReadFault;
+use token_reading::lists::Separator;
+use token_reading::tokens::{
+    begins_capital, begins_with, expect_sign, is_keyword, place_of_word, skip_sign, skip_word,
+};
+use type_parse::path::{copy_number, read_address};
+
+/// The number that a token is, where its type is not wider than `u128`.
+fn number_of(kind: &TokenKind) -> Option<&NumberLiteral>
+    ensures { option_map (λ literal. literal.now) result ≡ number_of kind.now }
+{
+    match kind {
+        TokenKind::Number(literal) if literal.suffix != NumberSuffix::U256 => Some(literal),
+        _ => None,
+    }
+}
+
+/// A number that begins no path, where one stands here, and the tokens behind it.
+#[tactic(auto, unfolding(crate::specs::LeafReading::number_at))]
+fn read_number(alloc: Global, tokens: &[Token]) -> Result<Option<(Numeral, &[Token])>, NoMemory>
+    ensures { IfOk result (λ read. option_map (λ r. (r.0, r.1.now)) read ≡ number_at tokens.now) }
+{
+    let Some((token, rest)) = tokens.split_first() else {
+        return Ok(None);
+    };
+    match number_of(&token.kind) {
+        Some(literal) => {
+            if begins_with(rest, Punctuation::ColonColon) {
+                return Ok(None);
+            }
+            let number = Numeral {
+                literal: copy_number(alloc, literal)?,
+                place: token.span,
+            };
+            Ok(Some((number, rest)))
+        }
+        None => Ok(None),
+    }
+}
+
+/// A number or a truth value, where one stands here, and the tokens behind it.
+#[tactic(auto, unfolding(crate::specs::LeafReading::plain_literal_at))]
+pub fn read_plain_literal(
+    alloc: Global,
+    tokens: &[Token],
+) -> Result<Option<(Literal, &[Token])>, NoMemory>
+    ensures { IfOk result (λ read. option_map (λ r. (r.0, r.1.now)) read ≡ plain_literal_at tokens.now) }
+{
+    if let Some((number, rest)) = read_number(alloc, tokens)? {
+        return Ok(Some((Literal::Number(number), rest)));
+    }
+    if let Some((place, rest)) = place_of_word(tokens, b"true") {
+        return Ok(Some((Literal::Truth { place, value: true }, rest)));
+    }
+    match place_of_word(tokens, b"false") {
+        Some((place, rest)) => Ok(Some((
+            Literal::Truth {
+                place,
+                value: false,
+            },
+            rest,
+        ))),
+        None => Ok(None),
+    }
+}
+
+/// An address behind its `@`, and the tokens behind it.
+#[tactic(auto, unfolding(crate::specs::LeafReading::address_literal_at))]
+pub fn read_address_literal(
+    alloc: Global,
+    place: Span,
+    tokens: &[Token],
+) -> Result<(Literal, &[Token]), ReadFault>
+    ensures { MatchResult result (λ read. address_literal_at place tokens.now ≡ Some (read.0, read.1.now)) (λ fault. IfNoTree fault (address_literal_at place tokens.now ≡ None)) }
+{
+    let (address, rest) = read_address(alloc, tokens)?;
+    Ok((Literal::Address { place, address }, rest))
+}
+
+/// Whether a bind stands here: a name with a type or a range.
+#[tactic(auto, unfolding(crate::specs::LeafReading::opens_bind, token_reading::specs::TokenReading::identifier_at))]
+fn opens_bind(tokens: &[Token]) -> bool
+    ensures { result ≡ opens_bind tokens.now }
+{
+    let Some((token, rest)) = tokens.split_first() else {
+        return false;
+    };
+    match &token.kind {
+        TokenKind::Word(name) if !is_keyword(name.as_slice()) => {
+            begins_with(rest, Punctuation::Colon) || skip_word(rest, b"in").is_some()
+        }
+        _ => false,
+    }
+}
+
+/// The word of a quantifier, its place and the tokens behind it.
+#[tactic(auto, unfolding(crate::specs::LeafReading::quantifier_word_at))]
+fn place_of_quantifier(tokens: &[Token]) -> Option<(Quantifier, Span, &[Token])>
+    ensures { option_map (λ read. ((read.0, read.1), read.2.now)) result ≡ quantifier_word_at tokens.now }
+{
+    if let Some((place, rest)) = place_of_word(tokens, b"forall") {
+        return Some((Quantifier::ForAll, place, rest));
+    }
+    let (place, rest) = place_of_word(tokens, b"exists")?;
+    Some((Quantifier::Exists, place, rest))
+}
+
+/// The word of a quantifier, its place and the tokens behind it, where a bind stands behind it.
+/// Elsewhere the word is a name.
+#[tactic(auto, unfolding(crate::specs::LeafReading::quantifier_at))]
+pub fn read_quantifier(tokens: &[Token]) -> Option<(Quantifier, Span, &[Token])>
+    ensures { option_map (λ read. ((read.0, read.1), read.2.now)) result ≡ quantifier_at tokens.now }
+{
+    let (quantifier, place, rest) = place_of_quantifier(tokens)?;
+    if opens_bind(rest) {
+        Some((quantifier, place, rest))
+    } else {
+        None
+    }
+}
+
+/// Whether a field or an index stands behind a term.
+#[tactic(auto, unfolding(crate::specs::LeafReading::has_postfix))]
+pub fn has_postfix(tokens: &[Token]) -> bool
+    ensures { result ≡ has_postfix tokens.now }
+{
+    begins_with(tokens, Punctuation::Period) || begins_with(tokens, Punctuation::LeftBracket)
+}
+
+/// The last name of a path.
+fn last_name(path: &Path) -> &[u8]
+    ensures { result.now ≡ last_name path.now }
+{
+    match path {
+        Path::Name(name) => name.text.as_slice(),
+        Path::Member(_, name) => name.text.as_slice(),
+        Path::Full(_, name) => name.text.as_slice(),
+    }
+}
+
+/// The tokens behind the `{` of a pack, where a pack may stand and one stands behind this path.
+#[tactic(auto, unfolding(crate::specs::LeafReading::pack_opened))]
+pub fn pack_opened<'a>(packs: bool, path: &Path, tokens: &'a [Token]) -> Option<&'a [Token]>
+    ensures { option_map (λ rest. rest.now) result ≡ pack_opened packs path.now tokens.now }
+{
+    if packs && begins_capital(last_name(path)) {
+        skip_sign(tokens, Punctuation::LeftBrace)
+    } else {
+        None
+    }
+}
+
+/// Whether binds end here: triggers or the body follow.
+#[tactic(auto, unfolding(crate::specs::SpecReading::binds_end))]
+fn binds_end(tokens: &[Token]) -> Option<&[Token]>
+    ensures { option_map (λ rest. rest.now) result ≡ binds_end tokens.now }
+{
+    if begins_with(tokens, Punctuation::LeftBrace) || begins_with(tokens, Punctuation::Colon) {
+        Some(tokens)
+    } else {
+        None
+    }
+}
+
+/// What stands behind a bind, and the tokens behind that.
+#[tactic(auto, unfolding(token_reading::specs::ListReading::separator_at))]
+pub fn separator_of_binds(tokens: &[Token]) -> Result<(Separator, &[Token]), ReadFault>
+    ensures { MatchResult result (λ read. separator_at binds_end tokens.now ≡ Some (read.0, read.1.now)) (λ fault. separator_at binds_end tokens.now ≡ None) }
+{
+    if let Some(rest) = binds_end(tokens) {
+        return Ok((Separator::End, rest));
+    }
+    let behind = expect_sign(tokens, Punctuation::Comma)?;
+    match binds_end(behind) {
+        Some(rest) => Ok((Separator::EndBehindComma, rest)),
+        None => Ok((Separator::Next, behind)),
+    }
+}

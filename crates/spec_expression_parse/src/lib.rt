@@ -1,0 +1,9 @@
+//! Spec expressions are read from tokens.
+#![tactic(auto)]
+
+mod build;
+pub mod expression;
+mod leaf;
+mod operator;
+#[cfg(test)]
+mod tests;

@@ -1,0 +1,201 @@
+//! The operators of spec expressions.
+
+ghost use Rattle.std.specs.Prelude.{◌≡◌, None, Some};
+ghost use Rattle.std.specs.Option.{option_map};
+ghost use Rattle.spec_tree.specs.ProperSpecExpressions.{spec_operator_level, right_level};
+ghost use Rattle.token_reading.specs.ChainReading.{next_operator};
+ghost use Rattle.spec_expression_parse.specs.GluedReading.{after_glued};
+ghost use Rattle.spec_expression_parse.specs.OperatorReading.{kind_operator, lengthened, opens_arguments, sign_operator, spec_joints, spec_operator_at};
+
+use move_tree::operator::BinaryOperator;
+use pv_base::span::Span;
+use spec_tree::spec_expression::SpecExpression;
+use spec_tree::spec_operator::SpecOperator;
+use spec_tree::spell_spec_expression::is_path_last;
+use src_tree::token::{Punctuation, Token, TokenKind};
+use token_reading::tokens::is_sign;
+
+/// The operator that begins with a sign: of `>` the comparison.
+fn sign_operator(sign: Punctuation) -> Option<SpecOperator>
+    ensures { result ≡ sign_operator sign }
+{
+    let common = match sign {
+        Punctuation::LessEqualEqualGreater => return Some(SpecOperator::Equivalent),
+        Punctuation::EqualEqualGreater => return Some(SpecOperator::Implies),
+        Punctuation::PeriodPeriod => return Some(SpecOperator::Range),
+        Punctuation::PipePipe => BinaryOperator::Or,
+        Punctuation::AmpersandAmpersand => BinaryOperator::And,
+        Punctuation::EqualEqual => BinaryOperator::Equal,
+        Punctuation::ExclaimEqual => BinaryOperator::NotEqual,
+        Punctuation::Less => BinaryOperator::Less,
+        Punctuation::LessEqual => BinaryOperator::LessEqual,
+        Punctuation::Greater => BinaryOperator::Greater,
+        Punctuation::GreaterEqual => BinaryOperator::GreaterEqual,
+        Punctuation::Pipe => BinaryOperator::BitOr,
+        Punctuation::Caret => BinaryOperator::BitXor,
+        Punctuation::Ampersand => BinaryOperator::BitAnd,
+        Punctuation::LessLess => BinaryOperator::ShiftLeft,
+        Punctuation::Plus => BinaryOperator::Add,
+        Punctuation::Minus => BinaryOperator::Subtract,
+        Punctuation::Star => BinaryOperator::Multiply,
+        Punctuation::Slash => BinaryOperator::Divide,
+        Punctuation::Percent => BinaryOperator::Remainder,
+        _ => return None,
+    };
+    Some(SpecOperator::Common(common))
+}
+
+/// The operator that begins with a token.
+fn kind_operator(kind: &TokenKind) -> Option<SpecOperator>
+    ensures { result ≡ kind_operator kind.now }
+{
+    match kind {
+        TokenKind::Punctuation(sign) => sign_operator(*sign),
+        _ => None,
+    }
+}
+
+/// Whether an operator would open type arguments where it is glued to a path.
+fn opens_arguments(operator: SpecOperator) -> bool
+    ensures { result ≡ opens_arguments operator }
+{
+    match operator {
+        SpecOperator::Common(BinaryOperator::Less | BinaryOperator::ShiftLeft) => true,
+        _ => false,
+    }
+}
+
+/// The tokens behind this sign, where it is glued to the token before it.
+#[tactic(auto, unfolding(crate::specs::GluedReading::after_glued))]
+pub fn skip_glued(tokens: &[Token], sign: Punctuation) -> Option<&[Token]>
+    ensures { option_map (λ rest. rest.now) result ≡ after_glued sign tokens.now }
+{
+    let (token, rest) = tokens.split_first()?;
+    if is_sign(&token.kind, sign) && token.glued {
+        Some(rest)
+    } else {
+        None
+    }
+}
+
+/// An operator with what follows its first sign: a `>` glued to a `>` makes a shift.
+fn lengthened(
+    operator: SpecOperator,
+    place: Span,
+    tokens: &[Token],
+) -> (SpecOperator, Span, &[Token])
+    ensures { ((result.0, result.1), result.2.now) ≡ lengthened operator place tokens.now }
+{
+    match operator {
+        SpecOperator::Common(BinaryOperator::Greater) => {
+            match skip_glued(tokens, Punctuation::Greater) {
+                Some(rest) => (
+                    SpecOperator::Common(BinaryOperator::ShiftRight),
+                    place,
+                    rest,
+                ),
+                None => (operator, place, tokens),
+            }
+        }
+        _ => (operator, place, tokens),
+    }
+}
+
+/// An operator, its place and the tokens behind it, where one stands behind an expression that ends in
+/// a path or not.
+#[tactic(auto, unfolding(crate::specs::OperatorReading::spec_operator_at))]
+fn read_operator(tokens: &[Token], after_path: bool) -> Option<(SpecOperator, Span, &[Token])>
+    ensures { option_map (λ read. ((read.0, read.1), read.2.now)) result ≡ spec_operator_at after_path tokens.now }
+{
+    let (token, rest) = tokens.split_first()?;
+    let operator = kind_operator(&token.kind)?;
+    if after_path && (token.glued && opens_arguments(operator)) {
+        return None;
+    }
+    Some(lengthened(operator, token.span, rest))
+}
+
+/// The level of an operator between two of Move's expressions.
+fn common_level(operator: BinaryOperator) -> usize
+    ensures { result ≡ spec_operator_level (SpecOperator.Common operator) }
+{
+    match operator {
+        BinaryOperator::Or => 3,
+        BinaryOperator::And => 4,
+        BinaryOperator::Equal
+        | BinaryOperator::NotEqual
+        | BinaryOperator::Less
+        | BinaryOperator::LessEqual
+        | BinaryOperator::Greater
+        | BinaryOperator::GreaterEqual => 5,
+        BinaryOperator::BitOr => 7,
+        BinaryOperator::BitXor => 8,
+        BinaryOperator::BitAnd => 9,
+        BinaryOperator::ShiftLeft | BinaryOperator::ShiftRight => 10,
+        BinaryOperator::Add | BinaryOperator::Subtract => 11,
+        BinaryOperator::Multiply | BinaryOperator::Divide | BinaryOperator::Remainder => 12,
+    }
+}
+
+/// The level of an operator: the greater, the tighter it binds.
+fn operator_level(operator: SpecOperator) -> usize
+    ensures { result ≡ spec_operator_level operator }
+{
+    match operator {
+        SpecOperator::Equivalent => 1,
+        SpecOperator::Implies => 2,
+        SpecOperator::Range => 6,
+        SpecOperator::Common(common) => common_level(common),
+    }
+}
+
+/// The loosest level that may stand on the right of one of Move's operators.
+fn right_of_common(operator: BinaryOperator) -> usize
+    ensures { result ≡ right_level (SpecOperator.Common operator) }
+{
+    match operator {
+        BinaryOperator::Or => 4,
+        BinaryOperator::And => 5,
+        BinaryOperator::Equal
+        | BinaryOperator::NotEqual
+        | BinaryOperator::Less
+        | BinaryOperator::LessEqual
+        | BinaryOperator::Greater
+        | BinaryOperator::GreaterEqual => 6,
+        BinaryOperator::BitOr => 8,
+        BinaryOperator::BitXor => 9,
+        BinaryOperator::BitAnd => 10,
+        BinaryOperator::ShiftLeft | BinaryOperator::ShiftRight => 11,
+        BinaryOperator::Add | BinaryOperator::Subtract => 12,
+        BinaryOperator::Multiply | BinaryOperator::Divide | BinaryOperator::Remainder => 13,
+    }
+}
+
+/// The loosest level that may stand on the right of an operator.
+pub fn right_level(operator: SpecOperator) -> usize
+    ensures { result ≡ right_level operator }
+{
+    match operator {
+        SpecOperator::Equivalent | SpecOperator::Implies => 2,
+        SpecOperator::Range => 7,
+        SpecOperator::Common(common) => right_of_common(common),
+    }
+}
+
+/// The operator behind an expression, its place and the tokens behind it, where its level is at least
+/// `minimum`.
+#[tactic(auto, unfolding(token_reading::specs::ChainReading::next_operator))]
+pub fn next_operator<'a>(
+    left: &SpecExpression,
+    minimum: usize,
+    tokens: &'a [Token],
+) -> Option<(SpecOperator, Span, &'a [Token])>
+    ensures { option_map (λ read. ((read.0, read.1), read.2.now)) result ≡ next_operator spec_joints minimum left.now tokens.now }
+{
+    let (operator, place, rest) = read_operator(tokens, is_path_last(left))?;
+    if minimum <= operator_level(operator) {
+        Some((operator, place, rest))
+    } else {
+        None
+    }
+}
