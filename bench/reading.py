@@ -1,0 +1,192 @@
+#!/usr/bin/env python3
+"""Times `pv_parse::denoted::modules` on long and on deeply nested files, and gives it broken ones.
+
+Writes a program over a copy of the crates below it into a folder of its own, proves and builds it, and runs it on
+texts that this script makes: files of 2,000 to 200,000 tokens, files nested 180 deep, every prefix of a file, and
+files with one token taken out, doubled, or swapped with the next, by a seed. Prints the times, how many of the
+broken files were read or refused, and each line that is none of the answers.
+
+    bench/reading.py [FOLDER]      FOLDER: where the copy is made; a temporary one if it is left out
+"""
+
+import collections
+import os
+import random
+import re
+import shutil
+import subprocess
+import sys
+import tempfile
+
+ROOT = os.path.dirname(os.path.dirname(os.path.abspath(__file__)))
+
+PROGRAM = r"""//! Times the reader on the texts that stand on the standard input: `end` on a line of its own ends a text.
+#![tactic(auto)]
+
+use left_out::explain::ParseFault;
+use pv_parse::denoted::modules;
+use src_tree::scanner::tokens;
+use std::io::{BufRead, BufReader};
+use std::time::Instant;
+
+fn main(rt: HostRuntime) -> anyhow::Result<()> {
+    let alloc = rt.alloc();
+    let input = BufReader::new(alloc, rt.stdin())?;
+    let mut text = Vec::new(alloc);
+    for line in input.lines(alloc) {
+        let line = line?;
+        if line.as_str() == "end" {
+            timed(&rt, text.as_slice())?;
+            text = Vec::new(alloc);
+        } else {
+            text.extend_from_slice(line.as_str().as_bytes())?;
+            text.push(b'\n')?;
+        }
+    }
+    Ok(())
+}
+
+fn timed(rt: &HostRuntime, text: &[u8]) -> anyhow::Result<()> {
+    if text.len() > 100_000_000 {
+        return Ok(());
+    }
+    let Ok(found) = tokens(rt.alloc(), 0, text) else {
+        println!(rt; "no tokens")?;
+        return Ok(());
+    };
+    let count = found.len();
+    let start = Instant::now(rt)?;
+    let answer = modules(rt.alloc(), &found);
+    let micros = start.elapsed(rt)?.as_micros();
+    let kind = match &answer {
+        Ok(_) => "read",
+        Err(ParseFault::Grammar(_)) => "grammar",
+        Err(ParseFault::LeftOut(_, _)) => "left out",
+        Err(ParseFault::NoMemory) => "no memory",
+    };
+    println!(rt; "{kind}, {count} tokens, {micros} us")?;
+    Ok(())
+}
+"""
+
+MEMBERS = """
+    /// One of many.
+    #[test]
+    public(friend) entry fun f{0}<T: copy + drop>(x: &mut u64, y: vector<T>, z: bool): (u64, bool) acquires S {{
+        let a: u64 = *x + 1 * 2 - (3 as u64);
+        let S {{ v, w: _ }} = copy s;
+        while ({{ spec {{ invariant a <= 10; }}; a < 10 }}) {{ a = a + 1; if (z) break else continue; }};
+        loop {{ a = a + vector<u64>[1, 2, 3,][0x1::m::g<T>(y, @0x1)].v; }};
+        assert!(a << 2 > 3 && !z || a >> 1 == 4, 7);
+        if (z) {{ return (a, true) }} else {{ abort 3 }};
+        (a, a != 4)
+    }}
+    struct S{0} has copy, drop {{ v: u64, w: vector<vector<u8>> }}
+    const C{0}: u64 = 0x10;
+    spec f{0} {{ aborts_if x > 3; ensures result_1 == old(x)[1] + {{ 2 }}; }}
+"""
+
+SMALL = """module 0x1::m {
+    use 0x2::n::{Self, t as u};
+    friend a::b;
+""" + MEMBERS.format("") + "}\n"
+
+
+def long_file(members):
+    return "module 0x1::m {" + "".join(MEMBERS.format(number) for number in range(members)) + "}\n"
+
+
+def in_function(body):
+    return "module 0x1::m { fun f() { " + body + " } }\n"
+
+
+def speed_texts():
+    for members in (9, 90, 790):
+        yield f"{members} times four members", long_file(members)
+    yield "one block of statements", in_function("a = b + c; " * 33000)
+    yield "one call of arguments", in_function("f(" + "a, " * 99000 + ")")
+    yield "one sum", in_function("a" + " + a" * 99000)
+    yield "fields of fields", in_function("a" + ".b" * 99000)
+    yield "180 parentheses", in_function("(" * 180 + "a" + ")" * 180)
+    yield "180 blocks", in_function("{ " * 180 + "a" + " }" * 180)
+    yield "180 conditions", in_function("if (a) " * 180 + "b")
+    yield "180 types", "module 0x1::m { struct S { a: " + "vector<" * 180 + "u8" + " >" * 180 + " } }\n"
+
+
+def pieces(text):
+    """The tokens of a text, each with the blanks behind it."""
+    text = re.sub(r"//.*", "", text)
+    return re.findall(r"(?:\w+|==|!=|<=|>=|<<|&&|\|\||::|\S)\s*", text)
+
+
+def broken_texts():
+    words = pieces(SMALL)
+    for end in range(len(words)):
+        yield "".join(words[:end])
+    draw = random.Random(1)
+    for _ in range(3000):
+        index = draw.randrange(len(words) - 1)
+        kind = draw.randrange(4)
+        if kind == 0:
+            changed = words[:index] + words[index + 1:]
+        elif kind == 1:
+            changed = words[:index] + [words[index]] + words[index:]
+        elif kind == 2:
+            changed = words[:index] + [words[index + 1], words[index]] + words[index + 2:]
+        else:
+            changed = words[:index] + [draw.choice(words)] + words[index + 1:]
+        yield "".join(changed)
+    for marker in ("inline", "with", "u256", "// u256", "/* inline */", "b\"with\""):
+        yield SMALL.replace("loop {", marker + "\n loop {", 1)
+
+
+def crates():
+    """Each crate up to `pv_parse`, in order, with its line of `crates.txt`."""
+    with open(os.path.join(ROOT, "crates.txt"), encoding="utf-8") as file:
+        lines = [line.strip() for line in file if ":" in line and not line.startswith("#")]
+    uses = {line.split(":")[0]: line.split(":")[1].split() for line in lines}
+    needed = set(uses["pv_parse"]) | {"pv_parse"}
+    return [line for line in lines if line.split(":")[0] in needed], sorted(needed)
+
+
+def run(program, texts):
+    lines = "".join(text.rstrip("\n") + "\nend\n" for text in texts)
+    return subprocess.run([program], input=lines, check=False, capture_output=True, text=True)
+
+
+def main() -> int:
+    folder = sys.argv[1] if len(sys.argv) > 1 else tempfile.mkdtemp(prefix="reading.")
+    lines, needed = crates()
+    for name in needed:
+        target = os.path.join(folder, "crates", name)
+        shutil.copytree(os.path.join(ROOT, "crates", name), target, dirs_exist_ok=True, ignore=shutil.ignore_patterns("out", "must-fail"))
+    with open(os.path.join(folder, "crates.txt"), "w", encoding="utf-8") as file:
+        file.write("\n".join(lines) + "\ntimes: src_tree left_out pv_parse anyhow\n")
+    target = os.path.join(folder, "crates", "times")
+    os.makedirs(os.path.join(target, "src"), exist_ok=True)
+    with open(os.path.join(target, "src", "main.rt"), "w", encoding="utf-8") as file:
+        file.write(PROGRAM)
+    for name in ("stdin", "stdout"):
+        open(os.path.join(target, name), "w", encoding="utf-8").close()
+    made = subprocess.run(["rt", "run"], cwd=target, check=False, capture_output=True, text=True)
+    if made.returncode != 0:
+        print(made.stdout[-2000:], made.stderr[-2000:])
+        return 1
+    program = os.path.join(target, "out", "times")
+    timed = list(speed_texts())
+    done = run(program, [text for _, text in timed])
+    for (name, _), line in zip(timed, done.stdout.splitlines()):
+        print(f"{name}: {line}")
+    texts = list(broken_texts())
+    broken = run(program, texts)
+    answers = broken.stdout.splitlines()
+    counts = collections.Counter(line.split(",")[0] for line in answers)
+    print(f"broken files: {len(texts)}, answers: {dict(counts)}, status {broken.returncode}")
+    strange = [line for line in answers if line.split(",")[0] not in ("read", "grammar", "left out", "no tokens")]
+    for line in strange:
+        print("strange:", line)
+    return 1 if strange or len(answers) != len(texts) or done.returncode or broken.returncode else 0
+
+
+if __name__ == "__main__":
+    sys.exit(main())
