@@ -1,0 +1,35 @@
+-- Which spec expression tokens denote, and what is known where they denote none.
+-- Source: the Move Specification Language reference, "Expressions"; the trees and which of them are proper are those of
+-- the spec trees.
+use Rattle.std.specs.Prelude.{◌≡◌, ℕ, List}
+use Rattle.src_tree.specs.declared.token.Token.{Token}
+use Rattle.move_tree.specs.Lexemes.{AreTokens}
+use Rattle.spec_tree.specs.SpecExpressionData.{SpecExpressionData}
+use Rattle.spec_tree.specs.SpecExpressionSpelling.{spec_spelling}
+use Rattle.spec_tree.specs.ProperSpecExpressions.{IsProperSpec}
+use Rattle.left_out.specs.declared.explain.ParseFault.{ParseFault}
+use Rattle.left_out.specs.declared.explain.ParseFault.TheVariants.{Grammar, LeftOut, NoMemory}
+use Rattle.left_out.specs.declared.marker.Marker.{Marker}
+use Rattle.left_out.specs.Markers.{HoldNone, IsFirst}
+use Rattle.left_out.specs.ParseFault.{start_at}
+
+-- the tokens are those of this spec expression, and it is one that the grammar has
+pub record IsSpecExpressionOf (expression : SpecExpressionData) (tokens : List Token) : Type 0 where
+  pub spelled : AreTokens tokens (spec_spelling expression)
+  pub proper : IsProperSpec expression
+
+abbrev pub AreOfNoSpecExpression : List Token → Type 0
+AreOfNoSpecExpression tokens = (expression : SpecExpressionData) → IsSpecExpressionOf expression tokens → ⊥
+
+-- the tokens hold this marker of a form that is left out, and none stands before it
+pub record HoldMarker (tokens : List Token) (marker : Marker) (place : ℕ) : Type 0 where
+  pub index : ℕ
+  pub first : IsFirst tokens marker index
+  pub at : place ≡ start_at tokens index
+
+-- `Grammar` where the tokens are of no spec expression and hold no marker, `LeftOut` where they are of none and hold one,
+-- the first; the place of `Grammar` is where the reader stood
+abbrev pub IsCause : List Token → ParseFault → Type 0
+IsCause tokens (Grammar place) = AreOfNoSpecExpression tokens × HoldNone tokens
+IsCause tokens (LeftOut marker place) = AreOfNoSpecExpression tokens × HoldMarker tokens marker place
+IsCause tokens NoMemory = Unit {0}

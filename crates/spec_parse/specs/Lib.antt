@@ -1,0 +1,2 @@
+pub mod WholeReading
+pub mod Denoted

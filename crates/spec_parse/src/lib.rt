@@ -1,0 +1,6 @@
+//! The spec expressions that tokens denote.
+#![tactic(auto)]
+
+pub mod denoted;
+#[cfg(test)]
+mod tests;
