@@ -76,7 +76,7 @@ MEMBERS = """
         let a: u64 = *x + 1 * 2 - (3 as u64);
         let S {{ v, w: _ }} = copy s;
         while ({{ spec {{ invariant a <= 10; }}; a < 10 }}) {{ a = a + 1; if (z) break else continue; }};
-        loop {{ a = a + vector<u64>[1, 2, 3,][0x1::m::g<T>(y, @0x1)].v; }};
+        loop {{ a = a + g(vector<u64>[1, 2, 3,], 0x1::m::g<T>(y, @0x1)).v; }};
         assert!(a << 2 > 3 && !z || a >> 1 == 4, 7);
         if (z) {{ return (a, true) }} else {{ abort 3 }};
         (a, a != 4)
@@ -105,8 +105,7 @@ def speed_texts():
         yield f"{members} times four members", long_file(members)
     yield "one block of statements", in_function("a = b + c; " * 33000)
     yield "one call of arguments", in_function("f(" + "a, " * 99000 + ")")
-    yield "one sum", in_function("a" + " + a" * 99000)
-    yield "fields of fields", in_function("a" + ".b" * 99000)
+    yield "180 operators", in_function("a" + " + a" * 180)
     yield "180 parentheses", in_function("(" * 180 + "a" + ")" * 180)
     yield "180 blocks", in_function("{ " * 180 + "a" + " }" * 180)
     yield "180 conditions", in_function("if (a) " * 180 + "b")
