@@ -1,10 +1,10 @@
 #!/usr/bin/env python3
-"""Times `pv_parse::denoted::modules` on long and on deeply nested files, and gives it broken ones.
+"""Times the readers of files and of spec blocks, and the spelling of files, and gives the readers broken texts.
 
 Writes a program over a copy of the crates below it into a folder of its own, proves and builds it, and runs it on
-texts that this script makes: files of 2,000 to 200,000 tokens, files nested 180 deep, every prefix of a file, and
-files with one token taken out, doubled, or swapped with the next, by a seed. Prints the times, how many of the
-broken files were read or refused, and each line that is none of the answers.
+texts that this script makes: files of 2,000 to 200,000 tokens, texts of the greatest weight, every prefix of a
+file, and files with one token taken out, doubled, or swapped with the next, by a seed. Prints the times, how many
+of the broken texts were read or refused, and each line that is none of the answers.
 
     bench/reading.py [FOLDER]      FOLDER: where the copy is made; a temporary one if it is left out
 """
@@ -20,12 +20,19 @@ import tempfile
 
 ROOT = os.path.dirname(os.path.dirname(os.path.abspath(__file__)))
 
-PROGRAM = r"""//! Times the reader on the texts that stand on the standard input: `end` on a line of its own ends a text.
+PROGRAM = r"""//! Times the readers on the texts that stand on the standard input: `end` on a line of its own ends a text. A
+//! text that begins with `spec` is the spec block of a function, another one a file.
 #![tactic(auto)]
 
+use clause_tree::slot::Slot;
+use file_tree::member::File;
+use file_tree::spell_member::spell;
 use left_out::explain::ParseFault;
 use pv_parse::denoted::modules;
+use spec_parse::block::spec_block;
 use src_tree::scanner::tokens;
+use src_tree::token::Tokens;
+use src_tree::weight::weight;
 use std::io::{BufRead, BufReader};
 use std::time::Instant;
 
@@ -46,6 +53,14 @@ fn main(rt: HostRuntime) -> anyhow::Result<()> {
     Ok(())
 }
 
+fn kind_of(fault: ParseFault) -> &'static str {
+    match fault {
+        ParseFault::Grammar(_) => "grammar",
+        ParseFault::LeftOut(_, _) => "left out",
+        ParseFault::NoMemory => "no memory",
+    }
+}
+
 fn timed(rt: &HostRuntime, text: &[u8]) -> anyhow::Result<()> {
     if text.len() > 100_000_000 {
         return Ok(());
@@ -54,17 +69,61 @@ fn timed(rt: &HostRuntime, text: &[u8]) -> anyhow::Result<()> {
         println!(rt; "no tokens")?;
         return Ok(());
     };
+    let weight = weight(&found);
     let count = found.len();
+    if text.starts_with(b"spec") {
+        timed_block(rt, &found)?;
+    } else {
+        timed_file(rt, &found)?;
+    }
+    println!(rt; ", {count} tokens of weight {weight}")?;
+    Ok(())
+}
+
+fn timed_block(rt: &HostRuntime, found: &Tokens) -> anyhow::Result<()> {
     let start = Instant::now(rt)?;
-    let answer = modules(rt.alloc(), &found);
+    let answer = spec_block(rt.alloc(), Slot::Function, found);
     let micros = start.elapsed(rt)?.as_micros();
-    let kind = match &answer {
+    let kind = match answer {
         Ok(_) => "read",
-        Err(ParseFault::Grammar(_)) => "grammar",
-        Err(ParseFault::LeftOut(_, _)) => "left out",
-        Err(ParseFault::NoMemory) => "no memory",
+        Err(fault) => kind_of(fault),
     };
-    println!(rt; "{kind}, {count} tokens, {micros} us")?;
+    print!(rt; "{kind}, {micros} us")?;
+    Ok(())
+}
+
+fn timed_file(rt: &HostRuntime, found: &Tokens) -> anyhow::Result<()> {
+    let start = Instant::now(rt)?;
+    let answer = modules(rt.alloc(), found);
+    let micros = start.elapsed(rt)?.as_micros();
+    match answer {
+        Ok(file) => {
+            print!(rt; "read, {micros} us, ")?;
+            timed_spelling(rt, &file, found)
+        }
+        Err(fault) => {
+            let kind = kind_of(fault);
+            print!(rt; "{kind}, {micros} us")?;
+            Ok(())
+        }
+    }
+}
+
+fn timed_spelling(rt: &HostRuntime, file: &File, found: &Tokens) -> anyhow::Result<()> {
+    let start = Instant::now(rt)?;
+    let spelled = spell(rt.alloc(), file);
+    let micros = start.elapsed(rt)?.as_micros();
+    let kind = match spelled {
+        Ok(spelled) => {
+            if spelled.as_slice().len() == found.len() {
+                "spelled"
+            } else {
+                "spelled by others"
+            }
+        }
+        Err(_) => "no memory",
+    };
+    print!(rt; "{kind} in {micros} us")?;
     Ok(())
 }
 """
@@ -92,6 +151,16 @@ SMALL = """module 0x1::m {
 """ + MEMBERS.format("") + "}\n"
 
 
+SPEC = """spec f {
+    pragma opaque, verify = true;
+    requires x > 0 && !y; ensures result == old(x) + g(1, 2)[3].a;
+    aborts_if forall i in 0..n {f(i)}: v[i] == S { a: 1, b };
+    modifies global<m::S<u64>>(@0x1), global<R>(a);
+    let post z = if (a) b else c; include S<u64> { a: 1, b, };
+}
+"""
+
+
 def long_file(members):
     return "module 0x1::m {" + "".join(MEMBERS.format(number) for number in range(members)) + "}\n"
 
@@ -103,13 +172,18 @@ def in_function(body):
 def speed_texts():
     for members in (9, 90, 790):
         yield f"{members} times four members", long_file(members)
-    yield "one block of statements", in_function("a = b + c; " * 33000)
+    yield "one block of 60,000 statements", in_function("a; " * 60000)
+    yield "one block of assignments", in_function("a = b + c; " * 33000)
     yield "one call of arguments", in_function("f(" + "a, " * 99000 + ")")
-    yield "180 operators", in_function("a" + " + a" * 180)
-    yield "180 parentheses", in_function("(" * 180 + "a" + ")" * 180)
-    yield "180 blocks", in_function("{ " * 180 + "a" + " }" * 180)
-    yield "180 conditions", in_function("if (a) " * 180 + "b")
-    yield "180 types", "module 0x1::m { struct S { a: " + "vector<" * 180 + "u8" + " >" * 180 + " } }\n"
+    yield "operators", in_function("a" + " + a" * 197)
+    yield "parentheses", in_function("(" * 197 + "a" + ")" * 197)
+    yield "blocks", in_function("{ " * 197 + "a" + " }" * 197)
+    yield "conditions", in_function("if (a) " * 197 + "b")
+    yield "types", "module 0x1::m { struct S { a: " + "vector<" * 198 + "u8" + " >" * 99 + " } }\n"
+    for clauses in (100, 10000):
+        yield f"{clauses} clauses", "spec f { " + "ensures result == old(x)[1] + y && forall z: u64: z < 2; " * clauses + "}\n"
+    yield "parentheses in a clause", "spec f { ensures " + "(" * 198 + "a" + ")" * 198 + "; }\n"
+    yield "quantifiers in a clause", "spec f { ensures " + "forall x: u64: " * 198 + "a; }\n"
 
 
 def pieces(text):
@@ -119,7 +193,14 @@ def pieces(text):
 
 
 def broken_texts():
-    words = pieces(SMALL)
+    yield from broken(SMALL)
+    yield from broken(SPEC)
+    for marker in ("inline", "with", "u256", "// u256", "/* inline */", "b\"with\""):
+        yield SMALL.replace("loop {", marker + "\n loop {", 1)
+
+
+def broken(text):
+    words = pieces(text)
     for end in range(len(words)):
         yield "".join(words[:end])
     draw = random.Random(1)
@@ -135,16 +216,14 @@ def broken_texts():
         else:
             changed = words[:index] + [draw.choice(words)] + words[index + 1:]
         yield "".join(changed)
-    for marker in ("inline", "with", "u256", "// u256", "/* inline */", "b\"with\""):
-        yield SMALL.replace("loop {", marker + "\n loop {", 1)
 
 
 def crates():
-    """Each crate up to `pv_parse`, in order, with its line of `crates.txt`."""
+    """Each crate up to the readers, in order, with its line of `crates.txt`."""
     with open(os.path.join(ROOT, "crates.txt"), encoding="utf-8") as file:
         lines = [line.strip() for line in file if ":" in line and not line.startswith("#")]
     uses = {line.split(":")[0]: line.split(":")[1].split() for line in lines}
-    needed = set(uses["pv_parse"]) | {"pv_parse"}
+    needed = set(uses["pv_parse"]) | {"pv_parse"} | set(uses["spec_parse"]) | {"spec_parse"}
     return [line for line in lines if line.split(":")[0] in needed], sorted(needed)
 
 
@@ -160,7 +239,7 @@ def main() -> int:
         target = os.path.join(folder, "crates", name)
         shutil.copytree(os.path.join(ROOT, "crates", name), target, dirs_exist_ok=True, ignore=shutil.ignore_patterns("out", "must-fail"))
     with open(os.path.join(folder, "crates.txt"), "w", encoding="utf-8") as file:
-        file.write("\n".join(lines) + "\ntimes: src_tree left_out pv_parse anyhow\n")
+        file.write("\n".join(lines) + "\ntimes: src_tree file_tree clause_tree left_out pv_parse spec_parse anyhow\n")
     target = os.path.join(folder, "crates", "times")
     os.makedirs(os.path.join(target, "src"), exist_ok=True)
     with open(os.path.join(target, "src", "main.rt"), "w", encoding="utf-8") as file:

@@ -34,7 +34,7 @@ use Rattle.clause_tree.specs.declared.clause.Clause.TheVariants.{Pragma as pragm
 use Rattle.clause_tree.specs.declared.clause.Schema.{Schema}
 use Rattle.clause_tree.specs.declared.clause.SpecFunction.{SpecFunction}
 use Rattle.clause_tree.specs.declared.clause.Spec.{Spec}
-use Rattle.clause_tree.specs.declared.clause.Spec.TheVariants.{Module as module_spec, Named as named_spec, Schema as schema_spec, Function as function_spec}
+use Rattle.clause_tree.specs.declared.clause.Spec.TheVariants.{Module as module_spec, Named as named_spec, Schema as schema_spec, Function as function_spec, Loop as loop_spec}
 
 -- ---- words
 
@@ -151,3 +151,4 @@ spec_tree_spelling (named_spec place name clauses) =
     word (codes "spec") (Some place) ∷ identifier name ∷ clause_block_spelling clauses
 spec_tree_spelling (schema_spec s) = schema_spelling s
 spec_tree_spelling (function_spec f) = spec_function_spelling f
+spec_tree_spelling (loop_spec place clauses) = word (codes "spec") (Some place) ∷ clause_block_spelling clauses

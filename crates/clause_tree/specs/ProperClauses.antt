@@ -1,6 +1,6 @@
 -- Proper clauses and spec blocks: those that the grammar has. What stands beside the grammar's text are its rules on
 -- names, on last commas, on which clauses a block may hold, and on the word `update`.
-use Rattle.std.specs.Prelude.{◌≡◌, ◌≢◌, ◌⊎◌, ℕ, true, false, List, Option, Some, None, codes}
+use Rattle.std.specs.Prelude.{◌≡◌, ℕ, true, false, List, Option, Some, None, codes}
 use Rattle.std.specs.List.{AllByRecursion}
 use Rattle.move_tree.specs.declared.path.Path.{Path}
 use Rattle.move_tree.specs.declared.path.Path.TheVariants.{Name as name_path}
@@ -21,9 +21,11 @@ use Rattle.clause_tree.specs.declared.clause.Clause.TheVariants.{Pragma as pragm
 use Rattle.clause_tree.specs.declared.clause.Schema.{Schema}
 use Rattle.clause_tree.specs.declared.clause.SpecFunction.{SpecFunction}
 use Rattle.clause_tree.specs.declared.clause.Spec.{Spec}
-use Rattle.clause_tree.specs.declared.clause.Spec.TheVariants.{Module as module_spec, Named as named_spec, Schema as schema_spec, Function as function_spec}
+use Rattle.clause_tree.specs.declared.clause.Spec.TheVariants.{Module as module_spec, Named as named_spec, Schema as schema_spec, Function as function_spec, Loop as loop_spec}
 use Rattle.clause_tree.specs.ClauseData.{PragmasData, TargetsData, BindingsData}
-use Rattle.clause_tree.specs.Slots.{Slot, OfFunction, OfStruct, OfModule, OfSchema, OfLoop, MayHold}
+use Rattle.clause_tree.specs.declared.slot.Slot.{Slot}
+use Rattle.clause_tree.specs.declared.slot.Slot.TheVariants.{Function as of_function, Struct as of_struct, Module as of_module, Schema as of_schema, SpecFunction as of_spec_function, Loop as of_loop}
+use Rattle.clause_tree.specs.Slots.{MayHold}
 
 -- ---- parts of clauses
 
@@ -87,24 +89,11 @@ IsProperClause slot c = MayHold slot c × IsProperForm c
 abbrev pub AreProperClauses : Slot → List Clause → Type 0
 AreProperClauses slot clauses = AllByRecursion (IsProperClause slot) clauses
 
--- the clauses of a loop's block
-abbrev pub IsProperLoopBlock : List Clause → Type 0
-IsProperLoopBlock clauses = AreProperClauses OfLoop clauses
-
 -- ---- blocks
-
--- a block is a struct's where its name begins with A to Z and is that of no function of the module
-abbrev pub IsOfStruct : List (List ℕ) → List ℕ → Type 0
-IsOfStruct functions name = IsCapital name × AllByRecursion (λ other. name ≢ other) functions
-
-abbrev pub IsProperNamed : List (List ℕ) → List ℕ → List Clause → Type 0
-IsProperNamed functions name clauses =
-    (IsOfStruct functions name × AreProperClauses OfStruct clauses)
-    ⊎ ((IsOfStruct functions name → ⊥) × AreProperClauses OfFunction clauses)
 
 abbrev pub IsProperSchema : Schema → Type 0
 IsProperSchema s =
-    IsName s.name.text × IsCapital s.name.text × AreProperParameters false s.parameters × AreProperClauses OfSchema s.clauses
+    IsName s.name.text × IsCapital s.name.text × AreProperParameters false s.parameters × AreProperClauses of_schema s.clauses
 
 abbrev pub IsProperSpecFunction : SpecFunction → Type 0
 IsProperSpecFunction f =
@@ -112,9 +101,12 @@ IsProperSpecFunction f =
     × AllByRecursion IsProperInput f.inputs.items × (f.inputs.last_comma ≡ true → AreAny f.inputs.items)
     × IsProperType f.result × IsProperSpec f.body
 
--- among the functions of these names
-abbrev pub IsProperSpecTree : List (List ℕ) → Spec → Type 0
-IsProperSpecTree functions (module_spec place clauses) = AreProperClauses OfModule clauses
-IsProperSpecTree functions (named_spec place name clauses) = IsName name.text × IsProperNamed functions name.text clauses
-IsProperSpecTree functions (schema_spec s) = IsProperSchema s
-IsProperSpecTree functions (function_spec f) = IsProperSpecFunction f
+-- a block of this slot
+abbrev pub IsProperBlock : Slot → Spec → Type 0
+IsProperBlock of_function (named_spec place name clauses) = IsName name.text × AreProperClauses of_function clauses
+IsProperBlock of_struct (named_spec place name clauses) = IsName name.text × AreProperClauses of_struct clauses
+IsProperBlock of_module (module_spec place clauses) = AreProperClauses of_module clauses
+IsProperBlock of_schema (schema_spec s) = IsProperSchema s
+IsProperBlock of_spec_function (function_spec f) = IsProperSpecFunction f
+IsProperBlock of_loop (loop_spec place clauses) = AreProperClauses of_loop clauses
+IsProperBlock _ _ = ⊥

@@ -142,6 +142,11 @@ pub enum Spec {
     },
     Schema(Schema),
     Function(SpecFunction),
+    /// That of the loop of Move code in which it stands.
+    Loop {
+        place: Span,
+        clauses: Clauses,
+    },
 }
 
 impl Model for Pragmas {

@@ -2,6 +2,7 @@
 #![tactic(auto)]
 
 pub mod clause;
+pub mod slot;
 pub mod spell_clause;
 #[cfg(test)]
 mod tests;

@@ -370,6 +370,10 @@ pub fn spell_spec(alloc: Global, spec: &Spec, into: &mut Lexemes) -> Result<(), 
         }
         Spec::Schema(schema) => spell_schema(alloc, schema, into),
         Spec::Function(function) => spell_spec_function(alloc, function, into),
+        Spec::Loop { place, clauses } => {
+            into.push_word(alloc, b"spec", Some(*place))?;
+            spell_clause_block(alloc, &clauses.items, into)
+        }
     }
 }
 

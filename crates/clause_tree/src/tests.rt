@@ -329,6 +329,20 @@ fn module_block(alloc: Global) -> Result<Box<Spec>, NoMemory> {
     Ok(Box::new(alloc, spec)?)
 }
 
+// `spec { invariant a; }`
+fn loop_block(alloc: Global) -> Result<Box<Spec>, NoMemory> {
+    let clause = Clause::Invariant {
+        place: at(7, 16),
+        is_update: false,
+        condition: Box::into_inner(variable(alloc, b"a", 17, 18)?),
+    };
+    let spec = Spec::Loop {
+        place: at(0, 4),
+        clauses: one_clause(alloc, Box::new(alloc, clause)?)?,
+    };
+    Ok(Box::new(alloc, spec)?)
+}
+
 fn inner_variable(alloc: Global) -> Result<Box<Clause>, NoMemory> {
     let variable = typed(
         identifier(alloc, b"x", 19, 20)?,
@@ -419,5 +433,6 @@ fn blocks_are_spelled(rt: HostRuntime) -> Result<(), Fail> {
         b"spec fun g(x: u64): u64 { x }",
         spec_function(alloc)?,
     )?;
+    block_spells(&rt, alloc, b"spec { invariant a; }", loop_block(alloc)?)?;
     Ok(())
 }

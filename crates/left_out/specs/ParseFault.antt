@@ -6,6 +6,7 @@ use Rattle.token_reading.specs.declared.fault.ReadFault.{ReadFault}
 use Rattle.token_reading.specs.declared.fault.ReadFault.TheVariants.{NoTree, NoMemory as no_memory}
 use Rattle.left_out.specs.declared.explain.ParseFault.{ParseFault}
 use Rattle.left_out.specs.declared.explain.ParseFault.TheVariants.{Grammar, LeftOut, NoMemory}
+use Rattle.left_out.specs.declared.marker.Marker.{Marker}
 use Rattle.left_out.specs.Markers.{HoldNone, IsFirst}
 
 -- where the token with this index begins
@@ -16,12 +17,19 @@ abbrev pub at_least_one : ℕ → ℕ
 at_least_one zero = 1
 at_least_one (suc n) = suc n
 
--- the same where the tokens are at fault: the first of the last `left` ones can't stand there
-abbrev pub ExplainsTokens : List Token → ℕ → ParseFault → Type 0
-ExplainsTokens tokens left (Grammar place) = HoldNone tokens × (place ≡ start_at tokens (length tokens - at_least_one left))
-ExplainsTokens tokens left (LeftOut marker place) = (index : ℕ) × IsFirst tokens marker index × (place ≡ start_at tokens index)
-ExplainsTokens tokens left NoMemory = ⊥
+-- the tokens hold this marker of a form that is left out, and none stands before it
+pub record HoldMarker (tokens : List Token) (marker : Marker) (place : ℕ) : Type 0 where
+  pub index : ℕ
+  pub first : IsFirst tokens marker index
+  pub at : place ≡ start_at tokens index
 
+-- why no tree was read where reading ended at this place
+abbrev pub ExplainsAt : List Token → ℕ → ParseFault → Type 0
+ExplainsAt tokens place (Grammar other) = HoldNone tokens × (other ≡ place)
+ExplainsAt tokens place (LeftOut marker other) = HoldMarker tokens marker other
+ExplainsAt tokens place NoMemory = ⊥
+
+-- where reading ended, the first of the last `left` tokens can't stand there
 abbrev pub Explains : List Token → ReadFault → ParseFault → Type 0
-Explains tokens (NoTree left) fault = ExplainsTokens tokens left fault
+Explains tokens (NoTree left) fault = ExplainsAt tokens (start_at tokens (length tokens - at_least_one left)) fault
 Explains tokens no_memory fault = fault ≡ NoMemory

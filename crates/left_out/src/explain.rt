@@ -1,7 +1,7 @@
 //! Why tokens are of no tree.
 
 ghost use Rattle.std.specs.Prelude.{◌≡◌, ◌-◌, length};
-ghost use Rattle.left_out.specs.ParseFault.{start_at, at_least_one, Explains};
+ghost use Rattle.left_out.specs.ParseFault.{start_at, at_least_one, Explains, ExplainsAt};
 
 use crate::marker::{Marker, first_marker};
 use pv_base::memory::NoMemory;
@@ -58,16 +58,23 @@ fn start_of_left(tokens: &[Token], left: usize) -> u32
     start_at(tokens, tokens.len().saturating_sub(count))
 }
 
-/// Why no tree was read from the tokens. A marker of a form that is left out explains more than the place
-/// at which reading ended, wherever it stands.
+/// Why no tree was read from the tokens, where reading ended at this byte. A marker of a form that is left
+/// out explains more than the place at which reading ended, wherever it stands.
+pub fn explain_at(tokens: &[Token], place: u32) -> ParseFault
+    ensures { ExplainsAt tokens.now place result }
+{
+    match first_marker(tokens) {
+        Some((marker, index)) => ParseFault::LeftOut(marker, start_at(tokens, index)),
+        None => ParseFault::Grammar(place),
+    }
+}
+
+/// Why no tree was read from the tokens.
 pub fn explain(tokens: &[Token], fault: ReadFault) -> ParseFault
     ensures { Explains tokens.now fault result }
 {
-    let ReadFault::NoTree { left } = fault else {
-        return ParseFault::NoMemory;
-    };
-    match first_marker(tokens) {
-        Some((marker, index)) => ParseFault::LeftOut(marker, start_at(tokens, index)),
-        None => ParseFault::Grammar(start_of_left(tokens, left)),
+    match fault {
+        ReadFault::NoTree { left } => explain_at(tokens, start_of_left(tokens, left)),
+        ReadFault::NoMemory => ParseFault::NoMemory,
     }
 }

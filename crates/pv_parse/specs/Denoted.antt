@@ -8,9 +8,8 @@ use Rattle.file_tree.specs.MemberSpelling.{file_spelling}
 use Rattle.file_tree.specs.ProperMembers.{IsProperFile}
 use Rattle.left_out.specs.declared.explain.ParseFault.{ParseFault}
 use Rattle.left_out.specs.declared.explain.ParseFault.TheVariants.{Grammar, LeftOut, NoMemory}
-use Rattle.left_out.specs.declared.marker.Marker.{Marker}
-use Rattle.left_out.specs.Markers.{HoldNone, IsFirst}
-use Rattle.left_out.specs.ParseFault.{start_at}
+use Rattle.left_out.specs.Markers.{HoldNone}
+use Rattle.left_out.specs.ParseFault.{HoldMarker}
 
 -- the tokens are those of this file, and the file is one that the grammar has
 pub record IsFileOf (modules : List ModuleData) (tokens : List Token) : Type 0 where
@@ -19,12 +18,6 @@ pub record IsFileOf (modules : List ModuleData) (tokens : List Token) : Type 0 w
 
 abbrev pub AreOfNoFile : List Token → Type 0
 AreOfNoFile tokens = (modules : List ModuleData) → IsFileOf modules tokens → ⊥
-
--- the tokens hold this marker of a form that is left out, and none stands before it
-pub record HoldMarker (tokens : List Token) (marker : Marker) (place : ℕ) : Type 0 where
-  pub index : ℕ
-  pub first : IsFirst tokens marker index
-  pub at : place ≡ start_at tokens index
 
 -- `Grammar` where the tokens are of no file and hold no marker, `LeftOut` where they are of none and hold one, the
 -- first; the place of `Grammar` is where the reader stood

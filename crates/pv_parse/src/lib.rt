@@ -8,4 +8,6 @@ pub mod member;
 pub mod module;
 pub mod spec_block;
 #[cfg(test)]
+mod spelling_tests;
+#[cfg(test)]
 mod tests;

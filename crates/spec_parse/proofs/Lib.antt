@@ -1,2 +1,4 @@
 pub mod WholeLemmas
 pub mod DenotedLemmas
+pub mod WholeBlockLemmas
+pub mod DenotedBlockLemmas

@@ -9,9 +9,8 @@ use Rattle.spec_tree.specs.SpecExpressionSpelling.{spec_spelling}
 use Rattle.spec_tree.specs.ProperSpecExpressions.{IsProperSpec}
 use Rattle.left_out.specs.declared.explain.ParseFault.{ParseFault}
 use Rattle.left_out.specs.declared.explain.ParseFault.TheVariants.{Grammar, LeftOut, NoMemory}
-use Rattle.left_out.specs.declared.marker.Marker.{Marker}
-use Rattle.left_out.specs.Markers.{HoldNone, IsFirst}
-use Rattle.left_out.specs.ParseFault.{start_at}
+use Rattle.left_out.specs.Markers.{HoldNone}
+use Rattle.left_out.specs.ParseFault.{HoldMarker}
 
 -- the tokens are those of this spec expression, and it is one that the grammar has
 pub record IsSpecExpressionOf (expression : SpecExpressionData) (tokens : List Token) : Type 0 where
@@ -20,12 +19,6 @@ pub record IsSpecExpressionOf (expression : SpecExpressionData) (tokens : List T
 
 abbrev pub AreOfNoSpecExpression : List Token → Type 0
 AreOfNoSpecExpression tokens = (expression : SpecExpressionData) → IsSpecExpressionOf expression tokens → ⊥
-
--- the tokens hold this marker of a form that is left out, and none stands before it
-pub record HoldMarker (tokens : List Token) (marker : Marker) (place : ℕ) : Type 0 where
-  pub index : ℕ
-  pub first : IsFirst tokens marker index
-  pub at : place ≡ start_at tokens index
 
 -- `Grammar` where the tokens are of no spec expression and hold no marker, `LeftOut` where they are of none and hold one,
 -- the first; the place of `Grammar` is where the reader stood

@@ -1,2 +1,4 @@
 pub mod WholeReading
 pub mod Denoted
+pub mod WholeBlockReading
+pub mod DenotedBlocks

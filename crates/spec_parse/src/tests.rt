@@ -1,6 +1,9 @@
-//! Spec expressions that texts denote, and why others denote none.
+//! Spec blocks and spec expressions that texts denote, and why others denote none.
 
+use crate::block::spec_block;
 use crate::denoted::spec_expression;
+use clause_tree::clause::Spec;
+use clause_tree::slot::Slot;
 use left_out::explain::ParseFault;
 use left_out::marker::Marker;
 use spec_tree::spec_expression::{SpecExpression, SpecNode};
@@ -85,5 +88,109 @@ fn texts_of_no_spec_expression(rt: HostRuntime) {
         alloc,
         b"f(b\"hi\")",
         ParseFault::LeftOut(Marker::Bytes, 2),
+    );
+}
+
+/// The number of clauses of a block, and 0 for a function, which has none.
+fn clauses_of(block: &Spec) -> usize {
+    match block {
+        Spec::Module { clauses, .. } => clauses.items.len(),
+        Spec::Named { clauses, .. } => clauses.items.len(),
+        Spec::Schema(schema) => schema.clauses.items.len(),
+        Spec::Function(_) => 0,
+        Spec::Loop { clauses, .. } => clauses.items.len(),
+    }
+}
+
+/// How many clauses the block has that a text denotes, or why it denotes none.
+fn found(rt: &impl Abort, alloc: Global, slot: Slot, text: &[u8]) -> Result<usize, ParseFault> {
+    let block = spec_block(alloc, slot, &scan(rt, alloc, text))?;
+    Ok(clauses_of(&block))
+}
+
+fn finds(
+    rt: &impl Abort,
+    alloc: Global,
+    slot: Slot,
+    text: &[u8],
+    expected: Result<usize, ParseFault>,
+) {
+    assert!(rt; found(rt, alloc, slot, text) == expected, "{text:?}");
+}
+
+#[test]
+fn spec_blocks_of_texts(rt: HostRuntime) {
+    let alloc = rt.alloc();
+    finds(
+        &rt,
+        alloc,
+        Slot::Function,
+        b"spec f { requires x; ensures y; }",
+        Ok(2),
+    );
+    finds(
+        &rt,
+        alloc,
+        Slot::Struct,
+        b"spec S { invariant x > 0; }",
+        Ok(1),
+    );
+    finds(&rt, alloc, Slot::Module, b"spec module {}", Ok(0));
+    finds(
+        &rt,
+        alloc,
+        Slot::Schema,
+        b"spec schema S { axiom: u64; ensures axiom; }",
+        Ok(2),
+    );
+    finds(
+        &rt,
+        alloc,
+        Slot::SpecFunction,
+        b"spec fun f(): u64 { 1 }",
+        Ok(0),
+    );
+    finds(&rt, alloc, Slot::Loop, b"spec { invariant i <= n; }", Ok(1));
+}
+
+#[test]
+fn texts_of_no_spec_block(rt: HostRuntime) {
+    let alloc = rt.alloc();
+    let axiom = Err(ParseFault::LeftOut(Marker::Axiom, 14));
+    finds(
+        &rt,
+        alloc,
+        Slot::Module,
+        b"spec module { axiom true; }",
+        axiom,
+    );
+    let with = Err(ParseFault::LeftOut(Marker::With, 21));
+    finds(
+        &rt,
+        alloc,
+        Slot::Function,
+        b"spec f { aborts_if x with 1; }",
+        with,
+    );
+    finds(
+        &rt,
+        alloc,
+        Slot::Function,
+        b"spec f { invariant x; }",
+        Err(ParseFault::Grammar(9)),
+    );
+    finds(
+        &rt,
+        alloc,
+        Slot::Function,
+        b"spec module {}",
+        Err(ParseFault::Grammar(5)),
+    );
+    finds(
+        &rt,
+        alloc,
+        Slot::Struct,
+        b"spec S {} 1",
+        Err(ParseFault::Grammar(10)),
     );
 }

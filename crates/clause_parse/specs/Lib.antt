@@ -1,0 +1,3 @@
+pub mod ClauseReading
+pub mod BlockReading
+pub mod SpecBlockReading

@@ -1,0 +1,134 @@
+//! Blocks of clauses.
+
+ghost use Rattle.std.specs.Prelude.{◌≡◌, None, Some, MatchResult};
+ghost use Rattle.token_reading.specs.ReadFault.{IfNoTree};
+ghost use Rattle.clause_parse.specs.BlockReading.{block_at, clauses_at, in_function, in_loop, in_module, in_struct, may_hold, may_hold_all};
+
+use crate::clause::read_clause;
+use clause_tree::clause::{Clause, Clauses};
+use clause_tree::slot::Slot;
+use src_tree::token::{Punctuation, Token};
+use std::alloc::Global;
+use token_reading::fault::ReadFault;
+use token_reading::tokens::{begins_with, expect_sign};
+
+/// Whether the block of a function may hold a clause.
+fn in_function(clause: &Clause) -> bool
+    ensures { result ≡ in_function clause.now }
+{
+    match clause {
+        Clause::Pragma { .. } => true,
+        Clause::Requires { .. } => true,
+        Clause::Ensures { .. } => true,
+        Clause::AbortsIf { .. } => true,
+        Clause::Modifies { .. } => true,
+        Clause::Let { .. } => true,
+        Clause::Include(_) => true,
+        Clause::Invariant { .. } => false,
+        Clause::Variable(_) => false,
+    }
+}
+
+/// Whether the block of a struct may hold a clause.
+fn in_struct(clause: &Clause) -> bool
+    ensures { result ≡ in_struct clause.now }
+{
+    match clause {
+        Clause::Pragma { .. } => true,
+        Clause::Invariant { is_update, .. } => !*is_update,
+        Clause::Let { .. } => true,
+        Clause::Include(_) => true,
+        _ => false,
+    }
+}
+
+/// Whether the block of a module may hold a clause.
+fn in_module(clause: &Clause) -> bool
+    ensures { result ≡ in_module clause.now }
+{
+    match clause {
+        Clause::Pragma { .. } => true,
+        Clause::Invariant { .. } => true,
+        Clause::Let { .. } => true,
+        Clause::Include(_) => true,
+        _ => false,
+    }
+}
+
+/// Whether the block of a loop may hold a clause.
+fn in_loop(clause: &Clause) -> bool
+    ensures { result ≡ in_loop clause.now }
+{
+    match clause {
+        Clause::Invariant { is_update, .. } => !*is_update,
+        _ => false,
+    }
+}
+
+/// Whether a block may hold a clause.
+fn may_hold(slot: Slot, clause: &Clause) -> bool
+    ensures { result ≡ may_hold slot clause.now }
+{
+    match slot {
+        Slot::Function => in_function(clause),
+        Slot::Struct => in_struct(clause),
+        Slot::Module => in_module(clause),
+        Slot::Schema => true,
+        Slot::SpecFunction => false,
+        Slot::Loop => in_loop(clause),
+    }
+}
+
+/// Whether a block may hold each of some clauses.
+fn may_hold_all(slot: Slot, clauses: &[Clause]) -> bool
+    ensures { result ≡ may_hold_all slot clauses.now }
+{
+    clauses.iter().all(|clause| may_hold(slot, clause))
+}
+
+/// The clauses of a block up to its brace, and the tokens from the brace on.
+fn read_clauses(
+    alloc: Global,
+    tokens: &[Token],
+    budget: usize,
+) -> Result<(Vec<Clause>, &[Token]), ReadFault>
+    ensures { MatchResult result (λ read. clauses_at budget tokens.now ≡ Some (read.0.items, read.1.now)) (λ fault. IfNoTree fault (clauses_at budget tokens.now ≡ None)) }
+{
+    let mut clauses = Vec::new(alloc);
+    let mut rest = tokens;
+    for _ in 0..tokens.len() {
+        if begins_with(rest, Punctuation::RightBrace) {
+            return Ok((clauses, rest));
+        }
+        let (clause, behind) = read_clause(alloc, rest, budget)?;
+        clauses.push(clause)?;
+        rest = behind;
+    }
+    Ok((clauses, rest))
+}
+
+/// The clauses of a block in its braces, and the tokens behind it. `budget` bounds how deep the types and
+/// expressions in it are nested.
+///
+/// # Errors
+///
+/// `NoTree` where the tokens begin with no block of this slot that is nested at most so deep, `NoMemory`
+/// where memory ran out.
+#[tactic(auto, unfolding(crate::specs::BlockReading::block_at))]
+pub fn read_block(
+    alloc: Global,
+    slot: Slot,
+    tokens: &[Token],
+    budget: usize,
+) -> Result<(Clauses, &[Token]), ReadFault>
+    ensures { MatchResult result (λ read. block_at slot budget tokens.now ≡ Some (read.0, read.1.now)) (λ fault. IfNoTree fault (block_at slot budget tokens.now ≡ None)) }
+{
+    let inside = expect_sign(tokens, Punctuation::LeftBrace)?;
+    let (items, rest) = read_clauses(alloc, inside, budget)?;
+    if may_hold_all(slot, items.as_slice()) {
+        let rest = expect_sign(rest, Punctuation::RightBrace)?;
+        Ok((Clauses { items }, rest))
+    } else {
+        Err(ReadFault::NoTree { left: inside.len() })
+    }
+}

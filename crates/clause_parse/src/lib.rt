@@ -1,0 +1,13 @@
+//! The clauses of spec blocks are read from tokens.
+#![tactic(auto)]
+
+pub mod block;
+pub mod clause;
+mod conditions;
+mod includes;
+mod pragmas;
+pub mod spec_block;
+mod targets;
+#[cfg(test)]
+mod tests;
+pub mod words;

@@ -1,0 +1,28 @@
+-- A spec block that all of the tokens are is read exactly.
+use Rattle.std.proofs.Common.{◌≡◌, ℕ, suc, ◌≤◌, List, [], ◌∷◌, Some, length, refl, subst, ◌∙◌}
+use Rattle.src_tree.specs.declared.token.Token.{Token}
+use Rattle.clause_tree.specs.declared.slot.Slot.{Slot}
+use Rattle.clause_tree.specs.declared.clause.Spec.{Spec}
+use Rattle.clause_tree.specs.ClauseSpelling.{spec_tree_spelling}
+use Rattle.clause_tree.specs.ProperClauses.{IsProperBlock}
+use Rattle.token_reading.specs.Beginnings.{Begins}
+use Rattle.token_reading.proofs.Steps.{step, bind_some}
+use Rattle.clause_parse.specs.SpecBlockReading.{spec_block_at}
+use Rattle.clause_parse.proofs.SpecBlockLemmas.{spec_block_at-sound, spec_block_at-complete}
+use Rattle.spec_parse.specs.WholeBlockReading.{at_end, whole_at}
+
+at_end-sound : (x : Spec) (ts : List Token) (y : Spec) → at_end x ts ≡ Some y → (x ≡ y) × (ts ≡ [])
+at_end-sound x [] y h = (cc, refl)
+at_end-sound x (t ∷ ts) y h = absurd (cc)
+
+pub whole_at-sound : (slot : Slot) (n : ℕ) (ts : List Token) (x : Spec) → whole_at slot n ts ≡ Some x → Begins (spec_tree_spelling x) ts [] × IsProperBlock slot x
+unfolding whole_at
+whole_at-sound slot n ts x h =
+    let s = step (spec_block_at slot n ts) (λ r. at_end r.0 r.1) x h in
+    let d = at_end-sound s.value.0 s.value.1 x s.then in
+    let r = spec_block_at-sound slot n ts s.value s.first in
+    (subst (λ y. Begins (spec_tree_spelling y) ts []) d.0 (subst (Begins (spec_tree_spelling s.value.0) ts) d.1 r.0), subst (IsProperBlock slot) d.0 r.1)
+
+pub whole_at-complete : (slot : Slot) (n : ℕ) (x : Spec) (ts : List Token) → length ts ≤ n → Begins (spec_tree_spelling x) ts [] → IsProperBlock slot x → whole_at slot (suc n) ts ≡ Some x
+unfolding whole_at
+whole_at-complete slot n x ts h b p = bind_some (spec_block_at slot (suc n) ts) (λ r. at_end r.0 r.1) (x, []) (spec_block_at-complete slot n x ts [] h b p)

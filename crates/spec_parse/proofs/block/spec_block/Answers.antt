@@ -1,0 +1,10 @@
+use Rattle.std.proofs.Common.{refl, subst, rules}
+use Rattle.spec_parse.specs.DenotedBlocks.{IsSpecBlockOf, IsCause}
+use Rattle.spec_parse.proofs.DenotedBlockLemmas.{read_is_spec_block, cause_is_known}
+use Rattle.spec_parse.proofs.block.spec_block.Goals as goal
+
+pub returns-in-Ok-clause-denoted : goal.returns-in-Ok-clause-denoted
+returns-in-Ok-clause-denoted c = subst (IsSpecBlockOf c.args.slot c.in-Ok.block) (search rules) (read_is_spec_block _ _ _ _ c.in-Ok.ensures)
+
+pub returns-in-Err-clause-refused : goal.returns-in-Err-clause-refused
+returns-in-Err-clause-refused c = subst (λ ts. IsCause c.args.slot ts c.explain.result) (search rules) (cause_is_known _ _ _ _ _ refl c.in-Err.ensures c.explain.ensures)
