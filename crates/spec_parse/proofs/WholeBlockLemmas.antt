@@ -1,5 +1,5 @@
 -- A spec block that all of the tokens are is read exactly.
-use Rattle.std.proofs.Common.{◌≡◌, ℕ, suc, ◌≤◌, List, [], ◌∷◌, Some, length, refl, subst, ◌∙◌}
+use Rattle.std.proofs.Common.{◌≡◌, ℕ, suc, ◌≤◌, List, [], ◌∷◌, Some, length, refl, subst}
 use Rattle.src_tree.specs.declared.token.Token.{Token}
 use Rattle.clause_tree.specs.declared.slot.Slot.{Slot}
 use Rattle.clause_tree.specs.declared.clause.Spec.{Spec}

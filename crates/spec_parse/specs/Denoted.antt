@@ -1,7 +1,7 @@
 -- Which spec expression tokens denote, and what is known where they denote none.
 -- Source: the Move Specification Language reference, "Expressions"; the trees and which of them are proper are those of
 -- the spec trees.
-use Rattle.std.specs.Prelude.{◌≡◌, ℕ, List}
+use Rattle.std.specs.Prelude.{List}
 use Rattle.src_tree.specs.declared.token.Token.{Token}
 use Rattle.move_tree.specs.Lexemes.{AreTokens}
 use Rattle.spec_tree.specs.SpecExpressionData.{SpecExpressionData}

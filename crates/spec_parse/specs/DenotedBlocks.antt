@@ -1,7 +1,7 @@
 -- Which spec block of a slot tokens denote, and what is known where they denote none.
 -- Source: the Move Specification Language reference; the trees and which of them are proper are those of the trees of
 -- clauses.
-use Rattle.std.specs.Prelude.{◌≡◌, ℕ, List}
+use Rattle.std.specs.Prelude.{List}
 use Rattle.src_tree.specs.declared.token.Token.{Token}
 use Rattle.move_tree.specs.Lexemes.{AreTokens}
 use Rattle.clause_tree.specs.declared.slot.Slot.{Slot}
