@@ -1,0 +1,7 @@
+pub mod PairLemmas
+pub mod FaultLemmas
+pub mod NameLemmas
+pub mod SlotLemmas
+pub mod SpecLemmas
+pub mod MemberLemmas
+pub mod SourceLemmas

@@ -1,0 +1,9 @@
+use Rattle.std.proofs.Common.{ℕ, List}
+use Rattle.std.specs.Vec.Iter.{into_iter_items}
+use Rattle.source_parse.specs.FunctionNames.{IsSetOf}
+use Rattle.source_parse.specs.Members.{IsSourceMember}
+use Rattle.source_parse.proofs.MemberLemmas.{Reading}
+use Rattle.source_parse.proofs.module.read_members.Given as goal
+
+abbrev pub invariant-loop-member : goal.invariant-loop-member
+invariant-loop-member l = (names : List (List ℕ)) → IsSetOf l.functions names → Reading (IsSourceMember names) l.fn.members.items (into_iter_items l.member-iterator) l.found.items

@@ -1,0 +1,53 @@
+//! Which source tokens denote.
+
+ghost use Rattle.std.specs.Prelude.{◌≡◌, List, IfOk, IfErr};
+ghost use Rattle.src_tree.specs.declared.token.Token.{Token};
+ghost use Rattle.source_parse.specs.Denoted.{IsCause, IsSourceOf};
+ghost use Rattle.source_parse.specs.FileReading.{MatchesFile};
+ghost use Rattle.source_parse.specs.SourceModuleData.{SourceModuleData};
+
+use crate::fault::SpecFault;
+use crate::loops::check_modules;
+use crate::module::read_modules;
+use crate::source::Source;
+use file_tree::member::File;
+use left_out::explain::{ParseFault, explain_at};
+use pv_parse::denoted::{modules, one_file};
+use src_tree::token::Tokens;
+use std::alloc::Global;
+
+/// The source of a file: its trees with those of the spec blocks in it.
+fn source_of(alloc: Global, file: File) -> Result<Source, SpecFault>
+    ensures { MatchesFile «file» result }
+{
+    check_modules(alloc, file.modules.as_slice())?;
+    let modules = read_modules(alloc, file.modules)?;
+    Ok(Source { modules })
+}
+
+/// The source that the tokens of a file denote: they are of a file that the grammar has, and each spec block
+/// in it, those of loops too, is one that the grammar has for what it is of.
+///
+/// # Errors
+///
+/// `Grammar` comes exactly where the tokens are of no source and hold no marker of a form that is left out,
+/// with the place at which reading ended; `LeftOut` exactly where they are of none and hold one, with the
+/// first marker and its place; `NoMemory` where memory ran out.
+pub fn source(alloc: Global, tokens: &Tokens) -> Result<Source, ParseFault>
+    ensures denoted { IfOk result (λ source. IsSourceOf source tokens.now) }
+    ensures refused { IfErr result (λ fault. IsCause tokens.now fault) }
+{
+    one_file();
+    let file = modules(alloc, tokens)?;
+    match source_of(alloc, file) {
+        Ok(source) => Ok(source),
+        Err(SpecFault::NoTree(place)) => Err(explain_at(tokens.as_slice(), place)),
+        Err(SpecFault::NoMemory) => Err(ParseFault::NoMemory),
+    }
+}
+
+/// A law: tokens denote one source at most.
+pub fn one_source()
+    ensures { (tokens : List Token) (one other : List SourceModuleData)
+        → IsSourceOf one tokens → IsSourceOf other tokens → one ≡ other }
+{}

@@ -1,0 +1,48 @@
+//! The names of a module's functions.
+
+ghost use Rattle.std.specs.Prelude.{◌≡◌, IfOk};
+ghost use Rattle.source_parse.specs.FunctionNames.{IsSetOf, has, names_of};
+
+use file_tree::member::{Member, MemberForm};
+use pv_base::memory::NoMemory;
+use pv_base::name::Name;
+use std::alloc::Global;
+use std::collections::BTreeSet;
+use std::marker::Model;
+
+/// The names of a module's functions.
+#[derive(Drop)]
+pub struct FunctionNames {
+    names: BTreeSet<Name>,
+}
+
+impl Model for FunctionNames {
+    ghost use Rattle.std.specs.Prelude.{List, ℕ};
+    ghost use Rattle.std.specs.BTreeSet.{BTreeSet};
+
+    ghost Value = { BTreeSet (List ℕ) };
+
+    ghost view = { λ f. f.names };
+}
+
+impl FunctionNames {
+    /// Whether a function has this name.
+    pub fn contains(&self, name: &Name) -> bool
+        ensures { result ≡ has self.now name.now }
+    {
+        self.names.contains(name)
+    }
+}
+
+/// The names of the functions among the members.
+pub fn names_of(alloc: Global, members: &[Member]) -> Result<FunctionNames, NoMemory>
+    ensures { IfOk result (λ names. IsSetOf names (names_of members.now)) }
+{
+    let mut names = BTreeSet::new(alloc);
+    for member in members {
+        if let MemberForm::Function(function) = &member.form {
+            names.insert(function.name.text.try_clone(alloc)?)?;
+        }
+    }
+    Ok(FunctionNames { names })
+}

@@ -1,0 +1,63 @@
+//! What the spec blocks of a module are of.
+
+ghost use Rattle.std.specs.Prelude.{◌≡◌, None, Some};
+ghost use Rattle.std.specs.Option.{option_map};
+ghost use Rattle.source_parse.specs.FunctionNames.{has};
+ghost use Rattle.source_parse.specs.SlotReading.{first_word, is_schema, names_struct, slot_at};
+
+use crate::functions::FunctionNames;
+use clause_tree::slot::Slot;
+use pv_base::name::Name;
+use src_tree::token::{Token, TokenKind};
+use token_reading::tokens::{begins_capital, skip_word};
+
+/// The first token, where it is a word.
+fn first_word(tokens: &[Token]) -> Option<&Name>
+    ensures { option_map (λ name. name.now) result ≡ first_word tokens.now }
+{
+    match tokens.first() {
+        Some(token) => match &token.kind {
+            TokenKind::Word(name) => Some(name),
+            _ => None,
+        },
+        None => None,
+    }
+}
+
+/// Whether the tokens begin with `schema` and a name.
+fn is_schema(tokens: &[Token]) -> bool
+    ensures { result ≡ is_schema tokens.now }
+{
+    match skip_word(tokens, b"schema") {
+        Some(rest) => first_word(rest).is_some(),
+        None => false,
+    }
+}
+
+/// Whether the first token is a name that begins with A to Z and is that of no function.
+fn names_struct(functions: &FunctionNames, tokens: &[Token]) -> bool
+    ensures { result ≡ names_struct (has functions.now) tokens.now }
+{
+    match first_word(tokens) {
+        Some(name) => begins_capital(name.as_slice()) && !functions.contains(name),
+        None => false,
+    }
+}
+
+/// What a spec block is of, by the tokens behind its word.
+#[tactic(auto, unfolding(crate::specs::SlotReading::slot_at))]
+pub fn slot_of(functions: &FunctionNames, tokens: &[Token]) -> Slot
+    ensures { result ≡ slot_at (has functions.now) tokens.now }
+{
+    if skip_word(tokens, b"module").is_some() {
+        Slot::Module
+    } else if skip_word(tokens, b"fun").is_some() {
+        Slot::SpecFunction
+    } else if is_schema(tokens) {
+        Slot::Schema
+    } else if names_struct(functions, tokens) {
+        Slot::Struct
+    } else {
+        Slot::Function
+    }
+}

@@ -1,0 +1,100 @@
+//! Sources that are read from texts, and why others are not.
+
+use crate::denoted::source;
+use left_out::explain::ParseFault;
+use left_out::marker::Marker;
+use src_tree::scanner::tokens;
+use src_tree::token::Tokens;
+use std::alloc::Global;
+use std::process::Abort;
+
+fn scan(rt: &impl Abort, alloc: Global, text: &[u8]) -> Tokens {
+    assert!(rt; text.len() < 1000);
+    match tokens(alloc, 0, text) {
+        Ok(found) => found,
+        Err(fault) => {
+            assert!(rt; false, "{fault:?}");
+            Tokens::new(alloc)
+        }
+    }
+}
+
+/// How many members the modules of a text have in all, or why it is no source.
+fn found(rt: &impl Abort, alloc: Global, text: &[u8]) -> Result<usize, ParseFault> {
+    let source = source(alloc, &scan(rt, alloc, text))?;
+    let mut count: usize = 0;
+    for module in source.modules.iter() {
+        count = count.saturating_add(module.members.len());
+    }
+    Ok(count)
+}
+
+fn finds(rt: &impl Abort, alloc: Global, text: &[u8], expected: Result<usize, ParseFault>) {
+    assert!(rt; found(rt, alloc, text) == expected, "{text:?}");
+}
+
+#[test]
+fn sources_of_texts(rt: HostRuntime) {
+    let alloc = rt.alloc();
+    finds(&rt, alloc, b"", Ok(0));
+    finds(
+        &rt,
+        alloc,
+        b"module 0x1::m { fun F() {} spec F { requires x; } spec S { invariant x; } }",
+        Ok(3),
+    );
+    finds(
+        &rt,
+        alloc,
+        b"module 0x1::m { spec module { pragma a; } spec schema S { x: u64; } spec fun f(): u64 { 1 } }",
+        Ok(3),
+    );
+    finds(
+        &rt,
+        alloc,
+        b"module 0x1::m { fun f() { loop { spec { invariant x; }; a } } } module 0x1::n { const C: u64 = 1; }",
+        Ok(2),
+    );
+}
+
+#[test]
+fn texts_of_no_source(rt: HostRuntime) {
+    let alloc = rt.alloc();
+    let grammar = Err(ParseFault::Grammar(25));
+    finds(
+        &rt,
+        alloc,
+        b"module 0x1::m { spec S { requires x; } }",
+        grammar,
+    );
+    let axiom = Err(ParseFault::LeftOut(Marker::Axiom, 30));
+    finds(
+        &rt,
+        alloc,
+        b"module 0x1::m { spec module { axiom true; } }",
+        axiom,
+    );
+    let inline = Err(ParseFault::LeftOut(Marker::Inline, 16));
+    finds(&rt, alloc, b"module 0x1::m { inline fun f() {} }", inline);
+    let assume = Err(ParseFault::LeftOut(Marker::Assume, 40));
+    finds(
+        &rt,
+        alloc,
+        b"module 0x1::m { fun f() { loop { spec { assume x; }; a } } }",
+        assume,
+    );
+    let no_invariant = Err(ParseFault::Grammar(40));
+    finds(
+        &rt,
+        alloc,
+        b"module 0x1::m { fun f() { loop { spec { requires x; }; a } } }",
+        no_invariant,
+    );
+    let first = Err(ParseFault::LeftOut(Marker::With, 20));
+    finds(
+        &rt,
+        alloc,
+        b"module 0x1::m { fun with() {} spec f { axiom; } }",
+        first,
+    );
+}
