@@ -79,10 +79,7 @@ fn collect_from_field<'a>(field: &'a FieldPattern, into: &mut Names<'a>) -> Resu
 
 #[cycle(collect_names)]
 #[tactic(auto, using(move_tree::proofs::Smaller::pattern_smaller))]
-fn collect_from_patterns<'a>(
-    patterns: &'a [Pattern],
-    into: &mut Names<'a>,
-) -> Result<(), NoMemory>
+fn collect_from_patterns<'a>(patterns: &'a [Pattern], into: &mut Names<'a>) -> Result<(), NoMemory>
     ensures { OnOk result (into.new ≡ into.old ++ names_of_patterns (patterns_of patterns.now)) }
 {
     for one in patterns {
@@ -93,10 +90,7 @@ fn collect_from_patterns<'a>(
 
 #[cycle(collect_names)]
 #[tactic(auto, using(move_tree::proofs::Smaller::field_pattern_smaller))]
-fn collect_from_fields<'a>(
-    fields: &'a [FieldPattern],
-    into: &mut Names<'a>,
-) -> Result<(), NoMemory>
+fn collect_from_fields<'a>(fields: &'a [FieldPattern], into: &mut Names<'a>) -> Result<(), NoMemory>
     ensures { OnOk result (into.new ≡ into.old ++ names_of_fields (field_patterns_of fields.now)) }
 {
     for one in fields {

@@ -1,4 +1,4 @@
-use Rattle.std.proofs.Common.{◌≡◌, ◌+◌, ◌*◌, ◌++◌, take}
+use Rattle.std.proofs.Common.{◌≡◌, ◌*◌, ◌++◌, take}
 use Rattle.std.specs.List.{flat_map}
 use Rattle.move_tree.specs.PatternData.{pattern_size, patterns_size, field_pattern_size, field_patterns_size, patterns_of, field_patterns_of}
 use Rattle.blocks.specs.Locals.{names_of, names_of_field}
