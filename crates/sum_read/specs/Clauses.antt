@@ -1,0 +1,78 @@
+-- Which clauses claim something of sums, and what: `true`, `false`, or how two sums compare. Parentheses round a condition
+-- stand for it. Source: the Move Specification Language reference, "Requires", "Ensures" and "AbortsIf Condition".
+use Rattle.std.specs.Prelude.{ℕ, true, false, List, Option, Some, None, option_and_then}
+use Rattle.std.specs.Option.{option_map}
+use Rattle.move_tree.specs.declared.literal.Literal.{Literal}
+use Rattle.move_tree.specs.declared.literal.Literal.TheVariants.{Number, Truth, Address}
+use Rattle.move_tree.specs.declared.operator.BinaryOperator.{BinaryOperator}
+use Rattle.move_tree.specs.declared.operator.BinaryOperator.TheVariants.{Equal as equal_sign, Less as less_sign, Greater as greater_sign, LessEqual as less_equal_sign, GreaterEqual as greater_equal_sign}
+use Rattle.spec_tree.specs.declared.spec_operator.SpecOperator.{SpecOperator}
+use Rattle.spec_tree.specs.declared.spec_operator.SpecOperator.TheVariants.{Equivalent, Implies, Range, Common}
+use Rattle.spec_tree.specs.SpecExpressionData.{SpecExpressionData, SpecBinary, SpecLiteral, SpecParenthesized}
+use Rattle.clause_tree.specs.declared.clause.AbortCode.{AbortCode}
+use Rattle.clause_tree.specs.declared.clause.AbortCode.TheVariants.{Bare, Failure, Code}
+use Rattle.clause_tree.specs.declared.clause.Clause.{Clause as ClauseTree}
+use Rattle.clause_tree.specs.declared.clause.Clause.TheVariants.{Requires as requires_clause, Ensures as ensures_clause, AbortsIf as aborts_if_clause}
+use Rattle.sum_tree.specs.SumData.{SumData}
+use Rattle.sum_tree.specs.declared.clause.Comparison.{Comparison}
+use Rattle.sum_tree.specs.declared.clause.Comparison.TheVariants.{Equal, Less, Greater, LessEqual, GreaterEqual}
+use Rattle.sum_tree.specs.declared.clause.Condition.{Condition}
+use Rattle.sum_tree.specs.declared.clause.Condition.TheVariants.{True, False, Compares}
+use Rattle.sum_tree.specs.declared.clause.ClauseKind.{ClauseKind}
+use Rattle.sum_tree.specs.declared.clause.ClauseKind.TheVariants.{Requires, Ensures, AbortsIf}
+use Rattle.sum_tree.specs.declared.clause.Clause.{Clause}
+use Rattle.sum_read.specs.Each.{each}
+use Rattle.sum_read.specs.Sums.{spec_sum_of}
+
+-- ---- conditions
+
+abbrev pub truth_condition : Literal → Option Condition
+truth_condition (Number n) = None
+truth_condition (Truth place true) = Some True
+truth_condition (Truth place false) = Some False
+truth_condition (Address place address) = None
+
+abbrev pub common_comparison : BinaryOperator → Option Comparison
+common_comparison equal_sign = Some Equal
+common_comparison less_sign = Some Less
+common_comparison greater_sign = Some Greater
+common_comparison less_equal_sign = Some LessEqual
+common_comparison greater_equal_sign = Some GreaterEqual
+common_comparison _ = None
+
+abbrev pub comparison_of : SpecOperator → Option Comparison
+comparison_of Equivalent = None
+comparison_of Implies = None
+comparison_of Range = None
+comparison_of (Common operator) = common_comparison operator
+
+abbrev pub compared : Option Comparison → Option SumData → Option SumData → Option Condition
+compared comparison left right =
+    option_and_then (λ c. option_and_then (λ l. option_map (λ r. Compares l c r) right) left) comparison
+
+abbrev pub condition_of : SpecExpressionData → Option Condition
+condition_of (SpecLiteral literal) = truth_condition literal
+condition_of (SpecBinary left operator place right) = compared (comparison_of operator) (spec_sum_of left) (spec_sum_of right)
+condition_of (SpecParenthesized place inner) = condition_of inner
+condition_of _ = None
+
+-- ---- clauses
+
+-- a clause of this kind, whose first byte is at this place
+abbrev pub clause_at : ClauseKind → ℕ → SpecExpressionData → Option Clause
+clause_at kind start e = option_map (λ c. record { kind = kind; condition = c; start = start }) (condition_of e)
+
+abbrev pub bare_clause : AbortCode → Option Clause → Option Clause
+bare_clause Bare c = c
+bare_clause Failure c = None
+bare_clause (Code e) c = None
+
+abbrev pub clause_of : ClauseTree → Option Clause
+clause_of (requires_clause place e) = clause_at Requires place.start e
+clause_of (ensures_clause place e) = clause_at Ensures place.start e
+clause_of (aborts_if_clause place e code) = bare_clause code (clause_at AbortsIf place.start e)
+clause_of _ = None
+
+-- all of them, where each is one
+abbrev pub clauses_of : List ClauseTree → Option (List Clause)
+clauses_of clauses = each clause_of clauses

@@ -1,0 +1,5 @@
+pub mod FormFault
+pub mod Each
+pub mod Sums
+pub mod Clauses
+pub mod Functions

@@ -1,0 +1,74 @@
+//! Clauses over sums.
+
+ghost use Rattle.std.specs.Prelude.{◌≡◌, None, Some, MatchResult};
+ghost use Rattle.sum_read.specs.FormFault.{IfNotBuilt};
+ghost use Rattle.sum_read.specs.Clauses.{clause_at, clause_of, clauses_of};
+
+use crate::condition::read_condition;
+use crate::fault::FormFault;
+use clause_tree::clause::{AbortCode, Clause as ClauseTree};
+use pv_base::span::Span;
+use spec_tree::spec_expression::SpecExpression;
+use std::alloc::Global;
+use sum_tree::clause::{Clause, ClauseKind};
+
+/// A clause of this kind at this place.
+fn read_at(
+    alloc: Global,
+    kind: ClauseKind,
+    place: Span,
+    condition: &SpecExpression,
+) -> Result<Clause, FormFault>
+    ensures { MatchResult result (λ clause. clause_at kind place.start condition.now ≡ Some clause) (λ fault. IfNotBuilt fault (clause_at kind place.start condition.now ≡ None)) }
+{
+    let condition = read_condition(alloc, condition)?;
+    Ok(Clause {
+        kind,
+        condition,
+        start: place.start,
+    })
+}
+
+/// The clause over sums that a clause is.
+fn read_clause(alloc: Global, clause: &ClauseTree) -> Result<Clause, FormFault>
+    ensures { MatchResult result (λ read. clause_of clause.now ≡ Some read) (λ fault. IfNotBuilt fault (clause_of clause.now ≡ None)) }
+{
+    match clause {
+        ClauseTree::Requires { place, condition } => {
+            read_at(alloc, ClauseKind::Requires, *place, condition)
+        }
+        ClauseTree::Ensures { place, condition } => {
+            read_at(alloc, ClauseKind::Ensures, *place, condition)
+        }
+        ClauseTree::AbortsIf {
+            place,
+            condition,
+            code,
+        } => match code {
+            AbortCode::Bare => read_at(alloc, ClauseKind::AbortsIf, *place, condition),
+            AbortCode::Failure => Err(FormFault::NotBuilt),
+            AbortCode::Code(_) => Err(FormFault::NotBuilt),
+        },
+        ClauseTree::Pragma { .. }
+        | ClauseTree::Modifies { .. }
+        | ClauseTree::Invariant { .. }
+        | ClauseTree::Let { .. }
+        | ClauseTree::Include(_)
+        | ClauseTree::Variable(_) => Err(FormFault::NotBuilt),
+    }
+}
+
+/// The clauses over sums that clauses are.
+///
+/// # Errors
+///
+/// `NotBuilt` exactly where one of them is none.
+pub fn read_clauses(alloc: Global, clauses: &[ClauseTree]) -> Result<Vec<Clause>, FormFault>
+    ensures { MatchResult result (λ read. clauses_of clauses.now ≡ Some read.items) (λ fault. IfNotBuilt fault (clauses_of clauses.now ≡ None)) }
+{
+    let mut read = Vec::new(alloc);
+    for clause in clauses {
+        read.push(read_clause(alloc, clause)?)?;
+    }
+    Ok(read)
+}

@@ -1,0 +1,169 @@
+//! Sums and clauses that are read off trees that are built by hand.
+
+use crate::clause::read_clauses;
+use crate::sum::read_sum;
+use clause_tree::clause::{AbortCode, Clause as ClauseTree};
+use move_tree::expression::{Expression, ExpressionNode};
+use move_tree::lexeme::{Identifier, Numeral};
+use move_tree::literal::Literal;
+use move_tree::operator::BinaryOperator;
+use move_tree::path::Path;
+use pv_base::memory::NoMemory;
+use pv_base::name::Name;
+use pv_base::span::Span;
+use spec_tree::spec_expression::{SpecExpression, SpecNode};
+use src_tree::token::{NumberLiteral, NumberSuffix};
+use std::alloc::Global;
+use std::test::Fail;
+use sum_tree::clause::{ClauseKind, Condition};
+use sum_tree::sum::{Operator, Sum, SumNode};
+
+fn at(start: u32) -> Span {
+    Span {
+        file: 0,
+        start,
+        end: start,
+    }
+}
+
+fn word(alloc: Global, text: &[u8]) -> Result<Box<Expression>, NoMemory> {
+    let name = Identifier {
+        text: Name::from_slice(alloc, text)?,
+        place: at(0),
+    };
+    let node = ExpressionNode::Path(Path::Name(name));
+    Ok(Box::new(alloc, Expression { node })?)
+}
+
+fn number(alloc: Global, suffix: NumberSuffix) -> Result<Box<Expression>, NoMemory> {
+    let literal = NumberLiteral {
+        text: Name::from_slice(alloc, b"1")?,
+        value: 1,
+        suffix,
+    };
+    let numeral = Numeral {
+        literal,
+        place: at(0),
+    };
+    let node = ExpressionNode::Literal(Literal::Number(numeral));
+    Ok(Box::new(alloc, Expression { node })?)
+}
+
+fn binary(
+    alloc: Global,
+    left: Box<Expression>,
+    operator: BinaryOperator,
+    right: Box<Expression>,
+) -> Result<Box<Expression>, NoMemory> {
+    let node = ExpressionNode::Binary {
+        left,
+        operator,
+        place: at(0),
+        right,
+    };
+    Ok(Box::new(alloc, Expression { node })?)
+}
+
+fn parenthesized(alloc: Global, inner: Box<Expression>) -> Result<Box<Expression>, NoMemory> {
+    let mut items = Vec::new(alloc);
+    items.push(Box::into_inner(inner))?;
+    let node = ExpressionNode::Tuple {
+        place: at(0),
+        items,
+        last_comma: false,
+    };
+    Ok(Box::new(alloc, Expression { node })?)
+}
+
+/// What a sum is as a whole, and what stands on its right.
+#[derive(Clone, Copy, Debug, PartialEq, Eq)]
+enum Shape {
+    Leaf,
+    Joined(Operator),
+    /// A sum on the right, which is joined too.
+    Nested(Operator, Operator),
+}
+
+fn shape_of(sum: &Sum) -> Shape {
+    match &sum.node {
+        SumNode::Number(_) => Shape::Leaf,
+        SumNode::Word(_) => Shape::Leaf,
+        SumNode::Joined {
+            operator,
+            right,
+            ..
+        } => match &right.node {
+            SumNode::Joined {
+                operator: inner,
+                ..
+            } => Shape::Nested(*operator, *inner),
+            _ => Shape::Joined(*operator),
+        },
+    }
+}
+
+fn shape_read(alloc: Global, expression: &Expression) -> Option<Shape> {
+    match read_sum(alloc, expression) {
+        Ok(sum) => Some(shape_of(&sum)),
+        Err(_) => None,
+    }
+}
+
+#[test]
+fn sums_are_read(rt: HostRuntime) -> Result<(), Fail> {
+    let alloc = rt.alloc();
+    let one = number(alloc, NumberSuffix::Absent)?;
+    let inner = binary(alloc, word(alloc, b"b")?, BinaryOperator::Add, one)?;
+    let right = parenthesized(alloc, inner)?;
+    let whole = binary(alloc, word(alloc, b"a")?, BinaryOperator::Subtract, right)?;
+    let nested = Some(Shape::Nested(Operator::Minus, Operator::Plus));
+    assert_eq!(rt; shape_read(alloc, &whole), nested);
+    Ok(())
+}
+
+#[test]
+fn other_expressions_are_refused(rt: HostRuntime) -> Result<(), Fail> {
+    let alloc = rt.alloc();
+    let typed = number(alloc, NumberSuffix::U64)?;
+    assert_eq!(rt; shape_read(alloc, &typed), None);
+    let product = binary(alloc, word(alloc, b"a")?, BinaryOperator::Multiply, typed)?;
+    assert_eq!(rt; shape_read(alloc, &product), None);
+    Ok(())
+}
+
+fn truth(value: bool) -> SpecExpression {
+    let node = SpecNode::Literal(Literal::Truth {
+        place: at(0),
+        value,
+    });
+    SpecExpression { node }
+}
+
+#[test]
+fn clauses_are_read(rt: HostRuntime) -> Result<(), Fail> {
+    let alloc = rt.alloc();
+    let mut clauses = Vec::new(alloc);
+    clauses.push(ClauseTree::AbortsIf {
+        place: at(7),
+        condition: truth(false),
+        code: AbortCode::Bare,
+    })?;
+    match read_clauses(alloc, clauses.as_slice()) {
+        Ok(read) => {
+            for clause in read.iter() {
+                assert_eq!(rt; clause.kind, ClauseKind::AbortsIf);
+                assert_eq!(rt; clause.start, 7);
+                assert!(rt; matches!(clause.condition, Condition::False));
+            }
+            assert_eq!(rt; read.len(), 1);
+        }
+        Err(fault) => assert!(rt; false, "{fault:?}"),
+    }
+    clauses.push(ClauseTree::Invariant {
+        place: at(9),
+        is_update: false,
+        condition: truth(true),
+    })?;
+    assert!(rt; read_clauses(alloc, clauses.as_slice()).is_err());
+    Ok(())
+}

@@ -1,0 +1,10 @@
+-- Functions that are sums, as contracts see them.
+use Rattle.std.specs.Prelude.{ℕ, List}
+use Rattle.sum_tree.specs.SumData.{SumData}
+
+-- a function of u64 parameters whose body is a sum; `start` is the place of its first byte
+pub record FunctionData : Type 0 where
+  pub name : List ℕ
+  pub parameters : List (List ℕ)
+  pub body : SumData
+  pub start : ℕ
