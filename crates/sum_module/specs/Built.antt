@@ -1,0 +1,49 @@
+-- The first member of a module that is not built, and modules that are.
+use Rattle.std.specs.Prelude.{◌≡◌, ◌⊎◌, ℕ, List, [], ◌∷◌, ◌++◌, Option, Some, None}
+use Rattle.clause_tree.specs.declared.clause.Spec.{Spec as SpecTree}
+use Rattle.file_tree.specs.declared.member.Function.{Function as FunctionTree}
+use Rattle.move_tree.specs.declared.path.Address.{Address}
+use Rattle.move_tree.specs.declared.path.Address.TheVariants.{Number, Name}
+use Rattle.source_parse.specs.SourceData.{SourceMemberData}
+use Rattle.source_parse.specs.SourceModuleData.{SourceModuleData}
+use Rattle.sum_module.specs.declared.member.SumMember.{SumMember}
+use Rattle.sum_module.specs.BuiltModuleData.{BuiltModuleData}
+use Rattle.sum_module.specs.Members.{IsFunction, IsSpec, IsUnbuilt, AreMembers}
+use Rattle.sum_module.specs.Places.{form_place, module_place}
+
+abbrev pub IsNoFunction : List SourceMemberData → FunctionTree → Type 0
+IsNoFunction before f = (found : SumMember) → IsFunction before f found → ⊥
+
+abbrev pub IsNoSpec : List SourceMemberData → SpecTree → Type 0
+IsNoSpec members tree = (found : SumMember) → IsSpec members tree found → ⊥
+
+-- all members before this one are built, and it is not; it begins at this place
+pub record IsFirstUnbuilt (members : List SourceMemberData) (place : ℕ) : Type 0 where
+  pub before : List SourceMemberData
+  pub member : SourceMemberData
+  pub behind : List SourceMemberData
+  pub parts : members ≡ before ++ member ∷ behind
+  pub built : List SumMember
+  pub are_built : AreMembers members [] before built
+  pub unbuilt : IsUnbuilt members before member.form
+  pub place_is : place ≡ (form_place member.form).start
+
+-- the address of a module that is a number
+abbrev pub address_of : Address → Option ℕ
+address_of (Number n) = Some n.literal.value
+address_of (Name i) = None
+
+-- the module is this one, whose members are built
+pub record IsBuilt (m : SourceModuleData) (found : BuiltModuleData) : Type 0 where
+  pub address : address_of m.name.address ≡ Some found.address
+  pub name : found.name ≡ m.name.name.text
+  pub members : AreMembers m.members [] m.members found.members
+
+-- the module's address is no number, and it begins at this place
+pub record HasNoNumber (m : SourceModuleData) (place : ℕ) : Type 0 where
+  pub address : address_of m.name.address ≡ None
+  pub place_is : place ≡ (module_place m).start
+
+-- the module is not built: its address is no number, or a member is not built, of which the first begins at the place
+abbrev pub IsUnbuiltAt : SourceModuleData → ℕ → Type 0
+IsUnbuiltAt m place = HasNoNumber m place ⊎ IsFirstUnbuilt m.members place

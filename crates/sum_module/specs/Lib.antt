@@ -1,0 +1,9 @@
+pub mod Scope
+pub mod SpecData
+pub mod BuiltModuleData
+pub mod Parameters
+pub mod Seen
+pub mod Members
+pub mod Places
+pub mod Fault
+pub mod Built

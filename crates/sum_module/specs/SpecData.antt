@@ -1,0 +1,7 @@
+-- A spec block of a function, with clauses over sums, as contracts see it.
+use Rattle.std.specs.Prelude.{ℕ, List}
+use Rattle.sum_tree.specs.declared.clause.Clause.{Clause}
+
+pub record SpecData : Type 0 where
+  pub target : List ℕ
+  pub clauses : List Clause

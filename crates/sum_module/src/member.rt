@@ -1,0 +1,131 @@
+//! Members that are built.
+
+ghost use Rattle.std.specs.Prelude.{◌≡◌, List, None, Some, MatchResult};
+ghost use Rattle.sum_module.specs.Members.{IsFunction, IsMember, IsSpec, IsUnbuilt, functions_of, spec_of};
+ghost use Rattle.sum_module.specs.Built.{IsNoFunction, IsNoSpec};
+ghost use Rattle.sum_module.specs.Parameters.{IsTableOf};
+ghost use Rattle.sum_module.specs.Seen.{IsSetOf};
+ghost use Rattle.sum_read.specs.FormFault.{IfNotBuilt};
+ghost use Rattle.source_parse.specs.SourceData.{SourceMemberData};
+
+use crate::parameters::Parameters;
+use crate::scope::{is_closed, knows_clauses};
+use crate::seen::Seen;
+use clause_tree::clause::Spec as SpecTree;
+use file_tree::member::Function as FunctionTree;
+use pv_base::name::Name;
+use source_parse::source::SourceForm;
+use std::alloc::Global;
+use std::marker::Model;
+use sum_read::clause::read_clauses;
+use sum_read::fault::FormFault;
+use sum_read::function::read_function;
+use sum_tree::clause::Clause;
+use sum_tree::function::Function;
+
+/// Clauses over sums of a function, by its name.
+#[derive(Drop)]
+pub struct Spec {
+    pub target: Name,
+    pub clauses: Vec<Clause>,
+}
+
+impl Model for Spec {
+    ghost use Rattle.std.specs.Coded.{codes};
+    ghost use Rattle.sum_tree.specs.SumData.{coded_sum};
+    ghost use Rattle.sum_module.specs.SpecData.{SpecData};
+
+    ghost Value = { SpecData };
+
+    ghost coded = { Prim.hlevel (codes, coded_sum) };
+
+    ghost view = { λ s. record { target = s.target; clauses = s.clauses.items } };
+}
+
+/// A member that is built.
+#[derive(Drop)]
+pub enum SumMember {
+    Function(Function),
+    Spec(Spec),
+}
+
+/// The function over sums that a function is, behind functions with the names that were seen.
+fn read_function_member(
+    alloc: Global,
+    seen: &Seen,
+    function: &FunctionTree,
+) -> Result<SumMember, FormFault>
+    ensures { (before : List SourceMemberData) → IsSetOf seen.now (functions_of before) → MatchResult result (IsFunction before function.now) (λ fault. IfNotBuilt fault (IsNoFunction before function.now)) }
+{
+    if seen.contains(&function.name.text) {
+        return Err(FormFault::NotBuilt);
+    }
+    let read = read_function(alloc, function)?;
+    if is_closed(&read) {
+        Ok(SumMember::Function(read))
+    } else {
+        Err(FormFault::NotBuilt)
+    }
+}
+
+/// The clauses over sums that a spec block has, and the name of what it is of.
+fn read_spec(alloc: Global, tree: &SpecTree) -> Result<Spec, FormFault>
+    ensures { MatchResult result (λ spec. spec_of tree.now ≡ Some spec) (λ fault. IfNotBuilt fault (spec_of tree.now ≡ None)) }
+{
+    match tree {
+        SpecTree::Named { name, clauses, .. } => {
+            let clauses = read_clauses(alloc, clauses.items.as_slice())?;
+            Ok(Spec {
+                target: name.text.try_clone(alloc)?,
+                clauses,
+            })
+        }
+        SpecTree::Module { .. } => Err(FormFault::NotBuilt),
+        SpecTree::Schema(_) => Err(FormFault::NotBuilt),
+        SpecTree::Function(_) => Err(FormFault::NotBuilt),
+        SpecTree::Loop { .. } => Err(FormFault::NotBuilt),
+    }
+}
+
+/// The clauses over sums that a spec block of a function is, in a module whose functions have these parameters.
+fn read_spec_member(
+    alloc: Global,
+    parameters: &Parameters,
+    tree: &SpecTree,
+) -> Result<SumMember, FormFault>
+    ensures { (members : List SourceMemberData) → IsTableOf parameters.now.table members → MatchResult result (IsSpec members tree.now) (λ fault. IfNotBuilt fault (IsNoSpec members tree.now)) }
+{
+    let spec = read_spec(alloc, tree)?;
+    let Some(names) = parameters.get(&spec.target) else {
+        return Err(FormFault::NotBuilt);
+    };
+    if knows_clauses(names, spec.clauses.as_slice()) {
+        Ok(SumMember::Spec(spec))
+    } else {
+        Err(FormFault::NotBuilt)
+    }
+}
+
+/// What a member is, in a module whose functions have these parameters, behind functions with the names that
+/// were seen.
+///
+/// # Errors
+///
+/// `NotBuilt` exactly where it is not built.
+pub fn read_member(
+    alloc: Global,
+    parameters: &Parameters,
+    seen: &Seen,
+    form: &SourceForm,
+) -> Result<SumMember, FormFault>
+    ensures { (members before : List SourceMemberData) → IsTableOf parameters.now.table members → IsSetOf seen.now (functions_of before) → MatchResult result (IsMember members before form.now) (λ fault. IfNotBuilt fault (IsUnbuilt members before form.now)) }
+{
+    match form {
+        SourceForm::Function(function) => read_function_member(alloc, seen, function),
+        SourceForm::Spec(tree) => read_spec_member(alloc, parameters, tree),
+        SourceForm::Use(_) => Err(FormFault::NotBuilt),
+        SourceForm::Friend(_) => Err(FormFault::NotBuilt),
+        SourceForm::Struct(_) => Err(FormFault::NotBuilt),
+        SourceForm::Constant(_) => Err(FormFault::NotBuilt),
+    }
+}

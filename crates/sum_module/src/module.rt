@@ -1,0 +1,88 @@
+//! Modules whose members are built.
+
+ghost use Rattle.std.specs.Prelude.{◌≡◌, [], None, Some, MatchResult};
+ghost use Rattle.sum_module.specs.Built.{IsBuilt, IsFirstUnbuilt, IsUnbuiltAt, address_of};
+ghost use Rattle.sum_module.specs.Fault.{IfNotBuiltAt};
+ghost use Rattle.sum_module.specs.Members.{AreMembers};
+
+use crate::fault::ModuleFault;
+use crate::member::{SumMember, read_member};
+use crate::parameters::parameters_in;
+use crate::places::{form_place, module_place};
+use crate::seen::Seen;
+use move_tree::path::Address;
+use pv_base::name::Name;
+use source_parse::source::{SourceMember, SourceModule};
+use std::alloc::Global;
+use std::marker::Model;
+use sum_read::fault::FormFault;
+
+/// A module whose members are built.
+#[derive(Drop)]
+pub struct BuiltModule {
+    pub address: u128,
+    pub name: Name,
+    pub members: Vec<SumMember>,
+}
+
+impl Model for BuiltModule {
+    ghost use Rattle.std.specs.Coded.{codes};
+    ghost use Rattle.sum_tree.specs.SumData.{coded_sum};
+    ghost use Rattle.sum_module.specs.BuiltModuleData.{BuiltModuleData};
+
+    ghost Value = { BuiltModuleData };
+
+    ghost coded = { Prim.hlevel (codes, coded_sum) };
+
+    ghost view = { λ m. record { address = m.address; name = m.name; members = m.members.items } };
+}
+
+/// What the members of a module are.
+fn read_members(alloc: Global, members: &[SourceMember]) -> Result<Vec<SumMember>, ModuleFault>
+    ensures { MatchResult result (λ found. AreMembers members.now [] members.now found.items) (λ fault. IfNotBuiltAt fault (IsFirstUnbuilt members.now)) }
+{
+    let parameters = parameters_in(alloc, members)?;
+    let mut seen = Seen::new(alloc);
+    let mut found = Vec::new(alloc);
+    for member in members {
+        match read_member(alloc, &parameters, &seen, &member.form) {
+            Ok(read) => found.push(read)?,
+            Err(FormFault::NotBuilt) => {
+                return Err(ModuleFault::NotBuilt(form_place(&member.form).start));
+            }
+            Err(FormFault::NoMemory) => return Err(ModuleFault::NoMemory),
+        }
+        seen.add(alloc, &member.form)?;
+    }
+    Ok(found)
+}
+
+/// The address of a module, where it is a number.
+fn address_of(address: &Address) -> Option<u128>
+    ensures { result ≡ address_of address.now }
+{
+    match address {
+        Address::Number(number) => Some(number.literal.value),
+        Address::Name(_) => None,
+    }
+}
+
+/// What a module is.
+///
+/// # Errors
+///
+/// `NotBuilt` exactly where the module is not built, with the place of its own first token where its address is
+/// no number, and else with that of the first member that is not built.
+pub fn read_module(alloc: Global, module: &SourceModule) -> Result<BuiltModule, ModuleFault>
+    ensures { MatchResult result (IsBuilt module.now) (λ fault. IfNotBuiltAt fault (IsUnbuiltAt module.now)) }
+{
+    let Some(address) = address_of(&module.name.address) else {
+        return Err(ModuleFault::NotBuilt(module_place(module).start));
+    };
+    let members = read_members(alloc, &module.members)?;
+    Ok(BuiltModule {
+        address,
+        name: module.name.name.text.try_clone(alloc)?,
+        members,
+    })
+}

@@ -1,0 +1,117 @@
+//! Which words of a function and of its clauses stand for something.
+
+ghost use Rattle.std.specs.Prelude.{◌≡◌};
+ghost use Rattle.std.specs.List.{list_all};
+ghost use Rattle.sum_module.specs.Scope.{all_differ, are_parameters, is_closed, is_known, is_one_of, knows_clause, knows_condition, knows_sum};
+
+use pv_base::name::Name;
+use sum_tree::clause::{Clause, ClauseKind, Condition};
+use sum_tree::function::Function;
+use sum_tree::sum::{Sum, SumNode};
+
+/// Where a word stands.
+#[derive(Clone, Copy, Debug, PartialEq, Eq)]
+pub enum Place {
+    /// In the body of a function.
+    Body,
+    /// In a clause of this kind.
+    InClause(ClauseKind),
+}
+
+/// The greatest number of parameters of a function.
+const PARAMETER_LIMIT: usize = 8;
+
+/// Whether a word is one of these names.
+fn is_one_of(names: &[Name], word: &[u8]) -> bool
+    ensures { result ≡ is_one_of names.now word.now }
+{
+    names.iter().any(|name| word == name.as_slice())
+}
+
+/// Whether no name stands twice. The time grows with the square of their number.
+fn all_differ(names: &[Name]) -> bool
+    ensures { result ≡ all_differ names.now }
+{
+    let mut others = names;
+    while let Some((name, rest)) = others.split_first() {
+        if is_one_of(rest, name.as_slice()) {
+            return false;
+        }
+        others = rest;
+    }
+    true
+}
+
+/// Whether a word stands for something at its place.
+fn is_known(parameters: &[Name], place: Place, word: &[u8]) -> bool
+    ensures { result ≡ is_known parameters.now place word.now }
+{
+    let is_parameter = is_one_of(parameters, word);
+    match place {
+        Place::Body => is_parameter,
+        Place::InClause(kind) => {
+            is_parameter
+                || word == b"MAX_U64".as_slice()
+                || (kind == ClauseKind::Ensures && word == b"result".as_slice())
+        }
+    }
+}
+
+/// Whether each word of a sum stands for something.
+#[cycle(knows_sum)]
+fn knows_sum(parameters: &[Name], place: Place, sum: &Sum) -> bool
+    ensures { result ≡ knows_sum parameters.now place sum.now }
+{
+    match &sum.node {
+        SumNode::Number(_) => true,
+        SumNode::Word(word) => is_known(parameters, place, word.as_slice()),
+        SumNode::Joined { left, right, .. } => {
+            knows_sum(parameters, place, left) && knows_sum(parameters, place, right)
+        }
+    }
+}
+
+/// Whether each word of a condition stands for something.
+fn knows_condition(parameters: &[Name], place: Place, condition: &Condition) -> bool
+    ensures { result ≡ knows_condition parameters.now place condition.now }
+{
+    match condition {
+        Condition::True | Condition::False => true,
+        Condition::Compares(left, _, right) => {
+            knows_sum(parameters, place, left) && knows_sum(parameters, place, right)
+        }
+    }
+}
+
+/// Whether a clause may stand in a spec of a function with these parameters: whether each of its words is a
+/// parameter or `MAX_U64`, or in an `ensures` `result`.
+pub fn knows_clause(parameters: &[Name], clause: &Clause) -> bool
+    ensures { result ≡ knows_clause parameters.now clause.now }
+{
+    let place = Place::InClause(clause.kind);
+    knows_condition(parameters, place, &clause.condition)
+}
+
+/// Whether each clause may stand in a spec of a function with these parameters.
+pub fn knows_clauses(parameters: &[Name], clauses: &[Clause]) -> bool
+    ensures { result ≡ list_all (knows_clause parameters.now) clauses.now }
+{
+    clauses
+        .iter()
+        .all(|clause| knows_clause(parameters, clause))
+}
+
+/// Whether there are at most 8 parameters, each with a name of its own.
+fn are_parameters(parameters: &[Name]) -> bool
+    ensures { result ≡ are_parameters parameters.now }
+{
+    parameters.len() <= PARAMETER_LIMIT && all_differ(parameters)
+}
+
+/// Whether a function has at most 8 parameters, each with a name of its own, and no other words in its body.
+pub fn is_closed(function: &Function) -> bool
+    ensures { result ≡ is_closed function.now }
+{
+    let parameters = function.parameters.as_slice();
+    are_parameters(parameters) && knows_sum(parameters, Place::Body, &function.body)
+}
