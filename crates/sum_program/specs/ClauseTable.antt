@@ -1,0 +1,23 @@
+-- Tables of clauses by the names of functions.
+use Rattle.std.specs.Prelude.{ℕ, List, [], map, Option}
+use Rattle.std.specs.Option.{unwrap_or}
+use Rattle.std.specs.BTreeMap.{BTreeMap}
+use Rattle.std.specs.BTreeMap as tree
+use Rattle.std.specs.Ordering.{nat_cmp}
+use Rattle.std.specs.Cmp.Lexicographic.{slice_cmp}
+use Rattle.sum_tree.specs.declared.clause.Clause.{Clause}
+use Rattle.sum_tree.specs.FunctionData.{FunctionData}
+use Rattle.sum_tree.specs.SpecifiedData.{SpecifiedFunctionData}
+
+abbrev pub entry_at : BTreeMap (List ℕ) (List Clause) → List ℕ → Option (List Clause)
+entry_at table name = tree.get (slice_cmp nat_cmp) table name
+
+-- the clauses at a name: none where the table lacks it
+abbrev pub clauses_at : BTreeMap (List ℕ) (List Clause) → List ℕ → List Clause
+clauses_at table name = unwrap_or (entry_at table name) []
+
+abbrev pub with_clauses : BTreeMap (List ℕ) (List Clause) → FunctionData → SpecifiedFunctionData
+with_clauses table f = record { function = f; clauses = clauses_at table f.name }
+
+abbrev pub names_among : List FunctionData → List (List ℕ)
+names_among functions = map (λ f. f.name) functions

@@ -1,0 +1,7 @@
+//! Modules of sums: their functions, each with the clauses of its spec blocks.
+#![tactic(auto)]
+
+pub mod join;
+pub mod module;
+#[cfg(test)]
+mod tests;
