@@ -179,9 +179,9 @@ def speed_texts():
     yield "parentheses", in_function("(" * 197 + "a" + ")" * 197)
     yield "blocks", in_function("{ " * 197 + "a" + " }" * 197)
     yield "conditions", in_function("if (a) " * 197 + "b")
-    yield "types", "module 0x1::m { struct S { a: " + "vector<" * 198 + "u8" + " >" * 99 + " } }\n"
-    for clauses in (100, 10000):
-        yield f"{clauses} clauses", "spec f { " + "ensures result == old(x)[1] + y && forall z: u64: z < 2; " * clauses + "}\n"
+    yield "types", "module 0x1::m { struct S { a: " + "vector<" * 98 + "u8" + " >" * 98 + " } }\n"
+    for clauses in (100, 8000):
+        yield f"{clauses} clauses", "spec f { " + "ensures result == old(x)[1] + y && (forall z: u64: z < 2); " * clauses + "}\n"
     yield "parentheses in a clause", "spec f { ensures " + "(" * 198 + "a" + ")" * 198 + "; }\n"
     yield "quantifiers in a clause", "spec f { ensures " + "forall x: u64: " * 198 + "a; }\n"
 
