@@ -19,7 +19,7 @@ use src_tree::token::{Punctuation, Token};
 use std::alloc::Global;
 use token_reading::fault::ReadFault;
 use token_reading::tokens::{expect_sign, place_of_sign, read_identifier, skip_sign};
-use type_parse::path::{read_address, read_path};
+use type_parse::path::{read_address, read_path_of_term};
 use type_parse::types::read_maybe_arguments;
 
 /// The level of operators before an operand.
@@ -204,7 +204,7 @@ fn read_path_term(
 ) -> Result<(Expression, &[Token]), ReadFault>
     ensures { MatchResult result (λ read. path_term_at (readers budget) tokens.now ≡ Some (read.0, read.1.now)) (λ fault. IfNoTree fault (path_term_at (readers budget) tokens.now ≡ None)) }
 {
-    let (path, rest) = read_path(alloc, tokens)?;
+    let (path, rest) = read_path_of_term(alloc, tokens)?;
     let (arguments, rest) = read_glued_arguments(alloc, rest, budget)?;
     match read_path_form(arguments.is_some(), &path, rest)? {
         (PathForm::Call, rest) => {

@@ -89,12 +89,12 @@ fn form(alloc: Global, expression: &Expression, into: &mut Vec<u8>) -> Result<()
     Ok(())
 }
 
-fn scan(rt: &impl Abort, alloc: Global, text: &[u8]) -> Tokens {
+fn scan(rt: &impl Abort, alloc: Global, text: &str) -> Tokens {
     assert!(rt; text.len() < 1000);
-    match tokens(alloc, 0, text) {
+    match tokens(alloc, 0, text.as_bytes()) {
         Ok(found) => found,
         Err(fault) => {
-            assert!(rt; false, "{fault:?}");
+            assert!(rt; false, "{text}: {fault:?}");
             Tokens::new(alloc)
         }
     }
@@ -104,93 +104,102 @@ fn scan(rt: &impl Abort, alloc: Global, text: &[u8]) -> Tokens {
 fn reads(
     rt: &impl Abort,
     alloc: Global,
-    text: &[u8],
-    wanted: &[u8],
+    text: &str,
+    wanted: &str,
     left: usize,
 ) -> Result<(), NoMemory> {
     let found = scan(rt, alloc, text);
     match read_expression(alloc, 0, found.as_slice(), found.len().saturating_add(1)) {
         Ok((expression, rest)) => {
-            assert_eq!(rt; rest.len(), left);
+            assert!(rt; rest.len() == left, "{text}");
             let mut found = Vec::new(alloc);
             form(alloc, &expression, &mut found)?;
-            assert!(rt; found.as_slice() == wanted);
+            assert!(rt; found.as_slice() == wanted.as_bytes(), "{text}");
         }
-        Err(fault) => assert!(rt; false, "{fault:?}"),
+        Err(fault) => assert!(rt; false, "{text}: {fault:?}"),
     }
     Ok(())
 }
 
 /// The text begins with no expression: the last tokens, this many, are where reading ended.
-fn fails(rt: &impl Abort, alloc: Global, text: &[u8], left: usize) {
+fn fails(rt: &impl Abort, alloc: Global, text: &str, left: usize) {
     let found = scan(rt, alloc, text);
     match read_expression(alloc, 0, found.as_slice(), found.len().saturating_add(1)) {
-        Ok(_) => assert!(rt; false, "an expression"),
-        Err(fault) => assert_eq!(rt; fault, ReadFault::NoTree { left }),
+        Ok(_) => assert!(rt; false, "{text}"),
+        Err(fault) => assert!(rt; fault == ReadFault::NoTree { left }, "{text}: {fault:?}"),
     }
 }
 
 #[test]
 fn operators(rt: HostRuntime) -> Result<(), Fail> {
     let alloc = rt.alloc();
-    reads(&rt, alloc, b"a - b - c", b"((a-b)-c)", 0)?;
-    reads(&rt, alloc, b"a - b * c", b"(a-(b*c))", 0)?;
-    reads(
-        &rt,
-        alloc,
-        b"a * b + c == d && e || f",
-        b"(((((a*b)+c)==d)&&e)||f)",
-        0,
-    )?;
-    reads(&rt, alloc, b"i < n", b"(i<n)", 0)?;
-    reads(&rt, alloc, b"a >> b", b"(a>>b)", 0)?;
-    reads(&rt, alloc, b"a << b", b"(a<<b)", 0)?;
-    reads(&rt, alloc, b"! a . b . c + d", b"(!a.b.c+d)", 0)?;
-    reads(&rt, alloc, b"a + b )", b"(a+b)", 1)?;
-    fails(&rt, alloc, b"a > > b", 2);
-    fails(&rt, alloc, b"i<n", 0);
-    fails(&rt, alloc, b"a + if (b) c", 5);
+    for (text, wanted, left) in [
+        ("a - b - c", "((a-b)-c)", 0),
+        ("a - b * c", "(a-(b*c))", 0),
+        ("a * b + c == d && e || f", "(((((a*b)+c)==d)&&e)||f)", 0),
+        ("i < n", "(i<n)", 0),
+        ("a >> b", "(a>>b)", 0),
+        ("a << b", "(a<<b)", 0),
+        ("! a . b . c + d", "(!a.b.c+d)", 0),
+        ("a + b )", "(a+b)", 1),
+    ] {
+        reads(&rt, alloc, text, wanted, left)?;
+    }
+    for (text, left) in [("a > > b", 2), ("i<n", 0), ("a + if (b) c", 5)] {
+        fails(&rt, alloc, text, left);
+    }
     Ok(())
 }
 
 #[test]
 fn control_forms(rt: HostRuntime) -> Result<(), Fail> {
     let alloc = rt.alloc();
-    reads(&rt, alloc, b"if (a) if (b) c else d", b"i(ai(bc:d))", 0)?;
-    reads(&rt, alloc, b"if (a) (if (b) c) else d", b"i(aT:d)", 0)?;
-    reads(&rt, alloc, b"return a + b", b"r(a+b)", 0)?;
-    reads(&rt, alloc, b"return ;", b"r", 1)?;
-    reads(
-        &rt,
-        alloc,
-        b"while ({ spec { invariant p; }; a }) b",
-        b"W",
-        0,
-    )?;
-    reads(&rt, alloc, b"loop { spec { invariant p; }; a; }", b"L", 0)?;
-    reads(&rt, alloc, b"a.b = c", b"=", 0)?;
-    fails(&rt, alloc, b"while ({ spec { invariant p; }; a; }) b", 2);
-    fails(&rt, alloc, b"{ spec { invariant p; }; a }", 9);
+    for (text, wanted, left) in [
+        ("if (a) if (b) c else d", "i(ai(bc:d))", 0),
+        ("if (a) (if (b) c) else d", "i(aT:d)", 0),
+        ("return a + b", "r(a+b)", 0),
+        ("return ;", "r", 1),
+        ("while ({ spec { invariant p; }; a }) b", "W", 0),
+        ("loop { spec { invariant p; }; a; }", "L", 0),
+        ("a.b = c", "=", 0),
+    ] {
+        reads(&rt, alloc, text, wanted, left)?;
+    }
+    for (text, left) in [
+        ("while ({ spec { invariant p; }; a; }) b", 2),
+        ("{ spec { invariant p; }; a }", 9),
+    ] {
+        fails(&rt, alloc, text, left);
+    }
     Ok(())
 }
 
 #[test]
 fn terms(rt: HostRuntime) -> Result<(), Fail> {
     let alloc = rt.alloc();
-    reads(&rt, alloc, b"f<u64>(a, b,)", b"C", 0)?;
-    reads(&rt, alloc, b"S { f, g: 1 }", b"P", 0)?;
-    reads(&rt, alloc, b"0x1::m::f(1)", b"C", 0)?;
-    reads(&rt, alloc, b"vector[1, 2]", b"V", 0)?;
-    reads(&rt, alloc, b"vector <u8> []", b"V", 0)?;
-    reads(&rt, alloc, b"assert!(a, 1)", b"A", 0)?;
-    reads(&rt, alloc, b"assert(a)", b"C", 0)?;
-    reads(&rt, alloc, b"(a as u8)", b"K", 0)?;
-    reads(&rt, alloc, b"(a, b,)", b"T", 0)?;
-    reads(&rt, alloc, b"{ let x: u64 = 1; x }", b"B", 0)?;
-    reads(&rt, alloc, b"s { f: 1 }", b"s", 5)?;
-    fails(&rt, alloc, b"(a,)", 0);
-    fails(&rt, alloc, b"f(,)", 2);
-    fails(&rt, alloc, b"5u256", 1);
-    fails(&rt, alloc, b"b\"hi\"", 1);
+    for (text, wanted, left) in [
+        ("f<u64>(a, b,)", "C", 0),
+        ("S { f, g: 1 }", "P", 0),
+        ("0x1::m::f(1)", "C", 0),
+        ("vector[1, 2]", "V", 0),
+        ("vector <u8> []", "V", 0),
+        ("assert!(a, 1)", "A", 0),
+        ("assert(a)", "C", 0),
+        ("(a as u8)", "K", 0),
+        ("(a, b,)", "T", 0),
+        ("{ let x: u64 = 1; x }", "B", 0),
+        ("s { f: 1 }", "s", 5),
+    ] {
+        reads(&rt, alloc, text, wanted, left)?;
+    }
+    for (text, left) in [
+        ("(a,)", 0),
+        ("f(,)", 2),
+        ("5u256", 1),
+        ("0x1u8::n::g()", 6),
+        ("b\"hi\"", 1),
+    ] {
+        fails(&rt, alloc, text, left);
+    }
     Ok(())
 }

@@ -166,3 +166,49 @@ fn texts_of_no_file(rt: HostRuntime) {
         ParseFault::LeftOut(Marker::Native, 16),
     );
 }
+
+/// The rules by which a text has one tree at most, each on both sides of its line.
+#[test]
+fn rules_of_one_tree(rt: HostRuntime) {
+    let alloc = rt.alloc();
+    for text in [
+        // A glued `<` behind a path opens type arguments, behind a field it never does.
+        b"module 0x1::m { fun f() { g<u64>(a) } }".as_slice(),
+        b"module 0x1::m { fun f() { s.a<b } }".as_slice(),
+        // A comparison `>` has no glued `>` or `>=` behind it.
+        b"module 0x1::m { fun f() { a > b >> c } }".as_slice(),
+        // An `else` is of the nearest `if` that has none.
+        b"module 0x1::m { fun f() { if (a) if (b) c else d else e } }".as_slice(),
+        // Structs begin with a capital letter, locals with none, and an address has no suffix.
+        b"module 0x1::m { fun f() { S { a: 1 } } }".as_slice(),
+        b"module 0x1::m { fun f() { let a = 1; } }".as_slice(),
+        b"module 0x1::m { fun f() { 0x1::n::g() } }".as_slice(),
+        // `return` has an expression where one can begin.
+        b"module 0x1::m { fun f() { return !a } }".as_slice(),
+        // A control form takes all to its right, and is an operand in parentheses alone.
+        b"module 0x1::m { fun f() { if (a) b else c + (return d) } }".as_slice(),
+    ] {
+        reads(&rt, alloc, text, 1);
+    }
+    for (text, place) in [
+        (b"module 0x1::m { fun f() { a<b } }".as_slice(), 30),
+        (b"module 0x1::m { fun f() { a >>= b } }".as_slice(), 29),
+        (
+            b"module 0x1::m { fun f() { if (a) b else c else d } }".as_slice(),
+            42,
+        ),
+        (b"module 0x1::m { fun f() { s { a: 1 } } }".as_slice(), 28),
+        (b"module 0x1::m { fun f() { let A = 1; } }".as_slice(), 32),
+        (
+            b"module 0x1::m { fun f() { 0x1u8::n::g() } }".as_slice(),
+            31,
+        ),
+        (b"module 0x1::m { fun f() { return - a } }".as_slice(), 33),
+        (
+            b"module 0x1::m { fun f() { c + if (a) b else d } }".as_slice(),
+            30,
+        ),
+    ] {
+        fails(&rt, alloc, text, ParseFault::Grammar(place));
+    }
+}

@@ -24,7 +24,7 @@ fn check_spec(alloc: Global, spec: &Option<LoopSpec>) -> Result<(), SpecFault>
         return Ok(());
     };
     let tokens = tokens_of_loop(alloc, spec)?;
-    match spec_block(alloc, Slot::Loop, &tokens) {
+    match spec_block(alloc, &tokens, Slot::Loop) {
         Ok(_) => Ok(()),
         Err(fault) => Err(fault_of(fault)),
     }

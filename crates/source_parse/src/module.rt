@@ -35,7 +35,7 @@ fn read_spec(alloc: Global, functions: &FunctionNames, block: &SpecBlock) -> Res
 {
     let tokens = tokens_of_block(alloc, block)?;
     let slot = slot_of_block(functions, tokens.as_slice());
-    match spec_block(alloc, slot, &tokens) {
+    match spec_block(alloc, &tokens, slot) {
         Ok(tree) => Ok(tree),
         Err(fault) => Err(fault_of(fault)),
     }

@@ -28,7 +28,7 @@ use token_reading::lists::{Separator, separator_behind};
 use token_reading::tokens::{
     expect_sign, expect_word, place_of_sign, place_of_word, read_identifier, skip_sign,
 };
-use type_parse::path::read_path;
+use type_parse::path::read_path_of_term;
 use type_parse::types::{read_arguments, read_type};
 
 /// The level of what stands behind a `!`.
@@ -347,7 +347,7 @@ fn read_plain_term(
         let node = SpecNode::Literal(literal);
         return Ok((Box::new(alloc, SpecExpression { node })?, rest));
     }
-    let (path, rest) = read_path(alloc, tokens)?;
+    let (path, rest) = read_path_of_term(alloc, tokens)?;
     read_path_form(alloc, packs, path, rest, budget)
 }
 

@@ -106,7 +106,7 @@ fn expression(rt: &impl Abort, alloc: Global, form: Form, text: &[u8]) {
 /// The text is a spec block of this slot, which is spelled by its tokens.
 fn block(rt: &impl Abort, alloc: Global, slot: Slot, text: &[u8]) {
     let found = scan(rt, alloc, text);
-    match spec_block(alloc, slot, &found) {
+    match spec_block(alloc, &found, slot) {
         Ok(block) => match spell(alloc, &block) {
             Ok(spelled) => compares(rt, &found, &spelled),
             Err(_) => assert!(rt; false, "no memory"),

@@ -104,7 +104,7 @@ fn clauses_of(block: &Spec) -> usize {
 
 /// How many clauses the block has that a text denotes, or why it denotes none.
 fn found(rt: &impl Abort, alloc: Global, slot: Slot, text: &[u8]) -> Result<usize, ParseFault> {
-    let block = spec_block(alloc, slot, &scan(rt, alloc, text))?;
+    let block = spec_block(alloc, &scan(rt, alloc, text), slot)?;
     Ok(clauses_of(&block))
 }
 

@@ -164,6 +164,31 @@ pub fn read_path(alloc: Global, tokens: &[Token]) -> Result<(Path, &[Token]), Re
     read_path_behind_name(alloc, first, rest)
 }
 
+/// How many tokens are left where no path stands. A number that is no address, since it has a suffix, may
+/// stand where a term may: then the token behind it can't.
+fn left_behind_number(tokens: &[Token], left: usize) -> usize {
+    match tokens.split_first() {
+        Some((token, rest)) if left == tokens.len() => match &token.kind {
+            TokenKind::Number(literal) if literal.suffix != NumberSuffix::U256 => rest.len(),
+            _ => left,
+        },
+        _ => left,
+    }
+}
+
+/// A path where a number may stand too, and the tokens behind it.
+pub fn read_path_of_term(alloc: Global, tokens: &[Token]) -> Result<(Path, &[Token]), ReadFault>
+    ensures { MatchResult result (λ read. path_at tokens.now ≡ Some (read.0, read.1.now)) (λ fault. IfNoTree fault (path_at tokens.now ≡ None)) }
+{
+    match read_path(alloc, tokens) {
+        Err(ReadFault::NoTree { left }) => {
+            let left = left_behind_number(tokens, left);
+            Err(ReadFault::NoTree { left })
+        }
+        read => read,
+    }
+}
+
 /// Whether a path is this word alone.
 pub fn is_single(path: &Path, word: &[u8]) -> bool
     ensures { result ≡ is_single word.now path.now }
