@@ -7,5 +7,3 @@ pub mod certificate;
 pub mod checker;
 pub mod linear;
 pub mod tableau;
-#[cfg(test)]
-mod tests;

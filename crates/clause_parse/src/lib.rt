@@ -8,6 +8,4 @@ mod includes;
 mod pragmas;
 pub mod spec_block;
 mod targets;
-#[cfg(test)]
-mod tests;
 pub mod words;

@@ -4,5 +4,3 @@
 pub mod clause;
 pub mod slot;
 pub mod spell_clause;
-#[cfg(test)]
-mod tests;

@@ -7,6 +7,4 @@ pub mod header;
 pub mod imports;
 pub mod parameters;
 pub mod structs;
-#[cfg(test)]
-mod tests;
 pub mod typed_names;

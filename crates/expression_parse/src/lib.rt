@@ -8,5 +8,3 @@ pub mod leaf;
 pub mod lists;
 pub mod operator;
 pub mod term;
-#[cfg(test)]
-mod tests;

@@ -3,5 +3,3 @@
 
 pub mod explain;
 pub mod marker;
-#[cfg(test)]
-mod tests;

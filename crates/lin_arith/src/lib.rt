@@ -16,8 +16,6 @@ mod stop;
 mod substitution;
 mod sums;
 mod system;
-#[cfg(test)]
-mod tests;
 
 pub use rows::{Fraction, Fractions, LinAnswer, LinRow, Multipliers, Rows};
 pub use solver::solve;

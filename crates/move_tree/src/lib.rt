@@ -11,6 +11,4 @@ pub mod spec_tokens;
 pub mod spell_expression;
 pub mod spell_pattern;
 pub mod spell_type;
-#[cfg(test)]
-mod tests;
 pub mod types;

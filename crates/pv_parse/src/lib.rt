@@ -7,7 +7,3 @@ pub mod function;
 pub mod member;
 pub mod module;
 pub mod spec_block;
-#[cfg(test)]
-mod spelling_tests;
-#[cfg(test)]
-mod tests;

@@ -9,5 +9,3 @@ pub mod growth;
 mod settled;
 pub mod system;
 mod terms;
-#[cfg(test)]
-mod tests;

@@ -4,5 +4,3 @@
 pub mod answer;
 mod leaf;
 pub mod prover;
-#[cfg(test)]
-mod tests;

@@ -9,5 +9,3 @@ pub mod loops;
 pub mod module;
 pub mod slots;
 pub mod source;
-#[cfg(test)]
-mod tests;

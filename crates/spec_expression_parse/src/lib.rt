@@ -5,5 +5,3 @@ mod build;
 pub mod expression;
 mod leaf;
 mod operator;
-#[cfg(test)]
-mod tests;

@@ -3,7 +3,3 @@
 
 pub mod block;
 pub mod denoted;
-#[cfg(test)]
-mod spelling_tests;
-#[cfg(test)]
-mod tests;

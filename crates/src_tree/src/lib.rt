@@ -4,7 +4,5 @@
 mod number;
 mod piece;
 pub mod scanner;
-#[cfg(test)]
-mod tests;
 pub mod token;
 pub mod weight;

@@ -8,5 +8,3 @@ pub mod parameters;
 pub mod places;
 pub mod scope;
 pub mod seen;
-#[cfg(test)]
-mod tests;

@@ -3,5 +3,3 @@
 
 pub mod join;
 pub mod module;
-#[cfg(test)]
-mod tests;

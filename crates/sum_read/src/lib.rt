@@ -8,5 +8,3 @@ pub mod function;
 pub mod spec_sum;
 pub mod sum;
 pub mod term;
-#[cfg(test)]
-mod tests;

@@ -1,7 +1,7 @@
 //! Systems with answers that were worked out by hand.
 
-use crate::rows::{LinAnswer, LinRow, Rows};
-use crate::solver::solve;
+use lin_arith::{LinAnswer, LinRow, Rows};
+use lin_arith::solve;
 use pv_base::memory::NoMemory;
 use std::alloc::Global;
 use std::test::Fail;

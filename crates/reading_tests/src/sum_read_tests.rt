@@ -1,7 +1,7 @@
 //! Sums and clauses that are read off trees that are built by hand.
 
-use crate::clause::read_clauses;
-use crate::sum::read_sum;
+use sum_read::clause::read_clauses;
+use sum_read::sum::read_sum;
 use clause_tree::clause::{AbortCode, Clause as ClauseTree};
 use move_tree::expression::{Expression, ExpressionNode};
 use move_tree::lexeme::{Identifier, Numeral};

@@ -1,7 +1,7 @@
 //! Modules that are read from texts, and the members that are not built.
 
-use crate::fault::ModuleFault;
-use crate::module::read_module;
+use sum_module::fault::ModuleFault;
+use sum_module::module::read_module;
 use source_parse::denoted::source;
 use src_tree::scanner::tokens;
 use std::alloc::Global;

@@ -1,6 +1,6 @@
 //! Sources that are read from texts, and why others are not.
 
-use crate::denoted::source;
+use source_parse::denoted::source;
 use left_out::explain::ParseFault;
 use left_out::marker::Marker;
 use src_tree::scanner::tokens;

@@ -1,7 +1,7 @@
 //! The first marker of texts, and why they were not parsed.
 
-use crate::explain::{ParseFault, explain};
-use crate::marker::{Marker, first_marker};
+use left_out::explain::{ParseFault, explain};
+use left_out::marker::{Marker, first_marker};
 use src_tree::scanner::tokens;
 use std::alloc::Global;
 use std::process::Abort;

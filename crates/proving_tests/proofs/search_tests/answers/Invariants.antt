@@ -1,4 +1,4 @@
-use Rattle.search.proofs.tests.answers.Given as goal
+use Rattle.proving_tests.proofs.search_tests.answers.Given as goal
 
 -- the ledger that each blank opens
 abbrev pub ghosts-found : goal.ghosts-found

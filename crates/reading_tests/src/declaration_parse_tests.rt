@@ -1,11 +1,11 @@
 //! Parts of members that are read from texts: how many things they hold, and how many tokens are left.
 
-use crate::abilities::{read_abilities, read_constraint};
-use crate::attributes::read_attributes;
-use crate::header::{read_acquires, read_visibility};
-use crate::imports::read_use;
-use crate::structs::read_struct;
-use crate::typed_names::read_inputs;
+use declaration_parse::abilities::{read_abilities, read_constraint};
+use declaration_parse::attributes::read_attributes;
+use declaration_parse::header::{read_acquires, read_visibility};
+use declaration_parse::imports::read_use;
+use declaration_parse::structs::read_struct;
+use declaration_parse::typed_names::read_inputs;
 use file_tree::member::{Imported, Visibility};
 use pv_base::span::Span;
 use src_tree::scanner::tokens;

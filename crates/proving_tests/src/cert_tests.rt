@@ -1,7 +1,7 @@
 //! Certificates worked out by hand, and what becomes of them when they are spoilt.
 
-use crate::certificate::{Axiom, Cert, End, Multiple, Step, StepNode};
-use crate::checker::check;
+use cert::certificate::{Axiom, Cert, End, Multiple, Step, StepNode};
+use cert::checker::check;
 use fol::formula::{Formula, FormulaNode, Term, TermNode};
 use fol::shapes::Shapes;
 use pv_base::memory::NoMemory;

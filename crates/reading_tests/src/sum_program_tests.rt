@@ -1,6 +1,6 @@
 //! Modules of sums that are read from texts.
 
-use crate::module::read_sum_module;
+use sum_program::module::read_sum_module;
 use source_parse::denoted::source;
 use src_tree::scanner::tokens;
 use std::alloc::Global;

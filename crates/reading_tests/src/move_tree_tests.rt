@@ -1,16 +1,16 @@
 //! Trees that are built by hand, against the tokens of the texts that they are trees of.
 
-use crate::expression::{Block, Expression, ExpressionNode, FieldValue, Item, ItemNode};
-use crate::lexeme::{Identifier, Lexeme, Lexemes, Numeral};
-use crate::literal::Literal;
-use crate::operator::{BinaryOperator, UnaryOperator, UseKind};
-use crate::path::{Address, ModuleName, Path};
-use crate::pattern::{FieldPattern, Pattern, PatternNode};
-use crate::spec_tokens::LoopSpec;
-use crate::spell_expression::spell_expression;
-use crate::spell_pattern::spell_pattern;
-use crate::spell_type::spell_type;
-use crate::types::{SourceType, SourceTypeNode, TypeArguments};
+use move_tree::expression::{Block, Expression, ExpressionNode, FieldValue, Item, ItemNode};
+use move_tree::lexeme::{Identifier, Lexeme, Lexemes, Numeral};
+use move_tree::literal::Literal;
+use move_tree::operator::{BinaryOperator, UnaryOperator, UseKind};
+use move_tree::path::{Address, ModuleName, Path};
+use move_tree::pattern::{FieldPattern, Pattern, PatternNode};
+use move_tree::spec_tokens::LoopSpec;
+use move_tree::spell_expression::spell_expression;
+use move_tree::spell_pattern::spell_pattern;
+use move_tree::spell_type::spell_type;
+use move_tree::types::{SourceType, SourceTypeNode, TypeArguments};
 use pv_base::memory::NoMemory;
 use pv_base::name::Name;
 use pv_base::span::Span;

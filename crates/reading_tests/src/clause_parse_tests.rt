@@ -1,7 +1,7 @@
 //! Spec blocks and their clauses that are read from texts, and texts that are none.
 
-use crate::block::read_block;
-use crate::spec_block::read_spec_block;
+use clause_parse::block::read_block;
+use clause_parse::spec_block::read_spec_block;
 use clause_tree::clause::{Clause, Spec};
 use clause_tree::slot::Slot;
 use src_tree::scanner::tokens;

@@ -1,10 +1,10 @@
 //! Trees that are built by hand, against the tokens of the texts that they are trees of.
 
-use crate::clause::{
+use clause_tree::clause::{
     AbortCode, Bindings, Clause, Clauses, Include, Pragma, PragmaValue, Pragmas, Schema, Spec,
     SpecFunction, Targets,
 };
-use crate::spell_clause::{spell, spell_clause};
+use clause_tree::spell_clause::{spell, spell_clause};
 use file_tree::member::{TypeParameter, TypeParameters, TypedName, TypedNames};
 use move_tree::lexeme::{Identifier, Lexeme, Lexemes, Numeral};
 use move_tree::path::Path;

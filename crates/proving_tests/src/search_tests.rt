@@ -2,8 +2,8 @@
 
 ghost use Rattle.std.specs.Prelude.{◌≡◌, ◌<◌};
 
-use crate::answer::Answer;
-use crate::prover::prove;
+use search::answer::Answer;
+use search::prover::prove;
 use fol::formula::{Formula, FormulaNode, Term};
 use fol::shapes::Shapes;
 use pv_base::memory::NoMemory;

@@ -1,6 +1,6 @@
 //! Texts that are spec expressions, and texts that are none.
 
-use crate::expression::read_spec_expression;
+use spec_expression_parse::expression::read_spec_expression;
 use move_tree::lexeme::{Lexeme, Lexemes};
 use pv_base::memory::NoMemory;
 use spec_tree::spec_expression::{SpecExpression, SpecNode};

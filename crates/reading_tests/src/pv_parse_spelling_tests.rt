@@ -1,6 +1,6 @@
 //! One text of each form of a member, read and spelled again.
 
-use crate::denoted::modules;
+use pv_parse::denoted::modules;
 use file_tree::member::{File, MemberForm};
 use file_tree::spell_member::spell;
 use move_tree::lexeme::{Lexeme, Lexemes};

@@ -1,6 +1,6 @@
 //! Expressions that are read from texts, with parentheses round what each operator joins.
 
-use crate::expression::read_expression;
+use expression_parse::expression::read_expression;
 use move_tree::expression::{Expression, ExpressionNode};
 use move_tree::operator::BinaryOperator;
 use move_tree::path::Path;

@@ -1,8 +1,8 @@
 //! Branches and rows made by hand, and what becomes of them when they are spoilt.
 
-use crate::branch::{Branch, Origin};
-use crate::checker::is_saturated;
-use crate::system::is_system_of;
+use saturation::branch::{Branch, Origin};
+use saturation::checker::is_saturated;
+use saturation::system::is_system_of;
 use cert::certificate::Axiom;
 use fol::formula::{Formula, FormulaNode, Term};
 use lin_arith::{LinRow, Rows};

@@ -1,6 +1,6 @@
 //! Files that are read from texts, and why others are not.
 
-use crate::denoted::modules;
+use pv_parse::denoted::modules;
 use left_out::explain::ParseFault;
 use left_out::marker::Marker;
 use src_tree::scanner::tokens;

@@ -1,7 +1,7 @@
 //! Spec blocks and spec expressions that texts denote, and why others denote none.
 
-use crate::block::spec_block;
-use crate::denoted::spec_expression;
+use spec_parse::block::spec_block;
+use spec_parse::denoted::spec_expression;
 use clause_tree::clause::Spec;
 use clause_tree::slot::Slot;
 use left_out::explain::ParseFault;

@@ -1,7 +1,7 @@
 //! One text of each form of a spec expression, and of each form of a spec block, read and spelled again.
 
-use crate::block::spec_block;
-use crate::denoted::spec_expression;
+use spec_parse::block::spec_block;
+use spec_parse::denoted::spec_expression;
 use clause_tree::slot::Slot;
 use clause_tree::spell_clause::spell;
 use move_tree::lexeme::{Lexeme, Lexemes};

@@ -1,0 +1,11 @@
+//! Tests of the search and of what it rests on.
+#![tactic(auto)]
+
+#[cfg(test)]
+mod cert_tests;
+#[cfg(test)]
+mod lin_arith_tests;
+#[cfg(test)]
+mod saturation_tests;
+#[cfg(test)]
+mod search_tests;
