@@ -1,14 +1,16 @@
 //! Counts the steps of a search against its budget.
 #![tactic(auto)]
 
-ghost use Rattle.std.specs.Prelude.{◌≡◌, ◌+◌};
+ghost use Rattle.std.specs.Prelude.{◌≡◌, ◌+◌, true, false};
 
 use pv_base::steps::Steps;
 use std::sync::ledger::Ledger;
 
-/// Takes a step, and counts it, if one is left.
+/// Takes a step, and counts it, if one is left; else says that none is.
 pub fn take_step<L: Ledger>(steps: &mut Steps<L>, left: &mut u64) -> bool
-    ensures { steps.new + left.new ≡ steps.old + left.old }
+    ensures counted { steps.new + left.new ≡ steps.old + left.old }
+    ensures taken { result ≡ true → left.old ≡ left.new + 1 }
+    ensures none { result ≡ false → (left.old ≡ 0) × (left.new ≡ 0) }
 {
     if *left == 0 {
         return false;
