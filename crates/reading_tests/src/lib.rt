@@ -14,6 +14,8 @@ mod left_out_tests;
 #[cfg(test)]
 mod move_tree_tests;
 #[cfg(test)]
+mod program_read_tests;
+#[cfg(test)]
 mod pv_parse_spelling_tests;
 #[cfg(test)]
 mod pv_parse_tests;

@@ -1,9 +1,9 @@
 //! One text of each form of a member, read and spelled again.
 
-use pv_parse::denoted::modules;
 use file_tree::member::{File, MemberForm};
 use file_tree::spell_member::spell;
 use move_tree::lexeme::{Lexeme, Lexemes};
+use pv_parse::denoted::modules;
 use src_tree::scanner::tokens;
 use src_tree::token::{Token, TokenKind, Tokens};
 use std::alloc::Global;

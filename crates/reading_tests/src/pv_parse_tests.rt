@@ -1,8 +1,8 @@
 //! Files that are read from texts, and why others are not.
 
-use pv_parse::denoted::modules;
 use left_out::explain::ParseFault;
 use left_out::marker::Marker;
+use pv_parse::denoted::modules;
 use src_tree::scanner::tokens;
 use src_tree::token::Tokens;
 use std::alloc::Global;

@@ -1,8 +1,8 @@
 //! Sources that are read from texts, and why others are not.
 
-use source_parse::denoted::source;
 use left_out::explain::ParseFault;
 use left_out::marker::Marker;
+use source_parse::denoted::source;
 use src_tree::scanner::tokens;
 use src_tree::token::Tokens;
 use std::alloc::Global;

@@ -1,8 +1,8 @@
 //! Texts that are spec expressions, and texts that are none.
 
-use spec_expression_parse::expression::read_spec_expression;
 use move_tree::lexeme::{Lexeme, Lexemes};
 use pv_base::memory::NoMemory;
+use spec_expression_parse::expression::read_spec_expression;
 use spec_tree::spec_expression::{SpecExpression, SpecNode};
 use spec_tree::spell_spec_expression::spell_spec_expression;
 use src_tree::scanner::tokens;

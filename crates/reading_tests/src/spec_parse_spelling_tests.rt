@@ -1,10 +1,10 @@
 //! One text of each form of a spec expression, and of each form of a spec block, read and spelled again.
 
-use spec_parse::block::spec_block;
-use spec_parse::denoted::spec_expression;
 use clause_tree::slot::Slot;
 use clause_tree::spell_clause::spell;
 use move_tree::lexeme::{Lexeme, Lexemes};
+use spec_parse::block::spec_block;
+use spec_parse::denoted::spec_expression;
 use spec_tree::spec_expression::{SpecExpression, SpecNode};
 use spec_tree::spell_spec_expression::spell_spec_expression;
 use src_tree::scanner::tokens;

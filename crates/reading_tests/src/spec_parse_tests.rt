@@ -1,11 +1,11 @@
 //! Spec blocks and spec expressions that texts denote, and why others denote none.
 
-use spec_parse::block::spec_block;
-use spec_parse::denoted::spec_expression;
 use clause_tree::clause::Spec;
 use clause_tree::slot::Slot;
 use left_out::explain::ParseFault;
 use left_out::marker::Marker;
+use spec_parse::block::spec_block;
+use spec_parse::denoted::spec_expression;
 use spec_tree::spec_expression::{SpecExpression, SpecNode};
 use src_tree::scanner::tokens;
 use src_tree::token::Tokens;

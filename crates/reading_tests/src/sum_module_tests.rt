@@ -1,11 +1,11 @@
 //! Modules that are read from texts, and the members that are not built.
 
-use sum_module::fault::ModuleFault;
-use sum_module::module::read_module;
 use source_parse::denoted::source;
 use src_tree::scanner::tokens;
 use std::alloc::Global;
 use std::process::Abort;
+use sum_module::fault::ModuleFault;
+use sum_module::module::read_module;
 
 /// How many members each module of a text has in all, or where the first that is not built begins.
 fn found(rt: &impl Abort, alloc: Global, text: &[u8]) -> Result<usize, ModuleFault> {

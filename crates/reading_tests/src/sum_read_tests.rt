@@ -1,7 +1,5 @@
 //! Sums and clauses that are read off trees that are built by hand.
 
-use sum_read::clause::read_clauses;
-use sum_read::sum::read_sum;
 use clause_tree::clause::{AbortCode, Clause as ClauseTree};
 use move_tree::expression::{Expression, ExpressionNode};
 use move_tree::lexeme::{Identifier, Numeral};
@@ -15,6 +13,8 @@ use spec_tree::spec_expression::{SpecExpression, SpecNode};
 use src_tree::token::{NumberLiteral, NumberSuffix};
 use std::alloc::Global;
 use std::test::Fail;
+use sum_read::clause::read_clauses;
+use sum_read::sum::read_sum;
 use sum_tree::clause::{ClauseKind, Condition};
 use sum_tree::sum::{Operator, Sum, SumNode};
 

@@ -1,2 +1,3 @@
+mod FaultLemmas
 pub mod TableLemmas
 pub mod MemberLemmas

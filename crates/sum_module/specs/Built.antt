@@ -44,6 +44,12 @@ pub record HasNoNumber (m : SourceModuleData) (place : ℕ) : Type 0 where
   pub address : address_of m.name.address ≡ None
   pub place_is : place ≡ (module_place m).start
 
--- the module is not built: its address is no number, or a member is not built, of which the first begins at the place
+-- the module's address is a number, and a member is not built, of which the first begins at this place
+pub record HasUnbuiltMember (m : SourceModuleData) (place : ℕ) : Type 0 where
+  pub address : ℕ
+  pub address_is : address_of m.name.address ≡ Some address
+  pub first : IsFirstUnbuilt m.members place
+
+-- the module is not built, and what is not begins at the place: itself or a member of it
 abbrev pub IsUnbuiltAt : SourceModuleData → ℕ → Type 0
-IsUnbuiltAt m place = HasNoNumber m place ⊎ IsFirstUnbuilt m.members place
+IsUnbuiltAt m place = HasNoNumber m place ⊎ HasUnbuiltMember m place

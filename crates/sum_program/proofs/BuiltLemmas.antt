@@ -19,6 +19,7 @@ use Rattle.sum_module.specs.Built.{IsBuilt}
 use Rattle.sum_program.specs.Joined.{functions_of_member, functions_in}
 use Rattle.sum_program.specs.ClauseTable.{names_among}
 use Rattle.sum_program.proofs.NameLemmas.{all_differ-push}
+use Rattle.sum_program.proofs.TableLemmas.{names_append}
 
 name_is : (f : FunctionTree) (g : FunctionData) → function_of f ≡ Some g → g.name ≡ f.name.text
 name_is f g e = go (is_plain f) (inputs_of f.inputs) (value_of f.body) e
@@ -41,10 +42,6 @@ names_of_one members before (Struct s) x m = absurd m
 names_of_one members before (Constant c) x m = absurd m
 names_of_one members before (Function f) x m = ap (λ y. names_among (functions_of_member y)) m.found_is ∙ ap (λ name. name ∷ []) (name_is f m.function m.read)
 names_of_one members before (Spec s) x m = ap (λ y. names_among (functions_of_member y)) m.found_is
-
-names_append : (xs ys : List FunctionData) → names_among (xs ++ ys) ≡ names_among xs ++ names_among ys
-names_append [] ys = refl
-names_append (x ∷ xs) ys = ap (λ ns. x.name ∷ ns) (names_append xs ys)
 
 names_of_all : (members before ms : List SourceMemberData) (xs : List SumMember) → AreMembers members before ms xs → names_among (functions_in xs) ≡ functions_of ms
 names_of_all members before [] [] a = refl

@@ -1,11 +1,10 @@
 -- Lists of names that differ.
 use Rattle.std.proofs.Common.{◌≡◌, ℕ, true, false, not, ◌||◌, List, [], ◌∷◌, ◌++◌, refl, sym, ap, subst, ◌∙◌, inl, inr}
-use Rattle.std.specs.Ordering.{nat_cmp, is_eq}
-use Rattle.std.specs.Cmp.{unsigned_ties}
-use Rattle.std.specs.Cmp.Lexicographic.{slice_cmp, lists_ties, same_text, nat_list_eq_equiv}
+use Rattle.std.specs.Cmp.Lexicographic.{same_text, nat_list_eq_equiv}
 use Rattle.std.proofs.lemmas.Bool.{cases_Bool, both_ways, and_parts, and_from, or_parts, or_from, or_left, or_right, not-true, not_from_true, not_from_false, and_left, and_right}
 use Rattle.std.proofs.lemmas.List.Folds.{list_any-append}
 use Rattle.token_reading.specs.TokenReading.{same_name}
+use Rattle.source_parse.proofs.NameLemmas.{is_one_of-push}
 use Rattle.sum_module.specs.Scope.{all_differ, is_one_of}
 
 pub same_name-refl : (a : List ℕ) → same_name a a ≡ true
@@ -16,13 +15,6 @@ same_name-symm a b = nat_list_eq_equiv.symm a b
 
 pub same_name-is : (a b : List ℕ) → same_name a b ≡ true → a ≡ b
 same_name-is a b e = same_text a b (sym e)
-
--- the tree's order tells the same names apart
-pub is_eq-same_name : (a b : List ℕ) → is_eq (slice_cmp nat_cmp a b) ≡ same_name a b
-is_eq-same_name a b = sym (lists_ties nat_cmp unsigned_ties a b)
-
-pub is_one_of-push : (names : List (List ℕ)) (n q : List ℕ) → is_one_of (names ++ n ∷ []) q ≡ (is_one_of names q || (same_name q n || false))
-is_one_of-push names n q = list_any-append (same_name q) names (n ∷ [])
 
 pub is_one_of-middle : (front : List (List ℕ)) (n : List ℕ) (back : List (List ℕ)) → is_one_of (front ++ n ∷ back) n ≡ true
 is_one_of-middle front n back = list_any-append (same_name n) front (n ∷ back) ∙ or_right (is_one_of front n) _ (or_left (same_name n n) _ (same_name-refl n))

@@ -6,6 +6,7 @@ use Rattle.std.specs.Cmp.Lexicographic.{slice_cmp}
 use Rattle.std.proofs.lemmas.Bool.{cases_Bool}
 use Rattle.std.proofs.lemmas.List.{map-append}
 use Rattle.token_reading.specs.TokenReading.{same_name}
+use Rattle.source_parse.proofs.NameLemmas.{is_eq-same_name, is_one_of-push}
 use Rattle.sum_tree.specs.declared.clause.Clause.{Clause}
 use Rattle.sum_tree.specs.FunctionData.{FunctionData}
 use Rattle.sum_tree.specs.SpecifiedData.{SpecifiedFunctionData}
@@ -13,7 +14,7 @@ use Rattle.sum_module.specs.SpecData.{SpecData}
 use Rattle.sum_module.specs.Scope.{all_differ, is_one_of}
 use Rattle.sum_program.specs.Joined.{clauses_of_spec, clauses_among}
 use Rattle.sum_program.specs.ClauseTable.{names_among}
-use Rattle.sum_program.proofs.NameLemmas.{same_name-symm, same_name-is, is_eq-same_name, is_one_of-push, not_before}
+use Rattle.sum_program.proofs.NameLemmas.{same_name-symm, same_name-is, not_before}
 
 abbrev pub Table : Type 0
 Table = List ℕ → Option (List Clause)
@@ -67,7 +68,7 @@ pub record Serves (old t : Table) (all rest : List FunctionData) (made : List Sp
 pub serves_start : (t : Table) (all : List FunctionData) → Serves t t all all []
 serves_start t all = record { done = []; parts = refl; made_is = refl; left = λ q. refl }
 
-names_append : (xs ys : List FunctionData) → names_among (xs ++ ys) ≡ names_among xs ++ names_among ys
+pub names_append : (xs ys : List FunctionData) → names_among (xs ++ ys) ≡ names_among xs ++ names_among ys
 names_append xs ys = map-append (λ f. f.name) xs ys
 
 pub serves_more : {old t u : Table} {all rest : List FunctionData} {made more : List SpecifiedFunctionData} (f : FunctionData) (behind : List FunctionData) (one : SpecifiedFunctionData) → all_differ (names_among all) ≡ true

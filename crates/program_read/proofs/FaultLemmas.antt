@@ -1,0 +1,15 @@
+-- A fault of a part is one of the whole.
+use Rattle.std.proofs.Common.{ℕ, sym, subst}
+use Rattle.std.specs.Prelude.{◌≡◌, Result, Ok, Err, IsErrAnd, MatchResult}
+use Rattle.program_read.specs.declared.fault.FileFault.{FileFault}
+use Rattle.program_read.specs.declared.fault.ProgramFault.{ProgramFault}
+use Rattle.program_read.specs.declared.fault.ProgramFault.TheVariants.{InFile, NoMemory}
+use Rattle.program_read.specs.FileFault.{IfInFile}
+
+pub weaker : (fault : ProgramFault) (P Q : ℕ → FileFault → Type 0) → ((file : ℕ) (f : FileFault) → P file f → Q file f) → IfInFile fault P → IfInFile fault Q
+weaker (InFile file f) P Q w h = w file f h
+weaker NoMemory P Q w h = tt
+
+pub hands_on : {X : Type 0} (r : Result X ProgramFault) (fault : ProgramFault) (P : X → Type 0) (Q R : ℕ → FileFault → Type 0) → IsErrAnd r (λ f. f ≡ fault) → ((file : ℕ) (f : FileFault) → Q file f → R file f) → IfInFile fault Q → MatchResult r P (λ f. IfInFile f R)
+hands_on (Ok x) fault P Q R e g h = absurd e
+hands_on (Err f) fault P Q R e g h = subst (λ other. IfInFile other R) (sym e) (weaker fault Q R g h)

@@ -1,0 +1,10 @@
+pub mod Numbered
+pub mod FileFault
+pub mod Texts
+pub mod TextReading
+pub mod Sources
+pub mod SourceReading
+pub mod LocalCounts
+pub mod Modules
+pub mod ModuleReading
+pub mod Program

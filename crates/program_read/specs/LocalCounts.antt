@@ -1,0 +1,52 @@
+-- How many parameters and locals functions have. Source: The Move Book, "Local Variables and Scopes"; the limit is that of
+-- this verifier.
+use Rattle.std.specs.Prelude.{◌≡◌, ℕ, ◌+◌, nat_lt, if◌then◌else◌, List, [], ◌∷◌, length, Option, Some, None}
+use Rattle.std.specs.Option.{option_or}
+use Rattle.file_tree.specs.declared.member.Function.{Function as FunctionTree}
+use Rattle.source_parse.specs.declared.source.SourceForm.{SourceForm}
+use Rattle.source_parse.specs.declared.source.SourceForm.TheVariants.{Use, Friend, Struct, Constant, Function, Spec}
+use Rattle.source_parse.specs.SourceData.{SourceMemberData}
+use Rattle.source_parse.specs.SourceModuleData.{SourceModuleData}
+use Rattle.blocks.specs.Locals.{locals_of}
+use Rattle.program_read.specs.Numbered.{IsFirst}
+use Rattle.program_read.specs.declared.fault.FileFault.{FileFault}
+use Rattle.program_read.specs.declared.fault.FileFault.TheVariants.{TooManyLocals}
+
+-- the parameters of a function, and the names that the `let`s in it bring in
+abbrev pub local_count : FunctionTree → ℕ
+local_count f = length f.inputs.items + length (locals_of f.body)
+
+-- the number, where it passes the limit
+abbrev pub over_limit : ℕ → Option ℕ
+over_limit count = if nat_lt 256 count then Some count else None
+
+abbrev pub excess_of_form : SourceForm → Option ℕ
+excess_of_form (Use u) = None
+excess_of_form (Friend f) = None
+excess_of_form (Struct s) = None
+excess_of_form (Constant c) = None
+excess_of_form (Function f) = over_limit (local_count f)
+excess_of_form (Spec s) = None
+
+abbrev pub excess_of_member : SourceMemberData → Option ℕ
+excess_of_member m = excess_of_form m.form
+
+-- what comes of the first item of which something comes
+abbrev pub first_of : {A : Type 0} → (A → Option ℕ) → List A → Option ℕ
+first_of f [] = None
+first_of f (x ∷ xs) = option_or (f x) (first_of f xs)
+
+-- the count of the first function that passes the limit
+abbrev pub excess_of_module : SourceModuleData → Option ℕ
+excess_of_module m = first_of excess_of_member m.members
+
+abbrev pub excess_of : List SourceModuleData → Option ℕ
+excess_of source = first_of excess_of_module source
+
+abbrev pub HasFewLocals : ℕ → List SourceModuleData → Type 0
+HasFewLocals n source = excess_of source ≡ None
+
+-- Why the counting stopped: no function of a file before this one passes the limit, and the first that does in it has this many.
+abbrev pub LocalsStopped : List (List SourceModuleData) → ℕ → FileFault → Type 0
+LocalsStopped sources file (TooManyLocals count) = IsFirst HasFewLocals (λ n source. excess_of source ≡ Some count) sources file
+LocalsStopped sources file _ = ⊥

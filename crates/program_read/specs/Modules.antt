@@ -1,0 +1,55 @@
+-- The modules of sums that the modules of sources are. Source: The Move Book, "Modules and Scripts": no two modules have one
+-- address and one name.
+use Rattle.std.specs.Prelude.{◌≡◌, ◌⊎◌, ℕ, ◌+◌, Bool, true, false, ◌&&◌, ◌==◌, List, [], ◌∷◌, ◌++◌, map}
+use Rattle.std.specs.List.{list_any}
+use Rattle.token_reading.specs.TokenReading.{same_name}
+use Rattle.source_parse.specs.SourceModuleData.{SourceModuleData}
+use Rattle.sum_tree.specs.SumModuleData.{SumModuleData}
+use Rattle.sum_module.specs.Built.{IsUnbuiltAt}
+use Rattle.sum_module.specs.Places.{module_place}
+use Rattle.sum_program.specs.Program.{IsSumModule}
+use Rattle.program_read.specs.declared.fault.FileFault.{FileFault}
+use Rattle.program_read.specs.declared.fault.FileFault.TheVariants.{NotBuilt}
+
+-- the modules of sources in order, each with the number of its file, the first of which is this one
+abbrev pub numbered : ℕ → List (List SourceModuleData) → List (ℕ × SourceModuleData)
+numbered n [] = []
+numbered n (source ∷ sources) = map (λ m. (n, m)) source ++ numbered (1 + n) sources
+
+-- one of these modules has this address and this name
+abbrev pub is_taken : List SumModuleData → ℕ → List ℕ → Bool
+is_taken found address name = list_any (λ m. (m.address == address) && same_name m.name name) found
+
+-- Behind those that were found, each module is one of sums, with an address and a name that none before it has.
+abbrev pub AreModules : List SumModuleData → List (ℕ × SourceModuleData) → List SumModuleData → Type 0
+AreModules before [] [] = Unit {0}
+AreModules before [] (f ∷ found) = ⊥
+AreModules before (m ∷ modules) [] = ⊥
+AreModules before (m ∷ modules) (f ∷ found) =
+    IsSumModule m.0 m.1 f × (is_taken before f.address f.name ≡ false) × AreModules (before ++ f ∷ []) modules found
+
+-- the module is one of sums, but one before it has its address and its name; it begins at this place
+pub record IsTaken (before : List SumModuleData) (file : ℕ) (m : SourceModuleData) (place : ℕ) : Type 0 where
+  pub found : SumModuleData
+  pub is : IsSumModule file m found
+  pub taken : is_taken before found.address found.name ≡ true
+  pub place_is : place ≡ (module_place m).start
+
+-- what is not built begins at this place
+abbrev pub IsUnbuiltBehind : List SumModuleData → ℕ → SourceModuleData → ℕ → Type 0
+IsUnbuiltBehind before file m place = IsUnbuiltAt m place ⊎ IsTaken before file m place
+
+-- all modules before this one are built, and it is not
+pub record IsFirstUnbuilt (modules : List (ℕ × SourceModuleData)) (file place : ℕ) : Type 0 where
+  pub before : List (ℕ × SourceModuleData)
+  pub module_tree : SourceModuleData
+  pub behind : List (ℕ × SourceModuleData)
+  pub parts : modules ≡ before ++ (file, module_tree) ∷ behind
+  pub found : List SumModuleData
+  pub are : AreModules [] before found
+  pub unbuilt : IsUnbuiltBehind found file module_tree place
+
+-- Why the reading of modules stopped.
+abbrev pub ModulesStopped : List (ℕ × SourceModuleData) → ℕ → FileFault → Type 0
+ModulesStopped modules file (NotBuilt place) = IsFirstUnbuilt modules file place
+ModulesStopped modules file _ = ⊥

@@ -1,0 +1,24 @@
+-- Lists whose items have numbers, counted from 0 on.
+use Rattle.std.specs.Prelude.{◌≡◌, ℕ, ◌+◌, List, [], ◌∷◌, ◌++◌, length}
+
+-- something of each item and its number, the first of which is this one
+abbrev pub Each : {A : Type 0} → (ℕ → A → Type 0) → ℕ → List A → Type 0
+Each P n [] = Unit {0}
+Each P n (x ∷ xs) = P n x × Each P (1 + n) xs
+
+-- the same of two lists, item by item
+abbrev pub EachPair : {A B : Type 0} → (ℕ → A → B → Type 0) → ℕ → List A → List B → Type 0
+EachPair P n [] [] = Unit {0}
+EachPair P n [] (y ∷ ys) = ⊥
+EachPair P n (x ∷ xs) [] = ⊥
+EachPair P n (x ∷ xs) (y ∷ ys) = P n x y × EachPair P (1 + n) xs ys
+
+-- the item of this number is found to be something, and each before it is as it should be
+pub record IsFirst {A : Type 0} (Right Found : ℕ → A → Type 0) (items : List A) (number : ℕ) : Type 0 where
+  pub before : List A
+  pub item : A
+  pub behind : List A
+  pub parts : items ≡ before ++ item ∷ behind
+  pub number_is : number ≡ length before
+  pub right : Each Right 0 before
+  pub found : Found number item

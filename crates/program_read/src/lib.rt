@@ -1,0 +1,9 @@
+//! Programs of sums, read off the bytes of their files.
+#![tactic(auto)]
+
+pub mod fault;
+pub mod locals;
+pub mod modules;
+pub mod program;
+pub mod sources;
+pub mod texts;

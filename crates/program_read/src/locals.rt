@@ -1,0 +1,90 @@
+//! How many parameters and locals functions have.
+
+ghost use Rattle.std.specs.Prelude.{◌≡◌, ◌≤◌, ◌^◌, length, IfOk, MatchResult};
+ghost use Rattle.program_read.specs.FileFault.{IfInFile};
+ghost use Rattle.program_read.specs.Numbered.{Each};
+ghost use Rattle.program_read.specs.LocalCounts.{HasFewLocals, LocalsStopped, excess_of, excess_of_form, excess_of_module, local_count, over_limit};
+
+use crate::fault::{FileFault, ProgramFault};
+use blocks::locals::locals_of;
+use file_tree::member::Function;
+use pv_base::memory::NoMemory;
+use source_parse::source::{Source, SourceForm, SourceModule};
+use std::alloc::Global;
+
+/// The most parameters and locals that a function may have.
+pub const LOCAL_LIMIT: usize = 256;
+
+/// How many parameters and locals a function has.
+fn local_count(alloc: Global, function: &Function) -> Result<usize, NoMemory>
+    ensures { IfOk result (λ count. count ≡ local_count function.now) }
+{
+    let locals = locals_of(alloc, &function.body)?;
+    Ok(function.inputs.items.len() + locals.len())
+}
+
+/// The number, where it passes the limit.
+fn over_limit(count: usize) -> Option<usize>
+    ensures { result ≡ over_limit count }
+{
+    if count > LOCAL_LIMIT {
+        Some(count)
+    } else {
+        None
+    }
+}
+
+/// The count of a member that is a function, where it passes the limit.
+fn excess_of_form(alloc: Global, form: &SourceForm) -> Result<Option<usize>, NoMemory>
+    ensures { IfOk result (λ excess. excess ≡ excess_of_form form.now) }
+{
+    match form {
+        SourceForm::Function(function) => Ok(over_limit(local_count(alloc, function)?)),
+        SourceForm::Use(_) => Ok(None),
+        SourceForm::Friend(_) => Ok(None),
+        SourceForm::Struct(_) => Ok(None),
+        SourceForm::Constant(_) => Ok(None),
+        SourceForm::Spec(_) => Ok(None),
+    }
+}
+
+/// The count of the first function of a module that passes the limit.
+fn excess_of_module(alloc: Global, module: &SourceModule) -> Result<Option<usize>, NoMemory>
+    ensures { IfOk result (λ excess. excess ≡ excess_of_module module.now) }
+{
+    for member in &module.members {
+        if let Some(count) = excess_of_form(alloc, &member.form)? {
+            return Ok(Some(count));
+        }
+    }
+    Ok(None)
+}
+
+/// The count of the first function of a file that passes the limit.
+fn excess_of(alloc: Global, modules: &[SourceModule]) -> Result<Option<usize>, NoMemory>
+    ensures { IfOk result (λ excess. excess ≡ excess_of modules.now) }
+{
+    for module in modules {
+        if let Some(count) = excess_of_module(alloc, module)? {
+            return Ok(Some(count));
+        }
+    }
+    Ok(None)
+}
+
+/// That each function has at most 256 parameters and locals.
+///
+/// # Errors
+///
+/// `TooManyLocals` exactly where a function has more, with the first such file and function.
+pub fn check_locals(alloc: Global, sources: &[Source]) -> Result<(), ProgramFault>
+    requires few { length sources.now ≤ 2 ^ 32 }
+    ensures { MatchResult result (λ _. Each HasFewLocals 0 sources.now) (λ fault. IfInFile fault (LocalsStopped sources.now)) }
+{
+    for (number, source) in sources.iter().enumerate() {
+        if let Some(count) = excess_of(alloc, source.modules.as_slice())? {
+            return Err(ProgramFault::InFile(number as u32, FileFault::TooManyLocals(count)));
+        }
+    }
+    Ok(())
+}
