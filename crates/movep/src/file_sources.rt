@@ -1,9 +1,9 @@
 //! The system's files as a source.
 
 ghost use Rattle.std.specs.Prelude.{◌≡◌, ◌<◌, ◌≤◌, [], length, IfSome};
-ghost use Rattle.prove.specs.Outside.{OnTooLong, OnWhole};
+ghost use Rattle.outside.specs.Outside.{OnTooLong, OnWhole};
 
-use prove::outside::{FILE_LIMIT, Fetched, Sources};
+use outside::outside::{FILE_LIMIT, Fetched, Sources};
 use pv_base::lists::Bytes;
 use pv_base::name::Name;
 use std::fs::File;

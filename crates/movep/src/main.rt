@@ -1,4 +1,4 @@
-//! The program: it verifies the file that its one word names, and reports to standard output.
+//! The program: it verifies the files that its words name, and reports to standard output.
 #![tactic(auto)]
 
 mod file_sources;
@@ -11,26 +11,26 @@ mod words;
 
 ghost use Rattle.std.specs.Prelude.{◌≡◌, ◌<◌, ◌⊎◌};
 ghost use Rattle.std.specs.Io.KnownBytes.{append_known};
-ghost use Rattle.prove.specs.Outside.{HasFaulted};
-ghost use Rattle.prove.specs.Status.{no_memory_line};
+ghost use Rattle.outside.specs.Outside.{HasFaulted};
+ghost use Rattle.report.specs.Status.{no_memory_line};
 
 use crate::file_sources::FileSources;
 use crate::out_sink::OutSink;
 use crate::words::collect_words;
-use prove::outside::{Sink, Sources};
-use prove::status::{Device, Status};
-use prove::status_text::no_memory_line;
+use outside::outside::{Sink, Sources};
 use prove::top::movep;
-use prove::writing::{SinkFault, write_piece};
 use pv_base::lists::Words;
 use pv_base::memory::NoMemory;
 use pv_base::steps::Steps;
+use report::status::{Device, Status};
+use report::status_text::no_memory_line;
+use report::writing::{SinkFault, write_piece};
 use std::alloc::Global;
 use std::marker::Brand;
 use std::process::ExitCode;
 use std::sync::ledger::{Blank, Ledger};
 
-/// Verifies the file that the words name, with a counter of search steps of its own.
+/// Verifies the files that the words name, with a counter of search steps of its own.
 fn verify<S: Sources, W: Sink, L: Ledger>(
     alloc: Global,
     words: &Words,

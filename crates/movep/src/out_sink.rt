@@ -2,7 +2,7 @@
 
 ghost use Rattle.std.specs.Prelude.{◌≡◌};
 
-use prove::outside::{Sink, Wrote};
+use outside::outside::{Sink, Wrote};
 
 /// What prints, as a sink. What was written is not told.
 #[derive(Drop)]

@@ -2,15 +2,15 @@
 
 ghost use Rattle.std.specs.Prelude.{◌≡◌, ◌<◌};
 
-use prove::memory_sink::VecSink;
-use prove::memory_sources::MapSources;
-use prove::outside::{Sink, Wrote};
-use prove::status::{Device, Status};
+use outside::memory_sink::VecSink;
+use outside::memory_sources::MapSources;
+use outside::outside::{Sink, Wrote};
 use prove::top::movep;
 use pv_base::lists::{Bytes, Calls, FileMap, Words};
 use pv_base::memory::NoMemory;
 use pv_base::name::Name;
 use pv_base::steps::Steps;
+use report::status::{Device, Status};
 use std::alloc::Global;
 use std::marker::Brand;
 use std::sync::ledger::{Blank, Ledger};
@@ -36,6 +36,17 @@ fn source_of(alloc: Global, text: &[u8], fails: &[u64]) -> Result<MapSources, No
     let mut files = FileMap::new(alloc);
     files.insert(Name::from_slice(alloc, b"a.move")?, bytes_of(alloc, text)?)?;
     Ok(MapSources::new(files, Calls::from_slice(alloc, fails)?))
+}
+
+/// A source that holds these two files.
+fn pair_of(alloc: Global, first: &[u8], second: &[u8]) -> Result<MapSources, NoMemory> {
+    let mut files = FileMap::new(alloc);
+    files.insert(Name::from_slice(alloc, b"a.move")?, bytes_of(alloc, first)?)?;
+    files.insert(
+        Name::from_slice(alloc, b"b.move")?,
+        bytes_of(alloc, second)?,
+    )?;
+    Ok(MapSources::new(files, Calls::new(alloc)))
 }
 
 /// A sink that takes one byte at a time, and does not tell what it took.
@@ -83,7 +94,7 @@ const SUM_REPORT: &[u8] =
 fn reports(rt: HostRuntime) -> Result<(), Fail> {
     let alloc = rt.alloc();
     let words = words_of(alloc, &[b"a.move"])?;
-    let rows: [(&[u8], &[u8], u8); 19] = [
+    let rows: [(&[u8], &[u8], u8); 25] = [
         (SUM, SUM_REPORT, 0),
         (b"", b"proved 0 of 0\n", 0),
         (b"/* a */ // b", b"proved 0 of 0\n", 0),
@@ -122,7 +133,37 @@ fn reports(rt: HostRuntime) -> Result<(), Fail> {
             b"0x1::m::f: unknown\n  ensures a.move:1: open\n    x = 0\n    y = 0\n  ensures a.move:1: open\n    x = 10\n    y = 5\nproved 0 of 1\n",
             1,
         ),
-        (b"module 0x1::m {", b"refused 18 NotBuilt a.move:1\n", 2),
+        (b"module 0x1::m {", b"refused 2 Grammar a.move:1\n", 2),
+        (
+            b"module 0x1::m { spec module { axiom true; } }",
+            b"refused 3 LeftOut axiom a.move:1\n",
+            2,
+        ),
+        (
+            b"module 0x1::m { inline fun f() {} }",
+            b"refused 3 LeftOut inline a.move:1\n",
+            2,
+        ),
+        (
+            b"module 0x1::m { fun f(i: u64, n: u64): bool { i<n } }",
+            b"refused 2 Grammar a.move:1\n",
+            2,
+        ),
+        (
+            b"module 0x1::m { fun f(i: u64, n: u64): bool { i < n } }",
+            b"refused 18 NotBuilt a.move:1\n",
+            2,
+        ),
+        (
+            b"module 0x1::m {\n fun f(): u64 { 1 }\n #[test]\n struct S { }\n}",
+            b"refused 18 NotBuilt a.move:4\n",
+            2,
+        ),
+        (
+            b"module 0x1::m { #[test] fun f(x: u64): u64 { (x + 1) - x } spec f { aborts_if x + (1) > MAX_U64; ensures (result) == 1; } }",
+            b"0x1::m::f: proved\n  ensures a.move:1: proved\n  aborts_if a.move:1: proved\n  aborts a.move:1: proved\nproved 1 of 1\n",
+            0,
+        ),
         (
             b"\nmodule 0x1::m {\n /* x",
             b"refused 1 BadToken a.move:3\n",
@@ -173,14 +214,14 @@ fn reports(rt: HostRuntime) -> Result<(), Fail> {
 #[test]
 fn words_that_are_refused(rt: HostRuntime) -> Result<(), Fail> {
     let alloc = rt.alloc();
-    let rows: [&[&[u8]]; 4] = [&[], &[b"a.move", b"b.move"], &[b"--help"], &[b"-"]];
+    let rows: [&[&[u8]]; 3] = [&[b"--help"], &[b"-"], &[b"a.move", b"-x"]];
     for given in rows {
         let words = words_of(alloc, given)?;
         let mut sources = source_of(alloc, SUM, &[])?;
         let mut sink = VecSink::new(alloc, 1000, Calls::new(alloc))?;
         let status = run::<_, Brand>(alloc, &words, &mut sources, &mut sink, Blank::new(1));
         assert_eq!(rt; status, Status::BadWords);
-        assert_eq!(rt; sink.bytes(), b"usage: movep FILE\n".as_slice());
+        assert_eq!(rt; sink.bytes(), b"usage: movep [FILE]...\n".as_slice());
     }
     Ok(())
 }
@@ -224,7 +265,7 @@ fn a_slow_sink_takes_all(rt: HostRuntime) -> Result<(), Fail> {
     let words = words_of(alloc, &[b"a.move"])?;
     let rows: [(&[u8], &[u8], u8); 2] = [
         (SUM, SUM_REPORT, 0),
-        (b"module 0x1::m {", b"refused 18 NotBuilt a.move:1\n", 2),
+        (b"module 0x1::m {", b"refused 2 Grammar a.move:1\n", 2),
     ];
     for (text, output, code) in rows {
         let mut sources = source_of(alloc, text, &[])?;
@@ -249,14 +290,80 @@ fn limits(rt: HostRuntime) -> Result<(), Fail> {
     let rows: [(u8, usize, &[u8], u8); 6] = [
         (b' ', 1_048_576, b"proved 0 of 0\n", 0),
         (b' ', 1_048_577, b"limit bytes a.move\n", 5),
-        (b'(', 200, b"refused 18 NotBuilt a.move:1\n", 2),
+        (b'(', 200, b"refused 2 Grammar a.move:1\n", 2),
         (b'(', 201, b"limit nesting a.move\n", 5),
-        (b';', 200_000, b"refused 18 NotBuilt a.move:1\n", 2),
+        (b';', 200_000, b"refused 2 Grammar a.move:1\n", 2),
         (b';', 200_001, b"limit tokens a.move\n", 5),
     ];
     for (byte, count, output, code) in rows {
         let text = repeated(alloc, byte, count)?;
         let mut sources = source_of(alloc, text.as_slice(), &[])?;
+        let mut sink = VecSink::new(alloc, 1000, Calls::new(alloc))?;
+        let status = run::<_, Brand>(alloc, &words, &mut sources, &mut sink, Blank::new(1));
+        assert_eq!(rt; sink.bytes(), output);
+        assert_eq!(rt; status.code(), code);
+    }
+    Ok(())
+}
+
+#[test]
+fn many_files(rt: HostRuntime) -> Result<(), Fail> {
+    let alloc = rt.alloc();
+    let words = words_of(alloc, &[b"a.move", b"b.move"])?;
+    let sums =
+        b"module 0x2::n {\n  fun g(a: u64): u64 { a + 1 }\n  spec g { ensures result > a; aborts_if false; }\n  fun h(): u64 { 7 }\n}";
+    let rows: [(&[u8], &[u8], &[u8], u8); 6] = [
+        (
+            SUM,
+            sums,
+            b"0x1::m::f: proved\n  ensures a.move:5: proved\n  aborts_if a.move:4: proved\n  aborts a.move:2: proved\n0x2::n::g: unknown\n  ensures b.move:3: proved\n  aborts_if b.move:3: proved\n  aborts b.move:2: open\n    a = 18446744073709551615\n0x2::n::h: proved\nproved 2 of 3\n",
+            1,
+        ),
+        (
+            SUM,
+            b"\n\nmodule 0x2::n { fun g(): u64 { 1 }",
+            b"refused 2 Grammar b.move:3\n",
+            2,
+        ),
+        (SUM, SUM, b"refused 18 NotBuilt b.move:1\n", 2),
+        (
+            b"module 0x1::m {",
+            b"/*",
+            b"refused 1 BadToken b.move:1\n",
+            2,
+        ),
+        (
+            b"module 0x1::m { struct S { } }",
+            b"module 0x1::n { inline",
+            b"refused 3 LeftOut inline b.move:1\n",
+            2,
+        ),
+        (b"", b"", b"proved 0 of 0\n", 0),
+    ];
+    for (first, second, output, code) in rows {
+        let mut sources = pair_of(alloc, first, second)?;
+        let mut sink = VecSink::new(alloc, 1000, Calls::new(alloc))?;
+        let status = run::<_, Brand>(alloc, &words, &mut sources, &mut sink, Blank::new(1));
+        assert_eq!(rt; sink.bytes(), output);
+        assert_eq!(rt; status.code(), code);
+    }
+    Ok(())
+}
+
+#[test]
+fn counts_of_files(rt: HostRuntime) -> Result<(), Fail> {
+    let alloc = rt.alloc();
+    let rows: [(usize, &[u8], u8); 3] = [
+        (0, b"proved 0 of 0\n", 0),
+        (64, b"proved 0 of 0\n", 0),
+        (65, b"limit files 65\n", 5),
+    ];
+    for (count, output, code) in rows {
+        let mut words = Words::new(alloc);
+        for _ in 0..count {
+            words.push(Name::from_slice(alloc, b"a.move")?)?;
+        }
+        let mut sources = source_of(alloc, b"", &[])?;
         let mut sink = VecSink::new(alloc, 1000, Calls::new(alloc))?;
         let status = run::<_, Brand>(alloc, &words, &mut sources, &mut sink, Blank::new(1));
         assert_eq!(rt; sink.bytes(), output);

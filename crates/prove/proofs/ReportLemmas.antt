@@ -1,13 +1,25 @@
--- The lines of a report grow with the walk along its records.
-use Rattle.std.proofs.Common.{◌≡◌, ℕ, ◌+◌, ◌<◌, List, [], ◌∷◌, ◌++◌, length, get_or, take, sym, ap, ◌∙◌, append_assoc}
-use Rattle.std.specs.List.{flat_map}
-use Rattle.std.proofs.lemmas.Grind.{flat_map-append}
-use Rattle.std.proofs.lemmas.List.{append-nil, take_more}
+-- What the stages of a run tell the next one of the files.
+use Rattle.std.proofs.Common.{◌≡◌, ℕ, zero, suc, ◌<◌, ◌≤◌, List, [], ◌∷◌, length, get_or, Option, refl, ap, sym, subst, arith}
+use Rattle.std.specs.List.{AllByRecursion}
+use Rattle.outside.specs.Outside.{Files}
+use Rattle.prove.specs.Stages.{HaveBytes}
 
--- the lines of one more record stand after those of the records before
-pub more_lines : {A B : Type 0} (f : A → List B) (xs : List A) (i : ℕ) (x : A) (start lines new : List B) → i < length xs → x ≡ get_or xs i x → lines ≡ start ++ flat_map f (take i xs) → new ≡ lines ++ f x → new ≡ start ++ flat_map f (take (i + 1) xs)
-more_lines f xs i x start lines new within e before added =
-    let items : take (i + 1) xs ≡ take i xs ++ x ∷ [] = take_more xs i x within ∙ ap (λ y. take i xs ++ y ∷ []) (sym e) in
-    let one : flat_map f (take (i + 1) xs) ≡ flat_map f (take i xs) ++ f x =
-    ap (flat_map f) items ∙ flat_map-append f (take i xs) (x ∷ []) ∙ ap (λ ys. flat_map f (take i xs) ++ ys) (append-nil (f x)) in
-    added ∙ ap (λ ls. ls ++ f x) before ∙ append_assoc start (flat_map f (take i xs)) (f x) ∙ ap (λ ys. start ++ ys) (sym one)
+pub as_many : (holds : Option Files) (names files : List (List ℕ)) → HaveBytes holds names files → length files ≡ length names
+as_many holds [] [] h = refl
+as_many holds [] (bytes ∷ files) h = absurd h
+as_many holds (name ∷ names) [] h = absurd h
+as_many holds (name ∷ names) (bytes ∷ files) h = ap suc (as_many holds names files h.1)
+
+pub few_files : (holds : Option Files) (names files : List (List ℕ)) (limit : ℕ) → HaveBytes holds names files → length names ≤ limit → length files ≤ limit
+few_files holds names files limit h few = subst (λ n. n ≤ limit) (sym (as_many holds names files h)) few
+
+pub all_short : (holds : Option Files) (names files : List (List ℕ)) → HaveBytes holds names files → AllByRecursion (λ bytes. length bytes ≤ 1048576) files
+all_short holds [] [] h = tt
+all_short holds [] (bytes ∷ files) h = absurd h
+all_short holds (name ∷ names) [] h = absurd h
+all_short holds (name ∷ names) (bytes ∷ files) h = (h.0.short, all_short holds names files h.1)
+
+pub each_short : (files : List (List ℕ)) → AllByRecursion (λ bytes. length bytes ≤ 1048576) files → (k : ℕ) (d : List ℕ) → k < length files → length (get_or files k d) ≤ 1048576
+each_short [] h k d l = absurd (omega (arith, l))
+each_short (bytes ∷ files) h zero d l = h.0
+each_short (bytes ∷ files) h (suc k) d l = each_short files h.1 k d (omega (arith, l))

@@ -2,18 +2,19 @@
 use Rattle.std.proofs.Common.{◌≡◌, ℕ, List, Option, Result, Ok, Err, inl, inr, Bool, true, false, if◌then◌else◌}
 use Rattle.std.specs.List.{list_all}
 use Rattle.prove.specs.declared.stages.Stop.{Stop}
-use Rattle.prove.specs.declared.stages.Stop.TheVariants.{SourceFault, Limit as limit_stop, Refused as refused_stop, NoMemory as memory_stop}
-use Rattle.prove.specs.declared.status.Status.{Status}
-use Rattle.prove.specs.declared.status.Status.TheVariants.{AllProved, NotAllProved, Refused, Fault, BadWords, Limit, NoMemory}
-use Rattle.prove.specs.declared.status.Device.TheVariants.{Source, Sink}
-use Rattle.prove.specs.declared.writing.SinkFault.{SinkFault}
+use Rattle.prove.specs.declared.stages.Stop.TheVariants.{TooManyFiles, SourceFault, Limit as limit_stop, Refused as refused_stop, NoMemory as memory_stop}
+use Rattle.report.specs.declared.status.Status.{Status}
+use Rattle.report.specs.declared.status.Status.TheVariants.{AllProved, NotAllProved, Refused, Fault, BadWords, Limit, NoMemory}
+use Rattle.report.specs.declared.status.Device.TheVariants.{Source, Sink}
+use Rattle.report.specs.declared.writing.SinkFault.{SinkFault}
 use Rattle.prove.specs.Outcome.{status_of}
-use Rattle.prove.specs.Outside.{Files}
-use Rattle.prove.specs.ReportData.{ReportData}
-use Rattle.prove.specs.ReportText.{is_proved}
-use Rattle.prove.specs.Stages.{NamesFile}
-use Rattle.prove.specs.Status.{usage_line}
-use Rattle.prove.specs.Run.{RunStopped, IsVerified, IsOutput, IsStopText, IsReportText, IsJust, WroteAll, Writes, Ends}
+use Rattle.outside.specs.Outside.{Files}
+use Rattle.report.specs.ReportData.{ReportData}
+use Rattle.report.specs.ReportText.{is_proved}
+use Rattle.prove.specs.Stages.{NameFiles}
+use Rattle.report.specs.Status.{usage_line}
+use Rattle.prove.specs.Run.{RunStopped, IsVerified, IsOutput, IsStopText, IsReportText, Ends}
+use Rattle.report.specs.Writes.{IsJust, WroteAll, Writes}
 
 -- a text of one kind is one of another
 pub writes_as : (P Q : Status → List ℕ → Type 0) (old new : Option (List ℕ)) (old_faults new_faults : ℕ) (r : Result Status SinkFault) → ((status : Status) (text : List ℕ) → P status text → Q status text) → Writes P old new old_faults new_faults r → Writes Q old new old_faults new_faults r
@@ -21,22 +22,23 @@ writes_as P Q old new old_faults new_faults (Ok status) h w = record { text = w.
 writes_as P Q old new old_faults new_faults (Err fault) h w = record { status = w.status; text = w.text; output = h w.status w.text w.output; taken = w.taken; fault = w.fault }
 
 module _ (words : List (List ℕ)) (holds : Option Files) (old new : ℕ) where
-  pub usage_output : ((name : List ℕ) → NamesFile words name → ⊥) → (status : Status) (text : List ℕ) → IsJust BadWords usage_line status text → IsOutput words holds old new status text
+  pub usage_output : ¬ NameFiles words → (status : Status) (text : List ℕ) → IsJust BadWords usage_line status text → IsOutput words holds old new status text
   usage_output h status text e = inl (record { refused = h; status_is = e.0; text_is = e.1 })
 
-  pub stop_output : (name : List ℕ) (stop : Stop) → NamesFile words name → RunStopped holds name old new stop → (status : Status) (text : List ℕ) → IsStopText name stop status text → IsOutput words holds old new status text
-  stop_output name stop named stopped status text (inl e) = inr (inl (record { name = name; named = named; stop = stop; stopped = stopped; status_is = e.0; text_is = e.1 }))
-  stop_output name stop named stopped status text (inr e) = inr (inr (inr e))
+  pub stop_output : (stop : Stop) → NameFiles words → RunStopped holds words old new stop → (status : Status) (text : List ℕ) → IsStopText words stop status text → IsOutput words holds old new status text
+  stop_output stop named stopped status text (inl e) = inr (inl (record { named = named; stop = stop; stopped = stopped; status_is = e.0; text_is = e.1 }))
+  stop_output stop named stopped status text (inr e) = inr (inr (inr e))
 
-  pub report_output : (name : List ℕ) (report : ReportData) → NamesFile words name → IsVerified holds name report → (status : Status) (text : List ℕ) → IsReportText report status text → IsOutput words holds old new status text
-  report_output name report named verified status text (inl e) = inr (inr (inl (record { name = name; named = named; report = report; verified = verified; status_is = e.0; text_is = e.1 })))
-  report_output name report named verified status text (inr e) = inr (inr (inr e))
+  pub report_output : (report : ReportData) → NameFiles words → IsVerified holds words report → (status : Status) (text : List ℕ) → IsReportText report status text → IsOutput words holds old new status text
+  report_output report named verified status text (inl e) = inr (inr (inl (record { named = named; report = report; verified = verified; status_is = e.0; text_is = e.1 })))
+  report_output report named verified status text (inr e) = inr (inr (inr e))
 
   -- no text goes with a fault of the sink
   not_of_stop : (stop : Stop) → Fault Sink ≡ status_of stop → ⊥
-  not_of_stop SourceFault e = cc
-  not_of_stop (limit_stop kind count) e = cc
-  not_of_stop (refused_stop rule line) e = cc
+  not_of_stop (TooManyFiles count) e = cc
+  not_of_stop (SourceFault file) e = cc
+  not_of_stop (limit_stop file kind count) e = cc
+  not_of_stop (refused_stop refusal) e = cc
   not_of_stop memory_stop e = cc
 
   not_of_report : (b : Bool) → Fault Sink ≡ (if b then AllProved else NotAllProved) → ⊥

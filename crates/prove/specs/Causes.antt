@@ -1,19 +1,20 @@
 -- Where each status of a run comes, in both directions: the status is this one exactly where its cause holds.
 use Rattle.std.specs.Prelude.{◌≡◌, ℕ, ◌<◌, ◌≤◌, ◌⊎◌, ◌↔◌, List, length, Option, Some, None, IfSome}
+use Rattle.std.specs.List.{AllByRecursion}
 use Rattle.std.specs.FinMap as map
-use Rattle.src_tree.specs.Spelling.{IsUnspelled}
-use Rattle.src_tree.specs.declared.token.Token.{Token}
-use Rattle.ref_sem.specs.ModuleData.{ModuleData}
-use Rattle.prove.specs.declared.status.Status.{Status}
-use Rattle.prove.specs.declared.status.Status.TheVariants.{AllProved, NotAllProved, Refused, Fault, BadWords, Limit, NoMemory}
-use Rattle.prove.specs.declared.status.Device.TheVariants.{Source, Sink}
-use Rattle.prove.specs.declared.status.LimitKind.TheVariants.{Bytes, Tokens, Nesting}
-use Rattle.prove.specs.declared.status.Rule.{Rule}
-use Rattle.prove.specs.declared.status.Rule.TheVariants.{BadToken, NotBuilt}
-use Rattle.prove.specs.Lines.{line_of}
-use Rattle.prove.specs.Outside.{Files, HasFaulted}
-use Rattle.prove.specs.Spelling.{IsFormOf, IsOfNoForm}
-use Rattle.prove.specs.Stages.{NamesFile, HasTokenList, HasTokens, IsBadOnLine, NestsDeep, first_place}
+use Rattle.left_out.specs.declared.marker.Marker.{Marker}
+use Rattle.outside.specs.Outside.{Files, HasFaulted, IsLongFile}
+use Rattle.program_read.specs.Program.{IsProgramOf, ProgramStopped}
+use Rattle.program_read.specs.declared.fault.FileFault.TheVariants.{BadToken, TooManyTokens, NestsTooDeep, Grammar, LeftOut, TooManyLocals, NotBuilt}
+use Rattle.report.specs.declared.status.Device.TheVariants.{Source, Sink}
+use Rattle.report.specs.declared.status.LimitKind.TheVariants.{Files as files_kind, Bytes, Tokens, Nesting, Locals}
+use Rattle.report.specs.declared.status.Rule.{Rule}
+use Rattle.report.specs.declared.status.Rule.TheVariants.{BadToken as bad_token, Grammar as no_grammar, LeftOut as left_out, NotBuilt as not_built}
+use Rattle.report.specs.declared.status.Status.{Status}
+use Rattle.report.specs.declared.status.Status.TheVariants.{AllProved, NotAllProved, Refused, Fault, BadWords, Limit, NoMemory}
+use Rattle.sum_tree.specs.SumModuleData.{SumModuleData}
+use Rattle.verify.specs.Pairs.{Paired}
+use Rattle.prove.specs.Stages.{NameFiles, line_in}
 
 -- ---- statuses
 
@@ -23,63 +24,88 @@ UnlessFree NoMemory P = Unit {0}
 UnlessFree (Fault Sink) P = Unit {0}
 UnlessFree _ P = P
 
--- the file of the run breaks this rule on this line
-abbrev pub refused : Rule → ℕ → Status
-refused rule line = Refused (record { rule = rule; file = 0; line = line })
+-- the file of this number breaks this rule on this line
+abbrev pub refused : Rule → ℕ → ℕ → Option Marker → Status
+refused rule file line marker = Refused (record { rule = rule; file = file; line = line; marker = marker })
 
--- the file breaks this rule on some line
-abbrev pub IsRefused : Rule → Status → Type 0
-IsRefused rule status = (line : ℕ) × (status ≡ refused rule line)
+-- the file of this number has no tree, and holds no marker
+abbrev pub IsGrammar : ℕ → Status → Type 0
+IsGrammar file status = (line : ℕ) × (status ≡ refused no_grammar file line None)
 
 -- the run has a report
 abbrev pub IsReported : Status → Type 0
 IsReported status = (status ≡ AllProved) ⊎ (status ≡ NotAllProved)
 
--- ---- causes
+-- ---- causes in files
 
--- the words name no file
-abbrev pub NameNoFile : List (List ℕ) → Type 0
-NameNoFile words = (name : List ℕ) → ¬ NamesFile words name
+-- the reading of the files stops at a bad token in this file, on this line
+pub record HasBadToken (files : List (List ℕ)) (file line : ℕ) : Type 0 where
+  pub place : ℕ
+  pub stopped : ProgramStopped files file (BadToken place)
+  pub line_is : line ≡ line_in files file place
 
--- The bytes have tokens that pass no limit, and these are of no form; the line is that of the first of them.
-pub record IsNoProgram (bytes : List ℕ) (line : ℕ) : Type 0 where
-  pub tokens : List Token
-  pub has_tokens : HasTokenList bytes tokens
-  pub no_form : IsOfNoForm tokens
-  pub line_is : line ≡ line_of bytes (first_place tokens)
+-- it stops since this file has no tree, and no marker
+abbrev pub HasNoTree : List (List ℕ) → ℕ → Type 0
+HasNoTree files file = (place : ℕ) × ProgramStopped files file (Grammar place)
 
--- The bytes have tokens that pass no limit, and these are of a form.
-pub record IsProgramText (bytes : List ℕ) : Type 0 where
-  pub tokens : List Token
-  pub file : Option ModuleData
-  pub has_tokens : HasTokenList bytes tokens
-  pub form : IsFormOf file tokens
+-- it stops since this file has no tree, and its first marker is this one, on this line
+pub record IsLeftOut (files : List (List ℕ)) (file line : ℕ) (marker : Marker) : Type 0 where
+  pub place : ℕ
+  pub stopped : ProgramStopped files file (LeftOut marker place)
+  pub line_is : line ≡ line_in files file place
+
+-- it stops at what is not built in this file, on this line
+pub record IsNotBuilt (files : List (List ℕ)) (file line : ℕ) : Type 0 where
+  pub place : ℕ
+  pub stopped : ProgramStopped files file (NotBuilt place)
+  pub line_is : line ≡ line_in files file place
+
+-- it stops at a file with so many tokens
+abbrev pub HasTokens : List (List ℕ) → ℕ → Type 0
+HasTokens files count = (file : ℕ) × ProgramStopped files file (TooManyTokens count)
+
+-- it stops at a file that nests too deep
+abbrev pub NestsDeep : List (List ℕ) → Type 0
+NestsDeep files = (file : ℕ) × ProgramStopped files file NestsTooDeep
+
+-- it stops at a function with so many parameters and locals
+abbrev pub HasLocals : List (List ℕ) → ℕ → Type 0
+HasLocals files count = (file : ℕ) × ProgramStopped files file (TooManyLocals count)
+
+-- the files are of a program
+abbrev pub HaveProgram : List (List ℕ) → Type 0
+HaveProgram files = (program : List SumModuleData) × IsProgramOf files program
 
 -- ---- each status with its cause
 
--- Of a file with these bytes, which is not too long. The last part is completeness: a program has a report.
-pub record TextCauses (bytes : List ℕ) (status : Status) : Type 0 where
-  pub bad_token : IsRefused BadToken status ↔ IsUnspelled 0 bytes
-  pub bad_line : (line : ℕ) → (status ≡ refused BadToken line) ↔ IsBadOnLine bytes line
-  pub tokens : (count : ℕ) → (status ≡ Limit Tokens count) ↔ HasTokens bytes count
-  pub nesting : (count : ℕ) → (status ≡ Limit Nesting count) ↔ ((count ≡ 201) × NestsDeep bytes)
-  pub not_built : (line : ℕ) → (status ≡ refused NotBuilt line) ↔ IsNoProgram bytes line
-  pub reported : IsReported status ↔ IsProgramText bytes
+-- Of files with these bytes, none of which is too long. The last part is completeness: a program has a report.
+pub record TextCauses (files : List (List ℕ)) (status : Status) : Type 0 where
+  pub bad_token : (file line : ℕ) → (status ≡ refused bad_token file line None) ↔ HasBadToken files file line
+  pub grammar : (file : ℕ) → IsGrammar file status ↔ HasNoTree files file
+  pub left_out : (file line : ℕ) (marker : Marker) → (status ≡ refused left_out file line (Some marker)) ↔ IsLeftOut files file line marker
+  pub not_built : (file line : ℕ) → (status ≡ refused not_built file line None) ↔ IsNotBuilt files file line
+  pub tokens : (count : ℕ) → (status ≡ Limit Tokens count) ↔ HasTokens files count
+  pub nesting : (count : ℕ) → (status ≡ Limit Nesting count) ↔ ((count ≡ 201) × NestsDeep files)
+  pub locals : (count : ℕ) → (status ≡ Limit Locals count) ↔ HasLocals files count
+  pub reported : IsReported status ↔ HaveProgram files
 
--- Of a file with these bytes.
-pub record BytesCauses (bytes : List ℕ) (status : Status) : Type 0 where
-  pub too_long : (count : ℕ) → (status ≡ Limit Bytes count) ↔ ((count ≡ 1048577) × (1048576 < length bytes))
-  pub text : length bytes ≤ 1048576 → TextCauses bytes status
+-- the files of these names have these bytes
+abbrev pub AreTold : Files → List (List ℕ) → List (List ℕ) → Type 0
+AreTold told names files = Paired (λ name bytes. map.get told name ≡ Some bytes) names files
 
--- Of a file that the source has or has not. That it lacks the file is a fault, which it counts; so where none is
--- counted, no status is left.
-abbrev pub FileCauses : Option (List ℕ) → Status → Type 0
-FileCauses None status = ⊥
-FileCauses (Some bytes) status = BytesCauses bytes status
+-- a file of one of these names is too long
+abbrev pub SomeIsLong : Files → List (List ℕ) → Type 0
+SomeIsLong told names = ¬ AllByRecursion (λ name. ¬ IsLongFile told name 1048576) names
+
+-- Of the files of these names. That the source lacks one is a fault, which it counts.
+pub record FileCauses (told : Files) (names : List (List ℕ)) (status : Status) : Type 0 where
+  pub too_long : (count : ℕ) → (status ≡ Limit Bytes count) ↔ ((count ≡ 1048577) × SomeIsLong told names)
+  pub texts : (files : List (List ℕ)) → AreTold told names files → AllByRecursion (λ bytes. length bytes ≤ 1048576) files → TextCauses files status
 
 -- Of a run; the numbers are the source's counts of faults before and after. The last part speaks of a source that
 -- tells its files, and of runs in which it did not fail.
 pub record Causes (words : List (List ℕ)) (holds : Option Files) (old new : ℕ) (status : Status) : Type 0 where
-  pub bad_words : UnlessFree status ((status ≡ BadWords) ↔ NameNoFile words)
+  pub bad_words : UnlessFree status ((status ≡ BadWords) ↔ (¬ NameFiles words))
+  pub too_many : UnlessFree status ((count : ℕ) → (status ≡ Limit files_kind count) ↔ (NameFiles words × (count ≡ length words) × (64 < count)))
   pub source_fault : status ≡ Fault Source → HasFaulted old new
-  pub file : (name : List ℕ) → NamesFile words name → ¬ HasFaulted old new → IfSome holds (λ files. UnlessFree status (FileCauses (map.get files name) status))
+  pub files : NameFiles words → length words ≤ 64 → ¬ HasFaulted old new → IfSome holds (λ told. UnlessFree status (FileCauses told words status))

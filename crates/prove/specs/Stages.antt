@@ -1,83 +1,93 @@
 -- What each stage of a run demands, and why it stops.
-use Rattle.std.specs.Prelude.{◌≡◌, ℕ, ◌<◌, ◌≤◌, Bool, false, ◌==◌, List, [], ◌∷◌, length, Option, Some, Result, Err, IfSome}
+use Rattle.std.specs.Prelude.{◌≡◌, ℕ, ◌<◌, ◌≤◌, Bool, true, false, not, ◌==◌, List, [], ◌∷◌, length, slice_index_or, Option, Some, None, Result, Err, IfSome}
+use Rattle.std.specs.List.{list_all}
 use Rattle.std.specs.FinMap as map
-use Rattle.src_tree.specs.Spelling.{IsBadAt, Spells}
-use Rattle.src_tree.specs.Weight.{greatest_weight}
-use Rattle.src_tree.specs.declared.token.Token.{Token}
+use Rattle.outside.specs.Outside.{Files, HasFaulted, IsLongFile}
+use Rattle.report.specs.Lines.{line_of}
+use Rattle.report.specs.declared.status.LimitKind.TheVariants.{Bytes, Tokens, Nesting, Locals}
+use Rattle.report.specs.declared.status.Refusal.{Refusal}
+use Rattle.report.specs.declared.status.Rule.TheVariants.{BadToken as bad_token, Grammar as no_grammar, LeftOut as left_out, NotBuilt as not_built}
+use Rattle.verify.specs.Pairs.{Paired}
+use Rattle.program_read.specs.Numbered.{IsFirst}
+use Rattle.program_read.specs.Program.{ProgramStopped}
+use Rattle.program_read.specs.declared.fault.FileFault.{FileFault}
+use Rattle.program_read.specs.declared.fault.FileFault.TheVariants.{BadToken, TooManyTokens, NestsTooDeep, Grammar, LeftOut, TooManyLocals, NotBuilt}
 use Rattle.prove.specs.declared.stages.Stop.{Stop}
-use Rattle.prove.specs.declared.stages.Stop.TheVariants.{SourceFault, Limit, Refused, NoMemory}
-use Rattle.prove.specs.declared.status.Rule.TheVariants.{BadToken, NotBuilt}
-use Rattle.prove.specs.declared.status.LimitKind.TheVariants.{Bytes, Tokens, Nesting}
-use Rattle.prove.specs.Lines.{line_of}
-use Rattle.prove.specs.Spelling.{IsOfNoForm}
-use Rattle.prove.specs.Outside.{Files, HasFaulted, IsLongFile}
+use Rattle.prove.specs.declared.stages.Stop.TheVariants.{TooManyFiles, SourceFault, Limit, Refused, NoMemory}
+
+-- ---- words
 
 abbrev pub begins_with_dash : List ℕ → Bool
 begins_with_dash [] = false
 begins_with_dash (b ∷ bs) = b == 45
 
--- there is one word, and it is no option
-abbrev pub NamesFile : List (List ℕ) → List ℕ → Type 0
-NamesFile words name = (words ≡ name ∷ []) × (begins_with_dash name ≡ false)
+-- no word is an option
+abbrev pub name_files : List (List ℕ) → Bool
+name_files words = list_all (λ w. not (begins_with_dash w)) words
+
+abbrev pub NameFiles : List (List ℕ) → Type 0
+NameFiles words = name_files words ≡ true
+
+-- ---- fetches
 
 -- The file of this name has these bytes: where the source tells its files, they are those that it tells.
 pub record HasBytes (holds : Option Files) (name : List ℕ) (bytes : List ℕ) : Type 0 where
   pub told : IfSome holds (λ files. map.get files name ≡ Some bytes)
   pub short : length bytes ≤ 1048576
 
--- The bytes have these tokens, which pass no limit.
-pub record HasTokenList (bytes : List ℕ) (tokens : List Token) : Type 0 where
-  pub spelled : Spells 0 tokens bytes
-  pub few : length tokens ≤ 200000
-  pub light : greatest_weight tokens ≤ 200
+-- the files of these names have these bytes
+abbrev pub HaveBytes : Option Files → List (List ℕ) → List (List ℕ) → Type 0
+HaveBytes holds names files = Paired (HasBytes holds) names files
+
+abbrev pub IsFetched : Option Files → ℕ → List ℕ → Type 0
+IsFetched holds n name = (bytes : List ℕ) × HasBytes holds name bytes
+
+abbrev pub IsLong : Option Files → ℕ → List ℕ → Type 0
+IsLong holds n name = IfSome holds (λ files. IsLongFile files name 1048576)
 
 -- a fact for every answer but a fault of the source
 abbrev pub UnlessSourceFault : {T : Type 0} → Result T Stop → Type 0 → Type 0
-UnlessSourceFault (Err SourceFault) P = Unit {0}
+UnlessSourceFault (Err (SourceFault file)) P = Unit {0}
 UnlessSourceFault _ P = P
 
--- Why a fetch stopped. Where the source tells its files, a file that is too long is one of them.
-abbrev pub FetchStopped : Option Files → List ℕ → ℕ → ℕ → ℕ → Stop → Type 0
-FetchStopped holds name limit old new SourceFault = HasFaulted old new
-FetchStopped holds name limit old new (Limit Bytes count) = (count ≡ 1048577) × IfSome holds (λ files. IsLongFile files name limit)
-FetchStopped holds name limit old new NoMemory = Unit {0}
-FetchStopped holds name limit old new _ = ⊥
+-- Why the fetch of the file of this number and name stopped.
+abbrev pub IsFetchStop : Option Files → ℕ → List ℕ → ℕ → ℕ → Stop → Type 0
+IsFetchStop holds n name old new (SourceFault file) = (file ≡ n) × HasFaulted old new
+IsFetchStop holds n name old new (Limit file Bytes count) = (file ≡ n) × (count ≡ 1048577) × IsLong holds n name
+IsFetchStop holds n name old new NoMemory = Unit {0}
+IsFetchStop holds n name old new _ = ⊥
 
--- a byte at which a bad token begins, on this line
-pub record IsBadOnLine (bytes : List ℕ) (line : ℕ) : Type 0 where
-  pub place : ℕ
-  pub bad : IsBadAt place bytes
-  pub line_is : line ≡ line_of bytes place
+-- Why the fetches stopped: each file before this one was fetched.
+abbrev pub FetchStopped : Option Files → List (List ℕ) → ℕ → ℕ → Stop → Type 0
+FetchStopped holds names old new (SourceFault file) = HasFaulted old new × IsFirst (IsFetched holds) (λ n name. Unit {0}) names file
+FetchStopped holds names old new (Limit file Bytes count) = (count ≡ 1048577) × IsFirst (IsFetched holds) (IsLong holds) names file
+FetchStopped holds names old new NoMemory = Unit {0}
+FetchStopped holds names old new _ = ⊥
 
--- The tokens of the bytes, of which there are this many, pass their limit.
-pub record HasTokens (bytes : List ℕ) (count : ℕ) : Type 0 where
-  pub tokens : List Token
-  pub spelled : Spells 0 tokens bytes
-  pub counted : length tokens ≡ count
-  pub many : 200000 < count
+-- ---- programs
 
--- The tokens of the bytes nest too deep.
-pub record NestsDeep (bytes : List ℕ) : Type 0 where
-  pub tokens : List Token
-  pub spelled : Spells 0 tokens bytes
-  pub few : length tokens ≤ 200000
-  pub deep : 200 < greatest_weight tokens
+-- the line of a place in the file of this number
+abbrev pub line_in : List (List ℕ) → ℕ → ℕ → ℕ
+line_in files file place = line_of (slice_index_or files file []) place
 
--- Why the reading of tokens stopped.
-abbrev pub TokensStopped : List ℕ → Stop → Type 0
-TokensStopped bytes (Refused BadToken line) = IsBadOnLine bytes line
-TokensStopped bytes (Limit Tokens count) = HasTokens bytes count
-TokensStopped bytes (Limit Nesting count) = (count ≡ 201) × NestsDeep bytes
-TokensStopped bytes NoMemory = Unit {0}
-TokensStopped bytes _ = ⊥
+-- what a fault of a file is called
+abbrev pub stop_of : List (List ℕ) → ℕ → FileFault → Stop
+stop_of files file (BadToken place) = Refused (record { rule = bad_token; file = file; line = line_in files file place; marker = None })
+stop_of files file (TooManyTokens count) = Limit file Tokens count
+stop_of files file NestsTooDeep = Limit file Nesting 201
+stop_of files file (Grammar place) = Refused (record { rule = no_grammar; file = file; line = line_in files file place; marker = None })
+stop_of files file (LeftOut marker place) = Refused (record { rule = left_out; file = file; line = line_in files file place; marker = Some marker })
+stop_of files file (TooManyLocals count) = Limit file Locals count
+stop_of files file (NotBuilt place) = Refused (record { rule = not_built; file = file; line = line_in files file place; marker = None })
 
--- where the first token begins
-abbrev pub first_place : List Token → ℕ
-first_place [] = 0
-first_place (t ∷ ts) = t.span.start
+-- the files are of no program
+pub record IsProgramStop (files : List (List ℕ)) (stop : Stop) : Type 0 where
+  pub file : ℕ
+  pub fault : FileFault
+  pub stopped : ProgramStopped files file fault
+  pub stop_is : stop ≡ stop_of files file fault
 
--- Why the reading of the form stopped: the line is that of the file's first token.
-abbrev pub FormStopped : List ℕ → List Token → Stop → Type 0
-FormStopped bytes tokens (Refused NotBuilt line) = IsOfNoForm tokens × (line ≡ line_of bytes (first_place tokens))
-FormStopped bytes tokens NoMemory = Unit {0}
-FormStopped bytes tokens _ = ⊥
+-- Why the reading of the program stopped.
+abbrev pub ReadStopped : List (List ℕ) → Stop → Type 0
+ReadStopped files NoMemory = Unit {0}
+ReadStopped files stop = IsProgramStop files stop

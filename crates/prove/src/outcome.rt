@@ -1,17 +1,20 @@
 //! How a run ends that has no report.
 
 ghost use Rattle.std.specs.Prelude.{◌≡◌, IfOk};
-ghost use Rattle.prove.specs.Outcome.{status_of, stop_line};
-ghost use Rattle.prove.specs.Run.{IsStopText, Writes};
+ghost use Rattle.prove.specs.Outcome.{name_of, status_of, stop_line};
+ghost use Rattle.prove.specs.Run.{IsStopText};
+ghost use Rattle.report.specs.Writes.{Writes};
 
-use crate::outside::Sink;
 use crate::stages::Stop;
-use crate::status::{Device, Refusal, Status};
-use crate::status_text::{limit_line, no_memory_line, refusal_line, source_fault_line};
-use crate::writing::{SinkFault, write_text};
+use outside::outside::Sink;
 use pv_base::lists::Bytes;
 use pv_base::memory::NoMemory;
 use pv_base::name::Name;
+use report::status::{Device, LimitKind, Status};
+use report::status_text::{
+    files_limit_line, limit_line, no_memory_line, refusal_line, source_fault_line,
+};
+use report::writing::{SinkFault, write_text};
 use std::alloc::Global;
 
 /// The status of a run that stopped.
@@ -19,40 +22,50 @@ pub fn status_of(stop: Stop) -> Status
     ensures { result ≡ status_of stop }
 {
     match stop {
-        Stop::SourceFault => Status::Fault(Device::Source),
-        Stop::Limit(kind, count) => Status::Limit(kind, count),
-        Stop::Refused(rule, line) => Status::Refused(Refusal {
-            rule,
-            file: 0,
-            line,
-        }),
+        Stop::TooManyFiles(count) => Status::Limit(LimitKind::Files, count),
+        Stop::SourceFault(_) => Status::Fault(Device::Source),
+        Stop::Limit(_, kind, count) => Status::Limit(kind, count),
+        Stop::Refused(refusal) => Status::Refused(refusal),
         Stop::NoMemory => Status::NoMemory,
     }
 }
 
-/// The line that tells why a file has no report, where there is memory for it.
-fn stop_line(alloc: Global, name: &Name, stop: Stop) -> Result<Bytes, NoMemory>
-    ensures { IfOk result (λ line. line ≡ stop_line name.now stop) }
+/// The name of the file of this number, and no bytes where there is none.
+fn name_of(alloc: Global, names: &[Name], file: u32) -> Result<Name, NoMemory>
+    ensures { IfOk result (λ name. name ≡ name_of names.now file) }
+{
+    match names.get(file as usize) {
+        Some(name) => name.try_clone(alloc),
+        None => Name::from_slice(alloc, b""),
+    }
+}
+
+/// The line that tells why the files have no report, where there is memory for it.
+fn stop_line(alloc: Global, names: &[Name], stop: Stop) -> Result<Bytes, NoMemory>
+    ensures { IfOk result (λ line. line ≡ stop_line names.now stop) }
 {
     match stop {
-        Stop::SourceFault => source_fault_line(alloc, name),
-        Stop::Limit(kind, _) => limit_line(alloc, name, kind),
-        Stop::Refused(rule, line) => refusal_line(alloc, name, rule, line),
+        Stop::TooManyFiles(count) => files_limit_line(alloc, count),
+        Stop::SourceFault(file) => source_fault_line(alloc, &name_of(alloc, names, file)?),
+        Stop::Limit(file, kind, _) => limit_line(alloc, &name_of(alloc, names, file)?, kind),
+        Stop::Refused(refusal) => {
+            refusal_line(alloc, &name_of(alloc, names, refusal.file)?, refusal)
+        }
         Stop::NoMemory => Err(NoMemory),
     }
 }
 
-/// Writes the line that tells why a file has no report, or that memory ran out, and gives the status
-/// that the line tells of.
+/// Writes the line that tells why the files have no report, or that memory ran out, and gives the status that
+/// the line tells of.
 pub fn write_stop<W: Sink>(
     alloc: Global,
     sink: &mut W,
-    name: &Name,
+    names: &[Name],
     stop: Stop,
 ) -> Result<Status, SinkFault>
-    ensures { Writes (IsStopText name.now stop) (W.taken sink.old) (W.taken sink.new) (W.faults sink.old) (W.faults sink.new) result }
+    ensures { Writes (IsStopText names.now stop) (W.taken sink.old) (W.taken sink.new) (W.faults sink.old) (W.faults sink.new) result }
 {
-    match stop_line(alloc, name, stop) {
+    match stop_line(alloc, names, stop) {
         Ok(line) => write_text(sink, line.as_slice(), status_of(stop)),
         Err(NoMemory) => write_text(sink, no_memory_line(), Status::NoMemory),
     }

@@ -1,39 +1,36 @@
-//! The stages of a run before its functions are verified: the words, the fetch, the tokens, the form.
+//! The stages of a run before its functions are verified: the words, the fetches, the program.
 
-ghost use Rattle.std.specs.Prelude.{◌≡◌, ◌<◌, ◌≤◌, ◌⊎◌, ℕ, List, Option, length, IfOk, IfErr, IfSome, MatchOption, min};
-ghost use Rattle.std.specs.FinMap as map;
-ghost use Rattle.src_tree.specs.Spelling.{IsBadAt, Spells};
-ghost use Rattle.src_tree.specs.Weight.{greatest_weight};
-ghost use Rattle.src_tree.specs.declared.token.Token.{Token};
-ghost use Rattle.prove.specs.Lines.{line_feeds, line_of};
-ghost use Rattle.prove.specs.Outside.{HasFaulted, IsLongFile};
-ghost use Rattle.prove.specs.ProgramForm.{IsProgramOf};
-ghost use Rattle.prove.specs.Spelling.{IsOfNoForm};
-ghost use Rattle.prove.specs.Stages.{HasTokenList, NamesFile, UnlessSourceFault, FetchStopped, FormStopped, TokensStopped, first_place};
+ghost use Rattle.std.specs.Prelude.{◌≡◌, ◌<◌, ◌≤◌, ℕ, length, IfOk, IfErr, MatchOption};
+ghost use Rattle.std.specs.List.{AllByRecursion};
+ghost use Rattle.program_read.specs.Program.{IsProgramOf};
+ghost use Rattle.prove.specs.Stages.{FetchStopped, HasBytes, HaveBytes, IsFetchStop, NameFiles, ReadStopped, UnlessSourceFault, begins_with_dash, name_files, stop_of};
 
-use crate::form_fault::FormFault;
-use crate::lines::LineFeeds;
-use crate::outside::{FILE_LIMIT, Fetched, Sources};
-use crate::program;
-use crate::program::Program;
-use crate::status::{LimitKind, Rule};
+use outside::outside::{FILE_LIMIT, Fetched, Sources};
+use program_read::fault::{FileFault, ProgramFault};
+use program_read::program::read_program;
 use pv_base::lists::{Bytes, Words};
 use pv_base::memory::NoMemory;
 use pv_base::name::Name;
-use src_tree::scanner::tokens;
-use src_tree::token::{TokenFault, Tokens};
-use src_tree::weight::{WEIGHT_LIMIT, weight};
-use std::alloc::Global;
+use report::lines::LineFeeds;
+use report::status::{LimitKind, Refusal, Rule};
+use src_tree::weight::WEIGHT_LIMIT;
+use std::alloc::{AllocFailed, Global};
+use sum_tree::function::SumModule;
 
-/// Why a file has no report.
+/// The most files that a run may have.
+pub const FILES_LIMIT: usize = 64;
+
+/// Why a run has no report.
 #[derive(Clone, Copy, Debug, PartialEq, Eq)]
 pub enum Stop {
-    /// The file could not be fetched.
-    SourceFault,
-    /// It passes a limit, with the count at which that was seen.
-    Limit(LimitKind, u64),
-    /// It breaks a rule on this line, counted from 1.
-    Refused(Rule, u32),
+    /// There are more than 64 files: this many.
+    TooManyFiles(u64),
+    /// The file of this number could not be fetched.
+    SourceFault(u32),
+    /// The file of this number passes a limit, with the count at which that was seen.
+    Limit(u32, LimitKind, u64),
+    /// A file breaks a rule.
+    Refused(Refusal),
     /// Memory ran out.
     NoMemory,
 }
@@ -48,88 +45,126 @@ impl From<NoMemory> for Stop {
     }
 }
 
-/// The name of the file that the words name: there is one word, and it does not begin with `-`.
-pub fn file_name(words: &Words) -> Option<&Name>
-    ensures { MatchOption result ((name : List ℕ) → ¬ NamesFile words.now name) (λ name. NamesFile words.now name.now) }
-{
-    match words.as_slice() {
-        [name] => match name.as_slice() {
-            [b'-', ..] => None,
-            _ => Some(name),
-        },
-        _ => None,
+impl<T: Drop> From<AllocFailed<T>> for Stop {
+    ghost use Rattle.prove.specs.declared.stages.Stop.{Stop};
+
+    ghost from_gives = { λ _ stop. stop ≡ Stop.NoMemory };
+
+    fn from(_error: AllocFailed<T>) -> Stop {
+        Stop::NoMemory
     }
 }
 
-/// The bytes of the file of this name.
-pub fn fetch<S: Sources>(alloc: Global, name: &Name, sources: &mut S) -> Result<Bytes, Stop>
+/// Whether a word is an option.
+fn begins_with_dash(word: &Name) -> bool
+    ensures { result ≡ begins_with_dash word.now }
+{
+    match word.as_slice() {
+        [b'-', ..] => true,
+        _ => false,
+    }
+}
+
+/// Whether no word is an option.
+fn are_names(words: &[Name]) -> bool
+    ensures { result ≡ name_files words.now }
+{
+    words.iter().all(|word| !begins_with_dash(word))
+}
+
+/// The names of the files that the words are, unless one of them is an option.
+pub fn file_names(words: &Words) -> Option<&[Name]>
+    ensures { MatchOption result (¬ NameFiles words.now) (λ names. (names.now ≡ words.now) × NameFiles words.now) }
+{
+    let names = words.as_slice();
+    if are_names(names) { Some(names) } else { None }
+}
+
+/// The bytes of the file of this name and this number.
+fn fetch<S: Sources>(
+    alloc: Global,
+    number: u32,
+    name: &Name,
+    sources: &mut S,
+) -> Result<Bytes, Stop>
     ensures same_files { S.holds sources.new ≡ S.holds sources.old }
-    ensures bytes { IfOk result (λ bytes. IfSome (S.holds sources.old) (λ files. map.get files name.now ≡ Some bytes)) }
-    ensures within { IfOk result (λ bytes. length bytes ≤ FILE_LIMIT) }
+    ensures bytes { IfOk result (HasBytes (S.holds sources.old) name.now) }
     ensures no_fault { UnlessSourceFault result (S.faults sources.new ≡ S.faults sources.old) }
-    ensures stopped { IfErr result (FetchStopped (S.holds sources.old) name.now FILE_LIMIT (S.faults sources.old) (S.faults sources.new)) }
+    ensures stopped { IfErr result (IsFetchStop (S.holds sources.old) number name.now (S.faults sources.old) (S.faults sources.new)) }
 {
     let mut bytes = Bytes::new(alloc);
     match sources.fetch(name, &mut bytes) {
         Fetched::Whole => Ok(bytes),
-        Fetched::Failed => Err(Stop::SourceFault),
-        Fetched::TooLong => Err(Stop::Limit(LimitKind::Bytes, FILE_LIMIT as u64 + 1)),
+        Fetched::Failed => Err(Stop::SourceFault(number)),
+        Fetched::TooLong => Err(Stop::Limit(number, LimitKind::Bytes, FILE_LIMIT as u64 + 1)),
         Fetched::NoMemory => Err(Stop::NoMemory),
     }
 }
 
-/// The tokens of a file, whose brackets and signs nest within their limit.
-pub fn read_tokens(alloc: Global, bytes: &[u8], feeds: &LineFeeds) -> Result<Tokens, Stop>
-    requires short { length bytes.now ≤ FILE_LIMIT }
-    requires feeds { feeds.now ≡ line_feeds bytes.now }
-    ensures ok { IfOk result (HasTokenList bytes.now) }
-    ensures stopped { IfErr result (TokensStopped bytes.now) }
-{
-    let found = match tokens(alloc, 0, bytes) {
-        Ok(found) => found,
-        Err(TokenFault::BadToken(place)) => {
-            return Err(Stop::Refused(Rule::BadToken, feeds.line(place)));
-        }
-        Err(TokenFault::TooMany(count)) => {
-            return Err(Stop::Limit(LimitKind::Tokens, u64::from(count)));
-        }
-        Err(TokenFault::NoMemory) => return Err(Stop::NoMemory),
-    };
-    if weight(&found) >= WEIGHT_LIMIT {
-        return Err(Stop::Limit(LimitKind::Nesting, u64::from(WEIGHT_LIMIT)));
-    }
-    Ok(found)
-}
-
-/// Where the first token of a file begins, and 0 where there is none.
-fn first_place(found: &Tokens) -> u32
-    ensures { result ≡ first_place found.now }
-{
-    match found.as_slice() {
-        [first, ..] => first.span.start,
-        [] => 0,
-    }
-}
-
-/// That a file is of no form that is built: the line is that of its first token.
-pub fn not_built(found: &Tokens, feeds: &LineFeeds) -> Stop
-    ensures { (bytes : List ℕ) → feeds.now ≡ line_feeds bytes → result ≡ Stop.Refused Rule.NotBuilt (line_of bytes (first_place found.now)) }
-{
-    Stop::Refused(Rule::NotBuilt, feeds.line(first_place(found)))
-}
-
-/// The program of a file, or none where the file has no tokens.
-pub fn read_program(
+/// The bytes of the files, in the order of the names.
+pub fn fetch_all<S: Sources>(
     alloc: Global,
-    found: &Tokens,
-    feeds: &LineFeeds,
-) -> Result<Option<Program>, Stop>
-    ensures ok { IfOk result (λ program. IsProgramOf found.now program) }
-    ensures stopped { (bytes : List ℕ) → feeds.now ≡ line_feeds bytes → IfErr result (FormStopped bytes found.now) }
+    names: &[Name],
+    sources: &mut S,
+) -> Result<Vec<Bytes>, Stop>
+    requires { length names.now ≤ FILES_LIMIT }
+    ensures same_files { S.holds sources.new ≡ S.holds sources.old }
+    ensures bytes { IfOk result (λ files. HaveBytes (S.holds sources.old) names.now files.items) }
+    ensures no_fault { UnlessSourceFault result (S.faults sources.new ≡ S.faults sources.old) }
+    ensures stopped { IfErr result (FetchStopped (S.holds sources.old) names.now (S.faults sources.old) (S.faults sources.new)) }
 {
-    match program::read_program(alloc, found) {
+    let mut files = Vec::new(alloc);
+    for (number, name) in names.iter().enumerate() {
+        files.push(fetch(alloc, number as u32, name, sources)?)?;
+    }
+    Ok(files)
+}
+
+/// That a file breaks a rule behind which no marker stands.
+fn refused(rule: Rule, file: u32, line: u32) -> Stop
+    ensures { result ≡ Stop.Refused (record { rule = rule; file = file; line = line; marker = None }) }
+{
+    Stop::Refused(Refusal {
+        rule,
+        file,
+        line,
+        marker: None,
+    })
+}
+
+/// What a fault of a file is called.
+fn stop_of(alloc: Global, files: &[Bytes], file: u32, fault: FileFault) -> Result<Stop, NoMemory>
+    requires placed { file < length files.now }
+    requires short { AllByRecursion (λ bytes. length bytes ≤ FILE_LIMIT) files.now }
+    ensures { IfOk result (λ stop. stop ≡ stop_of files.now file fault) }
+{
+    let feeds = LineFeeds::new(alloc, files[file as usize].as_slice())?;
+    Ok(match fault {
+        FileFault::BadToken(place) => refused(Rule::BadToken, file, feeds.line(place)),
+        FileFault::TooManyTokens(count) => Stop::Limit(file, LimitKind::Tokens, u64::from(count)),
+        FileFault::NestsTooDeep => Stop::Limit(file, LimitKind::Nesting, u64::from(WEIGHT_LIMIT)),
+        FileFault::Grammar(place) => refused(Rule::Grammar, file, feeds.line(place)),
+        FileFault::LeftOut(marker, place) => Stop::Refused(Refusal {
+            rule: Rule::LeftOut,
+            file,
+            line: feeds.line(place),
+            marker: Some(marker),
+        }),
+        FileFault::TooManyLocals(count) => Stop::Limit(file, LimitKind::Locals, count as u64),
+        FileFault::NotBuilt(place) => refused(Rule::NotBuilt, file, feeds.line(place)),
+    })
+}
+
+/// The program of the files.
+pub fn program_of(alloc: Global, files: &[Bytes]) -> Result<Vec<SumModule>, Stop>
+    requires few { length files.now ≤ FILES_LIMIT }
+    requires short { AllByRecursion (λ bytes. length bytes ≤ FILE_LIMIT) files.now }
+    ensures ok { IfOk result (λ program. IsProgramOf files.now program.items) }
+    ensures stopped { IfErr result (ReadStopped files.now) }
+{
+    match read_program(alloc, files) {
         Ok(program) => Ok(program),
-        Err(FormFault::NotBuilt) => Err(not_built(found, feeds)),
-        Err(FormFault::NoMemory) => Err(Stop::NoMemory),
+        Err(ProgramFault::InFile(file, fault)) => Err(stop_of(alloc, files, file, fault)?),
+        Err(ProgramFault::NoMemory) => Err(Stop::NoMemory),
     }
 }

@@ -3,44 +3,45 @@
 ghost use Rattle.std.specs.Prelude.{◌≡◌, ℕ, List, Option, IfOk, IfErr};
 ghost use Rattle.std.specs.List.{list_all};
 ghost use Rattle.prove.specs.Causes.{Causes};
-ghost use Rattle.prove.specs.Outside.{Files};
-ghost use Rattle.prove.specs.ReportText.{is_proved};
-ghost use Rattle.prove.specs.declared.status.Status.{Status};
-ghost use Rattle.prove.specs.Run.{Ends, IsOutput, IsReportText, IsVerified, RunStopped, Writes, report_status};
+ghost use Rattle.outside.specs.Outside.{Files};
+ghost use Rattle.report.specs.ReportText.{is_proved};
+ghost use Rattle.report.specs.declared.status.Status.{Status};
+ghost use Rattle.prove.specs.Run.{Ends, IsOutput, IsReportText, IsVerified, RunStopped, report_status};
+ghost use Rattle.report.specs.Writes.{Writes};
 
-use crate::lines::LineFeeds;
 use crate::outcome::write_stop;
-use crate::outside::{Sink, Sources};
-use crate::report::{FunctionRecord, FunctionVerdict, Report};
-use crate::report_text::report_lines;
-use crate::stages::{Stop, fetch, file_name, read_program, read_tokens};
-use crate::status::{Device, Status};
-use crate::status_text::{no_memory_line, usage_line};
-use crate::verify::verify;
-use crate::writing::{SinkFault, write_all, write_text};
+use crate::stages::{FILES_LIMIT, Stop, fetch_all, file_names, program_of};
+use outside::outside::{Sink, Sources};
+use program_read::program::one_outcome;
 use pv_base::lists::Words;
 use pv_base::memory::NoMemory;
 use pv_base::name::Name;
 use pv_base::steps::Steps;
-use src_tree::scanner::{one_spelling, spelled_or_bad};
+use report::report::{FunctionRecord, FunctionVerdict, Report};
+use report::report_text::report_lines;
+use report::status::{Device, Status};
+use report::status_text::{no_memory_line, usage_line};
+use report::writing::{SinkFault, write_all, write_text};
 use std::alloc::Global;
 use std::sync::ledger::Ledger;
+use verify::verify::verify;
 
-/// The report of the file of this name.
+/// The report of the files of these names.
 fn report_of<S: Sources, L: Ledger>(
     alloc: Global,
-    name: &Name,
+    names: &[Name],
     sources: &mut S,
     steps: &mut Steps<L>,
 ) -> Result<Report, Stop>
-    ensures verified { IfOk result (IsVerified (S.holds sources.old) name.now) }
-    ensures stopped { IfErr result (RunStopped (S.holds sources.old) name.now (S.faults sources.old) (S.faults sources.new)) }
+    ensures verified { IfOk result (IsVerified (S.holds sources.old) names.now) }
+    ensures stopped { IfErr result (RunStopped (S.holds sources.old) names.now (S.faults sources.old) (S.faults sources.new)) }
 {
-    let bytes = fetch(alloc, name, sources)?;
-    let feeds = LineFeeds::new(alloc, bytes.as_slice())?;
-    let found = read_tokens(alloc, bytes.as_slice(), &feeds)?;
-    let program = read_program(alloc, &found, &feeds)?;
-    Ok(verify(alloc, name, &feeds, &program, steps)?)
+    if names.len() > FILES_LIMIT {
+        return Err(Stop::TooManyFiles(names.len() as u64));
+    }
+    let files = fetch_all(alloc, names, sources)?;
+    let program = program_of(alloc, files.as_slice())?;
+    Ok(verify(alloc, names, files.as_slice(), program.as_slice(), steps)?)
 }
 
 /// Whether each function is proved.
@@ -83,10 +84,10 @@ fn run<S: Sources, W: Sink, L: Ledger>(
 ) -> Result<Status, SinkFault>
     ensures { Writes (IsOutput words.now (S.holds sources.old) (S.faults sources.old) (S.faults sources.new)) (W.taken sink.old) (W.taken sink.new) (W.faults sink.old) (W.faults sink.new) result }
 {
-    match file_name(words) {
-        Some(name) => match report_of(alloc, name, sources, steps) {
+    match file_names(words) {
+        Some(names) => match report_of(alloc, names, sources, steps) {
             Ok(report) => write_report(alloc, sink, &report),
-            Err(stop) => write_stop(alloc, sink, name, stop),
+            Err(stop) => write_stop(alloc, sink, names, stop),
         },
         None => write_text(sink, usage_line(), Status::BadWords),
     }
@@ -97,11 +98,10 @@ fn causes_of_ends()
     ensures { (words : List (List ℕ)) (told : Option Files) (counted counted_after : ℕ) (taken taken_after : Option (List ℕ)) (failed failed_after : ℕ) (status : Status)
         → Ends (IsOutput words told counted counted_after) taken taken_after failed failed_after status → Causes words told counted counted_after status }
 {
-    one_spelling();
-    spelled_or_bad();
+    one_outcome();
 }
 
-/// Verifies the file that the words name, and writes the report, or in one line why there is none.
+/// Verifies the files that the words name, and writes the report, or in one line why there is none.
 ///
 /// The words are those of the command line after the program's name. The status says how the run ended,
 /// and what was written goes with it. Where the source tells its files and does not fail, each status comes

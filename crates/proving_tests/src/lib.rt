@@ -6,6 +6,10 @@ mod cert_tests;
 #[cfg(test)]
 mod lin_arith_tests;
 #[cfg(test)]
+mod outside_tests;
+#[cfg(test)]
+mod report_tests;
+#[cfg(test)]
 mod saturation_tests;
 #[cfg(test)]
 mod search_tests;

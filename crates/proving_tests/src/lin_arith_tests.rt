@@ -1,7 +1,6 @@
 //! Systems with answers that were worked out by hand.
 
-use lin_arith::{LinAnswer, LinRow, Rows};
-use lin_arith::solve;
+use lin_arith::{LinAnswer, LinRow, Rows, solve};
 use pv_base::memory::NoMemory;
 use std::alloc::Global;
 use std::test::Fail;

@@ -1,13 +1,13 @@
 //! Branches and rows made by hand, and what becomes of them when they are spoilt.
 
-use saturation::branch::{Branch, Origin};
-use saturation::checker::is_saturated;
-use saturation::system::is_system_of;
 use cert::certificate::Axiom;
 use fol::formula::{Formula, FormulaNode, Term};
 use lin_arith::{LinRow, Rows};
 use pv_base::memory::NoMemory;
 use pv_base::types::{TypeNode, TypeTerm};
+use saturation::branch::{Branch, Origin};
+use saturation::checker::is_saturated;
+use saturation::system::is_system_of;
 use std::alloc::Global;
 use std::test::Fail;
 

@@ -2,13 +2,13 @@
 
 ghost use Rattle.std.specs.Prelude.{◌≡◌, ◌<◌};
 
-use search::answer::Answer;
-use search::prover::prove;
 use fol::formula::{Formula, FormulaNode, Term};
 use fol::shapes::Shapes;
 use pv_base::memory::NoMemory;
 use pv_base::steps::Steps;
 use pv_base::types::{TypeNode, TypeTerm, Width};
+use search::answer::Answer;
+use search::prover::prove;
 use std::alloc::Global;
 use std::marker::Brand;
 use std::sync::ledger::{Blank, Ledger};

@@ -1,17 +1,15 @@
--- Bodies whose atoms are u64 values: what a run of a body rests on.
+-- Bodies of u64 values: what a run of a body rests on.
 use Rattle.std.specs.Prelude.{◌≡◌, ℕ, ◌^◌, ◌<◌, true, List}
-use Rattle.std.specs.List.{list_any, AllByRecursion}
-use Rattle.ref_sem.specs.declared.form.Atom.{Atom}
-use Rattle.ref_sem.specs.declared.form.Atom.TheVariants.{Number, Word}
-use Rattle.ref_sem.specs.MemberData.{FunctionData}
-use Rattle.ref_sem.specs.Semantics.{same_name}
+use Rattle.std.specs.List.{list_any}
+use Rattle.token_reading.specs.TokenReading.{same_name}
+use Rattle.sum_tree.specs.SumData.{SumData, NumberSum, WordSum, JoinedSum}
+use Rattle.sum_tree.specs.FunctionData.{FunctionData}
 
--- a u64, or one of these parameters
-abbrev pub IsU64Atom : List (List ℕ) → Atom → Type 0
-IsU64Atom parameters (Number n) = n < 2 ^ 64
-IsU64Atom parameters (Word word) = list_any (same_name word) parameters ≡ true
+-- each number of the sum is a u64, and each name is one of these parameters
+abbrev pub IsU64Sum : List (List ℕ) → SumData → Type 0
+IsU64Sum parameters (NumberSum n) = n < 2 ^ 64
+IsU64Sum parameters (WordSum word) = list_any (same_name word) parameters ≡ true
+IsU64Sum parameters (JoinedSum left operator right) = IsU64Sum parameters left × IsU64Sum parameters right
 
--- each atom of the body is a u64 or a parameter
-pub record HasU64Body (f : FunctionData) : Type 0 where
-  pub first : IsU64Atom f.parameters f.body.first
-  pub rest : AllByRecursion (λ o. IsU64Atom f.parameters o.atom) f.body.rest
+abbrev pub HasU64Body : FunctionData → Type 0
+HasU64Body f = IsU64Sum f.parameters f.body

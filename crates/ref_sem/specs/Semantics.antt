@@ -2,28 +2,22 @@
 -- Source: The Move Book, integers (arithmetic aborts where u64 can't hold the result; operands are evaluated from
 -- left to right), and the Move Specification Language reference (numbers in specs are unbounded whole numbers; the
 -- meaning of `requires`, `ensures` and `aborts_if`).
-use Rattle.std.specs.Prelude.{◌≡◌, ℕ, ◌+◌, ◌-◌, ◌^◌, ◌<◌, Bool, ℤ, pos, ◌+ℤ◌, ◌-ℤ◌, ◌≤ℤ◌, ◌<ℤ◌, nat_lt, nat_eq, if◌then◌else◌, List, [], ◌∷◌, ◌⊎◌, Option, Some, None, option_and_then, codes}
-use Rattle.std.specs.List.{flat_map, list_any}
-use Rattle.std.specs.Cmp.Lexicographic.{pointwise}
+use Rattle.std.specs.Prelude.{◌≡◌, ℕ, ◌+◌, ◌-◌, ◌^◌, ◌<◌, Bool, ℤ, pos, ◌+ℤ◌, ◌-ℤ◌, ◌≤ℤ◌, ◌<ℤ◌, nat_lt, if◌then◌else◌, List, [], ◌∷◌, ◌⊎◌, Option, Some, None, option_and_then, codes}
+use Rattle.std.specs.List.{list_any}
 use Rattle.fol.specs.Val.{Val}
 use Rattle.fol.specs.Validity.{AnswersRight}
-use Rattle.ref_sem.specs.declared.form.Atom.{Atom}
-use Rattle.ref_sem.specs.declared.form.Atom.TheVariants.{Number, Word}
-use Rattle.ref_sem.specs.declared.form.Operator.{Operator}
-use Rattle.ref_sem.specs.declared.form.Operator.TheVariants.{Plus, Minus}
-use Rattle.ref_sem.specs.declared.form.Operand.{Operand}
-use Rattle.ref_sem.specs.declared.form.Comparison.{Comparison}
-use Rattle.ref_sem.specs.declared.form.Comparison.TheVariants.{Equal, Less, Greater, LessEqual, GreaterEqual}
-use Rattle.ref_sem.specs.declared.form.Condition.{Condition}
-use Rattle.ref_sem.specs.declared.form.Condition.TheVariants.{True, False, Compares}
-use Rattle.ref_sem.specs.declared.form.ClauseKind.{ClauseKind}
-use Rattle.ref_sem.specs.declared.form.ClauseKind.TheVariants.{Requires, Ensures, AbortsIf}
-use Rattle.ref_sem.specs.declared.form.Clause.{Clause}
-use Rattle.ref_sem.specs.declared.form.Member.{Member}
-use Rattle.ref_sem.specs.declared.form.Member.TheVariants.{Function, Spec}
-use Rattle.ref_sem.specs.FormData.{SumData}
-use Rattle.ref_sem.specs.MemberData.{FunctionData}
-use Rattle.ref_sem.specs.ModuleData.{ModuleData}
+use Rattle.token_reading.specs.TokenReading.{same_name}
+use Rattle.sum_tree.specs.declared.sum.Operator.{Operator}
+use Rattle.sum_tree.specs.declared.sum.Operator.TheVariants.{Plus, Minus}
+use Rattle.sum_tree.specs.SumData.{SumData, NumberSum, WordSum, JoinedSum}
+use Rattle.sum_tree.specs.declared.clause.Comparison.{Comparison}
+use Rattle.sum_tree.specs.declared.clause.Comparison.TheVariants.{Equal, Less, Greater, LessEqual, GreaterEqual}
+use Rattle.sum_tree.specs.declared.clause.Condition.{Condition}
+use Rattle.sum_tree.specs.declared.clause.Condition.TheVariants.{True, False, Compares}
+use Rattle.sum_tree.specs.declared.clause.ClauseKind.{ClauseKind}
+use Rattle.sum_tree.specs.declared.clause.ClauseKind.TheVariants.{Requires, Ensures, AbortsIf}
+use Rattle.sum_tree.specs.declared.clause.Clause.{Clause}
+use Rattle.sum_tree.specs.FunctionData.{FunctionData}
 
 -- ---- runs
 
@@ -35,23 +29,17 @@ Arguments = List ℕ → ℕ
 abbrev pub AreU64 : Arguments → Type 0
 AreU64 arguments = (name : List ℕ) → arguments name < 2 ^ 64
 
-abbrev pub atom_value : Arguments → Atom → ℕ
-atom_value arguments (Number n) = n
-atom_value arguments (Word name) = arguments name
-
 -- a result in u64, and else an abort
 abbrev pub operator_result : Operator → ℕ → ℕ → Option ℕ
 operator_result Plus a b = if nat_lt (a + b) (2 ^ 64) then Some (a + b) else None
 operator_result Minus a b = if nat_lt a b then None else Some (a - b)
 
--- the operands that are left run from the value so far on
-abbrev pub run_operands : Arguments → ℕ → List Operand → Option ℕ
-run_operands arguments value [] = Some value
-run_operands arguments value (o ∷ os) = option_and_then (λ next. run_operands arguments next os) (operator_result o.operator value (atom_value arguments o.atom))
-
--- a run of a sum: what it returns, or None where it aborts
+-- A run of a sum: what it returns, or None where it aborts. The left side is run before the right one.
 abbrev pub run_sum : Arguments → SumData → Option ℕ
-run_sum arguments sum = run_operands arguments (atom_value arguments sum.first) sum.rest
+run_sum arguments (NumberSum n) = Some n
+run_sum arguments (WordSum name) = Some (arguments name)
+run_sum arguments (JoinedSum left operator right) =
+    option_and_then (λ a. option_and_then (λ b. operator_result operator a b) (run_sum arguments right)) (run_sum arguments left)
 
 -- ---- truth of clauses
 
@@ -59,20 +47,14 @@ run_sum arguments sum = run_operands arguments (atom_value arguments sum.first) 
 abbrev pub Names : Type 0
 Names = List ℕ → ℤ
 
-abbrev pub atom_number : Names → Atom → ℤ
-atom_number names (Number n) = pos n
-atom_number names (Word name) = names name
-
 abbrev pub operator_number : Operator → ℤ → ℤ → ℤ
 operator_number Plus a b = a +ℤ b
 operator_number Minus a b = a -ℤ b
 
-abbrev pub operands_number : Names → ℤ → List Operand → ℤ
-operands_number names value [] = value
-operands_number names value (o ∷ os) = operands_number names (operator_number o.operator value (atom_number names o.atom)) os
-
 abbrev pub sum_number : Names → SumData → ℤ
-sum_number names sum = operands_number names (atom_number names sum.first) sum.rest
+sum_number names (NumberSum n) = pos n
+sum_number names (WordSum name) = names name
+sum_number names (JoinedSum left operator right) = operator_number operator (sum_number names left) (sum_number names right)
 
 abbrev pub ComparesBy : Comparison → ℤ → ℤ → Type 0
 ComparesBy Equal a b = a ≡ b
@@ -86,9 +68,6 @@ Holds names True = Unit {0}
 Holds names False = ⊥
 Holds names (Compares left comparison right) = ComparesBy comparison (sum_number names left) (sum_number names right)
 
-abbrev pub same_name : List ℕ → List ℕ → Bool
-same_name = pointwise nat_eq
-
 -- A parameter's name means its value. Where no parameter has the name, `MAX_U64` and `result` mean what they say.
 abbrev pub names_of : FunctionData → Arguments → ℕ → Names
 names_of f arguments result name =
@@ -97,14 +76,6 @@ names_of f arguments result name =
     else (if same_name name (codes "result") then pos result else pos 0))
 
 -- ---- contracts
-
--- the clauses of the spec blocks of a function, in their order
-abbrev pub clauses_of_member : List ℕ → Member → List Clause
-clauses_of_member name (Function f) = []
-clauses_of_member name (Spec s) = if same_name s.target name then s.clauses else []
-
-abbrev pub clauses_of : ModuleData → FunctionData → List Clause
-clauses_of m f = flat_map (clauses_of_member f.name) m.members
 
 -- each clause of the kind holds
 abbrev pub AllHold : ClauseKind → Names → List Clause → Type 0

@@ -1,4 +1,2 @@
 //! Reference semantics: what functions and the clauses of their specs mean.
 #![tactic(auto)]
-
-pub mod form;

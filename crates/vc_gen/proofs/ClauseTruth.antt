@@ -7,14 +7,14 @@ use Rattle.fol.specs.FormulaData.{TermData, FormulaData, formulas_of}
 use Rattle.fol.specs.Val.{Val, NumberValue, same_value, same_value-equal, same_value_itself}
 use Rattle.fol.specs.Operators.{number_of, at_most}
 use Rattle.fol.specs.Truth.{Interpretation, Assignment, value_of, truth_of, all_true, any_true}
-use Rattle.ref_sem.specs.declared.form.Comparison.{Comparison}
-use Rattle.ref_sem.specs.declared.form.Comparison.TheVariants.{Equal, Less, Greater, LessEqual, GreaterEqual}
-use Rattle.ref_sem.specs.declared.form.Condition.{Condition}
-use Rattle.ref_sem.specs.declared.form.Condition.TheVariants.{True, False, Compares}
-use Rattle.ref_sem.specs.declared.form.ClauseKind.{ClauseKind}
-use Rattle.ref_sem.specs.declared.form.ClauseKind.TheVariants.{Requires, Ensures, AbortsIf}
-use Rattle.ref_sem.specs.declared.form.Clause.{Clause}
-use Rattle.ref_sem.specs.MemberData.{FunctionData}
+use Rattle.sum_tree.specs.declared.clause.Comparison.{Comparison}
+use Rattle.sum_tree.specs.declared.clause.Comparison.TheVariants.{Equal, Less, Greater, LessEqual, GreaterEqual}
+use Rattle.sum_tree.specs.declared.clause.Condition.{Condition}
+use Rattle.sum_tree.specs.declared.clause.Condition.TheVariants.{True, False, Compares}
+use Rattle.sum_tree.specs.declared.clause.ClauseKind.{ClauseKind}
+use Rattle.sum_tree.specs.declared.clause.ClauseKind.TheVariants.{Requires, Ensures, AbortsIf}
+use Rattle.sum_tree.specs.declared.clause.Clause.{Clause}
+use Rattle.sum_tree.specs.FunctionData.{FunctionData}
 use Rattle.ref_sem.specs.Semantics.{Arguments, Names, names_of, sum_number, ComparesBy, Holds, AllHold, SomeHolds, HasKind}
 use Rattle.vc_gen.specs.Translation.{sum_term, comparison_formula, condition_formula}
 use Rattle.vc_gen.specs.Conditions.{is_kind, formula_if, has_kind, condition_if}

@@ -12,13 +12,14 @@ use Rattle.fol.specs.Val.{Val, NumberValue, TruthValue, NothingValue, VectorValu
 use Rattle.fol.specs.TypedValue.{has_type}
 use Rattle.fol.specs.Truth.{Interpretation, Assignment, value_of, truth_of, all_true, any_true}
 use Rattle.fol.specs.Validity.{Reads, Valid}
-use Rattle.ref_sem.specs.declared.form.ClauseKind.{ClauseKind}
-use Rattle.ref_sem.specs.declared.form.ClauseKind.TheVariants.{Requires, Ensures, AbortsIf}
-use Rattle.ref_sem.specs.declared.form.Clause.{Clause}
-use Rattle.ref_sem.specs.MemberData.{FunctionData}
-use Rattle.ref_sem.specs.Semantics.{Arguments, Names, AreU64, same_name, names_of, Holds, AllHold, SomeHolds, HasKind, MeetsClauses, Keeps, run_sum}
+use Rattle.sum_tree.specs.declared.clause.ClauseKind.{ClauseKind}
+use Rattle.sum_tree.specs.declared.clause.ClauseKind.TheVariants.{Requires, Ensures, AbortsIf}
+use Rattle.sum_tree.specs.declared.clause.Clause.{Clause}
+use Rattle.sum_tree.specs.FunctionData.{FunctionData}
+use Rattle.token_reading.specs.TokenReading.{same_name}
+use Rattle.ref_sem.specs.Semantics.{Arguments, Names, AreU64, names_of, Holds, AllHold, SomeHolds, HasKind, MeetsClauses, Keeps, run_sum}
 use Rattle.vc_gen.specs.declared.condition.VerificationCondition.{VerificationCondition}
-use Rattle.vc_gen.specs.Translation.{zero_term, term_at, word_term, atom_term}
+use Rattle.vc_gen.specs.Translation.{zero_term, term_at, word_term}
 use Rattle.ref_sem.specs.Bodies.{HasU64Body}
 use Rattle.vc_gen.specs.Conditions.{argument_formula, arguments_formula, entry_formulas, requires_formula, returns_formula, returned_term, range_formulas, at_return, at_abort, ensures_condition, aborts_if_condition, aborts_condition, condition_if, has_kind, conditions_under, conditions_of, AreValid, Decide}
 use Rattle.vc_gen.proofs.Words.{same_name-equal, position_some, name_at_position}
@@ -227,7 +228,7 @@ module _ (f : FunctionData) (clauses : List Clause) where
 
   module _ (body : HasU64Body f) (m : Interpretation) (s : Assignment) (arguments : Arguments) (u64s : AreU64 arguments) (agrees : Agrees m s f.parameters arguments) where
     abbrev bounds : List FormulaData
-    bounds = range_formulas f.parameters (atom_term f.parameters zero_term f.body.first) f.body.rest
+    bounds = range_formulas f.parameters f.body
 
     requires_is : (truth_of m (requires_formula f clauses) s ≡ true) ↔ AllHold Requires (names_of f arguments 0) clauses
     requires_is = all_hold m s f arguments agrees zero_term 0 refl Requires clauses

@@ -1,22 +1,19 @@
 -- The range formulas of a body are true exactly where its run returns, and then the body's term has the value returned.
-use Rattle.std.proofs.Common.{◌≡◌, ℕ, ◌+◌, ◌-◌, ◌^◌, ◌<◌, ℤ, pos, ◌+ℤ◌, ◌-ℤ◌, List, [], ◌∷◌, Option, Some, None, Bool, true, false, ◌&&◌, refl, sym, ap, ◌∙◌, subst, arith, if◌then◌else◌}
+use Rattle.std.proofs.Common.{◌≡◌, ℕ, ◌+◌, ◌-◌, ◌^◌, ◌<◌, ℤ, pos, ◌+ℤ◌, ◌-ℤ◌, List, [], ◌∷◌, ◌++◌, Option, Some, None, Bool, true, false, ◌&&◌, refl, sym, ap, ◌∙◌, subst, arith, if◌then◌else◌}
 use Rattle.std.specs.Prelude.{nat_lt, int_le, option_and_then}
-use Rattle.std.specs.List.{AllByRecursion}
 use Rattle.std.proofs.lemmas.Int.{ints}
 use Rattle.std.proofs.lemmas.Bool.Decides.{nat_tests}
 use Rattle.fol.specs.FormulaData.{TermData, FormulaData, formulas_of}
 use Rattle.fol.specs.Val.{NumberValue}
 use Rattle.fol.specs.Operators.{number_of}
 use Rattle.fol.specs.Truth.{Interpretation, Assignment, value_of, truth_of, all_true}
-use Rattle.ref_sem.specs.declared.form.Atom.{Atom}
-use Rattle.ref_sem.specs.declared.form.Atom.TheVariants.{Number, Word}
-use Rattle.ref_sem.specs.declared.form.Operator.{Operator}
-use Rattle.ref_sem.specs.declared.form.Operator.TheVariants.{Plus, Minus}
-use Rattle.ref_sem.specs.declared.form.Operand.{Operand}
-use Rattle.ref_sem.specs.MemberData.{FunctionData}
-use Rattle.ref_sem.specs.Semantics.{Arguments, AreU64, atom_value, operator_result, run_operands, run_sum}
-use Rattle.vc_gen.specs.Translation.{zero_term, atom_term, operator_term, operands_term}
-use Rattle.ref_sem.specs.Bodies.{IsU64Atom, HasU64Body}
+use Rattle.sum_tree.specs.declared.sum.Operator.{Operator}
+use Rattle.sum_tree.specs.declared.sum.Operator.TheVariants.{Plus, Minus}
+use Rattle.sum_tree.specs.FunctionData.{FunctionData}
+use Rattle.sum_tree.specs.SumData.{SumData, NumberSum, WordSum, JoinedSum}
+use Rattle.ref_sem.specs.Semantics.{Arguments, AreU64, operator_result, run_sum}
+use Rattle.vc_gen.specs.Translation.{zero_term, operator_term, sum_term}
+use Rattle.ref_sem.specs.Bodies.{IsU64Sum, HasU64Body}
 use Rattle.vc_gen.specs.Conditions.{range_formula, range_formulas, returned_term}
 use Rattle.vc_gen.proofs.NumberTruth.{Agrees}
 
@@ -55,47 +52,75 @@ minus_agrees a b h false e = (minus_fits a b e, minus_is a b e, omega arith)
 
 -- ---- a run
 
--- The bounds are all true exactly where the run returns, and then the term has the value that is returned.
+-- The bounds are all true exactly where the run returns, and then the term has the value that is returned, a u64.
 abbrev pub RunAgrees : Interpretation → Assignment → Option ℕ → List FormulaData → TermData → Type 0
-RunAgrees m s (Some r) bounds t = (all_true m (formulas_of bounds) s ≡ true) × (value_of m t s ≡ NumberValue (pos r))
+RunAgrees m s (Some r) bounds t = (all_true m (formulas_of bounds) s ≡ true) × (value_of m t s ≡ NumberValue (pos r)) × (r < 2 ^ 64)
 RunAgrees m s None bounds t = all_true m (formulas_of bounds) s ≡ false
 
-more_bounds : (m : Interpretation) (s : Assignment) (o : Option ℕ) (p : FormulaData) (ps : List FormulaData) (t : TermData) → truth_of m p s ≡ true → RunAgrees m s o ps t → RunAgrees m s o (p ∷ ps) t
-more_bounds m s (Some r) p ps t e h = ((λ i. e i && all_true m (formulas_of ps) s) ∙ h.0, h.1)
-more_bounds m s None p ps t e h = (λ i. e i && all_true m (formulas_of ps) s) ∙ h
+-- the truth of two lists of formulas, one behind the other
+all_behind : (m : Interpretation) (s : Assignment) (ps qs : List FormulaData) → all_true m (formulas_of (ps ++ qs)) s ≡ (all_true m (formulas_of ps) s && all_true m (formulas_of qs) s)
+all_behind m s [] qs = refl
+all_behind m s (p ∷ ps) qs = ap (λ b. truth_of m p s && b) (all_behind m s ps qs) ∙ regroup (truth_of m p s) (all_true m (formulas_of ps) s) (all_true m (formulas_of qs) s)
+  where
+    regroup : (a b c : Bool) → (a && (b && c)) ≡ ((a && b) && c)
+    regroup true b c = refl
+    regroup false b c = refl
+
+first_fails : (a b : Bool) → a ≡ false → (a && b) ≡ false
+first_fails a b e = ap (λ c. c && b) e
+
+second_fails : (a b : Bool) → a ≡ true → b ≡ false → (a && b) ≡ false
+second_fails a b e g = ap (λ c. c && b) e ∙ g
+
+both_true : (a b : Bool) → a ≡ true → b ≡ true → (a && b) ≡ true
+both_true a b e g = ap (λ c. c && b) e ∙ g
 
 module _ (m : Interpretation) (s : Assignment) (f : FunctionData) (arguments : Arguments) (agrees : Agrees m s f.parameters arguments) (u64s : AreU64 arguments) where
-  atom_has_value : (a : Atom) → IsU64Atom f.parameters a → value_of m (atom_term f.parameters zero_term a) s ≡ NumberValue (pos (atom_value arguments a))
-  atom_has_value (Number n) h = refl
-  atom_has_value (Word word) h = agrees.values word h zero_term
-
-  atom_is_u64 : (a : Atom) → IsU64Atom f.parameters a → atom_value arguments a < 2 ^ 64
-  atom_is_u64 (Number n) h = h
-  atom_is_u64 (Word word) h = u64s word
-
   step_agrees : (op : Operator) (t u : TermData) (a b : ℕ) → value_of m t s ≡ NumberValue (pos a) → value_of m u s ≡ NumberValue (pos b) → a < 2 ^ 64 → StepAgrees (operator_result op a b) (truth_of m (range_formula op (operator_term op t u)) s) (number_of (value_of m (operator_term op t u) s))
   step_agrees Plus t u a b e g h =
       subst (λ z. StepAgrees (operator_result Plus a b) (int_le z (pos (2 ^ 64 - 1))) z) (λ i. number_of (sym e i) +ℤ number_of (sym g i)) (plus_agrees a b (nat_lt (a + b) (2 ^ 64)) refl)
   step_agrees Minus t u a b e g h =
       subst (λ z. StepAgrees (operator_result Minus a b) (int_le (pos 0) z) z) (λ i. number_of (sym e i) -ℤ number_of (sym g i)) (minus_agrees a b h (nat_lt a b) refl)
 
-  -- one more operand, whose result and bound agree
-  more_run : (result : Option ℕ) (bound : Bool) (z : ℤ) (p : FormulaData) (t : TermData) (os : List Operand) (rest : (r : ℕ) → value_of m t s ≡ NumberValue (pos r) → r < 2 ^ 64 → RunAgrees m s (run_operands arguments r os) (range_formulas f.parameters t os) (operands_term f.parameters zero_term t os)) → truth_of m p s ≡ bound → value_of m t s ≡ NumberValue z → StepAgrees result bound z → RunAgrees m s (option_and_then (λ next. run_operands arguments next os) result) (p ∷ range_formulas f.parameters t os) (operands_term f.parameters zero_term t os)
-  more_run (Some r) bound z p t os rest e g h =
-      more_bounds m s (run_operands arguments r os) p (range_formulas f.parameters t os) (operands_term f.parameters zero_term t os) (e ∙ h.0) (rest r (g ∙ ap NumberValue h.1) h.2)
-  more_run None bound z p t os rest e g h = (λ i. (e ∙ h) i && all_true m (formulas_of (range_formulas f.parameters t os)) s)
-
   operator_number_value : (op : Operator) (t u : TermData) → value_of m (operator_term op t u) s ≡ NumberValue (number_of (value_of m (operator_term op t u) s))
   operator_number_value Plus t u = refl
   operator_number_value Minus t u = refl
 
-  operands_agree : (os : List Operand) → AllByRecursion (λ o. IsU64Atom f.parameters o.atom) os → (t : TermData) (v : ℕ) → value_of m t s ≡ NumberValue (pos v) → v < 2 ^ 64 → RunAgrees m s (run_operands arguments v os) (range_formulas f.parameters t os) (operands_term f.parameters zero_term t os)
-  operands_agree [] h t v e l = (refl, e)
-  operands_agree (o ∷ os) h t v e l =
-      let u = atom_term f.parameters zero_term o.atom in
-      let next = operator_term o.operator t u in
-      more_run (operator_result o.operator v (atom_value arguments o.atom)) (truth_of m (range_formula o.operator next) s) (number_of (value_of m next s)) (range_formula o.operator next) next os (operands_agree os h.1 next) refl (operator_number_value o.operator t u) (step_agrees o.operator t u v (atom_value arguments o.atom) e (atom_has_value o.atom h.0) l)
+  abbrev bounds_of : SumData → List FormulaData
+  bounds_of sum = range_formulas f.parameters sum
 
-  pub run_agrees : HasU64Body f → RunAgrees m s (run_sum arguments f.body) (range_formulas f.parameters (atom_term f.parameters zero_term f.body.first) f.body.rest) (returned_term f)
-  run_agrees h =
-      operands_agree f.body.rest h.rest (atom_term f.parameters zero_term f.body.first) (atom_value arguments f.body.first) (atom_has_value f.body.first h.first) (atom_is_u64 f.body.first h.first)
+  abbrev term_of : SumData → TermData
+  term_of sum = sum_term f.parameters zero_term sum
+
+  abbrev last_bound : Operator → SumData → SumData → FormulaData
+  last_bound op left right = range_formula op (operator_term op (term_of left) (term_of right))
+
+  -- the bound of the operator alone is left
+  last_step : (result : Option ℕ) (bound : Bool) (z : ℤ) (t : TermData) → value_of m t s ≡ NumberValue z → StepAgrees result bound z → (ls : List FormulaData) (rs : List FormulaData) (p : FormulaData) → truth_of m p s ≡ bound → all_true m (formulas_of ls) s ≡ true → all_true m (formulas_of rs) s ≡ true
+      → RunAgrees m s result (ls ++ (rs ++ p ∷ [])) t
+  last_step (Some r) bound z t e h ls rs p g lt rt = (
+    all_behind m s ls (rs ++ p ∷ []) ∙ both_true _ _ lt (all_behind m s rs (p ∷ []) ∙ both_true _ _ rt (both_true (truth_of m p s) true (g ∙ h.0) refl)),
+    e ∙ ap NumberValue h.1,
+    h.2,
+  )
+  last_step None bound z t e h ls rs p g lt rt =
+      all_behind m s ls (rs ++ p ∷ []) ∙ second_fails _ _ lt (all_behind m s rs (p ∷ []) ∙ second_fails _ _ rt (first_fails (truth_of m p s) true (g ∙ h)))
+
+  -- where both sides return, the operator decides
+  joined_agrees : (op : Operator) (left right : SumData) (x y : Option ℕ) → RunAgrees m s x (bounds_of left) (term_of left) → RunAgrees m s y (bounds_of right) (term_of right)
+      → RunAgrees m s (option_and_then (λ a. option_and_then (λ b. operator_result op a b) y) x) (bounds_of left ++ (bounds_of right ++ last_bound op left right ∷ [])) (operator_term op (term_of left) (term_of right))
+  joined_agrees op left right None y h k = all_behind m s (bounds_of left) (bounds_of right ++ last_bound op left right ∷ []) ∙ first_fails _ _ h
+  joined_agrees op left right (Some a) None h k =
+      all_behind m s (bounds_of left) (bounds_of right ++ last_bound op left right ∷ []) ∙ second_fails _ _ h.0 (all_behind m s (bounds_of right) (last_bound op left right ∷ []) ∙ first_fails _ _ k)
+  joined_agrees op left right (Some a) (Some b) h k =
+      let t = operator_term op (term_of left) (term_of right) in
+      last_step (operator_result op a b) (truth_of m (last_bound op left right) s) (number_of (value_of m t s)) t (operator_number_value op (term_of left) (term_of right))
+      (step_agrees op (term_of left) (term_of right) a b h.1 k.1 h.2) (bounds_of left) (bounds_of right) (last_bound op left right) refl h.0 k.0
+
+  sum_agrees : (sum : SumData) → IsU64Sum f.parameters sum → RunAgrees m s (run_sum arguments sum) (bounds_of sum) (term_of sum)
+  sum_agrees (NumberSum n) h = (refl, refl, h)
+  sum_agrees (WordSum word) h = (refl, agrees.values word h zero_term, u64s word)
+  sum_agrees (JoinedSum left operator right) h = joined_agrees operator left right (run_sum arguments left) (run_sum arguments right) (sum_agrees left h.0) (sum_agrees right h.1)
+
+  pub run_agrees : HasU64Body f → RunAgrees m s (run_sum arguments f.body) (range_formulas f.parameters f.body) (returned_term f)
+  run_agrees h = sum_agrees f.body h

@@ -8,17 +8,17 @@ use Rattle.pv_base.specs.declared.types.Width.TheVariants.{U64}
 use Rattle.fol.specs.declared.shapes.Shape.{Shape}
 use Rattle.fol.specs.FormulaData.{TermData, FormulaData, LeFormula, IsFormula, NotFormula, AllOfFormula, AnyOfFormula, ImpliesFormula, NoFormulas, MoreFormulas, formulas_of}
 use Rattle.fol.specs.Validity.{Valid}
-use Rattle.ref_sem.specs.declared.form.Operator.{Operator}
-use Rattle.ref_sem.specs.declared.form.Operator.TheVariants.{Plus, Minus}
-use Rattle.ref_sem.specs.declared.form.Operand.{Operand}
-use Rattle.ref_sem.specs.declared.form.ClauseKind.{ClauseKind}
-use Rattle.ref_sem.specs.declared.form.ClauseKind.TheVariants.{Requires, Ensures, AbortsIf}
-use Rattle.ref_sem.specs.declared.form.Clause.{Clause}
-use Rattle.ref_sem.specs.MemberData.{FunctionData}
+use Rattle.sum_tree.specs.declared.sum.Operator.{Operator}
+use Rattle.sum_tree.specs.declared.sum.Operator.TheVariants.{Plus, Minus}
+use Rattle.sum_tree.specs.declared.clause.ClauseKind.{ClauseKind}
+use Rattle.sum_tree.specs.declared.clause.ClauseKind.TheVariants.{Requires, Ensures, AbortsIf}
+use Rattle.sum_tree.specs.declared.clause.Clause.{Clause}
+use Rattle.sum_tree.specs.SumData.{SumData, NumberSum, WordSum, JoinedSum}
+use Rattle.sum_tree.specs.FunctionData.{FunctionData}
 use Rattle.ref_sem.specs.Semantics.{Keeps}
 use Rattle.vc_gen.specs.declared.condition.ConditionKind.TheVariants.{Ensures as of_ensures, AbortsIf as of_aborts_if, Aborts as of_aborts}
 use Rattle.vc_gen.specs.declared.condition.VerificationCondition.{VerificationCondition}
-use Rattle.vc_gen.specs.Translation.{zero_term, greatest_term, word_term, atom_term, operator_term, sum_term, condition_formula}
+use Rattle.vc_gen.specs.Translation.{zero_term, greatest_term, word_term, operator_term, sum_term, condition_formula}
 
 -- ---- what is supposed
 
@@ -52,16 +52,17 @@ abbrev pub range_formula : Operator → TermData → FormulaData
 range_formula Plus t = LeFormula t greatest_term
 range_formula Minus t = LeFormula zero_term t
 
--- each value on the way from the term through the operands is a u64
-abbrev pub range_formulas : List (List ℕ) → TermData → List Operand → List FormulaData
-range_formulas parameters t [] = []
-range_formulas parameters t (o ∷ os) =
-    range_formula o.operator (operator_term o.operator t (atom_term parameters zero_term o.atom))
-    ∷ range_formulas parameters (operator_term o.operator t (atom_term parameters zero_term o.atom)) os
+-- each value on the way to that of the sum is a u64
+abbrev pub range_formulas : List (List ℕ) → SumData → List FormulaData
+range_formulas parameters (NumberSum n) = []
+range_formulas parameters (WordSum word) = []
+range_formulas parameters (JoinedSum left operator right) =
+    range_formulas parameters left ++ (range_formulas parameters right
+    ++ range_formula operator (operator_term operator (sum_term parameters zero_term left) (sum_term parameters zero_term right)) ∷ [])
 
 -- the body's run returns
 abbrev pub returns_formula : FunctionData → FormulaData
-returns_formula f = AllOfFormula (formulas_of (range_formulas f.parameters (atom_term f.parameters zero_term f.body.first) f.body.rest))
+returns_formula f = AllOfFormula (formulas_of (range_formulas f.parameters f.body))
 
 -- what it returns
 abbrev pub returned_term : FunctionData → TermData

@@ -1,19 +1,16 @@
 -- The terms and formulas that sums and the conditions of clauses stand for. The parameters of a function are variables,
 -- numbered in their order.
-use Rattle.std.specs.Prelude.{ℕ, ◌-◌, ◌^◌, pos, List, [], ◌∷◌, Option, Some, None, codes, if◌then◌else◌}
+use Rattle.std.specs.Prelude.{ℕ, ◌-◌, ◌^◌, pos, List, Option, Some, None, codes, if◌then◌else◌}
 use Rattle.std.specs.List.{position}
 use Rattle.fol.specs.FormulaData.{TermData, VarTerm, NumTerm, AddTerm, SubTerm, FormulaData, EqFormula, LeFormula, NotFormula, AllOfFormula, AnyOfFormula, NoFormulas}
-use Rattle.ref_sem.specs.declared.form.Atom.{Atom}
-use Rattle.ref_sem.specs.declared.form.Atom.TheVariants.{Number, Word}
-use Rattle.ref_sem.specs.declared.form.Operator.{Operator}
-use Rattle.ref_sem.specs.declared.form.Operator.TheVariants.{Plus, Minus}
-use Rattle.ref_sem.specs.declared.form.Operand.{Operand}
-use Rattle.ref_sem.specs.declared.form.Comparison.{Comparison}
-use Rattle.ref_sem.specs.declared.form.Comparison.TheVariants.{Equal, Less, Greater, LessEqual, GreaterEqual}
-use Rattle.ref_sem.specs.declared.form.Condition.{Condition}
-use Rattle.ref_sem.specs.declared.form.Condition.TheVariants.{True, False, Compares}
-use Rattle.ref_sem.specs.FormData.{SumData}
-use Rattle.ref_sem.specs.Semantics.{same_name}
+use Rattle.sum_tree.specs.declared.sum.Operator.{Operator}
+use Rattle.sum_tree.specs.declared.sum.Operator.TheVariants.{Plus, Minus}
+use Rattle.sum_tree.specs.declared.clause.Comparison.{Comparison}
+use Rattle.sum_tree.specs.declared.clause.Comparison.TheVariants.{Equal, Less, Greater, LessEqual, GreaterEqual}
+use Rattle.sum_tree.specs.declared.clause.Condition.{Condition}
+use Rattle.sum_tree.specs.declared.clause.Condition.TheVariants.{True, False, Compares}
+use Rattle.sum_tree.specs.SumData.{SumData, NumberSum, WordSum, JoinedSum}
+use Rattle.token_reading.specs.TokenReading.{same_name}
 
 abbrev pub zero_term : TermData
 zero_term = NumTerm (pos 0)
@@ -33,21 +30,14 @@ term_at None returned word = free_term returned word
 abbrev pub word_term : List (List ℕ) → TermData → List ℕ → TermData
 word_term parameters returned word = term_at (position (same_name word) parameters) returned word
 
-abbrev pub atom_term : List (List ℕ) → TermData → Atom → TermData
-atom_term parameters returned (Number n) = NumTerm (pos n)
-atom_term parameters returned (Word word) = word_term parameters returned word
-
 abbrev pub operator_term : Operator → TermData → TermData → TermData
 operator_term Plus t u = AddTerm t u
 operator_term Minus t u = SubTerm t u
 
--- operands join the term from left to right
-abbrev pub operands_term : List (List ℕ) → TermData → TermData → List Operand → TermData
-operands_term parameters returned t [] = t
-operands_term parameters returned t (o ∷ os) = operands_term parameters returned (operator_term o.operator t (atom_term parameters returned o.atom)) os
-
 abbrev pub sum_term : List (List ℕ) → TermData → SumData → TermData
-sum_term parameters returned sum = operands_term parameters returned (atom_term parameters returned sum.first) sum.rest
+sum_term parameters returned (NumberSum n) = NumTerm (pos n)
+sum_term parameters returned (WordSum word) = word_term parameters returned word
+sum_term parameters returned (JoinedSum left operator right) = operator_term operator (sum_term parameters returned left) (sum_term parameters returned right)
 
 abbrev pub comparison_formula : Comparison → TermData → TermData → FormulaData
 comparison_formula Equal t u = EqFormula t u

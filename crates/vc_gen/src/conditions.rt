@@ -3,18 +3,20 @@
 ghost use Rattle.std.specs.Prelude.{◌≡◌, ◌^◌, ◌≤◌, ◌++◌, ◌∷◌, [], IfOk, OnOk, length, map};
 ghost use Rattle.std.specs.List.{flat_map};
 ghost use Rattle.fol.specs.FormulaData.{ImpliesFormula};
-ghost use Rattle.vc_gen.specs.Translation.{atom_term, operator_term, zero_term};
+ghost use Rattle.vc_gen.specs.Translation.{sum_term, zero_term};
 ghost use Rattle.ref_sem.specs.Bodies.{HasU64Body};
 ghost use Rattle.vc_gen.specs.Conditions.{Decide, aborts_condition, all_three, argument_formula, arguments_formula, at_abort, at_each_return, at_no_return, at_return, condition_if, conditions_at_return, conditions_of, conditions_under, entry_formulas, formula_if, has_kind, range_formula, range_formulas, requires_formula, returned_term, returns_formula};
 
 use crate::condition::{ConditionKind, VerificationCondition};
-use crate::translation::{atom, condition, greatest, join, sum, word, zero};
+use crate::translation::{condition, greatest, join, sum, word, zero};
 use fol::formula::{Formula, FormulaNode, Term};
 use pv_base::memory::NoMemory;
 use pv_base::name::Name;
 use pv_base::types::{TypeNode, TypeTerm, Width};
-use ref_sem::form::{Clause, ClauseKind, Function, Operand, Operator};
 use std::alloc::Global;
+use sum_tree::clause::{Clause, ClauseKind};
+use sum_tree::function::Function;
+use sum_tree::sum::{Operator, Sum, SumNode};
 
 /// That each parameter has a value of its type.
 fn arguments(alloc: Global, parameters: &[Name]) -> Result<Vec<Formula>, NoMemory>
@@ -78,39 +80,37 @@ fn range(alloc: Global, operator: Operator, term: &Term) -> Result<Formula, NoMe
     }
 }
 
-/// Joins an operand to a term, with the formula that the sum is a u64.
-fn push_range(
+/// That each value on the way to that of a sum is a u64: these formulas are put behind the others. The term of the
+/// sum comes back.
+#[cycle(push_ranges)]
+fn push_ranges(
     alloc: Global,
     parameters: &[Name],
-    total: Term,
-    operand: &Operand,
+    sum: &Sum,
     formulas: &mut Vec<Formula>,
-) -> Result<Term, NoMemory>
+) -> Result<Box<Term>, NoMemory>
     requires { length parameters.now ≤ 2 ^ 32 }
-    ensures total { IfOk result (λ next. next ≡ operator_term operand.now.operator total (atom_term parameters.now zero_term operand.now.atom)) }
-    ensures formulas { IfOk result (λ next. formulas.new.items ≡ formulas.old.items ++ range_formula operand.now.operator next ∷ []) }
+    ensures term { IfOk result (λ term. term.value ≡ sum_term parameters.now zero_term sum.now) }
+    ensures formulas { OnOk result (formulas.new.items ≡ formulas.old.items ++ range_formulas parameters.now sum.now) }
 {
-    let next = join(alloc, parameters, &zero(), total, operand)?;
-    formulas.push(range(alloc, operand.operator, &next)?)?;
-    Ok(next)
-}
-
-/// That each value on the way through the operands is a u64.
-fn ranges(
-    alloc: Global,
-    parameters: &[Name],
-    first: Term,
-    operands: &[Operand],
-) -> Result<Vec<Formula>, NoMemory>
-    requires { length parameters.now ≤ 2 ^ 32 }
-    ensures { IfOk result (λ made. made.items ≡ range_formulas parameters.now first operands.now) }
-{
-    let mut total = first;
-    let mut formulas = Vec::new(alloc);
-    for operand in operands {
-        total = push_range(alloc, parameters, total, operand, &mut formulas)?;
+    match &sum.node {
+        SumNode::Number(number) => Ok(Box::new(alloc, Term::number(i128::from(*number)))?),
+        SumNode::Word(name) => {
+            let term = word(alloc, parameters, &zero(), name.as_slice())?;
+            Ok(Box::new(alloc, term)?)
+        }
+        SumNode::Joined {
+            left,
+            operator,
+            right,
+        } => {
+            let left = push_ranges(alloc, parameters, left, formulas)?;
+            let right = push_ranges(alloc, parameters, right, formulas)?;
+            let term = join(alloc, *operator, left, right)?;
+            formulas.push(range(alloc, *operator, &term)?)?;
+            Ok(term)
+        }
     }
-    Ok(formulas)
 }
 
 /// That the body's run returns.
@@ -118,10 +118,14 @@ fn returns(alloc: Global, function: &Function) -> Result<Formula, NoMemory>
     requires { length function.now.parameters ≤ 2 ^ 32 }
     ensures { IfOk result (λ made. made ≡ returns_formula function.now) }
 {
-    let parameters = function.parameters.as_slice();
-    let first = atom(alloc, parameters, &zero(), &function.body.first)?;
-    let operands = function.body.rest.as_slice();
-    Ok(Formula::all_of(ranges(alloc, parameters, first, operands)?))
+    let mut formulas = Vec::new(alloc);
+    push_ranges(
+        alloc,
+        function.parameters.as_slice(),
+        &function.body,
+        &mut formulas,
+    )?;
+    Ok(Formula::all_of(formulas))
 }
 
 /// That the function starts as it may, and that its run ends so.
@@ -304,13 +308,12 @@ fn returned_sum(alloc: Global, function: &Function) -> Result<Box<Term>, NoMemor
     requires { length function.now.parameters ≤ 2 ^ 32 }
     ensures { IfOk result (λ made. made.value ≡ returned_term function.now) }
 {
-    let returned = sum(
+    sum(
         alloc,
         function.parameters.as_slice(),
         &zero(),
         &function.body,
-    )?;
-    Ok(Box::new(alloc, returned)?)
+    )
 }
 
 /// The conditions of the `ensures` and of the `aborts_if` clauses under a premise.

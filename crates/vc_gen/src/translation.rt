@@ -2,14 +2,15 @@
 
 ghost use Rattle.std.specs.Prelude.{◌≡◌, ◌^◌, ◌≤◌, IfOk, length};
 ghost use Rattle.std.specs.List.{position};
-ghost use Rattle.ref_sem.specs.Semantics.{same_name};
-ghost use Rattle.vc_gen.specs.Translation.{atom_term, comparison_formula, condition_formula, free_term, greatest_term, operator_term, sum_term, word_term, zero_term};
+ghost use Rattle.token_reading.specs.TokenReading.{same_name};
+ghost use Rattle.vc_gen.specs.Translation.{comparison_formula, condition_formula, free_term, greatest_term, operator_term, sum_term, word_term, zero_term};
 
 use fol::formula::{Formula, Term};
 use pv_base::memory::NoMemory;
 use pv_base::name::Name;
-use ref_sem::form::{Atom, Comparison, Condition, Operand, Operator, Sum};
 use std::alloc::Global;
+use sum_tree::clause::{Comparison, Condition};
+use sum_tree::sum::{Operator, Sum, SumNode};
 
 /// The greatest value of a parameter.
 const MAX_U64: i128 = 0xffff_ffff_ffff_ffff;
@@ -64,22 +65,6 @@ pub fn word(
     }
 }
 
-/// The term of an atom.
-pub fn atom(
-    alloc: Global,
-    parameters: &[Name],
-    returned: &Term,
-    atom: &Atom,
-) -> Result<Term, NoMemory>
-    requires { length parameters.now ≤ 2 ^ 32 }
-    ensures { IfOk result (λ made. made ≡ atom_term parameters.now returned.now atom.now) }
-{
-    match atom {
-        Atom::Number(number) => Ok(Term::number(i128::from(*number))),
-        Atom::Word(name) => word(alloc, parameters, returned, name.as_slice()),
-    }
-}
-
 /// The term of an operator at two terms.
 fn operation(alloc: Global, operator: Operator, left: Term, right: Term) -> Result<Term, NoMemory>
     ensures { IfOk result (λ made. made ≡ operator_term operator left right) }
@@ -90,31 +75,51 @@ fn operation(alloc: Global, operator: Operator, left: Term, right: Term) -> Resu
     }
 }
 
-/// The term with one more operand.
-pub fn join(
+/// The term of a sum.
+#[cycle(sum_term)]
+pub fn sum(
     alloc: Global,
     parameters: &[Name],
     returned: &Term,
-    total: Term,
-    operand: &Operand,
-) -> Result<Term, NoMemory>
+    sum_of: &Sum,
+) -> Result<Box<Term>, NoMemory>
     requires { length parameters.now ≤ 2 ^ 32 }
-    ensures { IfOk result (λ made. made ≡ operator_term operand.now.operator total (atom_term parameters.now returned.now operand.now.atom)) }
+    ensures { IfOk result (λ made. made.value ≡ sum_term parameters.now returned.now sum_of.now) }
 {
-    let right = atom(alloc, parameters, returned, &operand.atom)?;
-    operation(alloc, operand.operator, total, right)
+    match &sum_of.node {
+        SumNode::Number(number) => Ok(Box::new(alloc, Term::number(i128::from(*number)))?),
+        SumNode::Word(name) => {
+            let term = word(alloc, parameters, returned, name.as_slice())?;
+            Ok(Box::new(alloc, term)?)
+        }
+        SumNode::Joined {
+            left,
+            operator,
+            right,
+        } => {
+            let left = sum(alloc, parameters, returned, left)?;
+            let right = sum(alloc, parameters, returned, right)?;
+            join(alloc, *operator, left, right)
+        }
+    }
 }
 
-/// The term of a sum.
-pub fn sum(alloc: Global, parameters: &[Name], returned: &Term, sum: &Sum) -> Result<Term, NoMemory>
-    requires { length parameters.now ≤ 2 ^ 32 }
-    ensures { IfOk result (λ made. made ≡ sum_term parameters.now returned.now sum.now) }
+/// The term of an operator at two terms, in a box.
+pub fn join(
+    alloc: Global,
+    operator: Operator,
+    left: Box<Term>,
+    right: Box<Term>,
+) -> Result<Box<Term>, NoMemory>
+    ensures { IfOk result (λ made. made.value ≡ operator_term operator left.value right.value) }
 {
-    let mut total = atom(alloc, parameters, returned, &sum.first)?;
-    for operand in &sum.rest {
-        total = join(alloc, parameters, returned, total, operand)?;
-    }
-    Ok(total)
+    let term = operation(
+        alloc,
+        operator,
+        Box::into_inner(left),
+        Box::into_inner(right),
+    )?;
+    Ok(Box::new(alloc, term)?)
 }
 
 /// The formula of a comparison of two terms.
@@ -151,7 +156,7 @@ pub fn condition(
         Condition::Compares(left, by, right) => {
             let left = sum(alloc, parameters, returned, left)?;
             let right = sum(alloc, parameters, returned, right)?;
-            comparison(alloc, *by, left, right)
+            comparison(alloc, *by, Box::into_inner(left), Box::into_inner(right))
         }
     }
 }

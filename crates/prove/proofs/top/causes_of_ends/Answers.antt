@@ -2,4 +2,4 @@ use Rattle.prove.proofs.CauseLemmas.{causes_of_ends}
 use Rattle.prove.proofs.top.causes_of_ends.Goals as goal
 
 pub returns : goal.returns
-returns c = causes_of_ends c.one_spelling.ensures c.spelled_or_bad.ensures.apart c.spelled_or_bad.ensures.one_place
+returns c = causes_of_ends c.one_outcome.ensures.either c.one_outcome.ensures.stop

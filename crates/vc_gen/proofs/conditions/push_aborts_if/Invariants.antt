@@ -1,6 +1,6 @@
 use Rattle.std.proofs.Common.{◌≡◌, ◌++◌, take}
 use Rattle.std.specs.List.{flat_map}
-use Rattle.ref_sem.specs.declared.form.ClauseKind.TheVariants.{AbortsIf}
+use Rattle.sum_tree.specs.declared.clause.ClauseKind.TheVariants.{AbortsIf}
 use Rattle.vc_gen.specs.Conditions.{condition_if, at_no_return}
 use Rattle.vc_gen.proofs.conditions.push_aborts_if.Given as goal
 

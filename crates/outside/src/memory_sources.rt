@@ -1,0 +1,93 @@
+//! Files in memory.
+
+ghost use Rattle.std.specs.Prelude.{◌≡◌, ◌+◌, ◌≤◌, [], length};
+ghost use Rattle.std.specs.FinMap as map;
+ghost use Rattle.outside.specs.MemorySink.{counted};
+ghost use Rattle.outside.specs.MemorySources.{FailsNext};
+ghost use Rattle.outside.specs.Outside.{IsLongFile, OnFetchFailed, OnTooLong, OnWhole, UnlessFetchFailed, UnlessWhole};
+
+use crate::outside::{FILE_LIMIT, Fetched, Sources};
+use pv_base::lists::{Bytes, Calls, FileMap};
+use pv_base::name::Name;
+use std::marker::Model;
+
+/// Files that are held in memory.
+#[derive(Drop)]
+pub struct MapSources {
+    files: FileMap,
+    fails: Calls,
+    calls: u64,
+    faults: u64,
+    taken: usize,
+}
+
+impl Model for MapSources {
+    ghost use Rattle.outside.specs.MemorySources.{SourcesState, state_code};
+
+    ghost Value = { SourcesState };
+
+    ghost coded = { state_code };
+
+    ghost view = { λ s. record { files = s.files; fails = s.fails; calls = s.calls; faults = s.faults; taken = s.taken } };
+}
+
+impl MapSources {
+    /// These files. The fetches with the numbers in `fails`, counted from 1, fail.
+    pub fn new(files: FileMap, fails: Calls) -> MapSources
+        ensures { result ≡ record { files = files; fails = fails; calls = 0; faults = 0; taken = 0 } }
+    {
+        MapSources {
+            files,
+            fails,
+            calls: 0,
+            faults: 0,
+            taken: 0,
+        }
+    }
+}
+
+impl Sources for MapSources {
+    ghost holds = { λ s. Rattle.std.specs.Prelude.Some s.files };
+
+    ghost faults = { λ s. s.faults };
+
+    ghost taken = { λ s. s.taken };
+
+    /// Copies a file. It fails where it is told to, and where there is no file of the name. Of a file
+    /// that is too long it takes one byte more than `FILE_LIMIT`.
+    fn fetch(&mut self, name: &Name, into: &mut Bytes) -> Fetched
+        ensures whole { OnWhole result (map.get self.old.files name.now ≡ Rattle.std.specs.Prelude.Some into.new) }
+        ensures within { OnWhole result (length into.new ≤ FILE_LIMIT) }
+        ensures emptied { UnlessWhole result (into.new ≡ []) }
+        ensures too_long { OnTooLong result (IsLongFile self.old.files name.now FILE_LIMIT) }
+        ensures fails { OnFetchFailed result (FailsNext self.old name.now) }
+        ensures answers { UnlessFetchFailed result (¬ FailsNext self.old name.now) }
+
+        // What the call leaves, by its answer.
+        ensures failed { OnFetchFailed result (self.new ≡ record self.old { calls = counted self.old.calls; faults = counted self.old.faults; taken = 0 }) }
+        ensures took { OnWhole result (self.new ≡ record self.old { calls = counted self.old.calls; taken = length into.new }) }
+        ensures took_more { OnTooLong result (self.new ≡ record self.old { calls = counted self.old.calls; taken = FILE_LIMIT + 1 }) }
+        ensures no_memory { result ≡ Fetched.NoMemory → self.new ≡ record self.old { calls = counted self.old.calls; taken = 0 } }
+        ensures never_falls { self.old.faults ≤ self.new.faults }
+    {
+        into.clear();
+        self.taken = 0;
+        self.calls = self.calls.saturating_add(1);
+        let file = match self.files.get(name) {
+            Some(file) if !self.fails.contains(self.calls) => file,
+            _ => {
+                self.faults = self.faults.saturating_add(1);
+                return Fetched::Failed;
+            }
+        };
+        if file.len() > FILE_LIMIT {
+            self.taken = FILE_LIMIT + 1;
+            return Fetched::TooLong;
+        }
+        if into.extend_from_slice(file.as_slice()).is_err() {
+            return Fetched::NoMemory;
+        }
+        self.taken = into.len();
+        Fetched::Whole
+    }
+}

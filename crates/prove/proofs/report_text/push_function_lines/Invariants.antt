@@ -1,7 +1,0 @@
-use Rattle.std.proofs.Common.{◌≡◌, ◌++◌, ◌∷◌, [], take}
-use Rattle.std.specs.List.{flat_map}
-use Rattle.prove.specs.ReportText.{condition_lines, function_line}
-use Rattle.prove.proofs.report_text.push_function_lines.Given as goal
-
-abbrev pub invariant-loop-condition : goal.invariant-loop-condition
-invariant-loop-condition l = l.lines ≡ l.initial.lines ++ flat_map (condition_lines l.files) (take l.condition-index l.condition-items)

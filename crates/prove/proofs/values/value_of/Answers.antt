@@ -1,6 +1,0 @@
-use Rattle.std.proofs.Common.{refl}
-use Rattle.prove.specs.OpenValues.IsValueOf.{chosen}
-use Rattle.prove.proofs.values.value_of.Goals as goal
-
-pub returns-in-Some-clause-value : goal.returns-in-Some-clause-value
-returns-in-Some-clause-value c = chosen c.in-Some.ensures.0.0 c.in-Some.value c.in-Some.ensures.0.1 c.in-Some.ensures.1 refl refl

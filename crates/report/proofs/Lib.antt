@@ -1,0 +1,4 @@
+pub mod Hexadecimal
+pub mod LineLemmas
+pub mod ReportLemmas
+pub mod TakenLemmas

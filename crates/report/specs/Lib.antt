@@ -1,0 +1,6 @@
+pub mod Lines
+pub mod ReportData
+pub mod ReportText
+pub mod Writing
+pub mod Status
+pub mod Writes

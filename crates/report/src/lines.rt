@@ -1,0 +1,48 @@
+//! The lines of a file.
+
+ghost use Rattle.std.specs.Prelude.{◌≡◌, ◌≤◌, ℕ, List, length, IfOk};
+ghost use Rattle.report.specs.Lines.{line_feeds, line_of};
+
+use outside::outside::FILE_LIMIT;
+use pv_base::memory::NoMemory;
+use std::alloc::Global;
+use std::marker::Model;
+
+/// Where a file has its line feeds, so that the line of a place is found by a binary search.
+#[derive(Drop)]
+pub struct LineFeeds {
+    places: Vec<u32>,
+}
+
+impl Model for LineFeeds {
+    ghost use Rattle.std.specs.Prelude.{ℕ, List, ◌≤◌, vec_len};
+
+    ghost Value = { List ℕ };
+
+    ghost view = { λ feeds. feeds.places.items };
+
+    ghost invariant = { λ feeds. vec_len feeds.places ≤ 1048576 };
+}
+
+impl LineFeeds {
+    /// The line feeds of a file's bytes.
+    pub fn new(alloc: Global, bytes: &[u8]) -> Result<LineFeeds, NoMemory>
+        requires { length bytes.now ≤ FILE_LIMIT }
+        ensures { IfOk result (λ feeds. feeds ≡ line_feeds bytes.now) }
+    {
+        let mut places = Vec::new(alloc);
+        for (place, byte) in bytes.iter().enumerate() {
+            if *byte == b'\n' {
+                places.push(place as u32)?;
+            }
+        }
+        Ok(LineFeeds { places })
+    }
+
+    /// The line, counted from 1, of a place of the file, counted from 0.
+    pub fn line(&self, place: u32) -> u32
+        ensures { (bytes : List ℕ) → self.now ≡ line_feeds bytes → result ≡ line_of bytes place }
+    {
+        self.places.partition_point(|feed| *feed < place) as u32 + 1
+    }
+}

@@ -1,0 +1,112 @@
+//! The records of verdicts, and the report that is written of them.
+
+ghost use Rattle.std.specs.Prelude.{◌≡◌, IfOk};
+ghost use Rattle.report.specs.ReportText.{function_line, condition_line, count_line, lines_of_report};
+
+use lin_arith::Fraction;
+use pv_base::lists::Bytes;
+use pv_base::memory::NoMemory;
+use pv_base::name::Name;
+use std::alloc::Global;
+use std::marker::Model;
+use vc_gen::condition::ConditionKind;
+
+/// What was found out of a condition.
+#[derive(Clone, Copy, Debug, PartialEq, Eq)]
+pub enum ConditionVerdict {
+    /// A certificate for it was checked.
+    Proved,
+    /// A branch of its tableau is open: nothing is left to do on it, nothing closes it, and values meet
+    /// its rows.
+    Open,
+    /// An elimination of the rows of such a branch meets two rows whose sum leaves 128 bits.
+    Wide,
+    /// An elimination of the rows of such a branch has 5,000 rows.
+    Rows,
+    /// The search took this many steps, its whole budget.
+    Budget(u64),
+    /// A branch of its tableau has 4,000 entries.
+    Size,
+}
+
+/// What was found out of a function.
+#[derive(Clone, Copy, Debug, PartialEq, Eq)]
+pub enum FunctionVerdict {
+    /// Each of its conditions is proved.
+    Proved,
+    /// Some condition of it is not proved.
+    Unknown,
+}
+
+/// The value of a parameter on an open branch: a fraction, whose denominator is above 0.
+#[derive(Drop)]
+pub struct ParameterValue {
+    pub name: Name,
+    pub value: Fraction,
+}
+
+impl Model for ParameterValue {
+    ghost use Rattle.report.specs.ReportData.{ParameterValueData};
+
+    ghost Value = { ParameterValueData };
+
+    ghost view = { λ v. record { name = v.name; numerator = v.value.numerator; denominator = v.value.denominator } };
+}
+
+/// A condition, by its kind and its place, and its verdict.
+#[derive(Drop)]
+pub struct ConditionRecord {
+    pub kind: ConditionKind,
+    /// The number of the clause's file, counted from 0 in the order of the report's files.
+    pub file: u32,
+    /// The line of the clause, or for `aborts` of the function, counted from 1.
+    pub line: u32,
+    /// The line of the check, where it stands apart from the clause.
+    pub check_line: Option<u32>,
+    pub verdict: ConditionVerdict,
+    /// Where the verdict is `Open`, the values of the function's parameters on the branch, in order.
+    pub values: Vec<ParameterValue>,
+}
+
+impl Model for ConditionRecord {
+    ghost use Rattle.report.specs.ReportData.{ConditionRecordData};
+
+    ghost Value = { ConditionRecordData };
+
+    ghost view = { λ c. record { kind = c.kind; file = c.file; line = c.line; check_line = c.check_line; verdict = c.verdict; values = c.values.items } };
+}
+
+/// A function, its verdict, and the verdicts of its conditions in the report's order.
+#[derive(Drop)]
+pub struct FunctionRecord {
+    pub address: u128,
+    pub module_name: Name,
+    pub name: Name,
+    pub verdict: FunctionVerdict,
+    pub conditions: Vec<ConditionRecord>,
+}
+
+impl Model for FunctionRecord {
+    ghost use Rattle.report.specs.ReportData.{FunctionRecordData};
+
+    ghost Value = { FunctionRecordData };
+
+    ghost view = { λ f. record { address = f.address; module_name = f.module_name; name = f.name; verdict = f.verdict; conditions = f.conditions.items } };
+}
+
+/// What a run found out.
+#[derive(Drop)]
+pub struct Report {
+    /// The names of the files, in the order of the words that named them.
+    pub files: Vec<Name>,
+    /// The functions of the files, in their order.
+    pub functions: Vec<FunctionRecord>,
+}
+
+impl Model for Report {
+    ghost use Rattle.report.specs.ReportData.{ReportData};
+
+    ghost Value = { ReportData };
+
+    ghost view = { λ r. record { files = r.files.items; functions = r.functions.items } };
+}

@@ -1,0 +1,90 @@
+//! The line that tells of a run without a report.
+
+ghost use Rattle.std.specs.Prelude.{◌≡◌, ◌++◌, IfOk, OnOk};
+ghost use Rattle.report.specs.Status.{files_limit_line, limit_line, marker_prefix, no_memory_line, refusal_line, source_fault_line, usage_line};
+
+use crate::status::{LimitKind, Refusal};
+use crate::text::push_decimal;
+use left_out::marker::Marker;
+use pv_base::lists::Bytes;
+use pv_base::memory::NoMemory;
+use pv_base::name::Name;
+use std::alloc::Global;
+
+/// What is written where the words are no words of this program.
+pub fn usage_line() -> &'static [u8]
+    ensures { result.now ≡ usage_line }
+{
+    b"usage: movep [FILE]...\n"
+}
+
+/// What is written where memory ran out.
+pub fn no_memory_line() -> &'static [u8]
+    ensures { result.now ≡ no_memory_line }
+{
+    b"no memory\n"
+}
+
+/// Puts a marker and a blank at the end, where there is one.
+fn push_marker(text: &mut Bytes, marker: Option<Marker>) -> Result<(), NoMemory>
+    ensures { OnOk result (text.new ≡ text.old ++ marker_prefix marker) }
+{
+    if let Some(marker) = marker {
+        text.extend_from_slice(marker.text())?;
+        text.extend_from_slice(b" ")?;
+    }
+    Ok(())
+}
+
+/// What is written of a file that breaks a rule.
+pub fn refusal_line(alloc: Global, file: &Name, refusal: Refusal) -> Result<Bytes, NoMemory>
+    ensures { IfOk result (λ text. text ≡ refusal_line file.now refusal) }
+{
+    let mut text = Bytes::new(alloc);
+    text.extend_from_slice(b"refused ")?;
+    push_decimal(alloc, &mut text, u64::from(refusal.rule.number()))?;
+    text.extend_from_slice(b" ")?;
+    text.extend_from_slice(refusal.rule.text())?;
+    text.extend_from_slice(b" ")?;
+    push_marker(&mut text, refusal.marker)?;
+    text.extend_from_slice(file.as_slice())?;
+    text.extend_from_slice(b":")?;
+    push_decimal(alloc, &mut text, u64::from(refusal.line))?;
+    text.extend_from_slice(b"\n")?;
+    Ok(text)
+}
+
+/// What is written where there are more files than a run may have, which are so many.
+pub fn files_limit_line(alloc: Global, count: u64) -> Result<Bytes, NoMemory>
+    ensures { IfOk result (λ text. text ≡ files_limit_line count) }
+{
+    let mut text = Bytes::new(alloc);
+    text.extend_from_slice(b"limit files ")?;
+    push_decimal(alloc, &mut text, count)?;
+    text.extend_from_slice(b"\n")?;
+    Ok(text)
+}
+
+/// What is written of a file that could not be fetched.
+pub fn source_fault_line(alloc: Global, file: &Name) -> Result<Bytes, NoMemory>
+    ensures { IfOk result (λ text. text ≡ source_fault_line file.now) }
+{
+    let mut text = Bytes::new(alloc);
+    text.extend_from_slice(b"fault source ")?;
+    text.extend_from_slice(file.as_slice())?;
+    text.extend_from_slice(b"\n")?;
+    Ok(text)
+}
+
+/// What is written of a file that passes a limit.
+pub fn limit_line(alloc: Global, file: &Name, kind: LimitKind) -> Result<Bytes, NoMemory>
+    ensures { IfOk result (λ text. text ≡ limit_line file.now kind) }
+{
+    let mut text = Bytes::new(alloc);
+    text.extend_from_slice(b"limit ")?;
+    text.extend_from_slice(kind.text())?;
+    text.extend_from_slice(b" ")?;
+    text.extend_from_slice(file.as_slice())?;
+    text.extend_from_slice(b"\n")?;
+    Ok(text)
+}

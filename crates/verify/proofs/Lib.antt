@@ -1,0 +1,5 @@
+pub mod Findings
+pub mod Records
+pub mod ValueLemmas
+pub mod PairLemmas
+pub mod ModuleLemmas

@@ -1,0 +1,48 @@
+-- The record of a function is right where those of its conditions are.
+use Rattle.std.proofs.Common.{◌≡◌, ℕ, List, [], ◌∷◌, Bool, true, false, ◌&&◌, refl, sym, ap, ◌∙◌, subst}
+use Rattle.vc_gen.specs.declared.condition.VerificationCondition.{VerificationCondition}
+use Rattle.vc_gen.specs.Conditions.{AreValid, Decide, conditions_of}
+use Rattle.fol.specs.FormulaData.{FormulaData}
+use Rattle.fol.specs.Validity.{Valid}
+use Rattle.report.specs.declared.report.ConditionVerdict.{ConditionVerdict}
+use Rattle.report.specs.declared.report.ConditionVerdict.TheVariants.{Proved, Open, Wide, Rows, Budget, Size}
+use Rattle.verify.specs.Pairs.{Paired}
+use Rattle.sum_tree.specs.SpecifiedData.{SpecifiedFunctionData}
+use Rattle.sum_tree.specs.SumModuleData.{SumModuleData}
+use Rattle.report.specs.ReportData.{ParameterValueData, ConditionRecordData, FunctionRecordData}
+use Rattle.report.specs.ReportText.{is_proved}
+use Rattle.verify.specs.Verified.{IsShown, IsConditionRecord, IsFunctionRecord, is_condition_proved, are_proved}
+
+-- of a condition of which the record says `proved`, the formula is valid
+valid_of_shown : (p : FormulaData) (parameters : List (List ℕ)) (verdict : ConditionVerdict) (values : List ParameterValueData) → IsShown p parameters verdict values → is_condition_proved verdict ≡ true → Valid [] p
+valid_of_shown p parameters Proved values s e = s.0
+valid_of_shown p parameters Open values s e = absurd (cc)
+valid_of_shown p parameters Wide values s e = absurd (cc)
+valid_of_shown p parameters Rows values s e = absurd (cc)
+valid_of_shown p parameters (Budget steps) values s e = absurd (cc)
+valid_of_shown p parameters Size values s e = absurd (cc)
+
+both_true : (a b : Bool) → a && b ≡ true → (a ≡ true) × (b ≡ true)
+both_true true b e = (refl, e)
+both_true false b e = absurd (cc)
+
+valid_if_proved : (bytes : List ℕ) (file : ℕ) (parameters : List (List ℕ)) (conditions : List VerificationCondition) (found : List ConditionRecordData) → Paired (IsConditionRecord bytes file parameters) conditions found → are_proved found ≡ true → AreValid [] conditions
+valid_if_proved bytes file ps [] [] p e = tt
+valid_if_proved bytes file ps [] (r ∷ rs) p e = absurd p
+valid_if_proved bytes file ps (c ∷ cs) [] p e = absurd p
+valid_if_proved bytes file ps (c ∷ cs) (r ∷ rs) p e =
+    let both = both_true (is_condition_proved r.verdict) (are_proved rs) e in
+    (valid_of_shown c.formula ps r.verdict r.values p.0.shown both.0, valid_if_proved bytes file ps cs rs p.1 both.1)
+
+pub function_record : (bytes : List ℕ) (m : SumModuleData) (f : SpecifiedFunctionData) (made shown : List VerificationCondition) (judged : List ConditionRecordData) (found : FunctionRecordData) (ps : List (List ℕ)) → ps ≡ f.function.parameters → made ≡ conditions_of f.function f.clauses → Decide f.function f.clauses made → shown ≡ made → Paired (IsConditionRecord bytes m.file ps) shown found.conditions → judged ≡ found.conditions → is_proved found.verdict ≡ are_proved judged → found.address ≡ m.address → found.module_name ≡ m.name → found.name ≡ f.function.name → IsFunctionRecord bytes m f found
+function_record bytes m f made shown judged found ps params e decide same paired same_found verdict a n k =
+    let all = subst (λ names. Paired (IsConditionRecord bytes m.file names) made found.conditions) params (subst (λ conditions. Paired (IsConditionRecord bytes m.file ps) conditions found.conditions) same paired) in
+    let judgement = verdict ∙ ap are_proved same_found in
+    record {
+      address_is = a;
+      module_is = n;
+      name_is = k;
+      conditions = subst (λ conditions. Paired (IsConditionRecord bytes m.file f.function.parameters) conditions found.conditions) e all;
+      verdict = judgement;
+      keeps = λ h. decide.sound [] (valid_if_proved bytes m.file f.function.parameters made found.conditions all (sym judgement ∙ h));
+    }

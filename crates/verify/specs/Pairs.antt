@@ -1,0 +1,14 @@
+-- Two lists whose items belong together, one by one.
+use Rattle.std.specs.Prelude.{◌≡◌, List, [], ◌∷◌, ◌++◌}
+
+abbrev pub Paired : {A B : Type 0} → (A → B → Type 0) → List A → List B → Type 0
+Paired R [] [] = Unit {0}
+Paired R [] (y ∷ ys) = ⊥
+Paired R (x ∷ xs) [] = ⊥
+Paired R (x ∷ xs) (y ∷ ys) = R x y × Paired R xs ys
+
+-- Behind what stood before, there stands now for each of these what belongs to it.
+pub record ArePutBehind {A B : Type 0} (R : A → B → Type 0) (xs : List A) (before after : List B) : Type 0 where
+  pub found : List B
+  pub after_is : after ≡ before ++ found
+  pub paired : Paired R xs found

@@ -1,0 +1,88 @@
+-- What the records of a report say of the functions of a program.
+use Rattle.std.specs.Prelude.{◌≡◌, ℕ, ◌≤◌, Bool, true, false, List, [], length, map, slice_index_or, None, All}
+use Rattle.fol.specs.FormulaData.{FormulaData}
+use Rattle.std.specs.List.{flat_map, list_all}
+use Rattle.fol.specs.Validity.{Valid}
+use Rattle.sum_tree.specs.FunctionData.{FunctionData}
+use Rattle.ref_sem.specs.Semantics.{Keeps}
+use Rattle.ref_sem.specs.Bodies.{HasU64Body}
+use Rattle.vc_gen.specs.declared.condition.VerificationCondition.{VerificationCondition}
+use Rattle.vc_gen.specs.Conditions.{conditions_of}
+use Rattle.report.specs.declared.report.ConditionVerdict.{ConditionVerdict}
+use Rattle.report.specs.declared.report.ConditionVerdict.TheVariants.{Proved, Open, Wide, Rows, Budget, Size}
+use Rattle.report.specs.Lines.{line_of}
+use Rattle.verify.specs.Pairs.{Paired}
+use Rattle.sum_tree.specs.SpecifiedData.{SpecifiedFunctionData}
+use Rattle.sum_tree.specs.SumModuleData.{SumModuleData}
+use Rattle.verify.specs.OpenValues.{IsOpenCondition, IsWideCondition, IsLargeCondition, IsFullCondition}
+use Rattle.report.specs.ReportData.{ParameterValueData, ConditionRecordData, FunctionRecordData, ReportData}
+use Rattle.report.specs.ReportText.{is_proved}
+
+abbrev pub is_condition_proved : ConditionVerdict → Bool
+is_condition_proved Proved = true
+is_condition_proved Open = false
+is_condition_proved Wide = false
+is_condition_proved Rows = false
+is_condition_proved (Budget steps) = false
+is_condition_proved Size = false
+
+-- the greatest number of steps of a search
+abbrev pub most_steps : ℕ
+most_steps = 20000
+
+-- what shows each verdict on a formula: that it is valid, there being no structs; or a branch of its tableau. Values of
+-- the parameters come with an open branch alone.
+abbrev pub IsShown : FormulaData → List (List ℕ) → ConditionVerdict → List ParameterValueData → Type 0
+IsShown p parameters Proved values = Valid [] p × (values ≡ [])
+IsShown p parameters Open values = IsOpenCondition p parameters values
+IsShown p parameters Wide values = IsWideCondition p × (values ≡ [])
+IsShown p parameters Rows values = IsLargeCondition p × (values ≡ [])
+IsShown p parameters (Budget steps) values = (steps ≡ most_steps) × (values ≡ [])
+IsShown p parameters Size values = IsFullCondition p × (values ≡ [])
+
+-- the record is that of this condition of a function with these parameters, in the file of this number with these bytes,
+-- and its verdict is shown
+pub record IsConditionRecord (bytes : List ℕ) (file : ℕ) (parameters : List (List ℕ)) (condition : VerificationCondition) (found : ConditionRecordData) : Type 0 where
+  pub kind : found.kind ≡ condition.kind
+  pub file_is : found.file ≡ file
+  pub line : found.line ≡ line_of bytes condition.start
+  pub check_line : found.check_line ≡ None
+  pub shown : IsShown condition.formula parameters found.verdict found.values
+
+abbrev pub are_proved : List ConditionRecordData → Bool
+are_proved conditions = list_all (λ c. is_condition_proved c.verdict) conditions
+
+-- The record is that of this function of a module: it has a record for each condition in their order, and says `proved`
+-- exactly where all of these do. A function of which it says `proved` keeps its contract.
+pub record IsFunctionRecord (bytes : List ℕ) (m : SumModuleData) (f : SpecifiedFunctionData) (found : FunctionRecordData) : Type 0 where
+  pub address_is : found.address ≡ m.address
+  pub module_is : found.module_name ≡ m.name
+  pub name_is : found.name ≡ f.function.name
+  pub conditions : Paired (IsConditionRecord bytes m.file f.function.parameters) (conditions_of f.function f.clauses) found.conditions
+  pub verdict : is_proved found.verdict ≡ are_proved found.conditions
+  pub keeps : is_proved found.verdict ≡ true → Keeps f.function f.clauses
+
+abbrev pub functions_of_module : SumModuleData → List (SumModuleData × SpecifiedFunctionData)
+functions_of_module m = map (λ f. (m, f)) m.functions
+
+-- the functions of modules in their order, each with its module
+abbrev pub functions_of : List SumModuleData → List (SumModuleData × SpecifiedFunctionData)
+functions_of program = flat_map functions_of_module program
+
+-- the record is that of this function, in a program in these files
+abbrev pub IsRecordIn : List (List ℕ) → SumModuleData × SpecifiedFunctionData → FunctionRecordData → Type 0
+IsRecordIn files f found = IsFunctionRecord (slice_index_or files f.0.file []) f.0 f.1 found
+
+-- the report is that of a program in the files with these names and these bytes: it has a record of each function
+pub record IsReportOf (names files : List (List ℕ)) (program : List SumModuleData) (report : ReportData) : Type 0 where
+  pub files_are : report.files ≡ names
+  pub functions : Paired (IsRecordIn files) (functions_of program) report.functions
+
+-- A function may be verified: it has at most 8 parameters, and its body is over u64 values and parameters alone.
+pub record IsVerifiable (f : FunctionData) : Type 0 where
+  pub few : length f.parameters ≤ 8
+  pub body : HasU64Body f
+
+-- each function of a program may be
+abbrev pub AreVerifiable : List SumModuleData → Type 0
+AreVerifiable program = All (λ m. All (λ f. IsVerifiable f.function) m.functions) program

@@ -1,0 +1,5 @@
+//! What is found out of the functions of a program: the records of its conditions, each with what shows it.
+#![tactic(auto)]
+
+mod values;
+pub mod verify;

@@ -1,0 +1,252 @@
+//! The verification of functions.
+
+ghost use Rattle.std.specs.Prelude.{◌≡◌, ◌<◌, ◌≤◌, ℕ, List, [], All, IfOk, OnOk, length, map};
+ghost use Rattle.cert.specs.Closes.{Certifies};
+ghost use Rattle.fol.specs.Validity.{Valid};
+ghost use Rattle.report.specs.Lines.{line_feeds};
+ghost use Rattle.report.specs.ReportText.{is_proved};
+ghost use Rattle.verify.specs.Pairs.{ArePutBehind, Paired};
+ghost use Rattle.verify.specs.Verified.{AreVerifiable, IsConditionRecord, IsFunctionRecord, IsReportOf, IsShown, IsVerifiable, are_proved, functions_of, functions_of_module};
+
+use crate::values::values_of;
+use cert::certificate::Cert;
+use cert::checker::check;
+use fol::formula::Formula;
+use fol::shapes::Shapes;
+use outside::outside::FILE_LIMIT;
+use pv_base::lists::Bytes;
+use pv_base::memory::NoMemory;
+use pv_base::name::Name;
+use pv_base::steps::Steps;
+use report::lines::LineFeeds;
+use report::report::{
+    ConditionRecord, ConditionVerdict, FunctionRecord, FunctionVerdict, ParameterValue, Report,
+};
+use search::answer::Answer;
+use search::prover::prove;
+use std::alloc::Global;
+use std::sync::ledger::Ledger;
+use sum_tree::function::{SpecifiedFunction, SumModule};
+use vc_gen::condition::VerificationCondition;
+use vc_gen::conditions::conditions;
+
+/// The greatest number of search steps for one condition.
+const BUDGET: u64 = 20_000;
+
+/// A verdict on a condition, with the values of the parameters where it is `Open`.
+#[derive(Drop)]
+struct Finding {
+    verdict: ConditionVerdict,
+    values: Vec<ParameterValue>,
+}
+
+/// A verdict that comes with no values.
+fn bare(alloc: Global, verdict: ConditionVerdict) -> Finding
+    ensures verdict { result.verdict ≡ verdict }
+    ensures values { result.values.items ≡ [] }
+{
+    Finding {
+        verdict,
+        values: Vec::new(alloc),
+    }
+}
+
+/// A formula with a certificate is valid: the checker accepts the certificate once more.
+fn confirm(alloc: Global, formula: &Formula, certificate: &Cert)
+    requires { Certifies certificate.now formula.now }
+    ensures { Valid [] formula.now }
+{
+    let shapes = Shapes::new(alloc);
+    if !check(&shapes, formula, certificate) {
+        unreachable!();
+    }
+}
+
+/// What the search finds out of a formula that speaks of no structs.
+fn finding_of<L: Ledger>(
+    alloc: Global,
+    formula: &Formula,
+    parameters: &[Name],
+    steps: &mut Steps<L>,
+) -> Result<Finding, NoMemory>
+    ensures { IfOk result (λ found. IsShown formula.now parameters.now found.verdict found.values.items) }
+{
+    let shapes = Shapes::new(alloc);
+    match prove(alloc, &shapes, formula, BUDGET, steps)? {
+        Answer::Proved(certificate) => {
+            confirm(alloc, formula, &certificate);
+            Ok(bare(alloc, ConditionVerdict::Proved))
+        }
+        Answer::Open(leaf, fractions) => Ok(Finding {
+            verdict: ConditionVerdict::Open,
+            values: values_of(
+                alloc,
+                leaf.unknowns.as_slice(),
+                fractions.as_slice(),
+                parameters,
+            )?,
+        }),
+        Answer::Wide(_, _, _) => Ok(bare(alloc, ConditionVerdict::Wide)),
+        Answer::Rows(_, _) => Ok(bare(alloc, ConditionVerdict::Rows)),
+        Answer::Budget => Ok(bare(alloc, ConditionVerdict::Budget(BUDGET))),
+        Answer::Size(_) => Ok(bare(alloc, ConditionVerdict::Size)),
+    }
+}
+
+/// The record of a condition of a function with these parameters, in the file of this number.
+fn verify_condition<L: Ledger>(
+    alloc: Global,
+    feeds: &LineFeeds,
+    file: u32,
+    parameters: &[Name],
+    condition: &VerificationCondition,
+    steps: &mut Steps<L>,
+) -> Result<ConditionRecord, NoMemory>
+    ensures { (bytes : List ℕ) → feeds.now ≡ line_feeds bytes → IfOk result (IsConditionRecord bytes file parameters.now condition.now) }
+{
+    let Finding { verdict, values } = finding_of(alloc, &condition.formula, parameters, steps)?;
+    Ok(ConditionRecord {
+        kind: condition.kind,
+        file,
+        line: feeds.line(condition.start),
+        check_line: None,
+        verdict,
+        values,
+    })
+}
+
+/// The records of conditions, in their order.
+fn verify_conditions<L: Ledger>(
+    alloc: Global,
+    feeds: &LineFeeds,
+    file: u32,
+    parameters: &[Name],
+    conditions: &[VerificationCondition],
+    steps: &mut Steps<L>,
+) -> Result<Vec<ConditionRecord>, NoMemory>
+    ensures { (bytes : List ℕ) → feeds.now ≡ line_feeds bytes → IfOk result (λ found. Paired (IsConditionRecord bytes file parameters.now) conditions.now found.items) }
+{
+    let mut found = Vec::new(alloc);
+    for condition in conditions {
+        found.push(verify_condition(alloc, feeds, file, parameters, condition, steps)?)?;
+    }
+    Ok(found)
+}
+
+/// Whether each condition is proved.
+fn are_proved(conditions: &[ConditionRecord]) -> bool
+    ensures { result ≡ are_proved conditions.now }
+{
+    conditions
+        .iter()
+        .all(|condition| condition.verdict == ConditionVerdict::Proved)
+}
+
+/// What the records of a function's conditions say of the function.
+fn verdict_of_function(conditions: &[ConditionRecord]) -> FunctionVerdict
+    ensures { is_proved result ≡ are_proved conditions.now }
+{
+    if are_proved(conditions) {
+        FunctionVerdict::Proved
+    } else {
+        FunctionVerdict::Unknown
+    }
+}
+
+/// The record of a function of a module.
+fn verify_function<L: Ledger>(
+    alloc: Global,
+    feeds: &LineFeeds,
+    module: &SumModule,
+    specified: &SpecifiedFunction,
+    steps: &mut Steps<L>,
+) -> Result<FunctionRecord, NoMemory>
+    requires { IsVerifiable specified.now.function }
+    ensures { (bytes : List ℕ) → feeds.now ≡ line_feeds bytes → IfOk result (IsFunctionRecord bytes module.now specified.now) }
+{
+    let function = &specified.function;
+    let claims = conditions(alloc, function, specified.clauses.as_slice())?;
+    let found = verify_conditions(
+        alloc,
+        feeds,
+        module.file,
+        function.parameters.as_slice(),
+        claims.as_slice(),
+        steps,
+    )?;
+    let module_name = module.name.try_clone(alloc)?;
+    let name = function.name.try_clone(alloc)?;
+    let verdict = verdict_of_function(found.as_slice());
+    Ok(FunctionRecord {
+        address: module.address,
+        module_name,
+        name,
+        verdict,
+        conditions: found,
+    })
+}
+
+/// Puts the records of a module's functions behind the others, in their order.
+fn verify_module<L: Ledger>(
+    alloc: Global,
+    feeds: &LineFeeds,
+    module: &SumModule,
+    records: &mut Vec<FunctionRecord>,
+    steps: &mut Steps<L>,
+) -> Result<(), NoMemory>
+    requires { All (λ f. IsVerifiable f.function) module.now.functions }
+    ensures { (bytes : List ℕ) → feeds.now ≡ line_feeds bytes → OnOk result (ArePutBehind (IsFunctionRecord bytes module.now) module.now.functions records.old.items records.new.items) }
+{
+    for specified in &module.functions {
+        records.push(verify_function(alloc, feeds, module, specified, steps)?)?;
+    }
+    Ok(())
+}
+
+/// The line feeds of each file.
+fn feeds_of(alloc: Global, files: &[Bytes]) -> Result<Vec<LineFeeds>, NoMemory>
+    requires { All (λ bytes. length bytes ≤ FILE_LIMIT) files.now }
+    ensures { IfOk result (λ feeds. feeds.items ≡ map line_feeds files.now) }
+{
+    let mut feeds = Vec::new(alloc);
+    for bytes in files {
+        feeds.push(LineFeeds::new(alloc, bytes.as_slice())?)?;
+    }
+    Ok(feeds)
+}
+
+/// The report of files, of which these are the bytes: of the functions of the program in them.
+pub fn verify<L: Ledger>(
+    alloc: Global,
+    names: &[Name],
+    files: &[Bytes],
+    program: &[SumModule],
+    steps: &mut Steps<L>,
+) -> Result<Report, NoMemory>
+    requires short { All (λ bytes. length bytes ≤ FILE_LIMIT) files.now }
+    requires verifiable { AreVerifiable program.now }
+    requires placed { All (λ m. m.file < length files.now) program.now }
+    ensures { IfOk result (IsReportOf names.now files.now program.now) }
+{
+    let feeds = feeds_of(alloc, files)?;
+    let mut functions = Vec::new(alloc);
+    for module in program {
+        let feeds = &feeds[module.file as usize];
+        verify_module(alloc, feeds, module, &mut functions, steps)?;
+    }
+    Ok(Report {
+        files: copies_of(alloc, names)?,
+        functions,
+    })
+}
+
+/// Copies of names.
+fn copies_of(alloc: Global, names: &[Name]) -> Result<Vec<Name>, NoMemory>
+    ensures { IfOk result (λ copies. copies.items ≡ names.now) }
+{
+    let mut copies = Vec::with_capacity(alloc, names.len())?;
+    for name in names {
+        copies.push(name.try_clone(alloc)?)?;
+    }
+    Ok(copies)
+}
