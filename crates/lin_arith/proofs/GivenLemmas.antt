@@ -97,13 +97,13 @@ given_contradicts width ms rows i row h is short f b zeros =
     }
 
 -- a given row as a row of the first stage
-pub given_derived : (width : ℕ) (rows : List Inequality) (i : ℕ) (made : Derived) → IsUnit (length rows) i made.multipliers.items → made.row ≡ combination width made.multipliers.items rows → made.total ≡ combination width made.multipliers.items rows → IsSound made.row → IsDerived width rows [] made
+pub given_derived : (width : ℕ) (rows : List Inequality) (i : ℕ) (made : Derived) → IsUnit (length rows) i made.multipliers → made.row ≡ combination width made.multipliers rows → made.total ≡ combination width made.multipliers rows → IsSound made.row → IsDerived width rows [] made
 given_derived width rows i made unit is total sound =
     let scaled = subst (λ (r : Inequality). IsMultiple made.row r) (is ∙ sym total) (multiple_of_itself made.row) in record {
-      of_stage = given i made.row made.multipliers.items unit is;
+      of_stage = given i made.row made.multipliers unit is;
       is_total = total;
-      multipliers = unit_multipliers rows i made.multipliers.items unit;
-      same_width = ap (λ (r : Inequality). length r.coefficients) is ∙ width_of_combination width made.multipliers.items rows;
+      multipliers = unit_multipliers rows i made.multipliers unit;
+      same_width = ap (λ (r : Inequality). length r.coefficients) is ∙ width_of_combination width made.multipliers rows;
       scale = scaled.scale;
       positive = scaled.positive;
       is_scaled = scaled.is_scaled;

@@ -3,13 +3,16 @@ pub mod BoundsPutLemmas
 pub mod ChoiceLemmas
 pub mod ClosureLemmas
 pub mod CombinationLemmas
+pub mod CombinedLemmas
 pub mod ContradictionLemmas
 pub mod GivenLemmas
 pub mod GrowthLemmas
 pub mod IntegerLemmas
 pub mod KeyLemmas
+pub mod LeastLemmas
 pub mod ListLemmas
 pub mod NumberLemmas
+pub mod PackedLemmas
 pub mod ProductLemmas
 pub mod StageLemmas
 pub mod SubstitutionLemmas

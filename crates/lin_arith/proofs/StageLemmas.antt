@@ -127,7 +127,7 @@ stays old new key updates row has = record {
 }
 
 found_of_derived : (width : ℕ) (rows : List Inequality) (unknowns : List ℕ) (made : Derived) → IsDerived width rows unknowns made → IsFound width rows unknowns made.row
-found_of_derived width rows unknowns made d = record { before = unknowns; after = []; parts = append-nil unknowns; multipliers = made.multipliers.items; of_stage = d.of_stage }
+found_of_derived width rows unknowns made d = record { before = unknowns; after = []; parts = append-nil unknowns; multipliers = made.multipliers; of_stage = d.of_stage }
 
 -- a row that is no contradiction says nothing false where no unknown stands in it
 pub sound_of : (row : Inequality) → ¬ ((row.bound <ℤ pos 0) × All (λ c. c ≡ pos 0) row.coefficients) → IsSound row
@@ -196,16 +196,16 @@ multiple_of_row : (width : ℕ) (rows : List Inequality) (unknowns : List ℕ) (
 multiple_of_row width rows unknowns made d = record { scale = d.scale; positive = d.positive; is_scaled = d.is_scaled }
 
 -- the row that is made of two others by their multipliers is their sum
-pub sum_of_derived : (width : ℕ) (rows found : List Inequality) (unknowns : List ℕ) (unknown x y : ℕ) (upper lower made : Derived) → AreBefore width rows found unknowns unknown upper lower → Cancels (coefficient unknown upper.total) (coefficient unknown lower.total) x y → IsLeastMix x y upper.multipliers.items lower.multipliers.items made.multipliers.items → made.total ≡ combination width made.multipliers.items rows → IsReduced made.total made.row → IsSumOf unknown upper.row lower.row made.row
+pub sum_of_derived : (width : ℕ) (rows found : List Inequality) (unknowns : List ℕ) (unknown x y : ℕ) (upper lower made : Derived) → AreBefore width rows found unknowns unknown upper lower → Cancels (coefficient unknown upper.total) (coefficient unknown lower.total) x y → IsLeastMix x y upper.multipliers lower.multipliers made.multipliers → made.total ≡ combination width made.multipliers rows → IsReduced made.total made.row → IsSumOf unknown upper.row lower.row made.row
 sum_of_derived width rows found unknowns unknown x y upper lower made b cancels least is reduced =
     let u = b.upper_of_stage in
     let l = b.lower_of_stage in
-    let least_multiple = multiple_of_reduced (as_row least.mixed) (as_row made.multipliers.items) least.is_least in
-    let summed = combinations_summed width x y least_multiple.scale upper.multipliers.items lower.multipliers.items least.mixed made.multipliers.items rows least.is_mix (l.multipliers.one_each ∙ sym u.multipliers.one_each) least_multiple.is_scaled in
+    let least_multiple = multiple_of_reduced (as_row least.mixed) (as_row made.multipliers) least.is_least in
+    let summed = combinations_summed width x y least_multiple.scale upper.multipliers lower.multipliers least.mixed made.multipliers rows least.is_mix (l.multipliers.one_each ∙ sym u.multipliers.one_each) least_multiple.is_scaled in
     let totals : AreSummed least_multiple.scale x y upper.total lower.total made.total = rw (u.is_total, l.is_total, is) summed in
     sum_of_multiples unknown least_multiple.scale x y upper.row lower.row made.row upper.total lower.total made.total least_multiple.positive cancels (multiple_of_reduced made.total made.row reduced) (multiple_of_row width rows b.before upper u) (multiple_of_row width rows b.before lower l) totals
 
-cancelling_sum : (width : ℕ) (rows found : List Inequality) (unknowns : List ℕ) (unknown x y : ℕ) (upper lower : Derived) (ms : List ℤ) → AreBefore width rows found unknowns unknown upper lower → Cancels (coefficient unknown upper.total) (coefficient unknown lower.total) x y → IsLeastMix x y upper.multipliers.items lower.multipliers.items ms → IsCancellingSum width rows unknown upper.multipliers.items lower.multipliers.items ms
+cancelling_sum : (width : ℕ) (rows found : List Inequality) (unknowns : List ℕ) (unknown x y : ℕ) (upper lower : Derived) (ms : List ℤ) → AreBefore width rows found unknowns unknown upper lower → Cancels (coefficient unknown upper.total) (coefficient unknown lower.total) x y → IsLeastMix x y upper.multipliers lower.multipliers ms → IsCancellingSum width rows unknown upper.multipliers lower.multipliers ms
 cancelling_sum width rows found unknowns unknown x y upper lower ms b cancels least =
     let u = b.upper_of_stage in
     let l = b.lower_of_stage in
@@ -214,12 +214,12 @@ cancelling_sum width rows found unknowns unknown x y upper lower ms b cancels le
       below = subst (λ (r : Inequality). coefficient unknown r <ℤ pos 0) l.is_total b.below;
       x = x;
       y = y;
-      cancels = subst (λ (r : Inequality). Cancels (coefficient unknown (combination width upper.multipliers.items rows)) (coefficient unknown r) x y) l.is_total (subst (λ (r : Inequality). Cancels (coefficient unknown r) (coefficient unknown lower.total) x y) u.is_total cancels);
+      cancels = subst (λ (r : Inequality). Cancels (coefficient unknown (combination width upper.multipliers rows)) (coefficient unknown r) x y) l.is_total (subst (λ (r : Inequality). Cancels (coefficient unknown r) (coefficient unknown lower.total) x y) u.is_total cancels);
       least = least;
     }
 
 -- the sum is due in the elimination that has the two rows
-pub sum_due : (width : ℕ) (rows found : List Inequality) (unknowns : List ℕ) (unknown x y : ℕ) (upper lower : Derived) (ms : List ℤ) → AreBefore width rows found unknowns unknown upper lower → Cancels (coefficient unknown upper.total) (coefficient unknown lower.total) x y → IsLeastMix x y upper.multipliers.items lower.multipliers.items ms → IsDue rows ms
+pub sum_due : (width : ℕ) (rows found : List Inequality) (unknowns : List ℕ) (unknown x y : ℕ) (upper lower : Derived) (ms : List ℤ) → AreBefore width rows found unknowns unknown upper lower → Cancels (coefficient unknown upper.total) (coefficient unknown lower.total) x y → IsLeastMix x y upper.multipliers lower.multipliers ms → IsDue rows ms
 sum_due width rows found unknowns unknown x y upper lower ms b cancels least = due (record {
   width = width;
   done = b.before;
@@ -230,26 +230,26 @@ sum_due width rows found unknowns unknown x y upper lower ms b cancels least = d
   second = lower.row;
   first_found = b.upper_found;
   second_found = b.lower_found;
-  upper = upper.multipliers.items;
-  lower = lower.multipliers.items;
+  upper = upper.multipliers;
+  lower = lower.multipliers;
   first_of_stage = b.upper_of_stage.of_stage;
   second_of_stage = b.lower_of_stage.of_stage;
   is_sum = cancelling_sum width rows found unknowns unknown x y upper lower ms b cancels least;
 })
 
 -- the sum of two rows that cancels an unknown, as a row of the next stage
-pub sum_derived : (width : ℕ) (rows found : List Inequality) (unknowns : List ℕ) (unknown x y : ℕ) (upper lower made : Derived) → AreBefore width rows found unknowns unknown upper lower → Cancels (coefficient unknown upper.total) (coefficient unknown lower.total) x y → IsLeastMix x y upper.multipliers.items lower.multipliers.items made.multipliers.items → made.total ≡ combination width made.multipliers.items rows → IsReduced made.total made.row → IsSound made.total → IsDerived width rows unknowns made
+pub sum_derived : (width : ℕ) (rows found : List Inequality) (unknowns : List ℕ) (unknown x y : ℕ) (upper lower made : Derived) → AreBefore width rows found unknowns unknown upper lower → Cancels (coefficient unknown upper.total) (coefficient unknown lower.total) x y → IsLeastMix x y upper.multipliers lower.multipliers made.multipliers → made.total ≡ combination width made.multipliers rows → IsReduced made.total made.row → IsSound made.total → IsDerived width rows unknowns made
 sum_derived width rows found unknowns unknown x y upper lower made b cancels least is reduced sound =
     let u = b.upper_of_stage in
     let l = b.lower_of_stage in
-    let of_sum = cancelling_sum width rows found unknowns unknown x y upper lower made.multipliers.items b cancels least in
+    let of_sum = cancelling_sum width rows found unknowns unknown x y upper lower made.multipliers b cancels least in
     let scaled = multiple_of_reduced made.total made.row reduced in
     let is_sum = sum_of_derived width rows found unknowns unknown x y upper lower made b cancels least is reduced in
     record {
-      of_stage = subst (λ (us : List ℕ). IsRowOfStage width rows us made.row made.multipliers.items) b.is_last (sum b.before unknown upper.row lower.row made.row upper.multipliers.items lower.multipliers.items made.multipliers.items u.of_stage l.of_stage of_sum (subst (λ (r : Inequality). IsReduced r made.row) is reduced));
+      of_stage = subst (λ (us : List ℕ). IsRowOfStage width rows us made.row made.multipliers) b.is_last (sum b.before unknown upper.row lower.row made.row upper.multipliers lower.multipliers made.multipliers u.of_stage l.of_stage of_sum (subst (λ (r : Inequality). IsReduced r made.row) is reduced));
       is_total = is;
-      multipliers = least_multipliers rows x y upper.multipliers.items lower.multipliers.items made.multipliers.items u.multipliers l.multipliers least;
-      same_width = length_of_reduced made.total made.row reduced ∙ ap (λ (r : Inequality). length r.coefficients) is ∙ width_of_combination width made.multipliers.items rows;
+      multipliers = least_multipliers rows x y upper.multipliers lower.multipliers made.multipliers u.multipliers l.multipliers least;
+      same_width = length_of_reduced made.total made.row reduced ∙ ap (λ (r : Inequality). length r.coefficients) is ∙ width_of_combination width made.multipliers rows;
       scale = scaled.scale;
       positive = scaled.positive;
       is_scaled = scaled.is_scaled;
@@ -294,7 +294,7 @@ stage_with_lower width rows unknowns old new made s d below same upper lower =
 -- a row without the unknown is one of the next stage
 pub kept_derived : (width : ℕ) (rows : List Inequality) (unknowns : List ℕ) (unknown : ℕ) (made : Derived) → IsDerived width rows unknowns made → coefficient unknown made.total ≡ pos 0 → IsDerived width rows (unknowns ++ unknown ∷ []) made
 kept_derived width rows unknowns unknown made d none = record {
-  of_stage = kept unknowns unknown made.row made.multipliers.items d.of_stage (subst (λ (r : Inequality). coefficient unknown r ≡ pos 0) d.is_total none);
+  of_stage = kept unknowns unknown made.row made.multipliers d.of_stage (subst (λ (r : Inequality). coefficient unknown r ≡ pos 0) d.is_total none);
   is_total = d.is_total;
   multipliers = d.multipliers;
   same_width = d.same_width;
@@ -347,7 +347,7 @@ under_way_kept width rows unknowns stage old new u is_stage same live found keys
 }
 
 -- two rows whose sum leaves 128 bits
-pub wide_sum : (width : ℕ) (rows found : List Inequality) (unknowns : List ℕ) (unknown x y : ℕ) (upper lower : Derived) → AreBefore width rows found unknowns unknown upper lower → Cancels (coefficient unknown upper.total) (coefficient unknown lower.total) x y → SumLeaves width rows x y upper.multipliers.items lower.multipliers.items → IsWide rows upper.row lower.row
+pub wide_sum : (width : ℕ) (rows found : List Inequality) (unknowns : List ℕ) (unknown x y : ℕ) (upper lower : Derived) → AreBefore width rows found unknowns unknown upper lower → Cancels (coefficient unknown upper.total) (coefficient unknown lower.total) x y → SumLeaves width rows x y upper.multipliers lower.multipliers → IsWide rows upper.row lower.row
 wide_sum width rows found unknowns unknown x y upper lower b cancels leaves =
     let u = b.upper_of_stage in
     let l = b.lower_of_stage in
@@ -359,15 +359,15 @@ wide_sum width rows found unknowns unknown x y upper lower b cancels leaves =
       elimination = subst (λ (us : List ℕ). IsElimination width rows b.before us found) (sym b.is_last) b.elimination;
       first_found = b.upper_found;
       second_found = b.lower_found;
-      upper = upper.multipliers.items;
-      lower = lower.multipliers.items;
+      upper = upper.multipliers;
+      lower = lower.multipliers;
       first_of_stage = u.of_stage;
       second_of_stage = l.of_stage;
       above = subst (λ (r : Inequality). pos 0 <ℤ coefficient unknown r) u.is_total b.above;
       below = subst (λ (r : Inequality). coefficient unknown r <ℤ pos 0) l.is_total b.below;
       x = x;
       y = y;
-      cancels = subst (λ (r : Inequality). Cancels (coefficient unknown (combination width upper.multipliers.items rows)) (coefficient unknown r) x y) l.is_total (subst (λ (r : Inequality). Cancels (coefficient unknown r) (coefficient unknown lower.total) x y) u.is_total cancels);
+      cancels = subst (λ (r : Inequality). Cancels (coefficient unknown (combination width upper.multipliers rows)) (coefficient unknown r) x y) l.is_total (subst (λ (r : Inequality). Cancels (coefficient unknown r) (coefficient unknown lower.total) x y) u.is_total cancels);
       leaves = leaves;
     })
 
@@ -380,7 +380,7 @@ form_of_derived width given unknowns rows i made within derived l is =
       within = within;
       unknowns = unknowns;
       row = made.row;
-      multipliers = made.multipliers.items;
+      multipliers = made.multipliers;
       of_stage = d.of_stage;
       is_form = refl;
     }

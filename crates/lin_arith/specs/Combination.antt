@@ -5,8 +5,6 @@ use Rattle.std.specs.Int.{w128}
 use Rattle.std.specs.List.{range_with_len}
 use Rattle.std.proofs.Common.{ℤ, ◌<ℤ◌}
 use Rattle.lin_arith.specs.Inequality.{Inequality, coefficient}
-use Rattle.lin_arith.specs.declared.combination.Part.{Part}
-use Rattle.lin_arith.specs.declared.combination.Part.TheVariants.{Coefficient, Bound}
 
 -- multipliers times a number of each row, added up
 abbrev pub weighted_sum : (Inequality → ℤ) → List ℤ → List Inequality → ℤ
@@ -28,11 +26,6 @@ StaysWithin part total (m ∷ ms) (row ∷ rows) =
 -- what a row is at most
 abbrev pub bound_of : Inequality → ℤ
 bound_of row = row.bound
-
--- a number of a row
-abbrev pub part_of : Part → Inequality → ℤ
-part_of (Coefficient unknown) row = coefficient unknown row
-part_of Bound row = row.bound
 
 -- the combination of rows by multipliers, with the coefficients of the first `width` unknowns
 abbrev pub combination : ℕ → List ℤ → List Inequality → Inequality

@@ -6,6 +6,7 @@ pub mod Combination
 pub mod Elimination
 pub mod Floor
 pub mod Inequality
+pub mod Packed
 pub mod Reduction
 pub mod Stages
 pub mod Substitution

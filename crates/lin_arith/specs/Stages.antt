@@ -28,9 +28,9 @@ IsSound row = ((unknown : ℕ) → coefficient unknown row ≡ pos 0) → pos 0 
 
 -- a row of the stage after these unknowns
 pub record IsDerived (width : ℕ) (rows : List Inequality) (unknowns : List ℕ) (made : Derived) : Type 0 where
-  pub of_stage : IsRowOfStage width rows unknowns made.row made.multipliers.items
-  pub is_total : made.total ≡ combination width made.multipliers.items rows
-  pub multipliers : AreMultipliers rows made.multipliers.items
+  pub of_stage : IsRowOfStage width rows unknowns made.row made.multipliers
+  pub is_total : made.total ≡ combination width made.multipliers rows
+  pub multipliers : AreMultipliers rows made.multipliers
   pub same_width : length made.row.coefficients ≡ width
   pub scale : ℕ
   pub positive : 0 < scale

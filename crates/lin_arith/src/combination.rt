@@ -2,18 +2,12 @@
 
 ghost use Rattle.std.specs.Prelude.{◌≡◌, ℕ, ◌<◌, length, pos, false, IsTrue, IfOk, ◌+ℤ◌, ◌*ℤ◌};
 ghost use Rattle.std.specs.Option.{SomeIff};
-ghost use Rattle.lin_arith.specs.Combination.{IsAdded, weighted_sum, StaysWithin, part_of, combination, CombinesWithin, number, IsAddedTo, AddedLeaves};
+ghost use Rattle.lin_arith.specs.Combination.{IsAdded, combination, CombinesWithin, number, IsAddedTo, AddedLeaves};
 
+use crate::packed::Packed;
 use crate::rows::LinRow;
 use pv_base::memory::NoMemory;
 use std::alloc::Global;
-
-/// A number of a row: the coefficient of an unknown, or the bound.
-#[derive(Clone, Copy, Debug)]
-pub enum Part {
-    Coefficient(usize),
-    Bound,
-}
 
 /// The total and a product. None where the product or the sum leaves 128 bits.
 pub fn plus_product(total: i128, multiplier: i128, number: i128) -> Option<i128>
@@ -31,46 +25,36 @@ pub fn plus_product(total: i128, multiplier: i128, number: i128) -> Option<i128>
     }
 }
 
-/// Multipliers times a number of each row, added up in the rows' order. None where a product or a sum
-/// on the way leaves 128 bits.
-pub fn weighted_sum(part: Part, multipliers: &[i128], rows: &[LinRow]) -> Option<i128>
-    requires { length multipliers.now ≡ length rows.now }
-    ensures { SomeIff result (StaysWithin (part_of part) (pos 0) multipliers.now rows.now) (weighted_sum (part_of part) multipliers.now rows.now) }
-{
-    let mut total: i128 = 0;
-    for i in 0..rows.len() {
-        if multipliers[i] != 0 {
-            let Some(more) = plus_product(total, multipliers[i], rows[i].part(part)) else {
-                return None;
-            };
-            total = more;
-        }
-    }
-    Some(total)
-}
-
 /// The combination of rows by multipliers, with the coefficients of the first `width` unknowns. None
 /// where a product or a sum on the way leaves 128 bits.
 pub fn combined(
     alloc: Global,
     width: usize,
-    multipliers: &[i128],
+    multipliers: &Packed,
     rows: &[LinRow],
 ) -> Result<Option<LinRow>, NoMemory>
     requires { length multipliers.now ≡ length rows.now }
     ensures { IfOk result (λ made. SomeIff made (CombinesWithin width multipliers.now rows.now) (combination width multipliers.now rows.now)) }
 {
     let mut totals = vec![in alloc; 0i128; width]?;
-    for i in 0..rows.len() {
-        if multipliers[i] != 0 {
-            if !add_row(&mut totals, multipliers[i], &rows[i]) {
-                return Ok(None);
-            }
+    let mut bound: i128 = 0;
+    let mut walk = multipliers.walk();
+    let mut i = 0;
+    while walk.zeros < rows.len() - i {
+        let zeros = walk.zeros;
+        walk.skip(zeros);
+        i += zeros;
+        let row = &rows[i];
+        let multiplier = walk.next();
+        if !add_row(&mut totals, multiplier, row) {
+            return Ok(None);
         }
+        let Some(more) = plus_product(bound, multiplier, row.bound()) else {
+            return Ok(None);
+        };
+        bound = more;
+        i += 1;
     }
-    let Some(bound) = weighted_sum(Part::Bound, multipliers, rows) else {
-        return Ok(None);
-    };
     Ok(Some(LinRow::new(totals, bound)))
 }
 

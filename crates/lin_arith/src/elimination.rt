@@ -11,6 +11,7 @@ ghost use Rattle.lin_arith.specs.Stages.{AreMultipliers, IsDerived, AreBefore, I
 ghost use Rattle.lin_arith.specs.Answer.{StopShows};
 
 use crate::combination::combined;
+use crate::packed::Packed;
 use crate::reduction::reduced;
 use crate::rows::{LinAnswer, LinRow, Multipliers, Rows};
 use crate::stop::{Stop, wide};
@@ -32,7 +33,7 @@ pub struct Derived {
     /// The given rows times the multipliers, added up: a positive multiple of the row.
     pub total: LinRow,
     /// One for each given row.
-    pub multipliers: Vec<i128>,
+    pub multipliers: Packed,
 }
 
 /// What an elimination of an unknown left behind.
@@ -298,6 +299,7 @@ fn given(alloc: Global, system: &System<'_>, i: usize) -> Result<Derived, Stop>
         let shown = Multipliers::new(multipliers);
         return Err(Stop::Answered(LinAnswer::Infeasible(shown)));
     }
+    let multipliers = Packed::of(alloc, multipliers.as_slice())?;
     Ok(Derived {
         row: row.try_clone(alloc)?,
         total: row,
@@ -323,8 +325,8 @@ fn sum_without(
     upper: &Derived,
     lower: &Derived,
 ) -> Result<Derived, Stop>
-    requires upper { AreMultipliers system.now.rows.now upper.now.multipliers.items }
-    requires lower { AreMultipliers system.now.rows.now lower.now.multipliers.items }
+    requires upper { AreMultipliers system.now.rows.now upper.now.multipliers }
+    requires lower { AreMultipliers system.now.rows.now lower.now.multipliers }
     ensures ok { (found : List Inequality) (unknowns : List ℕ) → AreBefore system.now.width system.now.rows.now found unknowns unknown upper.now lower.now → IfOk result (IsDerived system.now.width system.now.rows.now unknowns) }
     ensures sum { (found : List Inequality) (unknowns : List ℕ) → AreBefore system.now.width system.now.rows.now found unknowns unknown upper.now lower.now → IfOk result (λ made. IsSumOf unknown upper.now.row lower.now.row made.row) }
     ensures err { (found : List Inequality) (unknowns : List ℕ) → AreBefore system.now.width system.now.rows.now found unknowns unknown upper.now lower.now → IfErr result (StopShows system.now.rows.now) }
@@ -333,12 +335,12 @@ fn sum_without(
         upper.total.coefficient(unknown),
         lower.total.coefficient(unknown),
     );
-    let first = upper.multipliers.as_slice();
-    let second = lower.multipliers.as_slice();
-    let Some(multipliers) = least_mixed(alloc, weights, first, second)? else {
+    let count = system.rows.len();
+    let (first, second) = (&upper.multipliers, &lower.multipliers);
+    let Some(multipliers) = least_mixed(alloc, weights, count, first, second)? else {
         return Err(wide(alloc, &upper.row, &lower.row)?);
     };
-    let Some(total) = total_of(alloc, system, multipliers.as_slice())? else {
+    let Some(total) = total_of(alloc, system, &multipliers)? else {
         return Err(wide(alloc, &upper.row, &lower.row)?);
     };
     Ok(Derived {
@@ -353,7 +355,7 @@ fn sum_without(
 fn total_of(
     alloc: Global,
     system: &System<'_>,
-    multipliers: &[i128],
+    multipliers: &Packed,
 ) -> Result<Option<LinRow>, Stop>
     requires { AreMultipliers system.now.rows.now multipliers.now }
     ensures ok { IfOk result (λ made. SomeIff made (CombinesWithin system.now.width multipliers.now system.now.rows.now) (combination system.now.width multipliers.now system.now.rows.now)) }
@@ -363,7 +365,7 @@ fn total_of(
     let total = combined(alloc, system.width, multipliers, system.rows)?;
     if let Some(row) = &total {
         if row.is_contradiction() {
-            let shown = Multipliers::new(Vec::from_slice(alloc, multipliers)?);
+            let shown = Multipliers::new(multipliers.numbers(alloc, system.rows.len())?);
             return Err(Stop::Answered(LinAnswer::Infeasible(shown)));
         }
     }

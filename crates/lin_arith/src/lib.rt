@@ -9,6 +9,7 @@ mod bounds;
 mod combination;
 mod elimination;
 mod numbers;
+mod packed;
 mod reduction;
 mod rows;
 mod solver;

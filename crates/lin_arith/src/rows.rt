@@ -5,9 +5,7 @@ ghost use Rattle.std.specs.List.{range_with_len};
 ghost use Rattle.std.specs.Int.{w128};
 ghost use Rattle.std.specs.Prelude.{IsTrue, ◌↔◌, All, pos, ◌<ℤ◌, ◌≤ℤ◌};
 ghost use Rattle.lin_arith.specs.Inequality.{coefficient};
-ghost use Rattle.lin_arith.specs.Combination.{part_of};
 
-use crate::combination::Part;
 use pv_base::memory::NoMemory;
 use std::alloc::Global;
 use std::marker::Model;
@@ -225,16 +223,6 @@ impl LinRow {
         ensures { result ≡ coefficient unknown self.now }
     {
         self.coefficients.get(unknown).copied().unwrap_or(0)
-    }
-
-    /// A number of the row.
-    pub fn part(&self, part: Part) -> i128
-        ensures { result ≡ part_of part self.now }
-    {
-        match part {
-            Part::Coefficient(unknown) => self.coefficient(unknown),
-            Part::Bound => self.bound,
-        }
     }
 
     /// The row with the coefficients of the first `width` unknowns.

@@ -4,10 +4,12 @@ ghost use Rattle.std.specs.Prelude.{◌<◌, ◌≡◌, length, pos, ◌<ℤ◌,
 ghost use Rattle.std.specs.Option.{SomeIff};
 ghost use Rattle.lin_arith.specs.Inequality.{coefficient};
 ghost use Rattle.lin_arith.specs.Closure.{IsSumOf};
-ghost use Rattle.lin_arith.specs.Elimination.{Cancels, IsMix, IsLeastMix, MixFits, MixLeaves};
+ghost use Rattle.lin_arith.specs.Elimination.{Cancels, IsMix, IsLeastMix, MixFits, MixLeaves, as_row};
+ghost use Rattle.lin_arith.specs.Reduction.{IsReduced};
 
 use crate::combination::plus_product;
 use crate::numbers::greatest_common_divisor;
+use crate::packed::Packed;
 use crate::reduction::reduced;
 use crate::rows::LinRow;
 use pv_base::memory::NoMemory;
@@ -92,22 +94,70 @@ pub fn mixed(
     Ok(Some(numbers))
 }
 
-/// The least whole numbers in the ratio of two lists times their multipliers, added. None where a number
-/// on the way leaves 128 bits.
+/// Two lists of `count` numbers times their multipliers, added number by number. None where one leaves
+/// 128 bits.
+fn mixed_lists(
+    alloc: Global,
+    weights: Weights,
+    count: usize,
+    first: &Packed,
+    second: &Packed,
+) -> Result<Option<Packed>, NoMemory>
+    requires { length first.now ≡ count }
+    ensures some { IfOk result (λ made. IfSome made (λ ms. IsMix weights.first weights.second first.now second.now ms)) }
+    ensures none { IfOk result (λ made. IfNone made (MixLeaves weights.first weights.second first.now second.now)) }
+{
+    let mut numbers = Packed::with_room(alloc, first.room().saturating_add(second.room()))?;
+    let mut left = first.walk();
+    let mut right = second.walk();
+    let mut k = 0;
+    loop {
+        let zeros = left.zeros.min(right.zeros).min(count - k);
+        left.skip(zeros);
+        right.skip(zeros);
+        numbers.push_zeros(zeros);
+        k += zeros;
+        if k == count {
+            return Ok(Some(numbers));
+        }
+        let Some(number) = mixed_at_once(weights, left.next(), right.next()) else {
+            return Ok(None);
+        };
+        numbers.push(number)?;
+        k += 1;
+    }
+}
+
+/// The least whole numbers in the ratio of two lists of `count` numbers times their multipliers, added.
+/// None where a number on the way leaves 128 bits.
 pub fn least_mixed(
     alloc: Global,
     weights: Weights,
-    first: &[i128],
-    second: &[i128],
-) -> Result<Option<Vec<i128>>, NoMemory>
-    ensures some { IfOk result (λ made. IfSome made (λ ms. IsLeastMix weights.first weights.second first.now second.now ms.items)) }
+    count: usize,
+    first: &Packed,
+    second: &Packed,
+) -> Result<Option<Packed>, NoMemory>
+    requires { length first.now ≡ count }
+    ensures some { IfOk result (λ made. IfSome made (λ ms. IsLeastMix weights.first weights.second first.now second.now ms)) }
     ensures none { IfOk result (λ made. IfNone made (MixLeaves weights.first weights.second first.now second.now)) }
 {
-    let Some(numbers) = mixed(alloc, weights, first, second)? else {
+    let Some(numbers) = mixed_lists(alloc, weights, count, first, second)? else {
         return Ok(None);
     };
-    let least = reduced(alloc, LinRow::new(numbers, 0))?;
-    Ok(Some(least.into_coefficients()))
+    Ok(Some(least(alloc, count, numbers)?))
+}
+
+/// The least whole numbers in the ratio of these `count`.
+fn least(alloc: Global, count: usize, numbers: Packed) -> Result<Packed, NoMemory>
+    requires { length numbers ≡ count }
+    ensures { IfOk result (λ ms. IsReduced (as_row numbers) (as_row ms)) }
+{
+    if numbers.has_one() {
+        return Ok(numbers);
+    }
+    let row = LinRow::new(numbers.numbers(alloc, count)?, 0);
+    let least = reduced(alloc, row)?.into_coefficients();
+    Packed::of(alloc, least.as_slice())
 }
 
 /// The sum of two rows that cancels an unknown, divided by the greatest common divisor of its numbers.

@@ -1,13 +1,15 @@
-use Rattle.std.proofs.Common.{◌≡◌, ◌<◌, ℕ, pos, ◌+ℤ◌, drop, ◌↔◌, vec_len, FitsSigned}
-use Rattle.std.specs.Int.{w128}
-use Rattle.lin_arith.specs.Inequality.{coefficient}
-use Rattle.lin_arith.specs.Combination.{number, weighted_sum, StaysWithin}
+use Rattle.std.proofs.Common.{◌≡◌, ◌≤◌, ◌+◌, ◌-◌, ℕ, length}
+use Rattle.lin_arith.specs.Combination.{number}
+use Rattle.lin_arith.specs.Packed.{ahead}
+use Rattle.lin_arith.proofs.CombinedLemmas.{HasCombined}
 use Rattle.lin_arith.proofs.combination.combined.Given as goal
 
-abbrev pub invariant-loop-i : goal.invariant-loop-i
-invariant-loop-i l = record {
-  len : vec_len l.totals ≡ l.width;
-  fits : (u : ℕ) → u < l.width → FitsSigned w128 (number u l.totals.items);
-  value : (u : ℕ) → u < l.width → number u l.totals.items +ℤ weighted_sum (coefficient u) (drop l.i l.multipliers) (drop l.i l.rows) ≡ weighted_sum (coefficient u) l.multipliers l.rows;
-  within : (u : ℕ) → u < l.width → StaysWithin (coefficient u) (pos 0) l.multipliers l.rows ↔ StaysWithin (coefficient u) (number u l.totals.items) (drop l.i l.multipliers) (drop l.i l.rows);
+abbrev pub invariant-loop-walk : goal.invariant-loop-walk
+invariant-loop-walk l = record {
+  below : l.i ≤ length l.rows;
+  rest : (k : ℕ) → number k (ahead l.walk.zeros l.walk.rest.now) ≡ number (k + l.i) l.multipliers;
+  made : HasCombined l.width l.multipliers l.rows l.i l.totals.items l.bound;
 }
+
+abbrev pub decreases-loop-walk : goal.decreases-loop-walk
+decreases-loop-walk l = length l.rows - l.i

@@ -4,7 +4,8 @@ use Rattle.std.specs.Int.{w128}
 use Rattle.lin_arith.specs.Inequality.{Inequality, padded}
 use Rattle.lin_arith.specs.Closure.{IsDue}
 use Rattle.lin_arith.specs.Closure.IsDue.{given as due}
-use Rattle.lin_arith.specs.Combination.{IsContradiction}
+use Rattle.lin_arith.specs.Combination.{IsContradiction, combination}
+use Rattle.lin_arith.specs.Elimination.{IsUnit}
 use Rattle.lin_arith.proofs.GivenLemmas.{padded_is, given_contradicts, given_derived}
 use Rattle.std.proofs.lemmas.Bool.{false≢true}
 use Rattle.lin_arith.specs.Stages.{IsSound}
@@ -28,4 +29,7 @@ returns-clause-ok c =
     let system = c.args.system.now in
     let row = c.index-system-i.result in
     let made = c.in_ok-row.ensures.padded ∙ ap (padded system.width) (sym c.index-system-i.is) ∙ padded_is system.width c.in_ok-multipliers.multipliers.items system.rows.now c.args.i row c.in_ok-multipliers.ensures c.index-system-i.is in
-    given_derived system.width system.rows.now c.args.i _ c.in_ok-multipliers.ensures (c.in_ok-try_clone.ensures ∙ made) made (subst (λ (r : Inequality). IsSound r) (sym c.in_ok-try_clone.ensures) (sound_of c.in_ok-row.row (λ h. false≢true (c.if-is_contradiction.ensures.1 h))))
+    let list = c.in_ok-multipliers-2.ensures ∙ c.as_slice.ensures.value in
+    let unit = subst (λ (ms : List ℤ). IsUnit (length system.rows.now) c.args.i ms) (sym list) c.in_ok-multipliers.ensures in
+    let made' = subst (λ (ms : List ℤ). c.in_ok-row.row ≡ combination system.width ms system.rows.now) (sym list) made in
+    given_derived system.width system.rows.now c.args.i _ unit (c.in_ok-try_clone.ensures ∙ made') made' (subst (λ (r : Inequality). IsSound r) (sym c.in_ok-try_clone.ensures) (sound_of c.in_ok-row.row (λ h. false≢true (c.if-is_contradiction.ensures.1 h))))
