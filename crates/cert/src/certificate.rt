@@ -9,16 +9,32 @@ use std::marker::Model;
 
 /// A certificate: straight steps, one after another, and what stands at their end.
 #[cycle(certificate)]
-#[derive(Drop)]
 pub struct Cert {
     pub steps: Vec<Step>,
     pub end: End,
 }
 
+// Its own, so that letting one go is a call wherever it is done, and not the cases of all forms below it.
+impl Drop for Cert {
+    #[cycle(drop_certificate)]
+    fn drop(self) {
+        let Cert { steps, end } = self;
+        drop(steps);
+        drop(end);
+    }
+}
+
 /// A step that goes on with one branch.
-#[derive(Drop)]
 pub struct Step {
     pub node: StepNode,
+}
+
+// Its own, so that letting one go is a call wherever it is done, and not the cases of all forms below it.
+impl Drop for Step {
+    fn drop(self) {
+        let Step { node } = self;
+        drop(node);
+    }
 }
 
 /// The forms of a straight step.

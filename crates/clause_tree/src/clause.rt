@@ -53,7 +53,6 @@ pub struct Bindings {
     pub last_comma: bool,
 }
 
-#[derive(Drop)]
 pub struct Include {
     pub place: Span,
     pub schema: Path,
@@ -61,8 +60,22 @@ pub struct Include {
     pub bindings: Option<Bindings>,
 }
 
+// Its own, so that letting one go is a call wherever it is done, and not the cases of all forms below it.
+impl Drop for Include {
+    fn drop(self) {
+        let Include {
+            place: _,
+            schema,
+            arguments,
+            bindings,
+        } = self;
+        drop(schema);
+        drop(arguments);
+        drop(bindings);
+    }
+}
+
 /// A clause of a spec block.
-#[derive(Drop)]
 pub enum Clause {
     Pragma {
         place: Span,
@@ -101,13 +114,54 @@ pub enum Clause {
     Variable(TypedName),
 }
 
+// Its own, so that letting one go is a call wherever it is done, and not the cases of all forms below it.
+impl Drop for Clause {
+    fn drop(self) {
+        match self {
+            Clause::Pragma { place: _, pragmas } => drop(pragmas),
+            Clause::Requires {
+                place: _,
+                condition,
+            }
+            | Clause::Ensures {
+                place: _,
+                condition,
+            }
+            | Clause::Invariant {
+                place: _,
+                is_update: _,
+                condition,
+            } => drop(condition),
+            Clause::AbortsIf {
+                place: _,
+                condition,
+                code,
+            } => {
+                drop(condition);
+                drop(code);
+            }
+            Clause::Modifies { place: _, targets } => drop(targets),
+            Clause::Let {
+                place: _,
+                is_post: _,
+                name,
+                value,
+            } => {
+                drop(name);
+                drop(value);
+            }
+            Clause::Include(include) => drop(include),
+            Clause::Variable(variable) => drop(variable),
+        }
+    }
+}
+
 /// The clauses between the braces of a block.
 #[derive(Drop)]
 pub struct Clauses {
     pub items: Vec<Clause>,
 }
 
-#[derive(Drop)]
 pub struct Schema {
     pub place: Span,
     pub name: Identifier,
@@ -115,8 +169,22 @@ pub struct Schema {
     pub clauses: Clauses,
 }
 
+// Its own, so that letting one go is a call wherever it is done, and not the cases of all forms below it.
+impl Drop for Schema {
+    fn drop(self) {
+        let Schema {
+            place: _,
+            name,
+            parameters,
+            clauses,
+        } = self;
+        drop(name);
+        drop(parameters);
+        drop(clauses);
+    }
+}
+
 /// A function for specifications alone.
-#[derive(Drop)]
 pub struct SpecFunction {
     pub place: Span,
     pub name: Identifier,
@@ -126,8 +194,26 @@ pub struct SpecFunction {
     pub body: SpecExpression,
 }
 
+// Its own, so that letting one go is a call wherever it is done, and not the cases of all forms below it.
+impl Drop for SpecFunction {
+    fn drop(self) {
+        let SpecFunction {
+            place: _,
+            name,
+            parameters,
+            inputs,
+            result,
+            body,
+        } = self;
+        drop(name);
+        drop(parameters);
+        drop(inputs);
+        drop(result);
+        drop(body);
+    }
+}
+
 /// A spec block.
-#[derive(Drop)]
 pub enum Spec {
     /// That of the module around it.
     Module {
@@ -147,6 +233,25 @@ pub enum Spec {
         place: Span,
         clauses: Clauses,
     },
+}
+
+// Its own, so that letting one go is a call wherever it is done, and not the cases of all forms below it.
+impl Drop for Spec {
+    fn drop(self) {
+        match self {
+            Spec::Module { place: _, clauses } | Spec::Loop { place: _, clauses } => drop(clauses),
+            Spec::Named {
+                place: _,
+                name,
+                clauses,
+            } => {
+                drop(name);
+                drop(clauses);
+            }
+            Spec::Schema(schema) => drop(schema),
+            Spec::Function(function) => drop(function),
+        }
+    }
 }
 
 impl Model for Pragmas {

@@ -39,11 +39,23 @@ pub enum Imported {
     Several(Imports),
 }
 
-#[derive(Drop)]
 pub struct Use {
     pub place: Span,
     pub owner: ModuleName,
     pub imported: Imported,
+}
+
+// Its own, so that letting one go is a call wherever it is done, and not the cases of all forms below it.
+impl Drop for Use {
+    fn drop(self) {
+        let Use {
+            place: _,
+            owner,
+            imported,
+        } = self;
+        drop(owner);
+        drop(imported);
+    }
 }
 
 #[derive(Drop)]
@@ -97,13 +109,29 @@ pub struct TypedNames {
     pub last_comma: bool,
 }
 
-#[derive(Drop)]
 pub struct Struct {
     pub place: Span,
     pub name: Identifier,
     pub parameters: Option<TypeParameters>,
     pub abilities: Option<Abilities>,
     pub fields: TypedNames,
+}
+
+// Its own, so that letting one go is a call wherever it is done, and not the cases of all forms below it.
+impl Drop for Struct {
+    fn drop(self) {
+        let Struct {
+            place: _,
+            name,
+            parameters,
+            abilities,
+            fields,
+        } = self;
+        drop(name);
+        drop(parameters);
+        drop(abilities);
+        drop(fields);
+    }
 }
 
 #[derive(Drop)]
@@ -131,7 +159,6 @@ pub struct Paths {
     pub last_comma: bool,
 }
 
-#[derive(Drop)]
 pub struct Function {
     pub visibility: Visibility,
     /// The place of `entry`, where the function has it.
@@ -143,6 +170,29 @@ pub struct Function {
     pub result: Option<SourceType>,
     pub acquires: Option<Paths>,
     pub body: Block,
+}
+
+// Its own, so that letting one go is a call wherever it is done, and not the cases of all forms below it.
+impl Drop for Function {
+    fn drop(self) {
+        let Function {
+            visibility: _,
+            entry: _,
+            place: _,
+            name,
+            parameters,
+            inputs,
+            result,
+            acquires,
+            body,
+        } = self;
+        drop(name);
+        drop(parameters);
+        drop(inputs);
+        drop(result);
+        drop(acquires);
+        drop(body);
+    }
 }
 
 /// A spec block, as a file tree keeps it.

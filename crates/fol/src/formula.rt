@@ -5,9 +5,17 @@ use std::marker::Model;
 
 /// A term: it has one value for each choice of values of its variables.
 #[cycle(formula)]
-#[derive(Drop)]
 pub struct Term {
     pub node: TermNode,
+}
+
+// Its own, so that letting one go is a call wherever it is done, and not the cases of all forms below it.
+impl Drop for Term {
+    #[cycle(drop_formula)]
+    fn drop(self) {
+        let Term { node } = self;
+        drop(node);
+    }
 }
 
 /// The forms of a term. Each has a value whatever its parts are; `specs/Operators.antt` says which.
@@ -82,9 +90,17 @@ pub type Triggers = Vec<Trigger>;
 
 /// A formula: it is true or false for each choice of values of its variables.
 #[cycle(formula)]
-#[derive(Drop)]
 pub struct Formula {
     pub node: FormulaNode,
+}
+
+// Its own, so that letting one go is a call wherever it is done, and not the cases of all forms below it.
+impl Drop for Formula {
+    #[cycle(drop_formula)]
+    fn drop(self) {
+        let Formula { node } = self;
+        drop(node);
+    }
 }
 
 /// The forms of a formula.

@@ -12,9 +12,17 @@ use std::marker::Model;
 
 /// An expression.
 #[cycle(expression)]
-#[derive(Drop)]
 pub struct Expression {
     pub node: ExpressionNode,
+}
+
+// Its own, so that letting one go is a call wherever it is done, and not the cases of all forms below it.
+impl Drop for Expression {
+    #[cycle(drop_expression)]
+    fn drop(self) {
+        let Expression { node } = self;
+        drop(node);
+    }
 }
 
 /// The forms of an expression. The place of each is that of its own first keyword or sign.
@@ -117,7 +125,6 @@ pub enum ExpressionNode {
 
 /// A block: items, and the value behind them.
 #[cycle(expression)]
-#[derive(Drop)]
 pub struct Block {
     pub place: Span,
     /// The spec block of the loop whose body or condition this is.
@@ -126,11 +133,35 @@ pub struct Block {
     pub value: Option<Expression>,
 }
 
+// Its own, so that letting one go is a call wherever it is done, and not the cases of all forms below it.
+impl Drop for Block {
+    #[cycle(drop_expression)]
+    fn drop(self) {
+        let Block {
+            place: _,
+            spec,
+            items,
+            value,
+        } = self;
+        drop(spec);
+        drop(items);
+        drop(value);
+    }
+}
+
 /// An item of a block.
 #[cycle(expression)]
-#[derive(Drop)]
 pub struct Item {
     pub node: ItemNode,
+}
+
+// Its own, so that letting one go is a call wherever it is done, and not the cases of all forms below it.
+impl Drop for Item {
+    #[cycle(drop_expression)]
+    fn drop(self) {
+        let Item { node } = self;
+        drop(node);
+    }
 }
 
 /// The forms of an item.

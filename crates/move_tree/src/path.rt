@@ -10,10 +10,19 @@ use src_tree::token::{NumberLiteral, Punctuation, TokenKind};
 use std::alloc::Global;
 
 /// An address: a number, or the name of one.
-#[derive(Drop)]
 pub enum Address {
     Number(Numeral),
     Name(Identifier),
+}
+
+// Its own, so that letting one go is a call wherever it is done, and not the cases of all forms below it.
+impl Drop for Address {
+    fn drop(self) {
+        match self {
+            Address::Number(number) => drop(number),
+            Address::Name(name) => drop(name),
+        }
+    }
 }
 
 /// A module by its address and its name.

@@ -8,9 +8,17 @@ use std::marker::Model;
 
 /// A pattern.
 #[cycle(pattern)]
-#[derive(Drop)]
 pub struct Pattern {
     pub node: PatternNode,
+}
+
+// Its own, so that letting one go is a call wherever it is done, and not the cases of all forms below it.
+impl Drop for Pattern {
+    #[cycle(drop_pattern)]
+    fn drop(self) {
+        let Pattern { node } = self;
+        drop(node);
+    }
 }
 
 /// The forms of a pattern.

@@ -6,9 +6,17 @@ use std::marker::Model;
 
 /// A type, as the source writes it.
 #[cycle(source_type)]
-#[derive(Drop)]
 pub struct SourceType {
     pub node: SourceTypeNode,
+}
+
+// Its own, so that letting one go is a call wherever it is done, and not the cases of all forms below it.
+impl Drop for SourceType {
+    #[cycle(drop_type)]
+    fn drop(self) {
+        let SourceType { node } = self;
+        drop(node);
+    }
 }
 
 /// The forms of a type.

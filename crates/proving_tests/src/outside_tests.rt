@@ -5,6 +5,7 @@ use outside::memory_sources::MapSources;
 use outside::outside::{Fetched, Sink, Sources, Wrote};
 use pv_base::lists::{Bytes, Calls, FileMap};
 use pv_base::name::Name;
+use std::alloc::Global;
 use std::test::Fail;
 
 #[test]
@@ -15,16 +16,22 @@ fn an_empty_piece_is_taken_without_room(rt: HostRuntime) -> Result<(), Fail> {
     Ok(())
 }
 
-#[test]
-fn files_in_memory_are_fetched(rt: HostRuntime) -> Result<(), Fail> {
-    let alloc = rt.alloc();
+// Three files: a short one, the longest that is fetched, and one that is too long.
+fn files(alloc: Global) -> Result<FileMap, Fail> {
     let mut files = FileMap::new(alloc);
     for (name, length) in [(b"a", 3usize), (b"b", 1_048_576), (b"c", 1_048_577)] {
         let mut bytes = Bytes::new(alloc);
         bytes.extend_from_slice(vec![in alloc; b'x'; length]?.as_slice())?;
         files.insert(Name::from_slice(alloc, name)?, bytes)?;
     }
-    let mut sources = MapSources::new(files, Calls::from_slice(alloc, &[2])?);
+    Ok(files)
+}
+
+#[test]
+fn files_in_memory_are_fetched(rt: HostRuntime) -> Result<(), Fail> {
+    let alloc = rt.alloc();
+    let failing = Calls::from_slice(alloc, &[2])?;
+    let mut sources = MapSources::new(files(alloc)?, failing);
     let mut into = Bytes::new(alloc);
     for (name, answer, length) in [
         (b"a", Fetched::Whole, 3),
@@ -34,8 +41,8 @@ fn files_in_memory_are_fetched(rt: HostRuntime) -> Result<(), Fail> {
         (b"d", Fetched::Failed, 0),
         (b"a", Fetched::Whole, 3),
     ] {
-        let fetched = sources.fetch(&Name::from_slice(alloc, name)?, &mut into);
-        assert_eq!(rt; fetched, answer);
+        let name = Name::from_slice(alloc, name)?;
+        assert_eq!(rt; sources.fetch(&name, &mut into), answer);
         assert_eq!(rt; into.len(), length);
     }
     Ok(())

@@ -11,9 +11,10 @@ use report::report::{
 use report::report_text::report_lines;
 use report::status::{Device, LimitKind, Refusal, Rule, Status};
 use report::status_text::{files_limit_line, limit_line, refusal_line, source_fault_line};
-use report::text::push_hexadecimal;
+use report::text::{Lines, push_hexadecimal};
 use report::writing::write_lines;
 use std::alloc::Global;
+use std::process::Abort;
 use std::test::Fail;
 use vc_gen::condition::ConditionKind;
 
@@ -55,73 +56,100 @@ fn values(alloc: Global) -> Result<Vec<ParameterValue>, Fail> {
     ]?)
 }
 
-fn report(alloc: Global) -> Result<Report, Fail> {
-    let conditions = vec![in alloc;
-        condition(
-            ConditionKind::Ensures,
-            5,
-            ConditionVerdict::Proved,
-            Vec::new(alloc),
-        ),
-        condition(
-            ConditionKind::AbortsIf,
-            4,
-            ConditionVerdict::Open,
-            values(alloc)?,
-        ),
-        ConditionRecord {
-            check_line: Some(7),
-            ..condition(
-                ConditionKind::Aborts,
-                2,
-                ConditionVerdict::Budget(20_000),
-                Vec::new(alloc),
-            )
-        },
-    ]?;
-    let f = FunctionRecord {
-        address: 1,
-        module_name: Name::from_slice(alloc, b"m")?,
-        name: Name::from_slice(alloc, b"f")?,
-        verdict: FunctionVerdict::Unknown,
+fn conditions(alloc: Global) -> Result<Vec<ConditionRecord>, Fail> {
+    let mut made = Vec::new(alloc);
+    made.push(condition(
+        ConditionKind::Ensures,
+        5,
+        ConditionVerdict::Proved,
+        Vec::new(alloc),
+    ))?;
+    made.push(condition(
+        ConditionKind::AbortsIf,
+        4,
+        ConditionVerdict::Open,
+        values(alloc)?,
+    ))?;
+    let mut spent = condition(
+        ConditionKind::Aborts,
+        2,
+        ConditionVerdict::Budget(20_000),
+        Vec::new(alloc),
+    );
+    spent.check_line = Some(7);
+    made.push(spent)?;
+    Ok(made)
+}
+
+fn function(
+    alloc: Global,
+    address: u128,
+    name: &[u8],
+    verdict: FunctionVerdict,
+    conditions: Vec<ConditionRecord>,
+) -> Result<FunctionRecord, Fail> {
+    let module_name = Name::from_slice(alloc, b"m")?;
+    let name = Name::from_slice(alloc, name)?;
+    Ok(FunctionRecord {
+        address,
+        module_name,
+        name,
+        verdict,
         conditions,
-    };
-    let g = FunctionRecord {
-        address: 0xcafe,
-        module_name: Name::from_slice(alloc, b"m")?,
-        name: Name::from_slice(alloc, b"g")?,
-        verdict: FunctionVerdict::Proved,
-        conditions: Vec::new(alloc),
-    };
-    Ok(Report {
-        files: vec![in alloc; Name::from_slice(alloc, b"a.move")?]?,
-        functions: vec![in alloc; f, g]?,
     })
+}
+
+fn functions(alloc: Global) -> Result<Vec<FunctionRecord>, Fail> {
+    let conditions = conditions(alloc)?;
+    let mut made = Vec::new(alloc);
+    made.push(function(alloc, 1, b"f", FunctionVerdict::Unknown, conditions)?)?;
+    made.push(function(
+        alloc,
+        0xcafe,
+        b"g",
+        FunctionVerdict::Proved,
+        Vec::new(alloc),
+    )?)?;
+    Ok(made)
+}
+
+fn report(alloc: Global) -> Result<Report, Fail> {
+    let functions = functions(alloc)?;
+    let mut files = Vec::new(alloc);
+    files.push(Name::from_slice(alloc, b"a.move")?)?;
+    Ok(Report { files, functions })
 }
 
 const REPORT: &[u8] =
     b"0x1::m::f: unknown\n  ensures a.move:5: proved\n  aborts_if a.move:4: open\n    x = -3\n    y = 170141183460469231731687303715884105727/2\n  aborts a.move:2 at 7: budget 20000\n0xcafe::m::g: proved\nproved 1 of 2\n";
 
+// How many bytes of the report a sink of this room takes, whose writes with these numbers fail.
+fn writes(
+    rt: &impl Abort,
+    alloc: Global,
+    lines: &Lines,
+    fails: &[u64],
+    room: usize,
+    taken: usize,
+) -> Result<(), Fail> {
+    let calls = Calls::from_slice(alloc, fails)?;
+    let mut sink = VecSink::new(alloc, room, calls)?;
+    let written = write_lines(&mut sink, lines);
+    assert_eq!(rt; written.is_ok(), taken == REPORT.len(), "room {room}");
+    assert!(rt; taken <= REPORT.len());
+    assert_eq!(rt; sink.bytes(), &REPORT[..taken]);
+    Ok(())
+}
+
 #[test]
 fn reports_are_written_whole_or_up_to_a_fault(rt: HostRuntime) -> Result<(), Fail> {
     let lines = report_lines(rt.alloc(), &report(rt.alloc())?)?;
-    // The numbers of the failing writes, the room, and how many bytes are taken.
-    let rows: [(&[u64], usize, usize); 5] = [
-        (&[], 1000, REPORT.len()),
-        (&[], REPORT.len(), REPORT.len()),
-        (&[], 30, 30),
-        (&[1], 1000, 0),
-        (&[2], 1000, 19),
-    ];
-    for (fails, room, taken) in rows {
-        let calls = Calls::from_slice(rt.alloc(), fails)?;
-        let mut sink = VecSink::new(rt.alloc(), room, calls)?;
-        let written = write_lines(&mut sink, &lines);
-        assert_eq!(rt; written.is_ok(), taken == REPORT.len(), "room {room}");
-        assert!(rt; taken <= REPORT.len());
-        assert_eq!(rt; sink.bytes(), &REPORT[..taken]);
-    }
-    Ok(())
+    let whole = REPORT.len();
+    writes(&rt, rt.alloc(), &lines, &[], 1000, whole)?;
+    writes(&rt, rt.alloc(), &lines, &[], whole, whole)?;
+    writes(&rt, rt.alloc(), &lines, &[], 30, 30)?;
+    writes(&rt, rt.alloc(), &lines, &[1], 1000, 0)?;
+    writes(&rt, rt.alloc(), &lines, &[2], 1000, 19)
 }
 
 #[test]
@@ -145,45 +173,67 @@ fn statuses_have_their_codes(rt: HostRuntime) {
     }
 }
 
+fn refuses(
+    rt: &impl Abort,
+    alloc: Global,
+    rule: Rule,
+    line: u32,
+    marker: Option<Marker>,
+    text: &[u8],
+) -> Result<(), Fail> {
+    let file = Name::from_slice(alloc, b"a.move")?;
+    let refusal = Refusal {
+        rule,
+        file: 0,
+        line,
+        marker,
+    };
+    let refused = refusal_line(alloc, &file, refusal)?;
+    assert_eq!(rt; refused.as_slice(), text);
+    Ok(())
+}
+
 #[test]
-fn runs_without_a_report_have_a_line(rt: HostRuntime) -> Result<(), Fail> {
+fn refusals_have_a_line(rt: HostRuntime) -> Result<(), Fail> {
+    let inline = Some(Marker::Inline);
+    refuses(
+        &rt,
+        rt.alloc(),
+        Rule::BadToken,
+        1,
+        None,
+        b"refused 1 BadToken a.move:1\n",
+    )?;
+    refuses(
+        &rt,
+        rt.alloc(),
+        Rule::Grammar,
+        20,
+        None,
+        b"refused 2 Grammar a.move:20\n",
+    )?;
+    refuses(
+        &rt,
+        rt.alloc(),
+        Rule::LeftOut,
+        3,
+        inline,
+        b"refused 3 LeftOut inline a.move:3\n",
+    )?;
+    refuses(
+        &rt,
+        rt.alloc(),
+        Rule::NotBuilt,
+        1,
+        None,
+        b"refused 18 NotBuilt a.move:1\n",
+    )
+}
+
+#[test]
+fn faults_and_limits_have_a_line(rt: HostRuntime) -> Result<(), Fail> {
     let alloc = rt.alloc();
     let file = Name::from_slice(alloc, b"a.move")?;
-    for (rule, line, marker, text) in [
-        (
-            Rule::BadToken,
-            1,
-            None,
-            b"refused 1 BadToken a.move:1\n".as_slice(),
-        ),
-        (
-            Rule::Grammar,
-            20,
-            None,
-            b"refused 2 Grammar a.move:20\n".as_slice(),
-        ),
-        (
-            Rule::LeftOut,
-            3,
-            Some(Marker::Inline),
-            b"refused 3 LeftOut inline a.move:3\n".as_slice(),
-        ),
-        (
-            Rule::NotBuilt,
-            1,
-            None,
-            b"refused 18 NotBuilt a.move:1\n".as_slice(),
-        ),
-    ] {
-        let refusal = Refusal {
-            rule,
-            file: 0,
-            line,
-            marker,
-        };
-        let refused = refusal_line(alloc, &file, refusal)?;
-        assert_eq!(rt; refused.as_slice(), text);
-    }
     let files = files_limit_line(alloc, 65)?;
     assert_eq!(rt; files.as_slice(), b"limit files 65\n".as_slice());
     let fault = source_fault_line(alloc, &file)?;

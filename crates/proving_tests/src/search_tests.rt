@@ -137,29 +137,50 @@ fn large_multiples(alloc: Global) -> Result<Box<Formula>, NoMemory> {
     )?)
 }
 
+// The claims that are searched.
+#[derive(Clone, Copy)]
+enum Claim {
+    // A sum that is in range is the same the other way round.
+    Commutes,
+    // One that is in range does not pass u64.
+    Stays,
+    // One that is not passes it.
+    Overflows,
+    // One that is not can't be.
+    Nothing,
+    Many,
+    Large,
+}
+
+fn claimed(alloc: Global, claim: Claim) -> Result<Box<Formula>, NoMemory> {
+    match claim {
+        Claim::Commutes => follows(alloc, true, Box::new(alloc, commutes(alloc)?)?),
+        Claim::Stays => {
+            let stays = Formula::not(alloc, overflows(alloc)?)?;
+            follows(alloc, true, Box::new(alloc, stays)?)
+        }
+        Claim::Overflows => follows(alloc, false, Box::new(alloc, overflows(alloc)?)?),
+        Claim::Nothing => follows(alloc, false, Box::new(alloc, nothing(alloc))?),
+        Claim::Many => one_of_many(alloc, 4_100),
+        Claim::Large => large_multiples(alloc),
+    }
+}
+
 #[test]
 fn answers(rt: HostRuntime) -> Result<(), Fail> {
     let alloc = rt.alloc();
-    let returns = follows(alloc, true, Box::new(alloc, commutes(alloc)?)?)?;
-    let claim = Box::new(alloc, Formula::not(alloc, overflows(alloc)?)?)?;
-    let aborts_if = follows(alloc, true, claim)?;
-    let aborts = follows(alloc, false, Box::new(alloc, overflows(alloc)?)?)?;
-    let open = follows(alloc, false, Box::new(alloc, nothing(alloc))?)?;
-    let short = follows(alloc, false, Box::new(alloc, nothing(alloc))?)?;
-    let rows: [(Box<Formula>, u64, &str); 7] = [
-        (returns, 20_000, "proved"),
-        (aborts_if, 20_000, "proved"),
-        (aborts, 20_000, "proved"),
-        (open, 20_000, "open"),
-        (short, 3, "budget"),
-        (one_of_many(alloc, 4_100)?, 20_000, "size"),
-        (large_multiples(alloc)?, 20_000, "wide"),
-    ];
-    for (formula, budget, wanted) in rows {
-        assert_eq!(rt;
-            found::<Brand>(alloc, formula, budget, Blank::new(1))?,
-            wanted
-        );
+    for (claim, budget, wanted) in [
+        (Claim::Commutes, 20_000, "proved"),
+        (Claim::Stays, 20_000, "proved"),
+        (Claim::Overflows, 20_000, "proved"),
+        (Claim::Nothing, 20_000, "open"),
+        (Claim::Nothing, 3, "budget"),
+        (Claim::Many, 20_000, "size"),
+        (Claim::Large, 20_000, "wide"),
+    ] {
+        let formula = claimed(alloc, claim)?;
+        let answer = found::<Brand>(alloc, formula, budget, Blank::new(1))?;
+        assert_eq!(rt; answer, wanted);
     }
     Ok(())
 }

@@ -24,9 +24,17 @@ pub enum Width {
 /// A type of Move or of its specifications. `num` is the type of whole numbers; a type parameter
 /// goes by its number; a list of types between parentheses is a tuple.
 #[cycle(type_term)]
-#[derive(Drop)]
 pub struct TypeTerm {
     pub node: TypeNode,
+}
+
+// Its own, so that letting one go is a call wherever it is done, and not the cases of all forms below it.
+impl Drop for TypeTerm {
+    #[cycle(drop_type)]
+    fn drop(self) {
+        let TypeTerm { node } = self;
+        drop(node);
+    }
 }
 
 /// The forms of a type.

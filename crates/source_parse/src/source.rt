@@ -18,10 +18,18 @@ pub enum SourceForm {
 }
 
 /// A member of a module.
-#[derive(Drop)]
 pub struct SourceMember {
     pub attributes: Vec<Attribute>,
     pub form: SourceForm,
+}
+
+// Its own, so that letting one go is a call wherever it is done, and not the cases of all forms below it.
+impl Drop for SourceMember {
+    fn drop(self) {
+        let SourceMember { attributes, form } = self;
+        drop(attributes);
+        drop(form);
+    }
 }
 
 impl Model for SourceMember {

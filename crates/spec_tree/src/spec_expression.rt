@@ -10,9 +10,17 @@ use std::marker::Model;
 
 /// A spec expression.
 #[cycle(spec_expression)]
-#[derive(Drop)]
 pub struct SpecExpression {
     pub node: SpecNode,
+}
+
+// Its own, so that letting one go is a call wherever it is done, and not the cases of all forms below it.
+impl Drop for SpecExpression {
+    #[cycle(drop_expression)]
+    fn drop(self) {
+        let SpecExpression { node } = self;
+        drop(node);
+    }
 }
 
 /// The forms of a spec expression.

@@ -32,10 +32,21 @@ pub enum ClauseKind {
 }
 
 /// A clause of a spec.
-#[derive(Drop)]
 pub struct Clause {
     pub kind: ClauseKind,
     pub condition: Condition,
     /// The place of its first byte, counted from 0 in its file.
     pub start: u32,
+}
+
+// Its own, so that letting one go is a call wherever it is done, and not the cases of all forms below it.
+impl Drop for Clause {
+    fn drop(self) {
+        let Clause {
+            kind: _,
+            condition,
+            start: _,
+        } = self;
+        drop(condition);
+    }
 }

@@ -12,9 +12,17 @@ pub enum Operator {
 
 /// A sum.
 #[cycle(sum)]
-#[derive(Drop)]
 pub struct Sum {
     pub node: SumNode,
+}
+
+// Its own, so that letting one go is a call wherever it is done, and not the cases of all forms below it.
+impl Drop for Sum {
+    #[cycle(drop_sum)]
+    fn drop(self) {
+        let Sum { node } = self;
+        drop(node);
+    }
 }
 
 /// The forms of a sum.
