@@ -64,7 +64,7 @@ fn joined(operator: Binary, a: Box<Term>, b: Box<Term>) -> Term
 
 impl Term {
     /// A second copy of the term.
-    // (each form that has parts is copied by a function of its own: that keeps the proof of this one short)
+    // Each form that has parts is copied by a function of its own, which keeps the proof of this one short.
     #[cycle(copy)]
     pub fn try_clone(&self, alloc: Global) -> Result<Term, NoMemory>
         ensures { IfOk result (λ copy. copy ≡ self.now) }
