@@ -71,6 +71,8 @@ fn texts_of_no_spec_expression(rt: HostRuntime) {
     fails(&rt, alloc, b"i<n", ParseFault::Grammar(2));
     fails(&rt, alloc, b"a + b c", ParseFault::Grammar(6));
     fails(&rt, alloc, b"a +", ParseFault::Grammar(2));
+    // A number with a suffix may stand there, and is no address.
+    fails(&rt, alloc, b"0x1u8::n::g()", ParseFault::Grammar(5));
     fails(
         &rt,
         alloc,
