@@ -98,3 +98,26 @@ fn texts_of_no_source(rt: HostRuntime) {
         first,
     );
 }
+
+#[test]
+fn places_at_which_reading_ends(rt: HostRuntime) {
+    let alloc = rt.alloc();
+    let texts: [(&[u8], u32); 7] = [
+        (b"module 0x1::m { spec f { ensures x } }", 35),
+        (b"module 0x1::m { spec f { ensures (x; } }", 35),
+        (b"module 0x1::m { spec f { ensures; } fun }", 32),
+        (b"module 0x1::m { fun } spec f { ensures; }", 20),
+        (
+            b"module 0x1::m { spec F { requires x; ensures; } fun F() {} }",
+            44,
+        ),
+        (
+            b"module 0x1::m { fun f() { loop { spec { invariant; }; a } } spec f { ensures; } }",
+            49,
+        ),
+        (b"module 0x1::m { #[spec] fun f() {} fun }", 39),
+    ];
+    for (text, place) in texts {
+        finds(&rt, alloc, text, Err(ParseFault::Grammar(place)));
+    }
+}

@@ -6,7 +6,7 @@ use Rattle.source_parse.specs.declared.fault.SpecFault.TheVariants.{NoTree, NoMe
 use Rattle.source_parse.specs.SpecFault.{IfNoSpec}
 
 pub weaker : (fault : SpecFault) (P Q : Type 0) → (P → Q) → IfNoSpec fault P → IfNoSpec fault Q
-weaker (NoTree place) P Q f h = f h
+weaker NoTree P Q f h = f h
 weaker NoMemory P Q f h = tt
 
 pub hands_on : {X : Type 0} (r : Result X SpecFault) (fault : SpecFault) (P : X → Type 0) (Q R : Type 0) → IsErrAnd r (λ f. f ≡ fault) → (Q → R) → IfNoSpec fault Q → MatchResult r P (λ f. IfNoSpec f R)

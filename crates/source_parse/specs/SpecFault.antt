@@ -6,10 +6,10 @@ use Rattle.source_parse.specs.declared.fault.SpecFault.TheVariants.{NoTree, NoMe
 
 -- a fact where the tokens are at fault, and not memory
 abbrev pub IfNoSpec : SpecFault → Type 0 → Type 0
-IfNoSpec (NoTree place) P = P
+IfNoSpec NoTree P = P
 IfNoSpec NoMemory P = Unit {0}
 
 abbrev pub fault_of : ParseFault → SpecFault
-fault_of (Grammar place) = NoTree place
-fault_of (LeftOut marker place) = NoTree place
+fault_of (Grammar place) = NoTree
+fault_of (LeftOut marker place) = NoTree
 fault_of want = NoMemory

@@ -6,14 +6,16 @@ ghost use Rattle.source_parse.specs.Denoted.{IsCause, IsSourceOf};
 ghost use Rattle.source_parse.specs.FileReading.{MatchesFile};
 ghost use Rattle.source_parse.specs.SourceModuleData.{SourceModuleData};
 
+use crate::ending::end_of_blocks;
 use crate::fault::SpecFault;
 use crate::loops::check_modules;
 use crate::module::read_modules;
 use crate::source::Source;
 use file_tree::member::File;
 use left_out::explain::{ParseFault, explain_at};
+use pv_base::memory::NoMemory;
 use pv_parse::denoted::{modules, one_file};
-use src_tree::token::Tokens;
+use src_tree::token::{Token, Tokens};
 use std::alloc::Global;
 
 /// The source of a file: its trees with those of the spec blocks in it.
@@ -25,24 +27,42 @@ fn source_of(alloc: Global, file: File) -> Result<Source, SpecFault>
     Ok(Source { modules })
 }
 
+/// The byte at which the reading of the tokens ended, where that of their file ended at `file_end`, if it did.
+fn end_of_source(alloc: Global, tokens: &[Token], file_end: u32) -> Result<u32, NoMemory> {
+    match end_of_blocks(alloc, tokens)? {
+        Some(place) if place < file_end => Ok(place),
+        _ => Ok(file_end),
+    }
+}
+
 /// The source that the tokens of a file denote: they are of a file that the grammar has, and each spec block
 /// in it, those of loops too, is one that the grammar has for what it is of.
 ///
 /// # Errors
 ///
 /// `Grammar` comes exactly where the tokens are of no source and hold no marker of a form that is left out,
-/// with the place at which reading ended; `LeftOut` exactly where they are of none and hold one, with the
-/// first marker and its place; `NoMemory` where memory ran out.
+/// with the place at which reading ended, in the file or in a spec block that stands before; `LeftOut` exactly
+/// where they are of none and hold one, with the first marker and its place; `NoMemory` where memory ran out.
 pub fn source(alloc: Global, tokens: &Tokens) -> Result<Source, ParseFault>
     ensures denoted { IfOk result (λ source. IsSourceOf source tokens.now) }
     ensures refused { IfErr result (λ fault. IsCause tokens.now fault) }
 {
     one_file();
-    let file = modules(alloc, tokens)?;
-    match source_of(alloc, file) {
-        Ok(source) => Ok(source),
-        Err(SpecFault::NoTree(place)) => Err(explain_at(tokens.as_slice(), place)),
-        Err(SpecFault::NoMemory) => Err(ParseFault::NoMemory),
+    let items = tokens.as_slice();
+    match modules(alloc, tokens) {
+        Ok(file) => match source_of(alloc, file) {
+            Ok(source) => Ok(source),
+            Err(SpecFault::NoTree) => {
+                let place = end_of_source(alloc, items, u32::MAX)?;
+                Err(explain_at(items, place))
+            }
+            Err(SpecFault::NoMemory) => Err(ParseFault::NoMemory),
+        },
+        Err(ParseFault::Grammar(place)) => {
+            let place = end_of_source(alloc, items, place)?;
+            Err(ParseFault::Grammar(place))
+        }
+        Err(fault) => Err(fault),
     }
 }
 

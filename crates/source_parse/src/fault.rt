@@ -10,8 +10,8 @@ use std::alloc::AllocFailed;
 /// Why a spec block that a file keeps has no tree.
 #[derive(Clone, Copy, Debug, PartialEq, Eq)]
 pub enum SpecFault {
-    /// Its tokens are of no spec block. The number is the byte at which one begins that can't stand there.
-    NoTree(u32),
+    /// Its tokens are of no spec block.
+    NoTree,
     /// Memory ran out.
     NoMemory,
 }
@@ -36,14 +36,14 @@ impl<T: Drop> From<AllocFailed<T>> for SpecFault {
     }
 }
 
-/// The fault of a spec block by itself. What marker it holds is of no matter here: a marker before it in its
-/// file may explain more.
+/// The fault of a spec block by itself. Its place and its marker are of no matter here: reading may have ended
+/// before it in its file, and a marker before it may explain more.
 pub fn fault_of(fault: ParseFault) -> SpecFault
     ensures { result ≡ fault_of fault }
 {
     match fault {
-        ParseFault::Grammar(place) => SpecFault::NoTree(place),
-        ParseFault::LeftOut(_, place) => SpecFault::NoTree(place),
+        ParseFault::Grammar(_) => SpecFault::NoTree,
+        ParseFault::LeftOut(_, _) => SpecFault::NoTree,
         ParseFault::NoMemory => SpecFault::NoMemory,
     }
 }

@@ -6,9 +6,11 @@ ghost use Rattle.source_parse.specs.FunctionNames.{IsSetOf, has, names_of};
 use file_tree::member::{Member, MemberForm};
 use pv_base::memory::NoMemory;
 use pv_base::name::Name;
+use src_tree::token::{Token, TokenKind};
 use std::alloc::Global;
 use std::collections::BTreeSet;
 use std::marker::Model;
+use token_reading::tokens::is_word;
 
 /// The names of a module's functions.
 #[derive(Drop)]
@@ -26,6 +28,13 @@ impl Model for FunctionNames {
 }
 
 impl FunctionNames {
+    /// No names.
+    pub fn new(alloc: Global) -> FunctionNames {
+        FunctionNames {
+            names: BTreeSet::new(alloc),
+        }
+    }
+
     /// Whether a function has this name.
     pub fn contains(&self, name: &Name) -> bool
         ensures { result ≡ has self.now name.now }
@@ -43,6 +52,27 @@ pub fn names_of(alloc: Global, members: &[Member]) -> Result<FunctionNames, NoMe
         if let MemberForm::Function(function) = &member.form {
             names.insert(function.name.text.try_clone(alloc)?)?;
         }
+    }
+    Ok(FunctionNames { names })
+}
+
+/// The names of the functions that these tokens of a module declare, up to the next module.
+pub fn names_among(alloc: Global, tokens: &[Token]) -> Result<FunctionNames, NoMemory> {
+    let mut names = BTreeSet::new(alloc);
+    let mut behind_spec = false;
+    let mut behind_fun = false;
+    for token in tokens {
+        let kind = &token.kind;
+        if behind_fun {
+            if let TokenKind::Word(name) = kind {
+                names.insert(name.try_clone(alloc)?)?;
+            }
+        }
+        if is_word(kind, b"module") && !behind_spec {
+            break;
+        }
+        behind_fun = is_word(kind, b"fun") && !behind_spec;
+        behind_spec = is_word(kind, b"spec");
     }
     Ok(FunctionNames { names })
 }

@@ -23,7 +23,7 @@ fn push_kind(place: Span, kind: TokenKind, into: &mut Tokens) -> Result<(), NoMe
 }
 
 /// Puts copies of tokens behind the others.
-fn push_copies(alloc: Global, tokens: &[Token], into: &mut Tokens) -> Result<(), NoMemory>
+pub fn push_copies(alloc: Global, tokens: &[Token], into: &mut Tokens) -> Result<(), NoMemory>
     ensures { OnOk result (into.new ≡ into.old ++ tokens.now) }
 {
     for token in tokens {

@@ -2,6 +2,7 @@
 #![tactic(auto)]
 
 pub mod denoted;
+pub mod ending;
 pub mod fault;
 pub mod functions;
 pub mod kept;

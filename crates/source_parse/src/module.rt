@@ -20,7 +20,7 @@ use src_tree::token::Token;
 use std::alloc::Global;
 
 /// What a spec block is of, by its tokens, of which the first is its word.
-fn slot_of_block(functions: &FunctionNames, tokens: &[Token]) -> Slot
+pub fn slot_of_block(functions: &FunctionNames, tokens: &[Token]) -> Slot
     ensures { result ≡ slot_of_block functions.now tokens.now }
 {
     match tokens.split_first() {
