@@ -107,6 +107,18 @@ fn read_clauses(
     Ok((clauses, rest))
 }
 
+/// The tokens from the first clause on that such a block can't hold, which is where the reading of it ends.
+fn from_first_refused(alloc: Global, slot: Slot, tokens: &[Token], budget: usize) -> &[Token] {
+    let mut rest = tokens;
+    for _ in 0..tokens.len() {
+        match read_clause(alloc, rest, budget) {
+            Ok((clause, behind)) if may_hold(slot, &clause) => rest = behind,
+            _ => return rest,
+        }
+    }
+    rest
+}
+
 /// The clauses of a block in its braces, and the tokens behind it. `budget` bounds how deep the types and
 /// expressions in it are nested.
 ///
@@ -129,6 +141,9 @@ pub fn read_block(
         let rest = expect_sign(rest, Punctuation::RightBrace)?;
         Ok((Clauses { items }, rest))
     } else {
-        Err(ReadFault::NoTree { left: inside.len() })
+        let refused = from_first_refused(alloc, slot, inside, budget);
+        Err(ReadFault::NoTree {
+            left: refused.len(),
+        })
     }
 }

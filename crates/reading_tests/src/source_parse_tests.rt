@@ -102,7 +102,7 @@ fn texts_of_no_source(rt: HostRuntime) {
 #[test]
 fn places_at_which_reading_ends(rt: HostRuntime) {
     let alloc = rt.alloc();
-    let texts: [(&[u8], u32); 7] = [
+    let texts: [(&[u8], u32); 8] = [
         (b"module 0x1::m { spec f { ensures x } }", 35),
         (b"module 0x1::m { spec f { ensures (x; } }", 35),
         (b"module 0x1::m { spec f { ensures; } fun }", 32),
@@ -116,6 +116,7 @@ fn places_at_which_reading_ends(rt: HostRuntime) {
             49,
         ),
         (b"module 0x1::m { #[spec] fun f() {} fun }", 39),
+        (b"module 0x1::m { spec f { ensures x; invariant y; } }", 36),
     ];
     for (text, place) in texts {
         finds(&rt, alloc, text, Err(ParseFault::Grammar(place)));
