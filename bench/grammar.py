@@ -10,7 +10,7 @@ line of its own, but for a `<` or `>` that is glued to the one before.
 The program has to refuse exactly what the recognizer refuses, with the first marker of a form that is left out where
 the text holds one; the line that it names without a marker is compared too, and counted by itself.
 
-    bench/grammar.py BINARY [TEXTS [SEED]]      BINARY: crates/movep/out/movep; 2,000 texts where it is left out
+    bench/grammar.py BINARY [TEXTS [SEED]]      BINARY: crates/movep/out/movep; without TEXTS they are 2,000
 """
 
 import collections
@@ -80,10 +80,6 @@ def small(tokens, at):
     return word(tokens, at) and not tokens[at].text[0].isupper()
 
 
-def local(tokens, at):
-    return small(tokens, at) and tokens[at].text != "_"
-
-
 def number(tokens, at):
     return tokens[at].kind == "number" and suffix(tokens[at]) != "u256"
 
@@ -102,7 +98,7 @@ def is_text(token, text):
 
 
 def term_word(tokens, at):
-    """The one word of a term's path: `vector` before `<` and `[`, and `assert` before `!`, are signs."""
+    """The one word of a term's path: `vector` before `<` and `[` is a sign."""
     after = following(tokens, at)
     if not word(tokens, at):
         return False
@@ -110,7 +106,7 @@ def term_word(tokens, at):
 
 
 def quantified(tokens, at):
-    """Words that begin a quantifier where a word follows are no paths there."""
+    """The one word of a path in a spec: `exists` before a word begins a quantifier."""
     after = following(tokens, at)
     if not term_word(tokens, at):
         return False
@@ -221,7 +217,7 @@ SchemaClause = FunctionClause ~ invariant SExp ; ~ invariant update SExp ; ~ Wor
 Pragma   = pragma Property+ ;
 Property = Word ~ Word = true ~ Word = false ~ Word = number
 SLet     = let Word = SExp ; ~ let post Word = SExp ;
-Include  = include Path ; ~ include Path TArgs ; ~ include Path { SFields } ~ include Path { SFields } ; ~ include Path TArgs { SFields } ;
+Include  = include Path ; ~ include Path TArgs ; ~ include Path { SFields } ; ~ include Path TArgs { SFields } ;
 SFields  = ~ SField+
 SField   = Word ~ Word : SExp
 SExp     = S1 ~ forall Binds Triggers : SExp ~ exists Binds Triggers : SExp ~ if ( SExp ) SExp else SExp
@@ -248,17 +244,8 @@ SCall    = ( SExps )
 SExps    = ~ SExp+
 """
 
-TESTS = {
-    "Word": word, "Capital": capital, "Small": small, "_": sign("_"), "number": number, "plain": plain_number,
-    "TypeWord": type_word, "TermWord": term_word, "SpecWord": quantified, "open": arguments_open,
-    "less": compared("<"), "shl": compared("<<"), "glued>": glued(">"), "other": None, "CapitalStruct": None,
-    "FunctionName": None,
-}
-BRACKETS = "()[]{}"
-
-
 def other(tokens, at):
-    return tokens[at].kind == "bytes" or tokens[at].text not in tuple(BRACKETS)
+    return tokens[at].kind == "bytes" or tokens[at].text not in ("(", ")", "[", "]", "{", "}")
 
 
 def of_struct(tokens, at):
@@ -269,7 +256,12 @@ def of_function(tokens, at):
     return word(tokens, at) and (tokens[at].of_function or not tokens[at].text[0].isupper())
 
 
-TESTS.update({"other": other, "CapitalStruct": of_struct, "FunctionName": of_function})
+TESTS = {
+    "Word": word, "Capital": capital, "Small": small, "_": sign("_"), "number": number, "plain": plain_number,
+    "TypeWord": type_word, "TermWord": term_word, "SpecWord": quantified, "open": arguments_open,
+    "less": compared("<"), "shl": compared("<<"), "glued>": glued(">"), "other": other,
+    "CapitalStruct": of_struct, "FunctionName": of_function,
+}
 
 
 def productions():
@@ -291,6 +283,7 @@ def productions():
 
 
 def bare(alternative, family):
+    """An alternative of a spec expression in a bind, where a pack stands within brackets alone."""
     depth, found = 0, []
     for symbol in alternative:
         if symbol in ("(", "[", "{"):
@@ -424,6 +417,7 @@ fun t() { if (a) if (b) c else d; { { } }; (); (a); vector[]; x % y / z; @std ==
 fun u<T>(_: T, _x: u64) { f<T, u64>(a<b>(c)) < d; a.b < c; a > b; x.y >> z }
 spec f { pragma opaque, verify = true, aborts = 3; requires x > 0 && !y; ensures result == old(x) + g(1, 2)[3].a; }
 spec f { aborts_if forall i in 0..n {f(i)} {g(i), h(i)}: v[i] == S { a: 1, b }; modifies global<m::S<u64>>(@0x1), global<R>(a); }
+spec g { include n::X { y: 1 }; include T<A>; include Y { }; requires a; }
 spec f { let post z = if (a) b else c; let y = exists x: u64, k in v: x == k ==> b <==> c; include S<u64> { a: 1, b, }; include n::X; }
 spec module { pragma verify; invariant update x > 1; invariant forall a: address: exists<R>(a) ==> b; let y = 1; include T; }
 spec S { invariant v > 0; pragma p; let q = v; }
