@@ -1,23 +1,27 @@
 //! The tokens of expressions, blocks and items.
 
-ghost use Rattle.std.specs.Prelude.{◌≡◌, [], ◌∷◌, ◌++◌, None, Some, OnOk, IfOk};
+ghost use Rattle.std.specs.Prelude.{◌≡◌, [], ◌∷◌, ◌++◌, None, Some, true, codes, OnOk};
 ghost use Rattle.std.specs.List.{flat_map};
-ghost use Rattle.src_tree.specs.declared.token.Punctuation.TheVariants.{LeftParenthesis, RightParenthesis};
-ghost use Rattle.move_tree.specs.Lexemes.{sign, comma_list};
+ghost use Rattle.src_tree.specs.declared.token.Punctuation.TheVariants.{LeftParenthesis, RightParenthesis, LeftBracket, RightBrace, Exclaim, Period};
+ghost use Rattle.move_tree.specs.Lexemes.{word, identifier, sign, comma_list};
+ghost use Rattle.move_tree.specs.PathSpelling.{path_spelling};
+ghost use Rattle.move_tree.specs.TypeTreeData.{maybe_arguments_of};
+ghost use Rattle.move_tree.specs.TypeSpelling.{type_spelling, maybe_arguments_spelling};
 ghost use Rattle.move_tree.specs.ExpressionView.{unboxed};
 ghost use Rattle.move_tree.specs.ExpressionData.{maybe_expression_of, expressions_of, items_of, field_values_of};
 ghost use Rattle.move_tree.specs.ExpressionSpelling.{ends_in_path, annotation_spelling, maybe_loop_spec_spelling, expression_spelling, maybe_expression_spelling, else_spelling, block_spelling, items_spelling, item_spelling, initial_spelling, field_value_spelling, expression_spellings, field_value_spellings, expression_after_comma, field_value_after_comma};
 
 use crate::expression::{Block, Expression, ExpressionNode, FieldValue, Item, ItemNode};
-use crate::lexeme::Lexemes;
+use crate::lexeme::{Identifier, Lexemes};
 use crate::literal::spell_literal;
 use crate::operator::{spell_operator, spell_unary, spell_use};
-use crate::path::{spell_identifier, spell_path};
+use crate::path::{Path, spell_identifier, spell_path};
 use crate::spec_tokens::{LoopSpec, spell_loop_spec};
 use crate::spell_pattern::spell_pattern;
 use crate::spell_type::{spell_maybe_arguments, spell_type};
-use crate::types::SourceType;
+use crate::types::{SourceType, TypeArguments};
 use pv_base::memory::NoMemory;
+use pv_base::span::Span;
 use src_tree::token::Punctuation;
 use std::alloc::Global;
 
@@ -83,6 +87,61 @@ fn spell_maybe_loop_spec(
     }
 }
 
+/// The tokens of a path with its type arguments, and of the bracket behind them.
+fn spell_head(
+    alloc: Global,
+    path: &Path,
+    arguments: &Option<TypeArguments>,
+    bracket: Punctuation,
+    into: &mut Lexemes,
+) -> Result<(), NoMemory>
+    ensures { OnOk result (into.new ≡ into.old ++ path_spelling path.now ++ maybe_arguments_spelling (Some true) (maybe_arguments_of arguments.now) ++ sign bracket ∷ []) }
+{
+    spell_path(alloc, path, into)?;
+    spell_maybe_arguments(alloc, Some(true), arguments, into)?;
+    into.push_sign(bracket)
+}
+
+/// The tokens of a vector up to its items.
+fn spell_vector_head(
+    alloc: Global,
+    place: Span,
+    arguments: &Option<TypeArguments>,
+    into: &mut Lexemes,
+) -> Result<(), NoMemory>
+    ensures { OnOk result (into.new ≡ into.old ++ word (codes "vector") (Some place) ∷ maybe_arguments_spelling None (maybe_arguments_of arguments.now) ++ sign LeftBracket ∷ []) }
+{
+    into.push_word(alloc, b"vector", Some(place))?;
+    spell_maybe_arguments(alloc, None, arguments, into)?;
+    into.push_sign(Punctuation::LeftBracket)
+}
+
+/// The tokens of an assertion up to its condition.
+fn spell_assert_head(alloc: Global, place: Span, into: &mut Lexemes) -> Result<(), NoMemory>
+    ensures { OnOk result (into.new ≡ into.old ++ word (codes "assert") (Some place) ∷ sign Exclaim ∷ sign LeftParenthesis ∷ []) }
+{
+    into.push_word(alloc, b"assert", Some(place))?;
+    into.push_sign(Punctuation::Exclaim)?;
+    into.push_sign(Punctuation::LeftParenthesis)
+}
+
+/// The tokens of a cast behind its value.
+fn spell_cast_target(alloc: Global, target: &SourceType, into: &mut Lexemes) -> Result<(), NoMemory>
+    ensures { OnOk result (into.new ≡ into.old ++ word (codes "as") None ∷ type_spelling target.now ++ sign RightParenthesis ∷ []) }
+{
+    into.push_word(alloc, b"as", None)?;
+    spell_type(alloc, target, into)?;
+    into.push_sign(Punctuation::RightParenthesis)
+}
+
+/// The tokens of a field behind its base.
+fn spell_field_name(alloc: Global, field: &Identifier, into: &mut Lexemes) -> Result<(), NoMemory>
+    ensures { OnOk result (into.new ≡ into.old ++ sign Period ∷ identifier field.now ∷ []) }
+{
+    into.push_sign(Punctuation::Period)?;
+    spell_identifier(alloc, field, into)
+}
+
 /// The tokens of an expression.
 #[cycle(spell_expression)]
 pub fn spell_expression(
@@ -118,8 +177,7 @@ pub fn spell_expression(
             then_branch,
             else_branch,
         } => {
-            into.push_word(alloc, b"if", Some(*place))?;
-            spell_condition(alloc, condition, into)?;
+            spell_condition(alloc, b"if", *place, condition, into)?;
             spell_expression(alloc, then_branch, into)?;
             spell_else(alloc, else_branch, into)
         }
@@ -128,8 +186,7 @@ pub fn spell_expression(
             condition,
             body,
         } => {
-            into.push_word(alloc, b"while", Some(*place))?;
-            spell_condition(alloc, condition, into)?;
+            spell_condition(alloc, b"while", *place, condition, into)?;
             spell_expression(alloc, body, into)
         }
         ExpressionNode::Loop { place, body } => {
@@ -160,8 +217,7 @@ pub fn spell_expression(
         }
         ExpressionNode::Field { base, field } => {
             spell_expression(alloc, base, into)?;
-            into.push_sign(Punctuation::Period)?;
-            spell_identifier(alloc, field, into)
+            spell_field_name(alloc, field, into)
         }
         ExpressionNode::Literal(literal) => spell_literal(alloc, literal, into),
         ExpressionNode::Path(path) => spell_path(alloc, path, into),
@@ -171,11 +227,20 @@ pub fn spell_expression(
             values,
             last_comma,
         } => {
-            spell_path(alloc, function, into)?;
-            spell_maybe_arguments(alloc, Some(true), arguments, into)?;
-            into.push_sign(Punctuation::LeftParenthesis)?;
-            spell_expressions(alloc, values, *last_comma, into)?;
-            into.push_sign(Punctuation::RightParenthesis)
+            spell_head(
+                alloc,
+                function,
+                arguments,
+                Punctuation::LeftParenthesis,
+                into,
+            )?;
+            spell_listed(
+                alloc,
+                values,
+                *last_comma,
+                Punctuation::RightParenthesis,
+                into,
+            )
         }
         ExpressionNode::Pack {
             path,
@@ -183,11 +248,8 @@ pub fn spell_expression(
             fields,
             last_comma,
         } => {
-            spell_path(alloc, path, into)?;
-            spell_maybe_arguments(alloc, Some(true), arguments, into)?;
-            into.push_sign(Punctuation::LeftBrace)?;
-            spell_field_values(alloc, fields, *last_comma, into)?;
-            into.push_sign(Punctuation::RightBrace)
+            spell_head(alloc, path, arguments, Punctuation::LeftBrace, into)?;
+            spell_fields(alloc, fields, *last_comma, into)
         }
         ExpressionNode::Vector {
             place,
@@ -195,24 +257,17 @@ pub fn spell_expression(
             items,
             last_comma,
         } => {
-            into.push_word(alloc, b"vector", Some(*place))?;
-            spell_maybe_arguments(alloc, None, arguments, into)?;
-            into.push_sign(Punctuation::LeftBracket)?;
-            spell_expressions(alloc, items, *last_comma, into)?;
-            into.push_sign(Punctuation::RightBracket)
+            spell_vector_head(alloc, *place, arguments, into)?;
+            spell_listed(alloc, items, *last_comma, Punctuation::RightBracket, into)
         }
         ExpressionNode::Assert {
             place,
             condition,
             code,
         } => {
-            into.push_word(alloc, b"assert", Some(*place))?;
-            into.push_sign(Punctuation::Exclaim)?;
-            into.push_sign(Punctuation::LeftParenthesis)?;
-            spell_expression(alloc, condition, into)?;
-            into.push_sign(Punctuation::Comma)?;
-            spell_expression(alloc, code, into)?;
-            into.push_sign(Punctuation::RightParenthesis)
+            spell_assert_head(alloc, *place, into)?;
+            spell_before(alloc, condition, Punctuation::Comma, into)?;
+            spell_before(alloc, code, Punctuation::RightParenthesis, into)
         }
         ExpressionNode::Tuple {
             place,
@@ -220,8 +275,13 @@ pub fn spell_expression(
             last_comma,
         } => {
             into.push_sign_at(*place, Punctuation::LeftParenthesis)?;
-            spell_expressions(alloc, items, *last_comma, into)?;
-            into.push_sign(Punctuation::RightParenthesis)
+            spell_listed(
+                alloc,
+                items,
+                *last_comma,
+                Punctuation::RightParenthesis,
+                into,
+            )
         }
         ExpressionNode::Cast {
             place,
@@ -230,25 +290,40 @@ pub fn spell_expression(
         } => {
             into.push_sign_at(*place, Punctuation::LeftParenthesis)?;
             spell_expression(alloc, value, into)?;
-            into.push_word(alloc, b"as", None)?;
-            spell_type(alloc, target, into)?;
-            into.push_sign(Punctuation::RightParenthesis)
+            spell_cast_target(alloc, target, into)
         }
         ExpressionNode::Block(block) => spell_block(alloc, block, into),
     }
 }
 
+/// The tokens of an expression and the sign behind it.
+#[cycle(spell_expression)]
+fn spell_before(
+    alloc: Global,
+    expression: &Expression,
+    behind: Punctuation,
+    into: &mut Lexemes,
+) -> Result<(), NoMemory>
+    ensures { OnOk result (into.new ≡ into.old ++ expression_spelling expression.now ++ sign behind ∷ []) }
+{
+    spell_expression(alloc, expression, into)?;
+    into.push_sign(behind)
+}
+
+/// The tokens of a condition behind its word, in its parentheses.
 #[cycle(spell_expression)]
 fn spell_condition(
     alloc: Global,
+    keyword: &[u8],
+    place: Span,
     condition: &Expression,
     into: &mut Lexemes,
 ) -> Result<(), NoMemory>
-    ensures { OnOk result (into.new ≡ into.old ++ sign LeftParenthesis ∷ expression_spelling condition.now ++ sign RightParenthesis ∷ []) }
+    ensures { OnOk result (into.new ≡ into.old ++ word keyword.now (Some place) ∷ sign LeftParenthesis ∷ expression_spelling condition.now ++ sign RightParenthesis ∷ []) }
 {
+    into.push_word(alloc, keyword, Some(place))?;
     into.push_sign(Punctuation::LeftParenthesis)?;
-    spell_expression(alloc, condition, into)?;
-    into.push_sign(Punctuation::RightParenthesis)
+    spell_before(alloc, condition, Punctuation::RightParenthesis, into)
 }
 
 #[cycle(spell_expression)]
@@ -280,6 +355,35 @@ fn spell_returned(
         None => Ok(()),
         Some(value) => spell_expression(alloc, value, into),
     }
+}
+
+/// The tokens of a list and of the bracket that closes it.
+#[cycle(spell_expression)]
+fn spell_listed(
+    alloc: Global,
+    expressions: &[Expression],
+    last_comma: bool,
+    bracket: Punctuation,
+    into: &mut Lexemes,
+) -> Result<(), NoMemory>
+    ensures { OnOk result (into.new ≡ into.old ++ comma_list (expression_spellings (expressions_of expressions.now)) last_comma ++ sign bracket ∷ []) }
+{
+    spell_expressions(alloc, expressions, last_comma, into)?;
+    into.push_sign(bracket)
+}
+
+/// The tokens of fields and of the brace that closes them.
+#[cycle(spell_expression)]
+fn spell_fields(
+    alloc: Global,
+    fields: &[FieldValue],
+    last_comma: bool,
+    into: &mut Lexemes,
+) -> Result<(), NoMemory>
+    ensures { OnOk result (into.new ≡ into.old ++ comma_list (field_value_spellings (field_values_of fields.now)) last_comma ++ sign RightBrace ∷ []) }
+{
+    spell_field_values(alloc, fields, last_comma, into)?;
+    into.push_sign(Punctuation::RightBrace)
 }
 
 #[cycle(spell_expression)]
@@ -408,8 +512,7 @@ pub fn spell_item(alloc: Global, item: &Item, into: &mut Lexemes) -> Result<(), 
 {
     match &item.node {
         ItemNode::Expression(expression) => {
-            spell_expression(alloc, expression, into)?;
-            into.push_sign(Punctuation::Semicolon)
+            spell_before(alloc, expression, Punctuation::Semicolon, into)
         }
         ItemNode::Let {
             place,

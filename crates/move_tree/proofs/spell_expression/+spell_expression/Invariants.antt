@@ -9,7 +9,16 @@ abbrev pub decreases-spell_expression : goal.decreases-spell_expression
 decreases-spell_expression l = 4 * expression_size l.expression.now
 
 abbrev pub decreases-spell_condition : goal.decreases-spell_condition
-decreases-spell_condition l = 4 * expression_size l.condition.now + 1
+decreases-spell_condition l = 4 * expression_size l.condition.now + 2
+
+abbrev pub decreases-spell_before : goal.decreases-spell_before
+decreases-spell_before l = 4 * expression_size l.expression.now + 1
+
+abbrev pub decreases-spell_listed : goal.decreases-spell_listed
+decreases-spell_listed l = 4 * expressions_size (expressions_of l.expressions.now) + 2
+
+abbrev pub decreases-spell_fields : goal.decreases-spell_fields
+decreases-spell_fields l = 4 * field_values_size (field_values_of l.fields.now) + 2
 
 abbrev pub decreases-spell_else : goal.decreases-spell_else
 decreases-spell_else l = 4 * maybe_expression_size (maybe_expression_of (unboxed l.branch.now))
