@@ -4,9 +4,10 @@ use cert::certificate::{Axiom, Cert, End, Multiple, Step, StepNode};
 use cert::checker::check;
 use fol::formula::{Formula, FormulaNode, Term, TermNode};
 use fol::shapes::Shapes;
-use pv_base::memory::NoMemory;
 use pv_base::types::{TypeNode, TypeTerm};
 use std::alloc::Global;
+use std::panic::Expect;
+use std::process::Abort;
 use std::test::Fail;
 
 fn variable(number: u32) -> Term {
@@ -28,47 +29,59 @@ fn at_most(left: Term, right: Term) -> Formula {
 }
 
 // x at most 1 where x is at most 0.
-fn weaker_bound(alloc: Global) -> Result<Formula, NoMemory> {
-    Ok(Formula {
+fn weaker_bound(rt: &impl Abort, alloc: Global) -> Formula {
+    Formula {
         node: FormulaNode::Implies(
-            Box::new(alloc, at_most(variable(0), numeral(0)))?,
-            Box::new(alloc, at_most(variable(0), numeral(1)))?,
+            Box::new(alloc, at_most(variable(0), numeral(0))).expect(rt, "memory"),
+            Box::new(alloc, at_most(variable(0), numeral(1))).expect(rt, "memory"),
         ),
-    })
+    }
 }
 
 // The parts of its negation, and then their sum with these multipliers.
-fn by_rows(alloc: Global, first: i128, second: i128) -> Result<Cert, NoMemory> {
+fn by_rows(rt: &impl Abort, alloc: Global, first: i128, second: i128) -> Cert {
     let mut parts = Vec::new(alloc);
-    parts.push(at_most(variable(0), numeral(0)))?;
-    parts.push(Formula {
-        node: FormulaNode::Not(Box::new(alloc, at_most(variable(0), numeral(1)))?),
-    })?;
+    parts
+        .push(at_most(variable(0), numeral(0)))
+        .expect(rt, "memory");
+    parts
+        .push(Formula {
+            node: FormulaNode::Not(Box::new(alloc, at_most(variable(0), numeral(1))).expect(
+                rt, "memory",
+            )),
+        })
+        .expect(rt, "memory");
     let mut steps = Vec::new(alloc);
-    steps.push(Step {
-        node: StepNode::Parts(0, parts),
-    })?;
+    steps
+        .push(Step {
+            node: StepNode::Parts(0, parts),
+        })
+        .expect(rt, "memory");
     let mut multiples = Vec::new(alloc);
-    multiples.push(Multiple {
-        entry: 1,
-        multiplier: first,
-    })?;
-    multiples.push(Multiple {
-        entry: 2,
-        multiplier: second,
-    })?;
-    Ok(Cert {
+    multiples
+        .push(Multiple {
+            entry: 1,
+            multiplier: first,
+        })
+        .expect(rt, "memory");
+    multiples
+        .push(Multiple {
+            entry: 2,
+            multiplier: second,
+        })
+        .expect(rt, "memory");
+    Cert {
         steps,
         end: End::Linear(multiples),
-    })
+    }
 }
 
 #[test]
 fn multipliers_decide(rt: HostRuntime) -> Result<(), Fail> {
     let shapes = Shapes::new(rt.alloc());
-    let formula = weaker_bound(rt.alloc())?;
+    let formula = weaker_bound(&rt, rt.alloc());
     for (first, second, accepted) in [(1, 1, true), (2, 1, false), (-1, -1, false), (0, 0, false)] {
-        let cert = by_rows(rt.alloc(), first, second)?;
+        let cert = by_rows(&rt, rt.alloc(), first, second);
         assert_eq!(rt;
             check(&shapes, &formula, &cert),
             accepted,
@@ -84,9 +97,11 @@ fn numerals_are_whole(rt: HostRuntime) -> Result<(), Fail> {
     for (number, accepted) in [(7, true), (8, false)] {
         let formula = whole(numeral(7));
         let mut steps = Vec::new(rt.alloc());
-        steps.push(Step {
-            node: StepNode::Axiom(Axiom::Whole, whole(numeral(number))),
-        })?;
+        steps
+            .push(Step {
+                node: StepNode::Axiom(Axiom::Whole, whole(numeral(number))),
+            })
+            .expect(&rt, "memory");
         let cert = Cert {
             steps,
             end: End::Clash(1, 0),

@@ -3,12 +3,13 @@
 use cert::certificate::Axiom;
 use fol::formula::{Formula, FormulaNode, Term};
 use lin_arith::{LinRow, Rows};
-use pv_base::memory::NoMemory;
 use pv_base::types::{TypeNode, TypeTerm};
 use saturation::branch::{Branch, Origin};
 use saturation::checker::is_saturated;
 use saturation::system::is_system_of;
 use std::alloc::Global;
+use std::panic::Expect;
+use std::process::Abort;
 use std::test::Fail;
 
 // The formulas of the branches.
@@ -38,21 +39,23 @@ fn y() -> Term {
     Term::variable(1)
 }
 
-fn either(alloc: Global) -> Result<Formula, NoMemory> {
+fn either(rt: &impl Abort, alloc: Global) -> Formula {
     let mut cases = Vec::new(alloc);
-    cases.push(Formula::at_most(y(), x()))?;
-    cases.push(Formula::at_most(x(), y()))?;
-    cases.push(Formula::not(alloc, bound())?)?;
-    Ok(Formula {
+    cases.push(Formula::at_most(y(), x())).expect(rt, "memory");
+    cases.push(Formula::at_most(x(), y())).expect(rt, "memory");
+    cases
+        .push(Formula::not(alloc, bound()).expect(rt, "memory"))
+        .expect(rt, "memory");
+    Formula {
         node: FormulaNode::AnyOf(cases),
-    })
+    }
 }
 
-fn both(alloc: Global) -> Result<Formula, NoMemory> {
+fn both(rt: &impl Abort, alloc: Global) -> Formula {
     let mut parts = Vec::new(alloc);
-    parts.push(bound())?;
-    parts.push(either(alloc)?)?;
-    Ok(Formula::all_of(parts))
+    parts.push(bound()).expect(rt, "memory");
+    parts.push(either(rt, alloc)).expect(rt, "memory");
+    Formula::all_of(parts)
 }
 
 fn bound() -> Formula {
@@ -66,20 +69,20 @@ fn whole() -> Formula {
     Formula::has_type(of, Term::number(3))
 }
 
-fn made(alloc: Global, kind: Kind) -> Result<Formula, NoMemory> {
+fn made(rt: &impl Abort, alloc: Global, kind: Kind) -> Formula {
     match kind {
-        Kind::Both => both(alloc),
-        Kind::Bound => Ok(bound()),
-        Kind::Either => either(alloc),
-        Kind::Below => Ok(Formula::at_most(y(), x())),
-        Kind::Above => Ok(Formula::at_most(x(), y())),
-        Kind::Whole => Ok(whole()),
-        Kind::Past => Formula::not(alloc, bound()),
+        Kind::Both => both(rt, alloc),
+        Kind::Bound => bound(),
+        Kind::Either => either(rt, alloc),
+        Kind::Below => Formula::at_most(y(), x()),
+        Kind::Above => Formula::at_most(x(), y()),
+        Kind::Whole => whole(),
+        Kind::Past => Formula::not(alloc, bound()).expect(rt, "memory"),
     }
 }
 
 // Whether a saturated branch is one still, with this entry at this place among those after the first.
-fn is_accepted(alloc: Global, place: usize, kind: Kind, origin: Origin) -> Result<bool, NoMemory> {
+fn is_accepted(rt: &impl Abort, alloc: Global, place: usize, kind: Kind, origin: Origin) -> bool {
     let right = [
         (Kind::Both, Origin::Part(0, 0)),
         (Kind::Bound, Origin::Part(1, 0)),
@@ -87,17 +90,23 @@ fn is_accepted(alloc: Global, place: usize, kind: Kind, origin: Origin) -> Resul
         (Kind::Below, Origin::Case(3, 0)),
         (Kind::Whole, Origin::Axiom(Axiom::Whole)),
     ];
-    let formula = Formula::not(alloc, both(alloc)?)?;
+    let formula = Formula::not(alloc, both(rt, alloc)).expect(rt, "memory");
     let mut entries = Vec::new(alloc);
     let mut origins = Vec::new(alloc);
-    entries.push(Formula::not(alloc, Formula::not(alloc, both(alloc)?)?)?)?;
+    entries
+        .push(Formula::not(
+            alloc,
+            Formula::not(alloc, both(rt, alloc)).expect(rt, "memory"),
+        )
+        .expect(rt, "memory"))
+        .expect(rt, "memory");
     for i in 0..right.len() {
         let (made_of, from) = if i == place { (kind, origin) } else { right[i] };
-        entries.push(made(alloc, made_of)?)?;
-        origins.push(from)?;
+        entries.push(made(rt, alloc, made_of)).expect(rt, "memory");
+        origins.push(from).expect(rt, "memory");
     }
     let branch = Branch { entries, origins };
-    Ok(is_saturated(&formula, &branch))
+    is_saturated(&formula, &branch)
 }
 
 #[test]
@@ -121,7 +130,7 @@ fn branches(rt: HostRuntime) -> Result<(), Fail> {
         (0, Kind::Both, Origin::Part(2, 0), false, "from a later one"),
     ] {
         assert_eq!(rt;
-            is_accepted(rt.alloc(), place, kind, origin)?,
+            is_accepted(&rt, rt.alloc(), place, kind, origin),
             accepted,
             "{what}"
         );
@@ -130,37 +139,40 @@ fn branches(rt: HostRuntime) -> Result<(), Fail> {
 }
 
 // The first of the unknowns x, y and x.
-fn unknowns(alloc: Global, count: usize) -> Result<Vec<Term>, NoMemory> {
+fn unknowns(rt: &impl Abort, alloc: Global, count: usize) -> Vec<Term> {
     let mut made = Vec::new(alloc);
     for i in 0..count {
-        made.push(if i == 1 { y() } else { x() })?;
+        made.push(if i == 1 { y() } else { x() })
+            .expect(rt, "memory");
     }
-    Ok(made)
+    made
 }
 
-fn row(alloc: Global, first: i128, second: i128, bound: i128) -> Result<LinRow, NoMemory> {
+fn row(rt: &impl Abort, alloc: Global, first: i128, second: i128, bound: i128) -> LinRow {
     let mut coefficients = Vec::new(alloc);
-    coefficients.push(first)?;
-    coefficients.push(second)?;
-    Ok(LinRow::new(coefficients, bound))
+    coefficients.push(first).expect(rt, "memory");
+    coefficients.push(second).expect(rt, "memory");
+    LinRow::new(coefficients, bound)
 }
 
 // Whether these are the rows of x at most 3 and x equal to y, over so many unknowns.
 fn are_accepted(
+    rt: &impl Abort,
     alloc: Global,
     unknown_count: usize,
     rows: &[(i128, i128, i128)],
-) -> Result<bool, NoMemory> {
+) -> bool {
     let mut entries = Vec::new(alloc);
-    entries.push(bound())?;
-    entries.push(whole())?;
-    entries.push(Formula::equal(x(), y()))?;
+    entries.push(bound()).expect(rt, "memory");
+    entries.push(whole()).expect(rt, "memory");
+    entries.push(Formula::equal(x(), y())).expect(rt, "memory");
     let mut made = Rows::new(alloc);
     for (first, second, bound) in rows {
-        made.push(row(alloc, *first, *second, *bound)?)?;
+        made.push(row(rt, alloc, *first, *second, *bound))
+            .expect(rt, "memory");
     }
-    let unknowns = unknowns(alloc, unknown_count)?;
-    Ok(is_system_of(entries.as_slice(), unknowns.as_slice(), &made))
+    let unknowns = unknowns(rt, alloc, unknown_count);
+    is_system_of(entries.as_slice(), unknowns.as_slice(), &made)
 }
 
 #[test]
@@ -178,7 +190,7 @@ fn rows(rt: HostRuntime) -> Result<(), Fail> {
     ] {
         let rows = [low, (1, -1, 0), down, down];
         assert_eq!(rt;
-            are_accepted(rt.alloc(), unknown_count, &rows[..row_count])?,
+            are_accepted(&rt, rt.alloc(), unknown_count, &rows[..row_count]),
             accepted,
             "{what}"
         );

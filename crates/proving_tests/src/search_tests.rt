@@ -11,6 +11,8 @@ use search::answer::Answer;
 use search::prover::prove;
 use std::alloc::Global;
 use std::marker::Brand;
+use std::panic::Expect;
+use std::process::Abort;
 use std::sync::ledger::{Blank, Ledger};
 use std::test::Fail;
 
@@ -46,12 +48,12 @@ fn found<L: Ledger>(
 }
 
 /// That a claim follows from premises on a sum.
-fn follows(alloc: Global, in_range: bool, claim: Box<Formula>) -> Result<Box<Formula>, NoMemory> {
-    let premises = Box::new(alloc, premises(alloc, in_range)?)?;
+fn follows(rt: &impl Abort, alloc: Global, in_range: bool, claim: Box<Formula>) -> Box<Formula> {
+    let premises = Box::new(alloc, premises(rt, alloc, in_range)).expect(rt, "memory");
     let formula = Formula {
         node: FormulaNode::Implies(premises, claim),
     };
-    Ok(Box::new(alloc, formula)?)
+    Box::new(alloc, formula).expect(rt, "memory")
 }
 
 fn x() -> Term {
@@ -62,8 +64,8 @@ fn y() -> Term {
     Term::variable(1)
 }
 
-fn sum(alloc: Global) -> Result<Term, NoMemory> {
-    Term::sum(alloc, x(), y())
+fn sum(rt: &impl Abort, alloc: Global) -> Term {
+    Term::sum(alloc, x(), y()).expect(rt, "memory")
 }
 
 fn is_u64(variable: Term) -> Formula {
@@ -74,35 +76,44 @@ fn is_u64(variable: Term) -> Formula {
 }
 
 // That the sum is in range.
-fn fits(alloc: Global) -> Result<Formula, NoMemory> {
+fn fits(rt: &impl Abort, alloc: Global) -> Formula {
     let mut bounds = Vec::new(alloc);
-    bounds.push(Formula::at_most(Term::number(0), sum(alloc)?))?;
-    bounds.push(Formula::at_most(sum(alloc)?, Term::number(MAX_U64)))?;
-    Ok(Formula::all_of(bounds))
+    bounds
+        .push(Formula::at_most(Term::number(0), sum(rt, alloc)))
+        .expect(rt, "memory");
+    bounds
+        .push(Formula::at_most(sum(rt, alloc), Term::number(MAX_U64)))
+        .expect(rt, "memory");
+    Formula::all_of(bounds)
 }
 
 // Two u64 variables whose sum is in range, or is not.
-fn premises(alloc: Global, in_range: bool) -> Result<Formula, NoMemory> {
+fn premises(rt: &impl Abort, alloc: Global, in_range: bool) -> Formula {
     let mut all = Vec::new(alloc);
-    all.push(is_u64(x()))?;
-    all.push(is_u64(y()))?;
+    all.push(is_u64(x())).expect(rt, "memory");
+    all.push(is_u64(y())).expect(rt, "memory");
     if in_range {
-        all.push(fits(alloc)?)?;
+        all.push(fits(rt, alloc)).expect(rt, "memory");
     } else {
-        all.push(Formula::not(alloc, fits(alloc)?)?)?;
+        all.push(Formula::not(alloc, fits(rt, alloc)).expect(rt, "memory"))
+            .expect(rt, "memory");
     }
-    Ok(Formula::all_of(all))
+    Formula::all_of(all)
 }
 
 // That the sum is the same the other way round.
-fn commutes(alloc: Global) -> Result<Formula, NoMemory> {
-    let left = sum(alloc)?;
-    Ok(Formula::equal(left, Term::sum(alloc, y(), x())?))
+fn commutes(rt: &impl Abort, alloc: Global) -> Formula {
+    let left = sum(rt, alloc);
+    Formula::equal(left, Term::sum(alloc, y(), x()).expect(rt, "memory"))
 }
 
 // That the sum passes u64.
-fn overflows(alloc: Global) -> Result<Formula, NoMemory> {
-    Formula::not(alloc, Formula::at_most(sum(alloc)?, Term::number(MAX_U64)))
+fn overflows(rt: &impl Abort, alloc: Global) -> Formula {
+    Formula::not(
+        alloc,
+        Formula::at_most(sum(rt, alloc), Term::number(MAX_U64)),
+    )
+    .expect(rt, "memory")
 }
 
 // Nothing: no formula of none is true.
@@ -111,30 +122,36 @@ fn nothing(alloc: Global) -> Formula {
 }
 
 // That a number of formulas `x <= 0` are not all false.
-fn one_of_many(alloc: Global, count: usize) -> Result<Box<Formula>, NoMemory> {
+fn one_of_many(rt: &impl Abort, alloc: Global, count: usize) -> Box<Formula> {
     let mut all = Vec::new(alloc);
     for _ in 0..count {
-        all.push(Formula::at_most(x(), Term::number(0)))?;
+        all.push(Formula::at_most(x(), Term::number(0)))
+            .expect(rt, "memory");
     }
-    Ok(Box::new(alloc, Formula::any_of(all))?)
+    Box::new(alloc, Formula::any_of(all)).expect(rt, "memory")
 }
 
 // A large multiple of the first is at most the second, and the other way round it is below it: the sum of
 // the two rows leaves 128 bits.
-fn large_multiples(alloc: Global) -> Result<Box<Formula>, NoMemory> {
+fn large_multiples(rt: &impl Abort, alloc: Global) -> Box<Formula> {
     let large = 1_i128 << 100;
     let mut all = Vec::new(alloc);
-    let left = Term::product(alloc, Term::number(large), x())?;
-    all.push(Formula::at_most(left, y()))?;
-    let left = Term::product(alloc, Term::number(large), y())?;
-    all.push(Formula::at_most(left, Term::difference(alloc, x(), Term::number(1))?))?;
-    let both = Box::new(alloc, Formula::all_of(all))?;
-    Ok(Box::new(
+    let left = Term::product(alloc, Term::number(large), x()).expect(rt, "memory");
+    all.push(Formula::at_most(left, y())).expect(rt, "memory");
+    let left = Term::product(alloc, Term::number(large), y()).expect(rt, "memory");
+    all.push(Formula::at_most(
+        left,
+        Term::difference(alloc, x(), Term::number(1)).expect(rt, "memory"),
+    ))
+    .expect(rt, "memory");
+    let both = Box::new(alloc, Formula::all_of(all)).expect(rt, "memory");
+    Box::new(
         alloc,
         Formula {
             node: FormulaNode::Not(both),
         },
-    )?)
+    )
+    .expect(rt, "memory")
 }
 
 // The claims that are searched.
@@ -152,17 +169,32 @@ enum Claim {
     Large,
 }
 
-fn claimed(alloc: Global, claim: Claim) -> Result<Box<Formula>, NoMemory> {
+fn claimed(rt: &impl Abort, alloc: Global, claim: Claim) -> Box<Formula> {
     match claim {
-        Claim::Commutes => follows(alloc, true, Box::new(alloc, commutes(alloc)?)?),
+        Claim::Commutes => follows(
+            rt,
+            alloc,
+            true,
+            Box::new(alloc, commutes(rt, alloc)).expect(rt, "memory"),
+        ),
         Claim::Stays => {
-            let stays = Formula::not(alloc, overflows(alloc)?)?;
-            follows(alloc, true, Box::new(alloc, stays)?)
+            let stays = Formula::not(alloc, overflows(rt, alloc)).expect(rt, "memory");
+            follows(rt, alloc, true, Box::new(alloc, stays).expect(rt, "memory"))
         }
-        Claim::Overflows => follows(alloc, false, Box::new(alloc, overflows(alloc)?)?),
-        Claim::Nothing => follows(alloc, false, Box::new(alloc, nothing(alloc))?),
-        Claim::Many => one_of_many(alloc, 4_100),
-        Claim::Large => large_multiples(alloc),
+        Claim::Overflows => follows(
+            rt,
+            alloc,
+            false,
+            Box::new(alloc, overflows(rt, alloc)).expect(rt, "memory"),
+        ),
+        Claim::Nothing => follows(
+            rt,
+            alloc,
+            false,
+            Box::new(alloc, nothing(alloc)).expect(rt, "memory"),
+        ),
+        Claim::Many => one_of_many(rt, alloc, 4_100),
+        Claim::Large => large_multiples(rt, alloc),
     }
 }
 
@@ -178,8 +210,8 @@ fn answers(rt: HostRuntime) -> Result<(), Fail> {
         (Claim::Many, 20_000, "size"),
         (Claim::Large, 20_000, "wide"),
     ] {
-        let formula = claimed(alloc, claim)?;
-        let answer = found::<Brand>(alloc, formula, budget, Blank::new(1))?;
+        let formula = claimed(&rt, alloc, claim);
+        let answer = found::<Brand>(alloc, formula, budget, Blank::new(1)).expect(&rt, "memory");
         assert_eq!(rt; answer, wanted);
     }
     Ok(())

@@ -6,12 +6,13 @@ use move_tree::lexeme::{Identifier, Numeral};
 use move_tree::literal::Literal;
 use move_tree::operator::BinaryOperator;
 use move_tree::path::Path;
-use pv_base::memory::NoMemory;
 use pv_base::name::Name;
 use pv_base::span::Span;
 use spec_tree::spec_expression::{SpecExpression, SpecNode};
 use src_tree::token::{NumberLiteral, NumberSuffix};
 use std::alloc::Global;
+use std::panic::Expect;
+use std::process::Abort;
 use std::test::Fail;
 use sum_read::clause::read_clauses;
 use sum_read::sum::read_sum;
@@ -26,18 +27,18 @@ fn at(start: u32) -> Span {
     }
 }
 
-fn word(alloc: Global, text: &[u8]) -> Result<Box<Expression>, NoMemory> {
+fn word(rt: &impl Abort, alloc: Global, text: &[u8]) -> Box<Expression> {
     let name = Identifier {
-        text: Name::from_slice(alloc, text)?,
+        text: Name::from_slice(alloc, text).expect(rt, "memory"),
         place: at(0),
     };
     let node = ExpressionNode::Path(Path::Name(name));
-    Ok(Box::new(alloc, Expression { node })?)
+    Box::new(alloc, Expression { node }).expect(rt, "memory")
 }
 
-fn number(alloc: Global, suffix: NumberSuffix) -> Result<Box<Expression>, NoMemory> {
+fn number(rt: &impl Abort, alloc: Global, suffix: NumberSuffix) -> Box<Expression> {
     let literal = NumberLiteral {
-        text: Name::from_slice(alloc, b"1")?,
+        text: Name::from_slice(alloc, b"1").expect(rt, "memory"),
         value: 1,
         suffix,
     };
@@ -46,33 +47,34 @@ fn number(alloc: Global, suffix: NumberSuffix) -> Result<Box<Expression>, NoMemo
         place: at(0),
     };
     let node = ExpressionNode::Literal(Literal::Number(numeral));
-    Ok(Box::new(alloc, Expression { node })?)
+    Box::new(alloc, Expression { node }).expect(rt, "memory")
 }
 
 fn binary(
+    rt: &impl Abort,
     alloc: Global,
     left: Box<Expression>,
     operator: BinaryOperator,
     right: Box<Expression>,
-) -> Result<Box<Expression>, NoMemory> {
+) -> Box<Expression> {
     let node = ExpressionNode::Binary {
         left,
         operator,
         place: at(0),
         right,
     };
-    Ok(Box::new(alloc, Expression { node })?)
+    Box::new(alloc, Expression { node }).expect(rt, "memory")
 }
 
-fn parenthesized(alloc: Global, inner: Box<Expression>) -> Result<Box<Expression>, NoMemory> {
+fn parenthesized(rt: &impl Abort, alloc: Global, inner: Box<Expression>) -> Box<Expression> {
     let mut items = Vec::new(alloc);
-    items.push(Box::into_inner(inner))?;
+    items.push(Box::into_inner(inner)).expect(rt, "memory");
     let node = ExpressionNode::Tuple {
         place: at(0),
         items,
         last_comma: false,
     };
-    Ok(Box::new(alloc, Expression { node })?)
+    Box::new(alloc, Expression { node }).expect(rt, "memory")
 }
 
 /// What a sum is as a whole, and what stands on its right.
@@ -112,10 +114,16 @@ fn shape_read(alloc: Global, expression: &Expression) -> Option<Shape> {
 #[test]
 fn sums_are_read(rt: HostRuntime) -> Result<(), Fail> {
     let alloc = rt.alloc();
-    let one = number(alloc, NumberSuffix::Absent)?;
-    let inner = binary(alloc, word(alloc, b"b")?, BinaryOperator::Add, one)?;
-    let right = parenthesized(alloc, inner)?;
-    let whole = binary(alloc, word(alloc, b"a")?, BinaryOperator::Subtract, right)?;
+    let one = number(&rt, alloc, NumberSuffix::Absent);
+    let inner = binary(&rt, alloc, word(&rt, alloc, b"b"), BinaryOperator::Add, one);
+    let right = parenthesized(&rt, alloc, inner);
+    let whole = binary(
+        &rt,
+        alloc,
+        word(&rt, alloc, b"a"),
+        BinaryOperator::Subtract,
+        right,
+    );
     let nested = Some(Shape::Nested(Operator::Minus, Operator::Plus));
     assert_eq!(rt; shape_read(alloc, &whole), nested);
     Ok(())
@@ -124,9 +132,15 @@ fn sums_are_read(rt: HostRuntime) -> Result<(), Fail> {
 #[test]
 fn other_expressions_are_refused(rt: HostRuntime) -> Result<(), Fail> {
     let alloc = rt.alloc();
-    let typed = number(alloc, NumberSuffix::U64)?;
+    let typed = number(&rt, alloc, NumberSuffix::U64);
     assert_eq!(rt; shape_read(alloc, &typed), None);
-    let product = binary(alloc, word(alloc, b"a")?, BinaryOperator::Multiply, typed)?;
+    let product = binary(
+        &rt,
+        alloc,
+        word(&rt, alloc, b"a"),
+        BinaryOperator::Multiply,
+        typed,
+    );
     assert_eq!(rt; shape_read(alloc, &product), None);
     Ok(())
 }
@@ -143,11 +157,13 @@ fn truth(value: bool) -> SpecExpression {
 fn clauses_are_read(rt: HostRuntime) -> Result<(), Fail> {
     let alloc = rt.alloc();
     let mut clauses = Vec::new(alloc);
-    clauses.push(ClauseTree::AbortsIf {
-        place: at(7),
-        condition: truth(false),
-        code: AbortCode::Bare,
-    })?;
+    clauses
+        .push(ClauseTree::AbortsIf {
+            place: at(7),
+            condition: truth(false),
+            code: AbortCode::Bare,
+        })
+        .expect(&rt, "memory");
     match read_clauses(alloc, clauses.as_slice()) {
         Ok(read) => {
             for clause in read.iter() {
@@ -159,11 +175,13 @@ fn clauses_are_read(rt: HostRuntime) -> Result<(), Fail> {
         }
         Err(fault) => assert!(rt; false, "{fault:?}"),
     }
-    clauses.push(ClauseTree::Invariant {
-        place: at(9),
-        is_update: false,
-        condition: truth(true),
-    })?;
+    clauses
+        .push(ClauseTree::Invariant {
+            place: at(9),
+            is_update: false,
+            condition: truth(true),
+        })
+        .expect(&rt, "memory");
     assert!(rt; read_clauses(alloc, clauses.as_slice()).is_err());
     Ok(())
 }

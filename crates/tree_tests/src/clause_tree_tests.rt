@@ -9,13 +9,13 @@ use file_tree::member::{TypeParameter, TypeParameters, TypedName, TypedNames};
 use move_tree::lexeme::{Identifier, Lexeme, Lexemes, Numeral};
 use move_tree::path::Path;
 use move_tree::types::{SourceType, SourceTypeNode, TypeArguments};
-use pv_base::memory::NoMemory;
 use pv_base::name::Name;
 use pv_base::span::Span;
 use spec_tree::spec_expression::{SpecExpression, SpecField, SpecNode};
 use src_tree::scanner::tokens;
 use src_tree::token::{NumberLiteral, NumberSuffix, Token, TokenKind};
 use std::alloc::Global;
+use std::panic::Expect;
 use std::process::Abort;
 use std::test::Fail;
 
@@ -58,27 +58,15 @@ fn compares(rt: &impl Abort, alloc: Global, text: &[u8], spelled: &Lexemes) {
     }
 }
 
-fn clause_spells(
-    rt: &impl Abort,
-    alloc: Global,
-    text: &[u8],
-    tree: Box<Clause>,
-) -> Result<(), NoMemory> {
+fn clause_spells(rt: &impl Abort, alloc: Global, text: &[u8], tree: Box<Clause>) {
     let mut spelled = Lexemes::new(alloc);
-    spell_clause(alloc, &tree, &mut spelled)?;
+    spell_clause(alloc, &tree, &mut spelled).expect(rt, "memory");
     compares(rt, alloc, text, &spelled);
-    Ok(())
 }
 
-fn block_spells(
-    rt: &impl Abort,
-    alloc: Global,
-    text: &[u8],
-    tree: Box<Spec>,
-) -> Result<(), NoMemory> {
-    let spelled = spell(alloc, &tree)?;
+fn block_spells(rt: &impl Abort, alloc: Global, text: &[u8], tree: Box<Spec>) {
+    let spelled = spell(alloc, &tree).expect(rt, "memory");
     compares(rt, alloc, text, &spelled);
-    Ok(())
 }
 
 // ---- parts of trees
@@ -91,38 +79,40 @@ fn at(start: u32, end: u32) -> Span {
     }
 }
 
-fn identifier(alloc: Global, text: &[u8], start: u32, end: u32) -> Result<Identifier, NoMemory> {
-    Ok(Identifier {
-        text: Name::from_slice(alloc, text)?,
+fn identifier(rt: &impl Abort, alloc: Global, text: &[u8], start: u32, end: u32) -> Identifier {
+    Identifier {
+        text: Name::from_slice(alloc, text).expect(rt, "memory"),
         place: at(start, end),
-    })
+    }
 }
 
-fn path(alloc: Global, text: &[u8], start: u32, end: u32) -> Result<Path, NoMemory> {
-    Ok(Path::Name(identifier(alloc, text, start, end)?))
+fn path(rt: &impl Abort, alloc: Global, text: &[u8], start: u32, end: u32) -> Path {
+    Path::Name(identifier(rt, alloc, text, start, end))
 }
 
 fn variable(
+    rt: &impl Abort,
     alloc: Global,
     text: &[u8],
     start: u32,
     end: u32,
-) -> Result<Box<SpecExpression>, NoMemory> {
-    let node = SpecNode::Path(path(alloc, text, start, end)?);
-    Ok(Box::new(alloc, SpecExpression { node })?)
+) -> Box<SpecExpression> {
+    let node = SpecNode::Path(path(rt, alloc, text, start, end));
+    Box::new(alloc, SpecExpression { node }).expect(rt, "memory")
 }
 
 fn named_type(
+    rt: &impl Abort,
     alloc: Global,
     text: &[u8],
     start: u32,
     end: u32,
-) -> Result<Box<SourceType>, NoMemory> {
+) -> Box<SourceType> {
     let node = SourceTypeNode::Named {
-        path: path(alloc, text, start, end)?,
+        path: path(rt, alloc, text, start, end),
         arguments: None,
     };
-    Ok(Box::new(alloc, SourceType { node })?)
+    Box::new(alloc, SourceType { node }).expect(rt, "memory")
 }
 
 fn typed(name: Identifier, annotation: Box<SourceType>) -> TypedName {
@@ -132,259 +122,275 @@ fn typed(name: Identifier, annotation: Box<SourceType>) -> TypedName {
     }
 }
 
-fn one_clause(alloc: Global, clause: Box<Clause>) -> Result<Clauses, NoMemory> {
+fn one_clause(rt: &impl Abort, alloc: Global, clause: Box<Clause>) -> Clauses {
     let mut items = Vec::new(alloc);
-    items.push(Box::into_inner(clause))?;
-    Ok(Clauses { items })
+    items.push(Box::into_inner(clause)).expect(rt, "memory");
+    Clauses { items }
 }
 
-fn one_parameter(alloc: Global, name: Identifier) -> Result<Option<TypeParameters>, NoMemory> {
+fn one_parameter(rt: &impl Abort, alloc: Global, name: Identifier) -> Option<TypeParameters> {
     let mut items = Vec::new(alloc);
-    items.push(TypeParameter {
-        is_phantom: false,
-        name,
-        abilities: Vec::new(alloc),
-    })?;
-    Ok(Some(TypeParameters {
+    items
+        .push(TypeParameter {
+            is_phantom: false,
+            name,
+            abilities: Vec::new(alloc),
+        })
+        .expect(rt, "memory");
+    Some(TypeParameters {
         items,
         last_comma: false,
-    }))
+    })
 }
 
 // ---- the trees of the texts
 
-fn pragmas(alloc: Global) -> Result<Vec<Pragma>, NoMemory> {
+fn pragmas(rt: &impl Abort, alloc: Global) -> Vec<Pragma> {
     let mut items = Vec::new(alloc);
-    items.push(Pragma {
-        name: identifier(alloc, b"p", 7, 8)?,
-        value: Some(PragmaValue::Truth {
-            place: at(11, 15),
-            value: true,
-        }),
-    })?;
+    items
+        .push(Pragma {
+            name: identifier(rt, alloc, b"p", 7, 8),
+            value: Some(PragmaValue::Truth {
+                place: at(11, 15),
+                value: true,
+            }),
+        })
+        .expect(rt, "memory");
     let number = Numeral {
         literal: NumberLiteral {
-            text: Name::from_slice(alloc, b"1")?,
+            text: Name::from_slice(alloc, b"1").expect(rt, "memory"),
             value: 1,
             suffix: NumberSuffix::Absent,
         },
         place: at(21, 22),
     };
-    items.push(Pragma {
-        name: identifier(alloc, b"q", 17, 18)?,
-        value: Some(PragmaValue::Number(number)),
-    })?;
-    Ok(items)
+    items
+        .push(Pragma {
+            name: identifier(rt, alloc, b"q", 17, 18),
+            value: Some(PragmaValue::Number(number)),
+        })
+        .expect(rt, "memory");
+    items
 }
 
 // `pragma p = true, q = 1,;`
-fn pragma_clause(alloc: Global) -> Result<Box<Clause>, NoMemory> {
+fn pragma_clause(rt: &impl Abort, alloc: Global) -> Box<Clause> {
     let clause = Clause::Pragma {
         place: at(0, 6),
         pragmas: Pragmas {
-            items: pragmas(alloc)?,
+            items: pragmas(rt, alloc),
             last_comma: true,
         },
     };
-    Ok(Box::new(alloc, clause)?)
+    Box::new(alloc, clause).expect(rt, "memory")
 }
 
 // `requires a;`
-fn requires_clause(alloc: Global) -> Result<Box<Clause>, NoMemory> {
+fn requires_clause(rt: &impl Abort, alloc: Global) -> Box<Clause> {
     let clause = Clause::Requires {
         place: at(0, 8),
-        condition: Box::into_inner(variable(alloc, b"a", 9, 10)?),
+        condition: Box::into_inner(variable(rt, alloc, b"a", 9, 10)),
     };
-    Ok(Box::new(alloc, clause)?)
+    Box::new(alloc, clause).expect(rt, "memory")
 }
 
 // `ensures a;`
-fn ensures_clause(alloc: Global) -> Result<Box<Clause>, NoMemory> {
+fn ensures_clause(rt: &impl Abort, alloc: Global) -> Box<Clause> {
     let clause = Clause::Ensures {
         place: at(0, 7),
-        condition: Box::into_inner(variable(alloc, b"a", 8, 9)?),
+        condition: Box::into_inner(variable(rt, alloc, b"a", 8, 9)),
     };
-    Ok(Box::new(alloc, clause)?)
+    Box::new(alloc, clause).expect(rt, "memory")
 }
 
 // `aborts_if a;`
-fn aborts_if_clause(alloc: Global) -> Result<Box<Clause>, NoMemory> {
+fn aborts_if_clause(rt: &impl Abort, alloc: Global) -> Box<Clause> {
     let clause = Clause::AbortsIf {
         place: at(0, 9),
-        condition: Box::into_inner(variable(alloc, b"a", 10, 11)?),
+        condition: Box::into_inner(variable(rt, alloc, b"a", 10, 11)),
         code: AbortCode::Bare,
     };
-    Ok(Box::new(alloc, clause)?)
+    Box::new(alloc, clause).expect(rt, "memory")
 }
 
-fn targets(alloc: Global) -> Result<Vec<SpecExpression>, NoMemory> {
+fn targets(rt: &impl Abort, alloc: Global) -> Vec<SpecExpression> {
     let mut items = Vec::new(alloc);
-    items.push(Box::into_inner(variable(alloc, b"a", 9, 10)?))?;
-    items.push(Box::into_inner(variable(alloc, b"b", 12, 13)?))?;
-    Ok(items)
+    items
+        .push(Box::into_inner(variable(rt, alloc, b"a", 9, 10)))
+        .expect(rt, "memory");
+    items
+        .push(Box::into_inner(variable(rt, alloc, b"b", 12, 13)))
+        .expect(rt, "memory");
+    items
 }
 
 // `modifies a, b;`
-fn modifies_clause(alloc: Global) -> Result<Box<Clause>, NoMemory> {
+fn modifies_clause(rt: &impl Abort, alloc: Global) -> Box<Clause> {
     let clause = Clause::Modifies {
         place: at(0, 8),
         targets: Targets {
-            items: targets(alloc)?,
+            items: targets(rt, alloc),
             last_comma: false,
         },
     };
-    Ok(Box::new(alloc, clause)?)
+    Box::new(alloc, clause).expect(rt, "memory")
 }
 
 // `invariant update a;`
-fn invariant_clause(alloc: Global) -> Result<Box<Clause>, NoMemory> {
+fn invariant_clause(rt: &impl Abort, alloc: Global) -> Box<Clause> {
     let clause = Clause::Invariant {
         place: at(0, 9),
         is_update: true,
-        condition: Box::into_inner(variable(alloc, b"a", 17, 18)?),
+        condition: Box::into_inner(variable(rt, alloc, b"a", 17, 18)),
     };
-    Ok(Box::new(alloc, clause)?)
+    Box::new(alloc, clause).expect(rt, "memory")
 }
 
 // `let post x = a;`
-fn let_clause(alloc: Global) -> Result<Box<Clause>, NoMemory> {
+fn let_clause(rt: &impl Abort, alloc: Global) -> Box<Clause> {
     let clause = Clause::Let {
         place: at(0, 3),
         is_post: true,
-        name: identifier(alloc, b"x", 9, 10)?,
-        value: Box::into_inner(variable(alloc, b"a", 13, 14)?),
+        name: identifier(rt, alloc, b"x", 9, 10),
+        value: Box::into_inner(variable(rt, alloc, b"a", 13, 14)),
     };
-    Ok(Box::new(alloc, clause)?)
+    Box::new(alloc, clause).expect(rt, "memory")
 }
 
-fn bindings(alloc: Global) -> Result<Vec<SpecField>, NoMemory> {
+fn bindings(rt: &impl Abort, alloc: Global) -> Vec<SpecField> {
     let mut items = Vec::new(alloc);
-    items.push(SpecField {
-        name: identifier(alloc, b"x", 15, 16)?,
-        value: Some(Box::into_inner(variable(alloc, b"a", 18, 19)?)),
-    })?;
-    items.push(SpecField {
-        name: identifier(alloc, b"y", 21, 22)?,
-        value: None,
-    })?;
-    Ok(items)
+    items
+        .push(SpecField {
+            name: identifier(rt, alloc, b"x", 15, 16),
+            value: Some(Box::into_inner(variable(rt, alloc, b"a", 18, 19))),
+        })
+        .expect(rt, "memory");
+    items
+        .push(SpecField {
+            name: identifier(rt, alloc, b"y", 21, 22),
+            value: None,
+        })
+        .expect(rt, "memory");
+    items
 }
 
-fn one_type(alloc: Global, annotation: Box<SourceType>) -> Result<TypeArguments, NoMemory> {
+fn one_type(rt: &impl Abort, alloc: Global, annotation: Box<SourceType>) -> TypeArguments {
     let mut items = Vec::new(alloc);
-    items.push(Box::into_inner(annotation))?;
-    Ok(TypeArguments {
+    items.push(Box::into_inner(annotation)).expect(rt, "memory");
+    TypeArguments {
         items,
         last_comma: false,
-    })
+    }
 }
 
 // `include S<T> { x: a, y };`
-fn include_clause(alloc: Global) -> Result<Box<Clause>, NoMemory> {
+fn include_clause(rt: &impl Abort, alloc: Global) -> Box<Clause> {
     let clause = Clause::Include(Include {
         place: at(0, 7),
-        schema: path(alloc, b"S", 8, 9)?,
-        arguments: Some(one_type(alloc, named_type(alloc, b"T", 10, 11)?)?),
+        schema: path(rt, alloc, b"S", 8, 9),
+        arguments: Some(one_type(rt, alloc, named_type(rt, alloc, b"T", 10, 11))),
         bindings: Some(Bindings {
-            items: bindings(alloc)?,
+            items: bindings(rt, alloc),
             last_comma: false,
         }),
     });
-    Ok(Box::new(alloc, clause)?)
+    Box::new(alloc, clause).expect(rt, "memory")
 }
 
-fn inner_ensures(alloc: Global) -> Result<Box<Clause>, NoMemory> {
+fn inner_ensures(rt: &impl Abort, alloc: Global) -> Box<Clause> {
     let clause = Clause::Ensures {
         place: at(9, 16),
-        condition: Box::into_inner(variable(alloc, b"a", 17, 18)?),
+        condition: Box::into_inner(variable(rt, alloc, b"a", 17, 18)),
     };
-    Ok(Box::new(alloc, clause)?)
+    Box::new(alloc, clause).expect(rt, "memory")
 }
 
 // `spec f { ensures a; }`
-fn function_block(alloc: Global) -> Result<Box<Spec>, NoMemory> {
+fn function_block(rt: &impl Abort, alloc: Global) -> Box<Spec> {
     let spec = Spec::Named {
         place: at(0, 4),
-        name: identifier(alloc, b"f", 5, 6)?,
-        clauses: one_clause(alloc, inner_ensures(alloc)?)?,
+        name: identifier(rt, alloc, b"f", 5, 6),
+        clauses: one_clause(rt, alloc, inner_ensures(rt, alloc)),
     };
-    Ok(Box::new(alloc, spec)?)
+    Box::new(alloc, spec).expect(rt, "memory")
 }
 
-fn inner_invariant(alloc: Global) -> Result<Box<Clause>, NoMemory> {
+fn inner_invariant(rt: &impl Abort, alloc: Global) -> Box<Clause> {
     let clause = Clause::Invariant {
         place: at(14, 23),
         is_update: false,
-        condition: Box::into_inner(variable(alloc, b"a", 24, 25)?),
+        condition: Box::into_inner(variable(rt, alloc, b"a", 24, 25)),
     };
-    Ok(Box::new(alloc, clause)?)
+    Box::new(alloc, clause).expect(rt, "memory")
 }
 
 // `spec module { invariant a; }`
-fn module_block(alloc: Global) -> Result<Box<Spec>, NoMemory> {
+fn module_block(rt: &impl Abort, alloc: Global) -> Box<Spec> {
     let spec = Spec::Module {
         place: at(0, 4),
-        clauses: one_clause(alloc, inner_invariant(alloc)?)?,
+        clauses: one_clause(rt, alloc, inner_invariant(rt, alloc)),
     };
-    Ok(Box::new(alloc, spec)?)
+    Box::new(alloc, spec).expect(rt, "memory")
 }
 
 // `spec { invariant a; }`
-fn loop_block(alloc: Global) -> Result<Box<Spec>, NoMemory> {
+fn loop_block(rt: &impl Abort, alloc: Global) -> Box<Spec> {
     let clause = Clause::Invariant {
         place: at(7, 16),
         is_update: false,
-        condition: Box::into_inner(variable(alloc, b"a", 17, 18)?),
+        condition: Box::into_inner(variable(rt, alloc, b"a", 17, 18)),
     };
     let spec = Spec::Loop {
         place: at(0, 4),
-        clauses: one_clause(alloc, Box::new(alloc, clause)?)?,
+        clauses: one_clause(rt, alloc, Box::new(alloc, clause).expect(rt, "memory")),
     };
-    Ok(Box::new(alloc, spec)?)
+    Box::new(alloc, spec).expect(rt, "memory")
 }
 
-fn inner_variable(alloc: Global) -> Result<Box<Clause>, NoMemory> {
+fn inner_variable(rt: &impl Abort, alloc: Global) -> Box<Clause> {
     let variable = typed(
-        identifier(alloc, b"x", 19, 20)?,
-        named_type(alloc, b"u64", 22, 25)?,
+        identifier(rt, alloc, b"x", 19, 20),
+        named_type(rt, alloc, b"u64", 22, 25),
     );
-    Ok(Box::new(alloc, Clause::Variable(variable))?)
+    Box::new(alloc, Clause::Variable(variable)).expect(rt, "memory")
 }
 
 // `spec schema S<T> { x: u64; }`
-fn schema_block(alloc: Global) -> Result<Box<Spec>, NoMemory> {
+fn schema_block(rt: &impl Abort, alloc: Global) -> Box<Spec> {
     let spec = Spec::Schema(Schema {
         place: at(0, 4),
-        name: identifier(alloc, b"S", 12, 13)?,
-        parameters: one_parameter(alloc, identifier(alloc, b"T", 14, 15)?)?,
-        clauses: one_clause(alloc, inner_variable(alloc)?)?,
+        name: identifier(rt, alloc, b"S", 12, 13),
+        parameters: one_parameter(rt, alloc, identifier(rt, alloc, b"T", 14, 15)),
+        clauses: one_clause(rt, alloc, inner_variable(rt, alloc)),
     });
-    Ok(Box::new(alloc, spec)?)
+    Box::new(alloc, spec).expect(rt, "memory")
 }
 
-fn inputs(alloc: Global) -> Result<TypedNames, NoMemory> {
+fn inputs(rt: &impl Abort, alloc: Global) -> TypedNames {
     let mut items = Vec::new(alloc);
-    items.push(typed(
-        identifier(alloc, b"x", 11, 12)?,
-        named_type(alloc, b"u64", 14, 17)?,
-    ))?;
-    Ok(TypedNames {
+    items
+        .push(typed(
+            identifier(rt, alloc, b"x", 11, 12),
+            named_type(rt, alloc, b"u64", 14, 17),
+        ))
+        .expect(rt, "memory");
+    TypedNames {
         items,
         last_comma: false,
-    })
+    }
 }
 
 // `spec fun g(x: u64): u64 { x }`
-fn spec_function(alloc: Global) -> Result<Box<Spec>, NoMemory> {
+fn spec_function(rt: &impl Abort, alloc: Global) -> Box<Spec> {
     let spec = Spec::Function(SpecFunction {
         place: at(0, 4),
-        name: identifier(alloc, b"g", 9, 10)?,
+        name: identifier(rt, alloc, b"g", 9, 10),
         parameters: None,
-        inputs: inputs(alloc)?,
-        result: Box::into_inner(named_type(alloc, b"u64", 20, 23)?),
-        body: Box::into_inner(variable(alloc, b"x", 26, 27)?),
+        inputs: inputs(rt, alloc),
+        result: Box::into_inner(named_type(rt, alloc, b"u64", 20, 23)),
+        body: Box::into_inner(variable(rt, alloc, b"x", 26, 27)),
     });
-    Ok(Box::new(alloc, spec)?)
+    Box::new(alloc, spec).expect(rt, "memory")
 }
 
 #[test]
@@ -394,45 +400,55 @@ fn clauses_are_spelled(rt: HostRuntime) -> Result<(), Fail> {
         &rt,
         alloc,
         b"pragma p = true, q = 1,;",
-        pragma_clause(alloc)?,
-    )?;
-    clause_spells(&rt, alloc, b"requires a;", requires_clause(alloc)?)?;
-    clause_spells(&rt, alloc, b"ensures a;", ensures_clause(alloc)?)?;
-    clause_spells(&rt, alloc, b"aborts_if a;", aborts_if_clause(alloc)?)?;
-    clause_spells(&rt, alloc, b"modifies a, b;", modifies_clause(alloc)?)?;
-    clause_spells(&rt, alloc, b"invariant update a;", invariant_clause(alloc)?)?;
-    clause_spells(&rt, alloc, b"let post x = a;", let_clause(alloc)?)?;
+        pragma_clause(&rt, alloc),
+    );
+    clause_spells(&rt, alloc, b"requires a;", requires_clause(&rt, alloc));
+    clause_spells(&rt, alloc, b"ensures a;", ensures_clause(&rt, alloc));
+    clause_spells(&rt, alloc, b"aborts_if a;", aborts_if_clause(&rt, alloc));
+    clause_spells(&rt, alloc, b"modifies a, b;", modifies_clause(&rt, alloc));
+    clause_spells(
+        &rt,
+        alloc,
+        b"invariant update a;",
+        invariant_clause(&rt, alloc),
+    );
+    clause_spells(&rt, alloc, b"let post x = a;", let_clause(&rt, alloc));
     clause_spells(
         &rt,
         alloc,
         b"include S<T> { x: a, y };",
-        include_clause(alloc)?,
-    )?;
+        include_clause(&rt, alloc),
+    );
     Ok(())
 }
 
 #[test]
 fn blocks_are_spelled(rt: HostRuntime) -> Result<(), Fail> {
     let alloc = rt.alloc();
-    block_spells(&rt, alloc, b"spec f { ensures a; }", function_block(alloc)?)?;
+    block_spells(
+        &rt,
+        alloc,
+        b"spec f { ensures a; }",
+        function_block(&rt, alloc),
+    );
     block_spells(
         &rt,
         alloc,
         b"spec module { invariant a; }",
-        module_block(alloc)?,
-    )?;
+        module_block(&rt, alloc),
+    );
     block_spells(
         &rt,
         alloc,
         b"spec schema S<T> { x: u64; }",
-        schema_block(alloc)?,
-    )?;
+        schema_block(&rt, alloc),
+    );
     block_spells(
         &rt,
         alloc,
         b"spec fun g(x: u64): u64 { x }",
-        spec_function(alloc)?,
-    )?;
-    block_spells(&rt, alloc, b"spec { invariant a; }", loop_block(alloc)?)?;
+        spec_function(&rt, alloc),
+    );
+    block_spells(&rt, alloc, b"spec { invariant a; }", loop_block(&rt, alloc));
     Ok(())
 }

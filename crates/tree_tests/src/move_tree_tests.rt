@@ -11,12 +11,12 @@ use move_tree::spell_expression::spell_expression;
 use move_tree::spell_pattern::spell_pattern;
 use move_tree::spell_type::spell_type;
 use move_tree::types::{SourceType, SourceTypeNode, TypeArguments};
-use pv_base::memory::NoMemory;
 use pv_base::name::Name;
 use pv_base::span::Span;
 use src_tree::scanner::tokens;
 use src_tree::token::{NumberLiteral, NumberSuffix, Punctuation, Token, TokenKind, Tokens};
 use std::alloc::Global;
+use std::panic::Expect;
 use std::process::Abort;
 use std::test::Fail;
 
@@ -59,16 +59,10 @@ fn compares(rt: &impl Abort, alloc: Global, text: &[u8], spelled: &Lexemes) {
     }
 }
 
-fn spells(
-    rt: &impl Abort,
-    alloc: Global,
-    text: &[u8],
-    tree: Box<Expression>,
-) -> Result<(), NoMemory> {
+fn spells(rt: &impl Abort, alloc: Global, text: &[u8], tree: Box<Expression>) {
     let mut spelled = Lexemes::new(alloc);
-    spell_expression(alloc, &tree, &mut spelled)?;
+    spell_expression(alloc, &tree, &mut spelled).expect(rt, "memory");
     compares(rt, alloc, text, &spelled);
-    Ok(())
 }
 
 // ---- parts of trees
@@ -81,61 +75,69 @@ fn at(start: u32, end: u32) -> Span {
     }
 }
 
-fn identifier(alloc: Global, text: &[u8], start: u32, end: u32) -> Result<Identifier, NoMemory> {
-    Ok(Identifier {
-        text: Name::from_slice(alloc, text)?,
+fn identifier(rt: &impl Abort, alloc: Global, text: &[u8], start: u32, end: u32) -> Identifier {
+    Identifier {
+        text: Name::from_slice(alloc, text).expect(rt, "memory"),
         place: at(start, end),
-    })
+    }
 }
 
-fn path(alloc: Global, text: &[u8], start: u32, end: u32) -> Result<Path, NoMemory> {
-    Ok(Path::Name(identifier(alloc, text, start, end)?))
+fn path(rt: &impl Abort, alloc: Global, text: &[u8], start: u32, end: u32) -> Path {
+    Path::Name(identifier(rt, alloc, text, start, end))
 }
 
 fn numeral(
+    rt: &impl Abort,
     alloc: Global,
     text: &[u8],
     value: u128,
     start: u32,
     end: u32,
-) -> Result<Numeral, NoMemory> {
-    Ok(Numeral {
+) -> Numeral {
+    Numeral {
         literal: NumberLiteral {
-            text: Name::from_slice(alloc, text)?,
+            text: Name::from_slice(alloc, text).expect(rt, "memory"),
             value,
             suffix: NumberSuffix::Absent,
         },
         place: at(start, end),
-    })
+    }
 }
 
-fn boxed(alloc: Global, node: ExpressionNode) -> Result<Box<Expression>, NoMemory> {
-    Ok(Box::new(alloc, Expression { node })?)
+fn boxed(rt: &impl Abort, alloc: Global, node: ExpressionNode) -> Box<Expression> {
+    Box::new(alloc, Expression { node }).expect(rt, "memory")
 }
 
-fn local(alloc: Global, text: &[u8], start: u32, end: u32) -> Result<Box<Expression>, NoMemory> {
-    boxed(alloc, ExpressionNode::Path(path(alloc, text, start, end)?))
+fn local(rt: &impl Abort, alloc: Global, text: &[u8], start: u32, end: u32) -> Box<Expression> {
+    boxed(
+        rt,
+        alloc,
+        ExpressionNode::Path(path(rt, alloc, text, start, end)),
+    )
 }
 
 fn number(
+    rt: &impl Abort,
     alloc: Global,
     text: &[u8],
     value: u128,
     start: u32,
     end: u32,
-) -> Result<Box<Expression>, NoMemory> {
-    let number = numeral(alloc, text, value, start, end)?;
-    boxed(alloc, ExpressionNode::Literal(Literal::Number(number)))
+) -> Box<Expression> {
+    let number = numeral(rt, alloc, text, value, start, end);
+    boxed(rt, alloc, ExpressionNode::Literal(Literal::Number(number)))
 }
 
 fn binary(
+    rt: &impl Abort,
     alloc: Global,
     left: Box<Expression>,
     operator: BinaryOperator,
     place: Span,
     right: Box<Expression>,
-) -> Result<Box<Expression>, NoMemory> {
+) -> Box<Expression> {
     boxed(
+        rt,
         alloc,
         ExpressionNode::Binary {
             left,
@@ -147,80 +149,84 @@ fn binary(
 }
 
 fn named_type(
+    rt: &impl Abort,
     alloc: Global,
     text: &[u8],
     start: u32,
     end: u32,
-) -> Result<Box<SourceType>, NoMemory> {
-    let path = path(alloc, text, start, end)?;
+) -> Box<SourceType> {
+    let path = path(rt, alloc, text, start, end);
     let node = SourceTypeNode::Named {
         path,
         arguments: None,
     };
-    Ok(Box::new(alloc, SourceType { node })?)
+    Box::new(alloc, SourceType { node }).expect(rt, "memory")
 }
 
-fn one_type(alloc: Global, item: Box<SourceType>) -> Result<Option<TypeArguments>, NoMemory> {
+fn one_type(rt: &impl Abort, alloc: Global, item: Box<SourceType>) -> Option<TypeArguments> {
     let mut items = Vec::new(alloc);
-    items.push(Box::into_inner(item))?;
-    Ok(Some(TypeArguments {
+    items.push(Box::into_inner(item)).expect(rt, "memory");
+    Some(TypeArguments {
         items,
         last_comma: false,
-    }))
+    })
 }
 
 fn pair(
+    rt: &impl Abort,
     alloc: Global,
     one: Box<Expression>,
     other: Box<Expression>,
-) -> Result<Vec<Expression>, NoMemory> {
+) -> Vec<Expression> {
     let mut items = Vec::new(alloc);
-    items.push(Box::into_inner(one))?;
-    items.push(Box::into_inner(other))?;
-    Ok(items)
+    items.push(Box::into_inner(one)).expect(rt, "memory");
+    items.push(Box::into_inner(other)).expect(rt, "memory");
+    items
 }
 
 // ---- trees
 
 // a - b - c
-fn differences(alloc: Global) -> Result<Box<Expression>, NoMemory> {
-    let a = local(alloc, b"a", 0, 1)?;
-    let b = local(alloc, b"b", 4, 5)?;
-    let left = binary(alloc, a, BinaryOperator::Subtract, at(2, 3), b)?;
-    let c = local(alloc, b"c", 8, 9)?;
-    binary(alloc, left, BinaryOperator::Subtract, at(6, 7), c)
+fn differences(rt: &impl Abort, alloc: Global) -> Box<Expression> {
+    let a = local(rt, alloc, b"a", 0, 1);
+    let b = local(rt, alloc, b"b", 4, 5);
+    let left = binary(rt, alloc, a, BinaryOperator::Subtract, at(2, 3), b);
+    let c = local(rt, alloc, b"c", 8, 9);
+    binary(rt, alloc, left, BinaryOperator::Subtract, at(6, 7), c)
 }
 
 // i < n
-fn comparison(alloc: Global) -> Result<Box<Expression>, NoMemory> {
-    let i = local(alloc, b"i", 0, 1)?;
-    let n = local(alloc, b"n", 4, 5)?;
-    binary(alloc, i, BinaryOperator::Less, at(2, 3), n)
+fn comparison(rt: &impl Abort, alloc: Global) -> Box<Expression> {
+    let i = local(rt, alloc, b"i", 0, 1);
+    let n = local(rt, alloc, b"n", 4, 5);
+    binary(rt, alloc, i, BinaryOperator::Less, at(2, 3), n)
 }
 
 // x >> 8
-fn shift(alloc: Global) -> Result<Box<Expression>, NoMemory> {
-    let x = local(alloc, b"x", 0, 1)?;
-    let by = number(alloc, b"8", 8, 5, 6)?;
-    binary(alloc, x, BinaryOperator::ShiftRight, at(2, 3), by)
+fn shift(rt: &impl Abort, alloc: Global) -> Box<Expression> {
+    let x = local(rt, alloc, b"x", 0, 1);
+    let by = number(rt, alloc, b"8", 8, 5, 6);
+    binary(rt, alloc, x, BinaryOperator::ShiftRight, at(2, 3), by)
 }
 
 // if (a) if (b) c else d
-fn nearest_else(alloc: Global) -> Result<Box<Expression>, NoMemory> {
+fn nearest_else(rt: &impl Abort, alloc: Global) -> Box<Expression> {
     let inner = boxed(
+        rt,
         alloc,
         ExpressionNode::If {
             place: at(7, 9),
-            condition: local(alloc, b"b", 11, 12)?,
-            then_branch: local(alloc, b"c", 14, 15)?,
-            else_branch: Some(local(alloc, b"d", 21, 22)?),
+            condition: local(rt, alloc, b"b", 11, 12),
+            then_branch: local(rt, alloc, b"c", 14, 15),
+            else_branch: Some(local(rt, alloc, b"d", 21, 22)),
         },
-    )?;
+    );
     boxed(
+        rt,
         alloc,
         ExpressionNode::If {
             place: at(0, 2),
-            condition: local(alloc, b"a", 4, 5)?,
+            condition: local(rt, alloc, b"a", 4, 5),
             then_branch: inner,
             else_branch: None,
         },
@@ -228,20 +234,23 @@ fn nearest_else(alloc: Global) -> Result<Box<Expression>, NoMemory> {
 }
 
 // f<u64>(x, y,)
-fn call(alloc: Global) -> Result<Box<Expression>, NoMemory> {
+fn call(rt: &impl Abort, alloc: Global) -> Box<Expression> {
     let values = Box::new(
         alloc,
         pair(
+            rt,
             alloc,
-            local(alloc, b"x", 7, 8)?,
-            local(alloc, b"y", 10, 11)?,
-        )?,
-    )?;
+            local(rt, alloc, b"x", 7, 8),
+            local(rt, alloc, b"y", 10, 11),
+        ),
+    )
+    .expect(rt, "memory");
     boxed(
+        rt,
         alloc,
         ExpressionNode::Call {
-            function: path(alloc, b"f", 0, 1)?,
-            arguments: one_type(alloc, named_type(alloc, b"u64", 2, 5)?)?,
+            function: path(rt, alloc, b"f", 0, 1),
+            arguments: one_type(rt, alloc, named_type(rt, alloc, b"u64", 2, 5)),
             values: Box::into_inner(values),
             last_comma: true,
         },
@@ -249,17 +258,20 @@ fn call(alloc: Global) -> Result<Box<Expression>, NoMemory> {
 }
 
 // S { a: 1 }
-fn pack(alloc: Global) -> Result<Box<Expression>, NoMemory> {
-    let value = number(alloc, b"1", 1, 7, 8)?;
+fn pack(rt: &impl Abort, alloc: Global) -> Box<Expression> {
+    let value = number(rt, alloc, b"1", 1, 7, 8);
     let mut fields = Vec::new(alloc);
-    fields.push(FieldValue {
-        name: identifier(alloc, b"a", 4, 5)?,
-        value: Some(Box::into_inner(value)),
-    })?;
+    fields
+        .push(FieldValue {
+            name: identifier(rt, alloc, b"a", 4, 5),
+            value: Some(Box::into_inner(value)),
+        })
+        .expect(rt, "memory");
     boxed(
+        rt,
         alloc,
         ExpressionNode::Pack {
-            path: path(alloc, b"S", 0, 1)?,
+            path: path(rt, alloc, b"S", 0, 1),
             arguments: None,
             fields,
             last_comma: false,
@@ -268,68 +280,73 @@ fn pack(alloc: Global) -> Result<Box<Expression>, NoMemory> {
 }
 
 // (a + b) * c
-fn product(alloc: Global) -> Result<Box<Expression>, NoMemory> {
-    let a = local(alloc, b"a", 1, 2)?;
-    let b = local(alloc, b"b", 5, 6)?;
-    let sum = binary(alloc, a, BinaryOperator::Add, at(3, 4), b)?;
+fn product(rt: &impl Abort, alloc: Global) -> Box<Expression> {
+    let a = local(rt, alloc, b"a", 1, 2);
+    let b = local(rt, alloc, b"b", 5, 6);
+    let sum = binary(rt, alloc, a, BinaryOperator::Add, at(3, 4), b);
     let mut items = Vec::new(alloc);
-    items.push(Box::into_inner(sum))?;
+    items.push(Box::into_inner(sum)).expect(rt, "memory");
     let left = boxed(
+        rt,
         alloc,
         ExpressionNode::Tuple {
             place: at(0, 1),
             items,
             last_comma: false,
         },
-    )?;
-    let c = local(alloc, b"c", 10, 11)?;
-    binary(alloc, left, BinaryOperator::Multiply, at(8, 9), c)
+    );
+    let c = local(rt, alloc, b"c", 10, 11);
+    binary(rt, alloc, left, BinaryOperator::Multiply, at(8, 9), c)
 }
 
 // 0x1::m::C, from the byte 23 on
-fn full_path(alloc: Global) -> Result<Box<Expression>, NoMemory> {
+fn full_path(rt: &impl Abort, alloc: Global) -> Box<Expression> {
     let owner = ModuleName {
-        address: Address::Number(numeral(alloc, b"0x1", 1, 23, 26)?),
-        name: identifier(alloc, b"m", 28, 29)?,
+        address: Address::Number(numeral(rt, alloc, b"0x1", 1, 23, 26)),
+        name: identifier(rt, alloc, b"m", 28, 29),
     };
-    let name = identifier(alloc, b"C", 31, 32)?;
-    boxed(alloc, ExpressionNode::Path(Path::Full(owner, name)))
+    let name = identifier(rt, alloc, b"C", 31, 32);
+    boxed(rt, alloc, ExpressionNode::Path(Path::Full(owner, name)))
 }
 
 // assert!(c, 0x1::m::C), from the byte 12 on
-fn assertion(alloc: Global) -> Result<Box<Expression>, NoMemory> {
+fn assertion(rt: &impl Abort, alloc: Global) -> Box<Expression> {
     boxed(
+        rt,
         alloc,
         ExpressionNode::Assert {
             place: at(12, 18),
-            condition: local(alloc, b"c", 20, 21)?,
-            code: full_path(alloc)?,
+            condition: local(rt, alloc, b"c", 20, 21),
+            code: full_path(rt, alloc),
         },
     )
 }
 
 // (x as u64), from the byte 35 on
-fn cast(alloc: Global) -> Result<Box<Expression>, NoMemory> {
+fn cast(rt: &impl Abort, alloc: Global) -> Box<Expression> {
     boxed(
+        rt,
         alloc,
         ExpressionNode::Cast {
             place: at(35, 36),
-            value: local(alloc, b"x", 36, 37)?,
-            target: Box::into_inner(named_type(alloc, b"u64", 41, 44)?),
+            value: local(rt, alloc, b"x", 36, 37),
+            target: Box::into_inner(named_type(rt, alloc, b"u64", 41, 44)),
         },
     )
 }
 
 // &mut s.f, from the byte 47 on
-fn borrowed_field(alloc: Global) -> Result<Box<Expression>, NoMemory> {
+fn borrowed_field(rt: &impl Abort, alloc: Global) -> Box<Expression> {
     let field = boxed(
+        rt,
         alloc,
         ExpressionNode::Field {
-            base: local(alloc, b"s", 52, 53)?,
-            field: identifier(alloc, b"f", 54, 55)?,
+            base: local(rt, alloc, b"s", 52, 53),
+            field: identifier(rt, alloc, b"f", 54, 55),
         },
-    )?;
+    );
     boxed(
+        rt,
         alloc,
         ExpressionNode::Unary {
             operator: UnaryOperator::BorrowMutable,
@@ -340,43 +357,55 @@ fn borrowed_field(alloc: Global) -> Result<Box<Expression>, NoMemory> {
 }
 
 // !true, from the byte 57 on
-fn negation(alloc: Global) -> Result<Box<Expression>, NoMemory> {
+fn negation(rt: &impl Abort, alloc: Global) -> Box<Expression> {
     let truth = Literal::Truth {
         place: at(58, 62),
         value: true,
     };
     boxed(
+        rt,
         alloc,
         ExpressionNode::Unary {
             operator: UnaryOperator::Not,
             place: at(57, 58),
-            operand: boxed(alloc, ExpressionNode::Literal(truth))?,
+            operand: boxed(rt, alloc, ExpressionNode::Literal(truth)),
         },
     )
 }
 
 // @0x1, from the byte 64 on
-fn address(alloc: Global) -> Result<Box<Expression>, NoMemory> {
+fn address(rt: &impl Abort, alloc: Global) -> Box<Expression> {
     let address = Literal::Address {
         place: at(64, 65),
-        address: Address::Number(numeral(alloc, b"0x1", 1, 65, 68)?),
+        address: Address::Number(numeral(rt, alloc, b"0x1", 1, 65, 68)),
     };
-    boxed(alloc, ExpressionNode::Literal(address))
+    boxed(rt, alloc, ExpressionNode::Literal(address))
 }
 
 // vector<u64>[assert!(c, 0x1::m::C), (x as u64), &mut s.f, !true, @0x1,]
-fn terms(alloc: Global) -> Result<Box<Expression>, NoMemory> {
+fn terms(rt: &impl Abort, alloc: Global) -> Box<Expression> {
     let mut items = Vec::new(alloc);
-    items.push(Box::into_inner(assertion(alloc)?))?;
-    items.push(Box::into_inner(cast(alloc)?))?;
-    items.push(Box::into_inner(borrowed_field(alloc)?))?;
-    items.push(Box::into_inner(negation(alloc)?))?;
-    items.push(Box::into_inner(address(alloc)?))?;
+    items
+        .push(Box::into_inner(assertion(rt, alloc)))
+        .expect(rt, "memory");
+    items
+        .push(Box::into_inner(cast(rt, alloc)))
+        .expect(rt, "memory");
+    items
+        .push(Box::into_inner(borrowed_field(rt, alloc)))
+        .expect(rt, "memory");
+    items
+        .push(Box::into_inner(negation(rt, alloc)))
+        .expect(rt, "memory");
+    items
+        .push(Box::into_inner(address(rt, alloc)))
+        .expect(rt, "memory");
     boxed(
+        rt,
         alloc,
         ExpressionNode::Vector {
             place: at(0, 6),
-            arguments: one_type(alloc, named_type(alloc, b"u64", 7, 10)?)?,
+            arguments: one_type(rt, alloc, named_type(rt, alloc, b"u64", 7, 10)),
             items,
             last_comma: true,
         },
@@ -384,52 +413,59 @@ fn terms(alloc: Global) -> Result<Box<Expression>, NoMemory> {
 }
 
 // (a, _), from the byte 6 on
-fn pair_pattern(alloc: Global) -> Result<Box<Pattern>, NoMemory> {
+fn pair_pattern(rt: &impl Abort, alloc: Global) -> Box<Pattern> {
     let mut items = Vec::new(alloc);
-    items.push(Pattern {
-        node: PatternNode::Bind(identifier(alloc, b"a", 7, 8)?),
-    })?;
-    items.push(Pattern {
-        node: PatternNode::Ignore(at(10, 11)),
-    })?;
+    items
+        .push(Pattern {
+            node: PatternNode::Bind(identifier(rt, alloc, b"a", 7, 8)),
+        })
+        .expect(rt, "memory");
+    items
+        .push(Pattern {
+            node: PatternNode::Ignore(at(10, 11)),
+        })
+        .expect(rt, "memory");
     let node = PatternNode::Tuple {
         place: at(6, 7),
         items,
         last_comma: false,
     };
-    Ok(Box::new(alloc, Pattern { node })?)
+    Box::new(alloc, Pattern { node }).expect(rt, "memory")
 }
 
 // let (a, _): u64 = p;, from the byte 2 on
-fn binding(alloc: Global) -> Result<Box<Item>, NoMemory> {
+fn binding(rt: &impl Abort, alloc: Global) -> Box<Item> {
     let node = ItemNode::Let {
         place: at(2, 5),
-        pattern: Box::into_inner(pair_pattern(alloc)?),
-        annotation: Some(Box::into_inner(named_type(alloc, b"u64", 14, 17)?)),
-        value: Some(Box::into_inner(local(alloc, b"p", 20, 21)?)),
+        pattern: Box::into_inner(pair_pattern(rt, alloc)),
+        annotation: Some(Box::into_inner(named_type(rt, alloc, b"u64", 14, 17))),
+        value: Some(Box::into_inner(local(rt, alloc, b"p", 20, 21))),
     };
-    Ok(Box::new(alloc, Item { node })?)
+    Box::new(alloc, Item { node }).expect(rt, "memory")
 }
 
 // *r = move x, from the byte 23 on
-fn assignment(alloc: Global) -> Result<Box<Expression>, NoMemory> {
+fn assignment(rt: &impl Abort, alloc: Global) -> Box<Expression> {
     let target = boxed(
+        rt,
         alloc,
         ExpressionNode::Unary {
             operator: UnaryOperator::Dereference,
             place: at(23, 24),
-            operand: local(alloc, b"r", 24, 25)?,
+            operand: local(rt, alloc, b"r", 24, 25),
         },
-    )?;
+    );
     let value = boxed(
+        rt,
         alloc,
         ExpressionNode::Use {
             kind: UseKind::Move,
             place: at(28, 32),
-            local: identifier(alloc, b"x", 33, 34)?,
+            local: identifier(rt, alloc, b"x", 33, 34),
         },
-    )?;
+    );
     boxed(
+        rt,
         alloc,
         ExpressionNode::Assign {
             target,
@@ -440,12 +476,16 @@ fn assignment(alloc: Global) -> Result<Box<Expression>, NoMemory> {
 }
 
 // { let (a, _): u64 = p; *r = move x; return }
-fn block(alloc: Global) -> Result<Box<Expression>, NoMemory> {
+fn block(rt: &impl Abort, alloc: Global) -> Box<Expression> {
     let mut items = Vec::new(alloc);
-    items.push(Box::into_inner(binding(alloc)?))?;
-    items.push(Item {
-        node: ItemNode::Expression(Box::into_inner(assignment(alloc)?)),
-    })?;
+    items
+        .push(Box::into_inner(binding(rt, alloc)))
+        .expect(rt, "memory");
+    items
+        .push(Item {
+            node: ItemNode::Expression(Box::into_inner(assignment(rt, alloc))),
+        })
+        .expect(rt, "memory");
     let value = ExpressionNode::Return {
         place: at(36, 42),
         value: None,
@@ -456,36 +496,46 @@ fn block(alloc: Global) -> Result<Box<Expression>, NoMemory> {
         items,
         value: Some(Expression { node: value }),
     };
-    boxed(alloc, ExpressionNode::Block(Box::new(alloc, block)?))
+    boxed(
+        rt,
+        alloc,
+        ExpressionNode::Block(Box::new(alloc, block).expect(rt, "memory")),
+    )
 }
 
 // spec { invariant i; }, from the byte 9 on
-fn loop_spec(alloc: Global) -> Result<Box<LoopSpec>, NoMemory> {
+fn loop_spec(rt: &impl Abort, alloc: Global) -> Box<LoopSpec> {
     let mut tokens = Tokens::new(alloc);
-    tokens.push(Token {
-        kind: TokenKind::Word(Name::from_slice(alloc, b"invariant")?),
-        span: at(16, 25),
-        glued: false,
-    })?;
-    tokens.push(Token {
-        kind: TokenKind::Word(Name::from_slice(alloc, b"i")?),
-        span: at(26, 27),
-        glued: false,
-    })?;
-    tokens.push(Token {
-        kind: TokenKind::Punctuation(Punctuation::Semicolon),
-        span: at(27, 28),
-        glued: true,
-    })?;
+    tokens
+        .push(Token {
+            kind: TokenKind::Word(Name::from_slice(alloc, b"invariant").expect(rt, "memory")),
+            span: at(16, 25),
+            glued: false,
+        })
+        .expect(rt, "memory");
+    tokens
+        .push(Token {
+            kind: TokenKind::Word(Name::from_slice(alloc, b"i").expect(rt, "memory")),
+            span: at(26, 27),
+            glued: false,
+        })
+        .expect(rt, "memory");
+    tokens
+        .push(Token {
+            kind: TokenKind::Punctuation(Punctuation::Semicolon),
+            span: at(27, 28),
+            glued: true,
+        })
+        .expect(rt, "memory");
     let spec = LoopSpec {
         place: at(9, 13),
         tokens,
     };
-    Ok(Box::new(alloc, spec)?)
+    Box::new(alloc, spec).expect(rt, "memory")
 }
 
 // loop { continue }, from the byte 37 on
-fn endless(alloc: Global) -> Result<Box<Expression>, NoMemory> {
+fn endless(rt: &impl Abort, alloc: Global) -> Box<Expression> {
     let value = ExpressionNode::Continue(at(44, 52));
     let block = Block {
         place: at(42, 43),
@@ -493,8 +543,13 @@ fn endless(alloc: Global) -> Result<Box<Expression>, NoMemory> {
         items: Vec::new(alloc),
         value: Some(Expression { node: value }),
     };
-    let body = boxed(alloc, ExpressionNode::Block(Box::new(alloc, block)?))?;
+    let body = boxed(
+        rt,
+        alloc,
+        ExpressionNode::Block(Box::new(alloc, block).expect(rt, "memory")),
+    );
     boxed(
+        rt,
         alloc,
         ExpressionNode::Loop {
             place: at(37, 41),
@@ -504,110 +559,126 @@ fn endless(alloc: Global) -> Result<Box<Expression>, NoMemory> {
 }
 
 // while ({ spec { invariant i; }; i }) loop { continue }
-fn loops(alloc: Global) -> Result<Box<Expression>, NoMemory> {
-    let spec = loop_spec(alloc)?;
+fn loops(rt: &impl Abort, alloc: Global) -> Box<Expression> {
+    let spec = loop_spec(rt, alloc);
     let block = Block {
         place: at(7, 8),
         spec: Some(Box::into_inner(spec)),
         items: Vec::new(alloc),
-        value: Some(Box::into_inner(local(alloc, b"i", 32, 33)?)),
+        value: Some(Box::into_inner(local(rt, alloc, b"i", 32, 33))),
     };
-    let condition = boxed(alloc, ExpressionNode::Block(Box::new(alloc, block)?))?;
+    let condition = boxed(
+        rt,
+        alloc,
+        ExpressionNode::Block(Box::new(alloc, block).expect(rt, "memory")),
+    );
     boxed(
+        rt,
         alloc,
         ExpressionNode::While {
             place: at(0, 5),
             condition,
-            body: endless(alloc)?,
+            body: endless(rt, alloc),
         },
     )
 }
 
 // (T, &u8,), from the byte 12 on
-fn tuple_type(alloc: Global) -> Result<Box<SourceType>, NoMemory> {
+fn tuple_type(rt: &impl Abort, alloc: Global) -> Box<SourceType> {
     let shared = SourceTypeNode::Shared {
         place: at(16, 17),
-        target: named_type(alloc, b"u8", 17, 19)?,
+        target: named_type(rt, alloc, b"u8", 17, 19),
     };
     let mut items = Vec::new(alloc);
-    items.push(Box::into_inner(named_type(alloc, b"T", 13, 14)?))?;
-    items.push(SourceType { node: shared })?;
+    items
+        .push(Box::into_inner(named_type(rt, alloc, b"T", 13, 14)))
+        .expect(rt, "memory");
+    items.push(SourceType { node: shared }).expect(rt, "memory");
     let node = SourceTypeNode::Tuple {
         place: at(12, 13),
         items,
         last_comma: true,
     };
-    Ok(Box::new(alloc, SourceType { node })?)
+    Box::new(alloc, SourceType { node }).expect(rt, "memory")
 }
 
 // &mut vector<(T, &u8,)>
-fn reference_type(alloc: Global) -> Result<Box<SourceType>, NoMemory> {
-    let path = path(alloc, b"vector", 5, 11)?;
+fn reference_type(rt: &impl Abort, alloc: Global) -> Box<SourceType> {
+    let path = path(rt, alloc, b"vector", 5, 11);
     let named = SourceTypeNode::Named {
         path,
-        arguments: one_type(alloc, tuple_type(alloc)?)?,
+        arguments: one_type(rt, alloc, tuple_type(rt, alloc)),
     };
     let node = SourceTypeNode::Mutable {
         place: at(0, 1),
-        target: Box::new(alloc, SourceType { node: named })?,
+        target: Box::new(alloc, SourceType { node: named }).expect(rt, "memory"),
     };
-    Ok(Box::new(alloc, SourceType { node })?)
+    Box::new(alloc, SourceType { node }).expect(rt, "memory")
 }
 
 // m::S<T> { a: x, y, }
-fn struct_pattern(alloc: Global) -> Result<Box<Pattern>, NoMemory> {
+fn struct_pattern(rt: &impl Abort, alloc: Global) -> Box<Pattern> {
     let mut fields = Vec::new(alloc);
-    fields.push(FieldPattern {
-        name: identifier(alloc, b"a", 10, 11)?,
-        pattern: Some(Pattern {
-            node: PatternNode::Bind(identifier(alloc, b"x", 13, 14)?),
-        }),
-    })?;
-    fields.push(FieldPattern {
-        name: identifier(alloc, b"y", 16, 17)?,
-        pattern: None,
-    })?;
+    fields
+        .push(FieldPattern {
+            name: identifier(rt, alloc, b"a", 10, 11),
+            pattern: Some(Pattern {
+                node: PatternNode::Bind(identifier(rt, alloc, b"x", 13, 14)),
+            }),
+        })
+        .expect(rt, "memory");
+    fields
+        .push(FieldPattern {
+            name: identifier(rt, alloc, b"y", 16, 17),
+            pattern: None,
+        })
+        .expect(rt, "memory");
     let path = Path::Member(
-        identifier(alloc, b"m", 0, 1)?,
-        identifier(alloc, b"S", 3, 4)?,
+        identifier(rt, alloc, b"m", 0, 1),
+        identifier(rt, alloc, b"S", 3, 4),
     );
     let node = PatternNode::Unpack {
         path,
-        arguments: one_type(alloc, named_type(alloc, b"T", 5, 6)?)?,
+        arguments: one_type(rt, alloc, named_type(rt, alloc, b"T", 5, 6)),
         fields,
         last_comma: true,
     };
-    Ok(Box::new(alloc, Pattern { node })?)
+    Box::new(alloc, Pattern { node }).expect(rt, "memory")
 }
 
 #[test]
 fn expressions_are_spelled(rt: HostRuntime) -> Result<(), Fail> {
     let alloc = rt.alloc();
-    spells(&rt, alloc, b"a - b - c", differences(alloc)?)?;
-    spells(&rt, alloc, b"i < n", comparison(alloc)?)?;
-    spells(&rt, alloc, b"x >> 8", shift(alloc)?)?;
-    spells(&rt, alloc, b"if (a) if (b) c else d", nearest_else(alloc)?)?;
-    spells(&rt, alloc, b"f<u64>(x, y,)", call(alloc)?)?;
-    spells(&rt, alloc, b"S { a: 1 }", pack(alloc)?)?;
-    spells(&rt, alloc, b"(a + b) * c", product(alloc)?)?;
+    spells(&rt, alloc, b"a - b - c", differences(&rt, alloc));
+    spells(&rt, alloc, b"i < n", comparison(&rt, alloc));
+    spells(&rt, alloc, b"x >> 8", shift(&rt, alloc));
+    spells(
+        &rt,
+        alloc,
+        b"if (a) if (b) c else d",
+        nearest_else(&rt, alloc),
+    );
+    spells(&rt, alloc, b"f<u64>(x, y,)", call(&rt, alloc));
+    spells(&rt, alloc, b"S { a: 1 }", pack(&rt, alloc));
+    spells(&rt, alloc, b"(a + b) * c", product(&rt, alloc));
     spells(
         &rt,
         alloc,
         b"vector<u64>[assert!(c, 0x1::m::C), (x as u64), &mut s.f, !true, @0x1,]",
-        terms(alloc)?,
-    )?;
+        terms(&rt, alloc),
+    );
     spells(
         &rt,
         alloc,
         b"{ let (a, _): u64 = p; *r = move x; return }",
-        block(alloc)?,
-    )?;
+        block(&rt, alloc),
+    );
     spells(
         &rt,
         alloc,
         b"while ({ spec { invariant i; }; i }) loop { continue }",
-        loops(alloc)?,
-    )?;
+        loops(&rt, alloc),
+    );
     Ok(())
 }
 
@@ -615,12 +686,12 @@ fn expressions_are_spelled(rt: HostRuntime) -> Result<(), Fail> {
 fn types_and_patterns_are_spelled(rt: HostRuntime) -> Result<(), Fail> {
     let alloc = rt.alloc();
     let mut spelled = Lexemes::new(alloc);
-    let tree = reference_type(alloc)?;
-    spell_type(alloc, &tree, &mut spelled)?;
+    let tree = reference_type(&rt, alloc);
+    spell_type(alloc, &tree, &mut spelled).expect(&rt, "memory");
     compares(&rt, alloc, b"&mut vector<(T, &u8,)>", &spelled);
     let mut spelled = Lexemes::new(alloc);
-    let tree = struct_pattern(alloc)?;
-    spell_pattern(alloc, &tree, &mut spelled)?;
+    let tree = struct_pattern(&rt, alloc);
+    spell_pattern(alloc, &tree, &mut spelled).expect(&rt, "memory");
     compares(&rt, alloc, b"m::S<T> { a: x, y, }", &spelled);
     Ok(())
 }
