@@ -16,8 +16,9 @@ use Rattle.sum_tree.specs.declared.clause.ClauseKind.TheVariants.{Requires, Ensu
 use Rattle.sum_tree.specs.declared.clause.Clause.{Clause}
 use Rattle.sum_tree.specs.FunctionData.{FunctionData}
 use Rattle.ref_sem.specs.Semantics.{Arguments, Names, names_of, sum_number, ComparesBy, Holds, AllHold, SomeHolds, HasKind}
-use Rattle.vc_gen.specs.Translation.{sum_term, comparison_formula, condition_formula}
-use Rattle.vc_gen.specs.Conditions.{is_kind, formula_if, has_kind, condition_if}
+use Rattle.sum_formula.specs.Translation.{sum_term, comparison_formula, condition_formula}
+use Rattle.sum_formula.specs.Premises.{is_kind, formula_if}
+use Rattle.vc_gen.specs.Conditions.{has_kind, condition_if}
 use Rattle.vc_gen.specs.declared.condition.VerificationCondition.{VerificationCondition}
 use Rattle.vc_gen.proofs.NumberTruth.{Agrees, sum_is}
 

@@ -19,9 +19,10 @@ use Rattle.sum_tree.specs.FunctionData.{FunctionData}
 use Rattle.token_reading.specs.TokenReading.{same_name}
 use Rattle.ref_sem.specs.Semantics.{Arguments, Names, AreU64, names_of, Holds, AllHold, SomeHolds, HasKind, MeetsClauses, Keeps, run_sum}
 use Rattle.vc_gen.specs.declared.condition.VerificationCondition.{VerificationCondition}
-use Rattle.vc_gen.specs.Translation.{zero_term, term_at, word_term}
+use Rattle.sum_formula.specs.Translation.{zero_term, term_at, word_term}
 use Rattle.ref_sem.specs.Bodies.{HasU64Body}
-use Rattle.vc_gen.specs.Conditions.{argument_formula, arguments_formula, entry_formulas, requires_formula, returns_formula, returned_term, range_formulas, at_return, at_abort, ensures_condition, aborts_if_condition, aborts_condition, condition_if, has_kind, conditions_under, conditions_of, AreValid, Decide}
+use Rattle.sum_formula.specs.Premises.{argument_formula, arguments_formula, entry_formulas, requires_formula, returns_formula, returned_term, range_formulas, at_return, at_abort}
+use Rattle.vc_gen.specs.Conditions.{ensures_condition, aborts_if_condition, aborts_condition, condition_if, has_kind, conditions_under, conditions_of, AreValid, Decide}
 use Rattle.vc_gen.proofs.Words.{same_name-equal, position_some, name_at_position}
 use Rattle.vc_gen.proofs.NumberTruth.{Agrees}
 use Rattle.vc_gen.proofs.RunTruth.{RunAgrees, run_agrees}

@@ -12,9 +12,9 @@ use Rattle.sum_tree.specs.declared.sum.Operator.TheVariants.{Plus, Minus}
 use Rattle.sum_tree.specs.FunctionData.{FunctionData}
 use Rattle.sum_tree.specs.SumData.{SumData, NumberSum, WordSum, JoinedSum}
 use Rattle.ref_sem.specs.Semantics.{Arguments, AreU64, operator_result, run_sum}
-use Rattle.vc_gen.specs.Translation.{zero_term, operator_term, sum_term}
+use Rattle.sum_formula.specs.Translation.{zero_term, operator_term, sum_term}
 use Rattle.ref_sem.specs.Bodies.{IsU64Sum, HasU64Body}
-use Rattle.vc_gen.specs.Conditions.{range_formula, range_formulas, returned_term}
+use Rattle.sum_formula.specs.Premises.{range_formula, range_formulas, returned_term}
 use Rattle.vc_gen.proofs.NumberTruth.{Agrees}
 
 -- ---- one operator

@@ -1,2 +1,1 @@
-pub mod Translation
 pub mod Conditions

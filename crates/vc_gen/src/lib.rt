@@ -3,4 +3,3 @@
 
 pub mod condition;
 pub mod conditions;
-mod translation;

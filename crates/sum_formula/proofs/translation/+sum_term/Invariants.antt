@@ -1,5 +1,5 @@
 use Rattle.sum_tree.specs.SumData.{sum_size}
-use Rattle.vc_gen.proofs.translation.+sum_term.Given as goal
+use Rattle.sum_formula.proofs.translation.+sum_term.Given as goal
 
 abbrev pub decreases-sum : goal.decreases-sum
 decreases-sum l = sum_size l.sum_of.now

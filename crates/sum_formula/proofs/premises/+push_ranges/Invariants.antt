@@ -1,5 +1,5 @@
 use Rattle.sum_tree.specs.SumData.{sum_size}
-use Rattle.vc_gen.proofs.conditions.+push_ranges.Given as goal
+use Rattle.sum_formula.proofs.premises.+push_ranges.Given as goal
 
 abbrev pub decreases-push_ranges : goal.decreases-push_ranges
 decreases-push_ranges l = sum_size l.sum.now

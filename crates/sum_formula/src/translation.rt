@@ -3,7 +3,7 @@
 ghost use Rattle.std.specs.Prelude.{◌≡◌, ◌^◌, ◌≤◌, IfOk, length};
 ghost use Rattle.std.specs.List.{position};
 ghost use Rattle.token_reading.specs.TokenReading.{same_name};
-ghost use Rattle.vc_gen.specs.Translation.{comparison_formula, condition_formula, free_term, greatest_term, operator_term, sum_term, word_term, zero_term};
+ghost use Rattle.sum_formula.specs.Translation.{comparison_formula, condition_formula, free_term, greatest_term, operator_term, sum_term, word_term, zero_term};
 
 use fol::formula::{Formula, Term};
 use pv_base::memory::NoMemory;

@@ -1,0 +1,72 @@
+-- What the verification conditions of a function suppose: that its arguments have their types and meet each `requires`,
+-- and that its run returns, or that it aborts. The parameters of the function are variables, numbered in their order.
+-- Source: D. Dill et al., Fast and Reliable Formal Verification of Smart Contracts with the Move Prover, TACAS 2022.
+use Rattle.std.specs.Prelude.{ℕ, Bool, true, false, List, [], ◌∷◌, ◌++◌, map, if◌then◌else◌}
+use Rattle.std.specs.List.{flat_map}
+use Rattle.pv_base.specs.TypeData.{IntType}
+use Rattle.pv_base.specs.declared.types.Width.TheVariants.{U64}
+use Rattle.fol.specs.FormulaData.{TermData, FormulaData, LeFormula, IsFormula, NotFormula, AllOfFormula, NoFormulas, MoreFormulas, formulas_of}
+use Rattle.sum_tree.specs.declared.sum.Operator.{Operator}
+use Rattle.sum_tree.specs.declared.sum.Operator.TheVariants.{Plus, Minus}
+use Rattle.sum_tree.specs.declared.clause.ClauseKind.{ClauseKind}
+use Rattle.sum_tree.specs.declared.clause.ClauseKind.TheVariants.{Requires, Ensures, AbortsIf}
+use Rattle.sum_tree.specs.declared.clause.Clause.{Clause}
+use Rattle.sum_tree.specs.SumData.{SumData, NumberSum, WordSum, JoinedSum}
+use Rattle.sum_tree.specs.FunctionData.{FunctionData}
+use Rattle.sum_formula.specs.Translation.{zero_term, greatest_term, word_term, operator_term, sum_term, condition_formula}
+
+-- each parameter has a value of its type
+abbrev pub argument_formula : List (List ℕ) → List ℕ → FormulaData
+argument_formula parameters name = IsFormula (IntType U64) (word_term parameters zero_term name)
+
+abbrev pub arguments_formula : FunctionData → FormulaData
+arguments_formula f = AllOfFormula (formulas_of (map (argument_formula f.parameters) f.parameters))
+
+abbrev pub is_kind : ClauseKind → ClauseKind → Bool
+is_kind Requires Requires = true
+is_kind Ensures Ensures = true
+is_kind AbortsIf AbortsIf = true
+is_kind _ _ = false
+
+-- the formula of a clause of this kind, and none of another clause
+abbrev pub formula_if : ClauseKind → List (List ℕ) → TermData → Clause → List FormulaData
+formula_if kind parameters returned c = if is_kind c.kind kind then condition_formula parameters returned c.condition ∷ [] else []
+
+-- the formulas of the clauses of this kind, which speak of the entry
+abbrev pub entry_formulas : ClauseKind → FunctionData → List Clause → List FormulaData
+entry_formulas kind f clauses = flat_map (formula_if kind f.parameters zero_term) clauses
+
+abbrev pub requires_formula : FunctionData → List Clause → FormulaData
+requires_formula f clauses = AllOfFormula (formulas_of (entry_formulas Requires f clauses))
+
+-- What is made of u64 values is from 0 on where they were added, and at most the greatest where one was taken away: so
+-- one bound tells whether it is a u64.
+abbrev pub range_formula : Operator → TermData → FormulaData
+range_formula Plus t = LeFormula t greatest_term
+range_formula Minus t = LeFormula zero_term t
+
+-- each value on the way to that of the sum is a u64
+abbrev pub range_formulas : List (List ℕ) → SumData → List FormulaData
+range_formulas parameters (NumberSum n) = []
+range_formulas parameters (WordSum word) = []
+range_formulas parameters (JoinedSum left operator right) =
+    range_formulas parameters left ++ (range_formulas parameters right
+    ++ range_formula operator (operator_term operator (sum_term parameters zero_term left) (sum_term parameters zero_term right)) ∷ [])
+
+-- the body's run returns
+abbrev pub returns_formula : FunctionData → FormulaData
+returns_formula f = AllOfFormula (formulas_of (range_formulas f.parameters f.body))
+
+-- what it returns
+abbrev pub returned_term : FunctionData → TermData
+returned_term f = sum_term f.parameters zero_term f.body
+
+abbrev pub all_three : FormulaData → FormulaData → FormulaData → FormulaData
+all_three p q r = AllOfFormula (MoreFormulas p (MoreFormulas q (MoreFormulas r NoFormulas)))
+
+-- from a start with arguments of their types that meets each `requires`, the run returns, or aborts
+abbrev pub at_return : FunctionData → List Clause → FormulaData
+at_return f clauses = all_three (arguments_formula f) (requires_formula f clauses) (returns_formula f)
+
+abbrev pub at_abort : FunctionData → List Clause → FormulaData
+at_abort f clauses = all_three (arguments_formula f) (requires_formula f clauses) (NotFormula (returns_formula f))

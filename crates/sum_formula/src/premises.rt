@@ -1,0 +1,185 @@
+//! What the conditions of a function suppose.
+
+ghost use Rattle.std.specs.Prelude.{◌≡◌, ◌^◌, ◌≤◌, ◌++◌, IfOk, OnOk, length, map};
+ghost use Rattle.fol.specs.FormulaData.{ImpliesFormula};
+ghost use Rattle.sum_formula.specs.Translation.{sum_term, zero_term};
+ghost use Rattle.sum_formula.specs.Premises.{all_three, argument_formula, arguments_formula, at_return, entry_formulas, formula_if, range_formula, range_formulas, requires_formula, returned_term, returns_formula};
+
+use crate::translation::{condition, greatest, join, sum, word, zero};
+use fol::formula::{Formula, FormulaNode, Term};
+use pv_base::memory::NoMemory;
+use pv_base::name::Name;
+use pv_base::types::{TypeNode, TypeTerm, Width};
+use std::alloc::Global;
+use sum_tree::clause::{Clause, ClauseKind};
+use sum_tree::function::Function;
+use sum_tree::sum::{Operator, Sum, SumNode};
+
+/// That each parameter has a value of its type.
+fn arguments(alloc: Global, parameters: &[Name]) -> Result<Vec<Formula>, NoMemory>
+    requires { length parameters.now ≤ 2 ^ 32 }
+    ensures { IfOk result (λ made. made.items ≡ map (argument_formula parameters.now) parameters.now) }
+{
+    let mut formulas = Vec::new(alloc);
+    for name in parameters {
+        let variable = word(alloc, parameters, &zero(), name.as_slice())?;
+        let of = TypeTerm {
+            node: TypeNode::Int(Width::U64),
+        };
+        formulas.push(Formula::has_type(of, variable))?;
+    }
+    Ok(formulas)
+}
+
+/// The condition of a clause of a kind, read at the entry; none of another clause.
+fn push_if_kind(
+    alloc: Global,
+    kind: ClauseKind,
+    parameters: &[Name],
+    clause: &Clause,
+    formulas: &mut Vec<Formula>,
+) -> Result<(), NoMemory>
+    requires { length parameters.now ≤ 2 ^ 32 }
+    ensures { OnOk result (formulas.new.items ≡ formulas.old.items ++ formula_if kind parameters.now zero_term clause.now) }
+{
+    if clause.kind == kind {
+        formulas.push(condition(alloc, parameters, &zero(), &clause.condition)?)?;
+    }
+    Ok(())
+}
+
+/// The conditions of the clauses of a kind, read at the entry.
+pub fn entry_conditions(
+    alloc: Global,
+    kind: ClauseKind,
+    function: &Function,
+    clauses: &[Clause],
+) -> Result<Vec<Formula>, NoMemory>
+    requires { length function.now.parameters ≤ 2 ^ 32 }
+    ensures { IfOk result (λ made. made.items ≡ entry_formulas kind function.now clauses.now) }
+{
+    let parameters = function.parameters.as_slice();
+    let mut formulas = Vec::new(alloc);
+    for clause in clauses {
+        push_if_kind(alloc, kind, parameters, clause, &mut formulas)?;
+    }
+    Ok(formulas)
+}
+
+/// That what an operator made of u64 values is one.
+fn range(alloc: Global, operator: Operator, term: &Term) -> Result<Formula, NoMemory>
+    ensures { IfOk result (λ made. made ≡ range_formula operator term.now) }
+{
+    let term = term.try_clone(alloc)?;
+    match operator {
+        Operator::Plus => Ok(Formula::at_most(term, greatest())),
+        Operator::Minus => Ok(Formula::at_most(zero(), term)),
+    }
+}
+
+/// That each value on the way to that of a sum is a u64: these formulas are put behind the others. The term of the
+/// sum comes back.
+#[cycle(push_ranges)]
+fn push_ranges(
+    alloc: Global,
+    parameters: &[Name],
+    sum: &Sum,
+    formulas: &mut Vec<Formula>,
+) -> Result<Box<Term>, NoMemory>
+    requires { length parameters.now ≤ 2 ^ 32 }
+    ensures term { IfOk result (λ term. term.value ≡ sum_term parameters.now zero_term sum.now) }
+    ensures formulas { OnOk result (formulas.new.items ≡ formulas.old.items ++ range_formulas parameters.now sum.now) }
+{
+    match &sum.node {
+        SumNode::Number(number) => Ok(Box::new(alloc, Term::number(i128::from(*number)))?),
+        SumNode::Word(name) => {
+            let term = word(alloc, parameters, &zero(), name.as_slice())?;
+            Ok(Box::new(alloc, term)?)
+        }
+        SumNode::Joined {
+            left,
+            operator,
+            right,
+        } => {
+            let left = push_ranges(alloc, parameters, left, formulas)?;
+            let right = push_ranges(alloc, parameters, right, formulas)?;
+            let term = join(alloc, *operator, left, right)?;
+            formulas.push(range(alloc, *operator, &term)?)?;
+            Ok(term)
+        }
+    }
+}
+
+/// That the body's run returns.
+pub fn returns(alloc: Global, function: &Function) -> Result<Formula, NoMemory>
+    requires { length function.now.parameters ≤ 2 ^ 32 }
+    ensures { IfOk result (λ made. made ≡ returns_formula function.now) }
+{
+    let mut formulas = Vec::new(alloc);
+    push_ranges(
+        alloc,
+        function.parameters.as_slice(),
+        &function.body,
+        &mut formulas,
+    )?;
+    Ok(Formula::all_of(formulas))
+}
+
+/// That the function starts as it may, and that its run ends so.
+pub fn start(
+    alloc: Global,
+    function: &Function,
+    clauses: &[Clause],
+    outcome: Box<Formula>,
+) -> Result<Formula, NoMemory>
+    requires { length function.now.parameters ≤ 2 ^ 32 }
+    ensures { IfOk result (λ made. made ≡ all_three (arguments_formula function.now) (requires_formula function.now clauses.now) outcome.value) }
+{
+    let arguments = arguments(alloc, function.parameters.as_slice())?;
+    let met = entry_conditions(alloc, ClauseKind::Requires, function, clauses)?;
+    let mut parts = Vec::with_capacity(alloc, 3)?;
+    parts.push(Formula::all_of(arguments))?;
+    parts.push(Formula::all_of(met))?;
+    parts.push(Box::into_inner(outcome))?;
+    Ok(Formula::all_of(parts))
+}
+
+/// That a premise implies a claim.
+pub fn implication(alloc: Global, premise: &Formula, claim: Formula) -> Result<Formula, NoMemory>
+    ensures { IfOk result (λ made. made ≡ ImpliesFormula premise.now claim) }
+{
+    let claim = Box::new(alloc, claim)?;
+    let premise = Box::new(alloc, premise.try_clone(alloc)?)?;
+    Ok(Formula {
+        node: FormulaNode::Implies(premise, claim),
+    })
+}
+
+/// What the conditions at returns suppose.
+pub fn premise_at_return(
+    alloc: Global,
+    function: &Function,
+    clauses: &[Clause],
+    returns: &Formula,
+) -> Result<Box<Formula>, NoMemory>
+    requires few { length function.now.parameters ≤ 2 ^ 32 }
+    requires returns { returns.now ≡ returns_formula function.now }
+    ensures { IfOk result (λ made. made.value ≡ at_return function.now clauses.now) }
+{
+    let outcome = Box::new(alloc, returns.try_clone(alloc)?)?;
+    let premise = start(alloc, function, clauses, outcome)?;
+    Ok(Box::new(alloc, premise)?)
+}
+
+/// What the body's run returns.
+pub fn returned_sum(alloc: Global, function: &Function) -> Result<Box<Term>, NoMemory>
+    requires { length function.now.parameters ≤ 2 ^ 32 }
+    ensures { IfOk result (λ made. made.value ≡ returned_term function.now) }
+{
+    sum(
+        alloc,
+        function.parameters.as_slice(),
+        &zero(),
+        &function.body,
+    )
+}
