@@ -5,7 +5,7 @@ ghost use Rattle.token_reading.specs.ReadFault.{IfNoTree};
 ghost use Rattle.expression_parse.specs.ExpressionReading.{control_form, if_at, readers, while_at};
 
 use crate::block::read_body;
-use crate::expression::read_expression;
+use crate::expression::read_boxed;
 use crate::leaf::{Control, may_begin};
 use move_tree::expression::{Expression, ExpressionNode};
 use pv_base::span::Span;
@@ -36,8 +36,8 @@ pub fn read_control(
             Ok((Expression { node }, rest))
         }
         Control::Return if may_begin(tokens) => {
-            let (value, rest) = read_expression(alloc, 0, tokens, budget)?;
-            let value = Some(Box::new(alloc, value)?);
+            let (value, rest) = read_boxed(alloc, 0, tokens, budget)?;
+            let value = Some(value);
             let node = ExpressionNode::Return { place, value };
             Ok((Expression { node }, rest))
         }
@@ -46,8 +46,7 @@ pub fn read_control(
             Ok((Expression { node }, tokens))
         }
         Control::Abort => {
-            let (code, rest) = read_expression(alloc, 0, tokens, budget)?;
-            let code = Box::new(alloc, code)?;
+            let (code, rest) = read_boxed(alloc, 0, tokens, budget)?;
             let node = ExpressionNode::Abort { place, code };
             Ok((Expression { node }, rest))
         }
@@ -74,11 +73,9 @@ fn read_if(
     ensures { MatchResult result (λ read. if_at (readers budget) place tokens.now ≡ Some (read.0, read.1.now)) (λ fault. IfNoTree fault (if_at (readers budget) place tokens.now ≡ None)) }
 {
     let rest = expect_sign(tokens, Punctuation::LeftParenthesis)?;
-    let (condition, rest) = read_expression(alloc, 0, rest, budget)?;
-    let condition = Box::new(alloc, condition)?;
+    let (condition, rest) = read_boxed(alloc, 0, rest, budget)?;
     let rest = expect_sign(rest, Punctuation::RightParenthesis)?;
-    let (then_branch, rest) = read_expression(alloc, 0, rest, budget)?;
-    let then_branch = Box::new(alloc, then_branch)?;
+    let (then_branch, rest) = read_boxed(alloc, 0, rest, budget)?;
     let Some(behind) = skip_word(rest, b"else") else {
         let node = ExpressionNode::If {
             place,
@@ -88,12 +85,12 @@ fn read_if(
         };
         return Ok((Expression { node }, rest));
     };
-    let (else_branch, rest) = read_expression(alloc, 0, behind, budget)?;
+    let (else_branch, rest) = read_boxed(alloc, 0, behind, budget)?;
     let node = ExpressionNode::If {
         place,
         condition,
         then_branch,
-        else_branch: Some(Box::new(alloc, else_branch)?),
+        else_branch: Some(else_branch),
     };
     Ok((Expression { node }, rest))
 }
@@ -113,11 +110,11 @@ fn read_while(
     let (condition, rest) = read_body(alloc, true, rest, budget)?;
     let condition = Box::new(alloc, condition)?;
     let rest = expect_sign(rest, Punctuation::RightParenthesis)?;
-    let (body, rest) = read_expression(alloc, 0, rest, budget)?;
+    let (body, rest) = read_boxed(alloc, 0, rest, budget)?;
     let node = ExpressionNode::While {
         place,
         condition,
-        body: Box::new(alloc, body)?,
+        body,
     };
     Ok((Expression { node }, rest))
 }

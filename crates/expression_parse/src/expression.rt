@@ -33,6 +33,20 @@ pub fn read_expression(
     read_expression_form(alloc, minimum, tokens, budget - 1)
 }
 
+/// The same, in a box.
+#[cycle(expression)]
+pub(crate) fn read_boxed(
+    alloc: Global,
+    minimum: usize,
+    tokens: &[Token],
+    budget: usize,
+) -> Result<(Box<Expression>, &[Token]), ReadFault>
+    ensures { MatchResult result (λ read. expression_at budget minimum tokens.now ≡ Some (read.0.value, read.1.now)) (λ fault. IfNoTree fault (expression_at budget minimum tokens.now ≡ None)) }
+{
+    let (expression, rest) = read_expression(alloc, minimum, tokens, budget)?;
+    Ok((Box::new(alloc, expression)?, rest))
+}
+
 /// An expression of at least this level, of which what stands inside is nested at most `budget` deep.
 #[cycle(expression)]
 #[tactic(auto, unfolding(crate::specs::ExpressionReading::expression_form))]
@@ -69,11 +83,11 @@ fn read_any_form(
     let (operand, rest) = read_operand(alloc, tokens, budget)?;
     let operand = Box::new(alloc, operand)?;
     if let Some((place, rest)) = place_of_sign(rest, Punctuation::Equal) {
-        let (value, rest) = read_expression(alloc, 0, rest, budget)?;
+        let (value, rest) = read_boxed(alloc, 0, rest, budget)?;
         let node = ExpressionNode::Assign {
             target: operand,
             place,
-            value: Box::new(alloc, value)?,
+            value,
         };
         return Ok((Expression { node }, rest));
     }
@@ -98,12 +112,12 @@ fn read_chain(
         let Some((operator, place, behind)) = next_operator(minimum, &left, rest) else {
             return Ok((left, rest));
         };
-        let (right, behind) = read_expression(alloc, right_level(operator), behind, budget)?;
+        let (right, behind) = read_boxed(alloc, right_level(operator), behind, budget)?;
         let node = ExpressionNode::Binary {
             left,
             operator,
             place,
-            right: Box::new(alloc, right)?,
+            right,
         };
         left = Box::new(alloc, Expression { node })?;
         rest = behind;

@@ -6,7 +6,7 @@ ghost use Rattle.token_reading.specs.ReadFault.{IfNoTree};
 ghost use Rattle.expression_parse.specs.ExpressionReading.{assert_at, operand_at, parenthesized_at, path_term_at, readers, several, term_at, vector_at, whole_fields_at};
 
 use crate::block::read_contents;
-use crate::expression::read_expression;
+use crate::expression::read_boxed;
 use crate::leaf::{
     BehindFirst, PathForm, place_of_assert, place_of_vector, read_behind_first, read_cast_target,
     read_glued_arguments, read_path_form, read_plain_literal, read_prefix, read_use,
@@ -36,11 +36,11 @@ pub fn read_operand(
     ensures { MatchResult result (λ read. operand_at (readers budget) tokens.now ≡ Some (read.0, read.1.now)) (λ fault. IfNoTree fault (operand_at (readers budget) tokens.now ≡ None)) }
 {
     if let Some((operator, place, rest)) = read_prefix(tokens) {
-        let (operand, rest) = read_expression(alloc, UNARY_LEVEL, rest, budget)?;
+        let (operand, rest) = read_boxed(alloc, UNARY_LEVEL, rest, budget)?;
         let node = ExpressionNode::Unary {
             operator,
             place,
-            operand: Box::new(alloc, operand)?,
+            operand,
         };
         return Ok((Expression { node }, rest));
     }
@@ -136,8 +136,7 @@ fn read_parenthesized(
         };
         return Ok((Expression { node }, rest));
     }
-    let (first, rest) = read_expression(alloc, 0, tokens, budget)?;
-    let first = Box::new(alloc, first)?;
+    let (first, rest) = read_boxed(alloc, 0, tokens, budget)?;
     match read_behind_first(rest)? {
         (BehindFirst::Close, rest) => {
             let mut items = Vec::new(alloc);
@@ -279,11 +278,9 @@ fn read_assert(
     ensures { MatchResult result (λ read. assert_at (readers budget) place tokens.now ≡ Some (read.0, read.1.now)) (λ fault. IfNoTree fault (assert_at (readers budget) place tokens.now ≡ None)) }
 {
     let rest = expect_sign(tokens, Punctuation::LeftParenthesis)?;
-    let (condition, rest) = read_expression(alloc, 0, rest, budget)?;
-    let condition = Box::new(alloc, condition)?;
+    let (condition, rest) = read_boxed(alloc, 0, rest, budget)?;
     let rest = expect_sign(rest, Punctuation::Comma)?;
-    let (code, rest) = read_expression(alloc, 0, rest, budget)?;
-    let code = Box::new(alloc, code)?;
+    let (code, rest) = read_boxed(alloc, 0, rest, budget)?;
     let rest = expect_sign(rest, Punctuation::RightParenthesis)?;
     let node = ExpressionNode::Assert {
         place,

@@ -10,6 +10,9 @@ use Rattle.expression_parse.proofs.+expression.Given as goal
 abbrev pub decreases-expression::read_expression : goal.decreases-expression::read_expression
 decreases-expression::read_expression l = 16 * l.budget
 
+abbrev pub decreases-expression::read_boxed : goal.decreases-expression::read_boxed
+decreases-expression::read_boxed l = 16 * l.budget + 1
+
 abbrev pub decreases-expression::read_expression_form : goal.decreases-expression::read_expression_form
 decreases-expression::read_expression_form l = 16 * l.budget + 15
 
