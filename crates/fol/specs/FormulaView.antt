@@ -38,10 +38,10 @@ term_of_node (SetField a k t u) = SetFieldTerm a k t.value u.value
 term_of_node (If p t u) = IfTerm p.value t.value u.value
 
 abbrev pub formula_of_node : FormulaNode → FormulaData
-formula_of_node (Eq t u) = EqFormula t u
-formula_of_node (Le t u) = LeFormula t u
-formula_of_node (Is a t) = IsFormula a t
-formula_of_node (Holds t) = HoldsFormula t
+formula_of_node (Eq t u) = EqFormula t.value u.value
+formula_of_node (Le t u) = LeFormula t.value u.value
+formula_of_node (Is a t) = IsFormula a t.value
+formula_of_node (Holds t) = HoldsFormula t.value
 formula_of_node (Not p) = NotFormula p.value
 formula_of_node (AllOf ps) = AllOfFormula (formulas_of ps.items)
 formula_of_node (AnyOf ps) = AnyOfFormula (formulas_of ps.items)

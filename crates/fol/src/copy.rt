@@ -193,8 +193,9 @@ fn copy_set(alloc: Global, a: &Term, b: &Term, c: &Term) -> Result<Term, NoMemor
     Ok(term(TermNode::Set(a, b, c)))
 }
 
+/// A second copy of the term, in a box.
 #[cycle(copy)]
-fn copy_term(alloc: Global, from: &Term) -> Result<Box<Term>, NoMemory>
+pub fn copy_term(alloc: Global, from: &Term) -> Result<Box<Term>, NoMemory>
     ensures { IfOk result (λ copy. copy.value ≡ from.now) }
 {
     Ok(Box::new(alloc, from.try_clone(alloc)?)?)
@@ -259,8 +260,8 @@ impl Formula {
 fn copy_equal(alloc: Global, a: &Term, b: &Term) -> Result<Formula, NoMemory>
     ensures { IfOk result (λ copy. copy ≡ EqFormula a.now b.now) }
 {
-    let a = a.try_clone(alloc)?;
-    let b = b.try_clone(alloc)?;
+    let a = copy_term(alloc, a)?;
+    let b = copy_term(alloc, b)?;
     Ok(formula(FormulaNode::Eq(a, b)))
 }
 
@@ -268,8 +269,8 @@ fn copy_equal(alloc: Global, a: &Term, b: &Term) -> Result<Formula, NoMemory>
 fn copy_at_most(alloc: Global, a: &Term, b: &Term) -> Result<Formula, NoMemory>
     ensures { IfOk result (λ copy. copy ≡ LeFormula a.now b.now) }
 {
-    let a = a.try_clone(alloc)?;
-    let b = b.try_clone(alloc)?;
+    let a = copy_term(alloc, a)?;
+    let b = copy_term(alloc, b)?;
     Ok(formula(FormulaNode::Le(a, b)))
 }
 
@@ -278,7 +279,7 @@ fn copy_is(alloc: Global, of: &TypeTerm, a: &Term) -> Result<Formula, NoMemory>
     ensures { IfOk result (λ copy. copy ≡ IsFormula of.now a.now) }
 {
     let of = copy_type(alloc, of)?;
-    let a = a.try_clone(alloc)?;
+    let a = copy_term(alloc, a)?;
     Ok(formula(FormulaNode::Is(of, a)))
 }
 
@@ -286,7 +287,7 @@ fn copy_is(alloc: Global, of: &TypeTerm, a: &Term) -> Result<Formula, NoMemory>
 fn copy_holds(alloc: Global, a: &Term) -> Result<Formula, NoMemory>
     ensures { IfOk result (λ copy. copy ≡ HoldsFormula a.now) }
 {
-    let a = a.try_clone(alloc)?;
+    let a = copy_term(alloc, a)?;
     Ok(formula(FormulaNode::Holds(a)))
 }
 
@@ -360,8 +361,9 @@ fn copy_exists(
     Ok(formula(FormulaNode::Exists(n, triggers, p)))
 }
 
+/// A second copy of the formula, in a box.
 #[cycle(copy)]
-fn copy_formula(alloc: Global, from: &Formula) -> Result<Box<Formula>, NoMemory>
+pub fn copy_formula(alloc: Global, from: &Formula) -> Result<Box<Formula>, NoMemory>
     ensures { IfOk result (λ copy. copy.value ≡ from.now) }
 {
     Ok(Box::new(alloc, from.try_clone(alloc)?)?)

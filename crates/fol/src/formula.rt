@@ -107,13 +107,13 @@ impl Drop for Formula {
 #[cycle(formula)]
 #[derive(Drop)]
 pub enum FormulaNode {
-    Eq(Term, Term),
+    Eq(Box<Term>, Box<Term>),
     /// The first number is at most the second.
-    Le(Term, Term),
+    Le(Box<Term>, Box<Term>),
     /// The term has a value of the type.
-    Is(TypeTerm, Term),
+    Is(TypeTerm, Box<Term>),
     /// The term is `True`.
-    Holds(Term),
+    Holds(Box<Term>),
     Not(Box<Formula>),
     AllOf(Vec<Formula>),
     AnyOf(Vec<Formula>),

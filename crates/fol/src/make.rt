@@ -1,13 +1,11 @@
 //! Terms and formulas from their parts.
 
-ghost use Rattle.std.specs.Prelude.{◌≡◌, ℕ, pos, IfOk, if◌then◌else◌};
+ghost use Rattle.std.specs.Prelude.{◌≡◌, ℕ, pos, if◌then◌else◌};
 ghost use Rattle.fol.specs.FormulaData.{VarTerm, NumTerm, TrueTerm, FalseTerm, NothingTerm, AddTerm, SubTerm, MulTerm, DivTerm, ModTerm, IfTerm, EqFormula, LeFormula, IsFormula, HoldsFormula, NotFormula, AllOfFormula, AnyOfFormula, ForAllFormula, ExistsFormula, formulas_of, triggers_of};
 ghost use Rattle.fol.specs.Numerals.{numeral};
 
 use crate::formula::{Formula, FormulaNode, Term, TermNode, Triggers};
-use pv_base::memory::NoMemory;
 use pv_base::types::TypeTerm;
-use std::alloc::Global;
 
 impl Term {
     /// The variable with this number.
@@ -62,65 +60,55 @@ impl Term {
     }
 
     /// The sum.
-    pub fn sum(alloc: Global, left: Term, right: Term) -> Result<Term, NoMemory>
-        ensures { IfOk result (λ made. made ≡ AddTerm left right) }
+    pub fn sum(left: Box<Term>, right: Box<Term>) -> Term
+        ensures { result ≡ AddTerm left.value right.value }
     {
-        let left = Box::new(alloc, left)?;
-        let right = Box::new(alloc, right)?;
-        Ok(Term {
+        Term {
             node: TermNode::Add(left, right),
-        })
+        }
     }
 
     /// The first number less the second.
-    pub fn difference(alloc: Global, left: Term, right: Term) -> Result<Term, NoMemory>
-        ensures { IfOk result (λ made. made ≡ SubTerm left right) }
+    pub fn difference(left: Box<Term>, right: Box<Term>) -> Term
+        ensures { result ≡ SubTerm left.value right.value }
     {
-        let left = Box::new(alloc, left)?;
-        let right = Box::new(alloc, right)?;
-        Ok(Term {
+        Term {
             node: TermNode::Sub(left, right),
-        })
+        }
     }
 
     /// The product.
-    pub fn product(alloc: Global, left: Term, right: Term) -> Result<Term, NoMemory>
-        ensures { IfOk result (λ made. made ≡ MulTerm left right) }
+    pub fn product(left: Box<Term>, right: Box<Term>) -> Term
+        ensures { result ≡ MulTerm left.value right.value }
     {
-        let left = Box::new(alloc, left)?;
-        let right = Box::new(alloc, right)?;
-        Ok(Term {
+        Term {
             node: TermNode::Mul(left, right),
-        })
+        }
     }
 
     /// The quotient, rounded down; 0 where the divisor is 0.
-    pub fn quotient(alloc: Global, left: Term, right: Term) -> Result<Term, NoMemory>
-        ensures { IfOk result (λ made. made ≡ DivTerm left right) }
+    pub fn quotient(left: Box<Term>, right: Box<Term>) -> Term
+        ensures { result ≡ DivTerm left.value right.value }
     {
-        let left = Box::new(alloc, left)?;
-        let right = Box::new(alloc, right)?;
-        Ok(Term {
+        Term {
             node: TermNode::Div(left, right),
-        })
+        }
     }
 
     /// What the quotient leaves.
-    pub fn remainder(alloc: Global, left: Term, right: Term) -> Result<Term, NoMemory>
-        ensures { IfOk result (λ made. made ≡ ModTerm left right) }
+    pub fn remainder(left: Box<Term>, right: Box<Term>) -> Term
+        ensures { result ≡ ModTerm left.value right.value }
     {
-        let left = Box::new(alloc, left)?;
-        let right = Box::new(alloc, right)?;
-        Ok(Term {
+        Term {
             node: TermNode::Mod(left, right),
-        })
+        }
     }
 }
 
 impl Formula {
     /// The terms have one value.
-    pub fn equal(left: Term, right: Term) -> Formula
-        ensures { result ≡ EqFormula left right }
+    pub fn equal(left: Box<Term>, right: Box<Term>) -> Formula
+        ensures { result ≡ EqFormula left.value right.value }
     {
         Formula {
             node: FormulaNode::Eq(left, right),
@@ -128,8 +116,8 @@ impl Formula {
     }
 
     /// The first number is at most the second.
-    pub fn at_most(left: Term, right: Term) -> Formula
-        ensures { result ≡ LeFormula left right }
+    pub fn at_most(left: Box<Term>, right: Box<Term>) -> Formula
+        ensures { result ≡ LeFormula left.value right.value }
     {
         Formula {
             node: FormulaNode::Le(left, right),
@@ -137,8 +125,8 @@ impl Formula {
     }
 
     /// The term has a value of the type.
-    pub fn has_type(of: TypeTerm, term: Term) -> Formula
-        ensures { result ≡ IsFormula of term }
+    pub fn has_type(of: TypeTerm, term: Box<Term>) -> Formula
+        ensures { result ≡ IsFormula of term.value }
     {
         Formula {
             node: FormulaNode::Is(of, term),
@@ -146,8 +134,8 @@ impl Formula {
     }
 
     /// The term is `True`.
-    pub fn holds(term: Term) -> Formula
-        ensures { result ≡ HoldsFormula term }
+    pub fn holds(term: Box<Term>) -> Formula
+        ensures { result ≡ HoldsFormula term.value }
     {
         Formula {
             node: FormulaNode::Holds(term),
@@ -155,12 +143,12 @@ impl Formula {
     }
 
     /// The negation.
-    pub fn not(alloc: Global, formula: Formula) -> Result<Formula, NoMemory>
-        ensures { IfOk result (λ made. made ≡ NotFormula formula) }
+    pub fn not(formula: Box<Formula>) -> Formula
+        ensures { result ≡ NotFormula formula.value }
     {
-        Ok(Formula {
-            node: FormulaNode::Not(Box::new(alloc, formula)?),
-        })
+        Formula {
+            node: FormulaNode::Not(formula),
+        }
     }
 
     /// All of these are true.
@@ -182,32 +170,20 @@ impl Formula {
     }
 
     /// True for each value of the variable.
-    pub fn for_all(
-        alloc: Global,
-        variable: u32,
-        triggers: Triggers,
-        body: Formula,
-    ) -> Result<Formula, NoMemory>
-        ensures { IfOk result (λ made. made ≡ ForAllFormula variable (triggers_of triggers.items) body) }
+    pub fn for_all(variable: u32, triggers: Triggers, body: Box<Formula>) -> Formula
+        ensures { result ≡ ForAllFormula variable (triggers_of triggers.items) body.value }
     {
-        let body = Box::new(alloc, body)?;
-        Ok(Formula {
+        Formula {
             node: FormulaNode::ForAll(variable, triggers, body),
-        })
+        }
     }
 
     /// True for some value of the variable.
-    pub fn exists(
-        alloc: Global,
-        variable: u32,
-        triggers: Triggers,
-        body: Formula,
-    ) -> Result<Formula, NoMemory>
-        ensures { IfOk result (λ made. made ≡ ExistsFormula variable (triggers_of triggers.items) body) }
+    pub fn exists(variable: u32, triggers: Triggers, body: Box<Formula>) -> Formula
+        ensures { result ≡ ExistsFormula variable (triggers_of triggers.items) body.value }
     {
-        let body = Box::new(alloc, body)?;
-        Ok(Formula {
+        Formula {
             node: FormulaNode::Exists(variable, triggers, body),
-        })
+        }
     }
 }

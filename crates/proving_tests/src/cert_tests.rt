@@ -22,9 +22,12 @@ fn numeral(number: i128) -> Term {
     }
 }
 
-fn at_most(left: Term, right: Term) -> Formula {
+fn at_most(rt: &impl Abort, alloc: Global, left: Term, right: Term) -> Formula {
     Formula {
-        node: FormulaNode::Le(left, right),
+        node: FormulaNode::Le(
+            Box::new(alloc, left).expect(rt, "memory"),
+            Box::new(alloc, right).expect(rt, "memory"),
+        ),
     }
 }
 
@@ -32,8 +35,8 @@ fn at_most(left: Term, right: Term) -> Formula {
 fn weaker_bound(rt: &impl Abort, alloc: Global) -> Formula {
     Formula {
         node: FormulaNode::Implies(
-            Box::new(alloc, at_most(variable(0), numeral(0))).expect(rt, "memory"),
-            Box::new(alloc, at_most(variable(0), numeral(1))).expect(rt, "memory"),
+            Box::new(alloc, at_most(rt, alloc, variable(0), numeral(0))).expect(rt, "memory"),
+            Box::new(alloc, at_most(rt, alloc, variable(0), numeral(1))).expect(rt, "memory"),
         ),
     }
 }
@@ -42,13 +45,14 @@ fn weaker_bound(rt: &impl Abort, alloc: Global) -> Formula {
 fn by_rows(rt: &impl Abort, alloc: Global, first: i128, second: i128) -> Cert {
     let mut parts = Vec::new(alloc);
     parts
-        .push(at_most(variable(0), numeral(0)))
+        .push(at_most(rt, alloc, variable(0), numeral(0)))
         .expect(rt, "memory");
     parts
         .push(Formula {
-            node: FormulaNode::Not(Box::new(alloc, at_most(variable(0), numeral(1))).expect(
-                rt, "memory",
-            )),
+            node: FormulaNode::Not(Box::new(
+                alloc,
+                at_most(rt, alloc, variable(0), numeral(1)),
+            ).expect(rt, "memory")),
         })
         .expect(rt, "memory");
     let mut steps = Vec::new(alloc);
@@ -95,11 +99,11 @@ fn multipliers_decide(rt: HostRuntime) -> Result<(), Fail> {
 fn numerals_are_whole(rt: HostRuntime) -> Result<(), Fail> {
     let shapes = Shapes::new(rt.alloc());
     for (number, accepted) in [(7, true), (8, false)] {
-        let formula = whole(numeral(7));
+        let formula = whole(&rt, rt.alloc(), numeral(7));
         let mut steps = Vec::new(rt.alloc());
         steps
             .push(Step {
-                node: StepNode::Axiom(Axiom::Whole, whole(numeral(number))),
+                node: StepNode::Axiom(Axiom::Whole, whole(&rt, rt.alloc(), numeral(number))),
             })
             .expect(&rt, "memory");
         let cert = Cert {
@@ -111,13 +115,13 @@ fn numerals_are_whole(rt: HostRuntime) -> Result<(), Fail> {
     Ok(())
 }
 
-fn whole(term: Term) -> Formula {
+fn whole(rt: &impl Abort, alloc: Global, term: Term) -> Formula {
     Formula {
         node: FormulaNode::Is(
             TypeTerm {
                 node: TypeNode::Num,
             },
-            term,
+            Box::new(alloc, term).expect(rt, "memory"),
         ),
     }
 }

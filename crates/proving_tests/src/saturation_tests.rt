@@ -39,13 +39,27 @@ fn y() -> Term {
     Term::variable(1)
 }
 
+fn boxed(rt: &impl Abort, alloc: Global, term: Term) -> Box<Term> {
+    Box::new(alloc, term).expect(rt, "memory")
+}
+
+fn at_most(rt: &impl Abort, alloc: Global, left: Term, right: Term) -> Formula {
+    Formula::at_most(boxed(rt, alloc, left), boxed(rt, alloc, right))
+}
+
+fn not(rt: &impl Abort, alloc: Global, formula: Formula) -> Formula {
+    Formula::not(Box::new(alloc, formula).expect(rt, "memory"))
+}
+
 fn either(rt: &impl Abort, alloc: Global) -> Formula {
     let mut cases = Vec::new(alloc);
-    cases.push(Formula::at_most(y(), x())).expect(rt, "memory");
-    cases.push(Formula::at_most(x(), y())).expect(rt, "memory");
     cases
-        .push(Formula::not(alloc, bound()).expect(rt, "memory"))
+        .push(at_most(rt, alloc, y(), x()))
         .expect(rt, "memory");
+    cases
+        .push(at_most(rt, alloc, x(), y()))
+        .expect(rt, "memory");
+    cases.push(past(rt, alloc)).expect(rt, "memory");
     Formula {
         node: FormulaNode::AnyOf(cases),
     }
@@ -53,31 +67,35 @@ fn either(rt: &impl Abort, alloc: Global) -> Formula {
 
 fn both(rt: &impl Abort, alloc: Global) -> Formula {
     let mut parts = Vec::new(alloc);
-    parts.push(bound()).expect(rt, "memory");
+    parts.push(bound(rt, alloc)).expect(rt, "memory");
     parts.push(either(rt, alloc)).expect(rt, "memory");
     Formula::all_of(parts)
 }
 
-fn bound() -> Formula {
-    Formula::at_most(x(), Term::number(3))
+fn bound(rt: &impl Abort, alloc: Global) -> Formula {
+    at_most(rt, alloc, x(), Term::number(3))
 }
 
-fn whole() -> Formula {
+fn past(rt: &impl Abort, alloc: Global) -> Formula {
+    not(rt, alloc, bound(rt, alloc))
+}
+
+fn whole(rt: &impl Abort, alloc: Global) -> Formula {
     let of = TypeTerm {
         node: TypeNode::Num,
     };
-    Formula::has_type(of, Term::number(3))
+    Formula::has_type(of, boxed(rt, alloc, Term::number(3)))
 }
 
 fn made(rt: &impl Abort, alloc: Global, kind: Kind) -> Formula {
     match kind {
         Kind::Both => both(rt, alloc),
-        Kind::Bound => bound(),
+        Kind::Bound => bound(rt, alloc),
         Kind::Either => either(rt, alloc),
-        Kind::Below => Formula::at_most(y(), x()),
-        Kind::Above => Formula::at_most(x(), y()),
-        Kind::Whole => whole(),
-        Kind::Past => Formula::not(alloc, bound()).expect(rt, "memory"),
+        Kind::Below => at_most(rt, alloc, y(), x()),
+        Kind::Above => at_most(rt, alloc, x(), y()),
+        Kind::Whole => whole(rt, alloc),
+        Kind::Past => past(rt, alloc),
     }
 }
 
@@ -90,15 +108,11 @@ fn is_accepted(rt: &impl Abort, alloc: Global, place: usize, kind: Kind, origin:
         (Kind::Below, Origin::Case(3, 0)),
         (Kind::Whole, Origin::Axiom(Axiom::Whole)),
     ];
-    let formula = Formula::not(alloc, both(rt, alloc)).expect(rt, "memory");
+    let formula = not(rt, alloc, both(rt, alloc));
     let mut entries = Vec::new(alloc);
     let mut origins = Vec::new(alloc);
     entries
-        .push(Formula::not(
-            alloc,
-            Formula::not(alloc, both(rt, alloc)).expect(rt, "memory"),
-        )
-        .expect(rt, "memory"))
+        .push(not(rt, alloc, not(rt, alloc, both(rt, alloc))))
         .expect(rt, "memory");
     for i in 0..right.len() {
         let (made_of, from) = if i == place { (kind, origin) } else { right[i] };
@@ -163,9 +177,11 @@ fn are_accepted(
     rows: &[(i128, i128, i128)],
 ) -> bool {
     let mut entries = Vec::new(alloc);
-    entries.push(bound()).expect(rt, "memory");
-    entries.push(whole()).expect(rt, "memory");
-    entries.push(Formula::equal(x(), y())).expect(rt, "memory");
+    entries.push(bound(rt, alloc)).expect(rt, "memory");
+    entries.push(whole(rt, alloc)).expect(rt, "memory");
+    entries
+        .push(Formula::equal(boxed(rt, alloc, x()), boxed(rt, alloc, y())))
+        .expect(rt, "memory");
     let mut made = Rows::new(alloc);
     for (first, second, bound) in rows {
         made.push(row(rt, alloc, *first, *second, *bound))

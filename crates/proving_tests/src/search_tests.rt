@@ -56,19 +56,31 @@ fn follows(rt: &impl Abort, alloc: Global, in_range: bool, claim: Box<Formula>) 
     Box::new(alloc, formula).expect(rt, "memory")
 }
 
-fn x() -> Term {
-    Term::variable(0)
+fn boxed(rt: &impl Abort, alloc: Global, term: Term) -> Box<Term> {
+    Box::new(alloc, term).expect(rt, "memory")
 }
 
-fn y() -> Term {
-    Term::variable(1)
+fn number(rt: &impl Abort, alloc: Global, value: i128) -> Box<Term> {
+    boxed(rt, alloc, Term::number(value))
 }
 
-fn sum(rt: &impl Abort, alloc: Global) -> Term {
-    Term::sum(alloc, x(), y()).expect(rt, "memory")
+fn x(rt: &impl Abort, alloc: Global) -> Box<Term> {
+    boxed(rt, alloc, Term::variable(0))
 }
 
-fn is_u64(variable: Term) -> Formula {
+fn y(rt: &impl Abort, alloc: Global) -> Box<Term> {
+    boxed(rt, alloc, Term::variable(1))
+}
+
+fn sum(rt: &impl Abort, alloc: Global) -> Box<Term> {
+    boxed(rt, alloc, Term::sum(x(rt, alloc), y(rt, alloc)))
+}
+
+fn not(rt: &impl Abort, alloc: Global, formula: Formula) -> Formula {
+    Formula::not(Box::new(alloc, formula).expect(rt, "memory"))
+}
+
+fn is_u64(variable: Box<Term>) -> Formula {
     let of = TypeTerm {
         node: TypeNode::Int(Width::U64),
     };
@@ -79,10 +91,10 @@ fn is_u64(variable: Term) -> Formula {
 fn fits(rt: &impl Abort, alloc: Global) -> Formula {
     let mut bounds = Vec::new(alloc);
     bounds
-        .push(Formula::at_most(Term::number(0), sum(rt, alloc)))
+        .push(Formula::at_most(number(rt, alloc, 0), sum(rt, alloc)))
         .expect(rt, "memory");
     bounds
-        .push(Formula::at_most(sum(rt, alloc), Term::number(MAX_U64)))
+        .push(Formula::at_most(sum(rt, alloc), number(rt, alloc, MAX_U64)))
         .expect(rt, "memory");
     Formula::all_of(bounds)
 }
@@ -90,12 +102,12 @@ fn fits(rt: &impl Abort, alloc: Global) -> Formula {
 // Two u64 variables whose sum is in range, or is not.
 fn premises(rt: &impl Abort, alloc: Global, in_range: bool) -> Formula {
     let mut all = Vec::new(alloc);
-    all.push(is_u64(x())).expect(rt, "memory");
-    all.push(is_u64(y())).expect(rt, "memory");
+    all.push(is_u64(x(rt, alloc))).expect(rt, "memory");
+    all.push(is_u64(y(rt, alloc))).expect(rt, "memory");
     if in_range {
         all.push(fits(rt, alloc)).expect(rt, "memory");
     } else {
-        all.push(Formula::not(alloc, fits(rt, alloc)).expect(rt, "memory"))
+        all.push(not(rt, alloc, fits(rt, alloc)))
             .expect(rt, "memory");
     }
     Formula::all_of(all)
@@ -103,17 +115,14 @@ fn premises(rt: &impl Abort, alloc: Global, in_range: bool) -> Formula {
 
 // That the sum is the same the other way round.
 fn commutes(rt: &impl Abort, alloc: Global) -> Formula {
-    let left = sum(rt, alloc);
-    Formula::equal(left, Term::sum(alloc, y(), x()).expect(rt, "memory"))
+    let turned = boxed(rt, alloc, Term::sum(y(rt, alloc), x(rt, alloc)));
+    Formula::equal(sum(rt, alloc), turned)
 }
 
 // That the sum passes u64.
 fn overflows(rt: &impl Abort, alloc: Global) -> Formula {
-    Formula::not(
-        alloc,
-        Formula::at_most(sum(rt, alloc), Term::number(MAX_U64)),
-    )
-    .expect(rt, "memory")
+    let stays = Formula::at_most(sum(rt, alloc), number(rt, alloc, MAX_U64));
+    not(rt, alloc, stays)
 }
 
 // Nothing: no formula of none is true.
@@ -125,25 +134,27 @@ fn nothing(alloc: Global) -> Formula {
 fn one_of_many(rt: &impl Abort, alloc: Global, count: usize) -> Box<Formula> {
     let mut all = Vec::new(alloc);
     for _ in 0..count {
-        all.push(Formula::at_most(x(), Term::number(0)))
+        all.push(Formula::at_most(x(rt, alloc), number(rt, alloc, 0)))
             .expect(rt, "memory");
     }
     Box::new(alloc, Formula::any_of(all)).expect(rt, "memory")
 }
 
+fn large_multiple(rt: &impl Abort, alloc: Global, of: Box<Term>) -> Box<Term> {
+    boxed(rt, alloc, Term::product(number(rt, alloc, 1 << 100), of))
+}
+
 // A large multiple of the first is at most the second, and the other way round it is below it: the sum of
 // the two rows leaves 128 bits.
 fn large_multiples(rt: &impl Abort, alloc: Global) -> Box<Formula> {
-    let large = 1_i128 << 100;
     let mut all = Vec::new(alloc);
-    let left = Term::product(alloc, Term::number(large), x()).expect(rt, "memory");
-    all.push(Formula::at_most(left, y())).expect(rt, "memory");
-    let left = Term::product(alloc, Term::number(large), y()).expect(rt, "memory");
-    all.push(Formula::at_most(
-        left,
-        Term::difference(alloc, x(), Term::number(1)).expect(rt, "memory"),
-    ))
-    .expect(rt, "memory");
+    let first = large_multiple(rt, alloc, x(rt, alloc));
+    all.push(Formula::at_most(first, y(rt, alloc)))
+        .expect(rt, "memory");
+    let second = large_multiple(rt, alloc, y(rt, alloc));
+    let below = Term::difference(x(rt, alloc), number(rt, alloc, 1));
+    all.push(Formula::at_most(second, boxed(rt, alloc, below)))
+        .expect(rt, "memory");
     let both = Box::new(alloc, Formula::all_of(all)).expect(rt, "memory");
     Box::new(
         alloc,
@@ -178,7 +189,7 @@ fn claimed(rt: &impl Abort, alloc: Global, claim: Claim) -> Box<Formula> {
             Box::new(alloc, commutes(rt, alloc)).expect(rt, "memory"),
         ),
         Claim::Stays => {
-            let stays = Formula::not(alloc, overflows(rt, alloc)).expect(rt, "memory");
+            let stays = not(rt, alloc, overflows(rt, alloc));
             follows(rt, alloc, true, Box::new(alloc, stays).expect(rt, "memory"))
         }
         Claim::Overflows => follows(

@@ -6,6 +6,7 @@ ghost use Rattle.sum_formula.specs.Translation.{sum_term, zero_term};
 ghost use Rattle.sum_formula.specs.Premises.{all_three, argument_formula, arguments_formula, at_return, entry_formulas, formula_if, range_formula, range_formulas, requires_formula, returned_term, returns_formula};
 
 use crate::translation::{condition, greatest, join, sum, word, zero};
+use fol::copy::{copy_formula, copy_term};
 use fol::formula::{Formula, FormulaNode, Term};
 use pv_base::memory::NoMemory;
 use pv_base::name::Name;
@@ -22,7 +23,7 @@ fn arguments(alloc: Global, parameters: &[Name]) -> Result<Vec<Formula>, NoMemor
 {
     let mut formulas = Vec::new(alloc);
     for name in parameters {
-        let variable = word(alloc, parameters, &zero(), name.as_slice())?;
+        let variable = Box::new(alloc, word(alloc, parameters, &zero(), name.as_slice())?)?;
         let of = TypeTerm {
             node: TypeNode::Int(Width::U64),
         };
@@ -70,10 +71,10 @@ pub fn entry_conditions(
 fn range(alloc: Global, operator: Operator, term: &Term) -> Result<Formula, NoMemory>
     ensures { IfOk result (λ made. made ≡ range_formula operator term.now) }
 {
-    let term = term.try_clone(alloc)?;
+    let term = copy_term(alloc, term)?;
     match operator {
-        Operator::Plus => Ok(Formula::at_most(term, greatest())),
-        Operator::Minus => Ok(Formula::at_most(zero(), term)),
+        Operator::Plus => Ok(Formula::at_most(term, Box::new(alloc, greatest())?)),
+        Operator::Minus => Ok(Formula::at_most(Box::new(alloc, zero())?, term)),
     }
 }
 
@@ -149,7 +150,7 @@ pub fn implication(alloc: Global, premise: &Formula, claim: Formula) -> Result<F
     ensures { IfOk result (λ made. made ≡ ImpliesFormula premise.now claim) }
 {
     let claim = Box::new(alloc, claim)?;
-    let premise = Box::new(alloc, premise.try_clone(alloc)?)?;
+    let premise = copy_formula(alloc, premise)?;
     Ok(Formula {
         node: FormulaNode::Implies(premise, claim),
     })
@@ -166,7 +167,7 @@ pub fn premise_at_return(
     requires returns { returns.now ≡ returns_formula function.now }
     ensures { IfOk result (λ made. made.value ≡ at_return function.now clauses.now) }
 {
-    let outcome = Box::new(alloc, returns.try_clone(alloc)?)?;
+    let outcome = copy_formula(alloc, returns)?;
     let premise = start(alloc, function, clauses, outcome)?;
     Ok(Box::new(alloc, premise)?)
 }

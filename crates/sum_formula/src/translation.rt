@@ -2,6 +2,7 @@
 
 ghost use Rattle.std.specs.Prelude.{◌≡◌, ◌^◌, ◌≤◌, IfOk, length};
 ghost use Rattle.std.specs.List.{position};
+ghost use Rattle.fol.specs.FormulaData.{LeFormula, NotFormula};
 ghost use Rattle.token_reading.specs.TokenReading.{same_name};
 ghost use Rattle.sum_formula.specs.Translation.{comparison_formula, condition_formula, free_term, greatest_term, operator_term, sum_term, word_term, zero_term};
 
@@ -66,12 +67,12 @@ pub fn word(
 }
 
 /// The term of an operator at two terms.
-fn operation(alloc: Global, operator: Operator, left: Term, right: Term) -> Result<Term, NoMemory>
-    ensures { IfOk result (λ made. made ≡ operator_term operator left right) }
+fn operation(operator: Operator, left: Box<Term>, right: Box<Term>) -> Term
+    ensures { result ≡ operator_term operator left.value right.value }
 {
     match operator {
-        Operator::Plus => Term::sum(alloc, left, right),
-        Operator::Minus => Term::difference(alloc, left, right),
+        Operator::Plus => Term::sum(left, right),
+        Operator::Minus => Term::difference(left, right),
     }
 }
 
@@ -113,28 +114,30 @@ pub fn join(
 ) -> Result<Box<Term>, NoMemory>
     ensures { IfOk result (λ made. made.value ≡ operator_term operator left.value right.value) }
 {
-    let term = operation(
-        alloc,
-        operator,
-        Box::into_inner(left),
-        Box::into_inner(right),
-    )?;
-    Ok(Box::new(alloc, term)?)
+    Ok(Box::new(alloc, operation(operator, left, right))?)
+}
+
+/// That the first term is not at most the second.
+fn not_at_most(alloc: Global, left: Box<Term>, right: Box<Term>) -> Result<Formula, NoMemory>
+    ensures { IfOk result (λ made. made ≡ NotFormula (LeFormula left.value right.value)) }
+{
+    let at_most = Box::new(alloc, Formula::at_most(left, right))?;
+    Ok(Formula::not(at_most))
 }
 
 /// The formula of a comparison of two terms.
 fn comparison(
     alloc: Global,
     comparison: Comparison,
-    left: Term,
-    right: Term,
+    left: Box<Term>,
+    right: Box<Term>,
 ) -> Result<Formula, NoMemory>
-    ensures { IfOk result (λ made. made ≡ comparison_formula comparison left right) }
+    ensures { IfOk result (λ made. made ≡ comparison_formula comparison left.value right.value) }
 {
     match comparison {
         Comparison::Equal => Ok(Formula::equal(left, right)),
-        Comparison::Less => Formula::not(alloc, Formula::at_most(right, left)),
-        Comparison::Greater => Formula::not(alloc, Formula::at_most(left, right)),
+        Comparison::Less => not_at_most(alloc, right, left),
+        Comparison::Greater => not_at_most(alloc, left, right),
         Comparison::LessEqual => Ok(Formula::at_most(left, right)),
         Comparison::GreaterEqual => Ok(Formula::at_most(right, left)),
     }
@@ -156,7 +159,7 @@ pub fn condition(
         Condition::Compares(left, by, right) => {
             let left = sum(alloc, parameters, returned, left)?;
             let right = sum(alloc, parameters, returned, right)?;
-            comparison(alloc, *by, Box::into_inner(left), Box::into_inner(right))
+            comparison(alloc, *by, left, right)
         }
     }
 }

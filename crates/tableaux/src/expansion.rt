@@ -1,5 +1,6 @@
 //! The parts and the cases of formulas, and instances of axioms.
 
+use fol::copy::{copy_formula, copy_term};
 use fol::formula::{Formula, FormulaNode, Term, TermNode};
 use pv_base::memory::NoMemory;
 use pv_base::same::copy_type;
@@ -84,7 +85,7 @@ pub fn range(alloc: Global, of: &TypeTerm, term: &Term) -> Result<Option<Formula
 }
 
 fn has_type(alloc: Global, of: &TypeTerm, term: &Term) -> Result<Formula, NoMemory> {
-    let copy = term.try_clone(alloc)?;
+    let copy = copy_term(alloc, term)?;
     Ok(Formula::has_type(copy_type(alloc, of)?, copy))
 }
 
@@ -98,13 +99,15 @@ fn bounds(alloc: Global, term: &Term, width: Width) -> Result<Vec<Formula>, NoMe
 }
 
 fn is_at_least_zero(alloc: Global, term: &Term) -> Result<Formula, NoMemory> {
-    let copy = term.try_clone(alloc)?;
-    Ok(Formula::at_most(Term::number(0), copy))
+    let copy = copy_term(alloc, term)?;
+    let zero = Box::new(alloc, Term::number(0))?;
+    Ok(Formula::at_most(zero, copy))
 }
 
 fn is_within(alloc: Global, term: &Term, width: Width) -> Result<Formula, NoMemory> {
-    let copy = term.try_clone(alloc)?;
-    Ok(Formula::at_most(copy, greatest(width)))
+    let copy = copy_term(alloc, term)?;
+    let greatest = Box::new(alloc, greatest(width))?;
+    Ok(Formula::at_most(copy, greatest))
 }
 
 // The width of a type of whole numbers from 0. Addresses and signers are as wide as u128.
@@ -133,7 +136,7 @@ pub fn is_number(alloc: Global, term: &Term) -> Result<Formula, NoMemory> {
     let number = TypeTerm {
         node: TypeNode::Num,
     };
-    Ok(Formula::has_type(number, term.try_clone(alloc)?))
+    Ok(Formula::has_type(number, copy_term(alloc, term)?))
 }
 
 /// Whether the term is a whole number by its form.
@@ -168,23 +171,26 @@ pub fn trichotomy(alloc: Global, left: &Term, right: &Term) -> Result<Formula, N
 }
 
 fn is_no_number(alloc: Global, term: &Term) -> Result<Formula, NoMemory> {
-    Formula::not(alloc, is_number(alloc, term)?)
+    let is_number = Box::new(alloc, is_number(alloc, term)?)?;
+    Ok(Formula::not(is_number))
 }
 
 fn equal(alloc: Global, left: &Term, right: &Term) -> Result<Formula, NoMemory> {
-    let first = left.try_clone(alloc)?;
-    Ok(Formula::equal(first, right.try_clone(alloc)?))
+    let first = copy_term(alloc, left)?;
+    Ok(Formula::equal(first, copy_term(alloc, right)?))
 }
 
 // The claim that the first term is at least 1 less than the second.
 fn is_less(alloc: Global, lesser: &Term, greater: &Term) -> Result<Formula, NoMemory> {
-    let predecessor = Term::difference(alloc, greater.try_clone(alloc)?, Term::number(1))?;
-    Ok(Formula::at_most(lesser.try_clone(alloc)?, predecessor))
+    let greater = copy_term(alloc, greater)?;
+    let one = Box::new(alloc, Term::number(1))?;
+    let predecessor = Box::new(alloc, Term::difference(greater, one))?;
+    Ok(Formula::at_most(copy_term(alloc, lesser)?, predecessor))
 }
 
 /// The negation of a formula.
 pub fn negation(alloc: Global, formula: &Formula) -> Result<Formula, NoMemory> {
-    Formula::not(alloc, formula.try_clone(alloc)?)
+    Ok(Formula::not(copy_formula(alloc, formula)?))
 }
 
 // The cases of an equivalence, or of the negation of one: the left side holds in the first case alone,

@@ -76,7 +76,7 @@ fn push_if_aborts_if(
     if clause.kind == ClauseKind::AbortsIf {
         let parameters = function.parameters.as_slice();
         let refused = condition(alloc, parameters, &zero(), &clause.condition)?;
-        let claim = Formula::not(alloc, refused)?;
+        let claim = Formula::not(Box::new(alloc, refused)?);
         conditions.push(condition_that(
             alloc,
             ConditionKind::AbortsIf,
@@ -135,7 +135,7 @@ fn aborts(
     ensures { IfOk result (λ made. made ≡ aborts_condition function.now clauses.now) }
 {
     let allowed = entry_conditions(alloc, ClauseKind::AbortsIf, function, clauses)?;
-    let aborted = Box::new(alloc, Formula::not(alloc, Box::into_inner(returns))?)?;
+    let aborted = Box::new(alloc, Formula::not(returns))?;
     let premise = Box::new(alloc, start(alloc, function, clauses, aborted)?)?;
     let claim = Formula::any_of(allowed);
     condition_that(
