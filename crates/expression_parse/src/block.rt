@@ -1,10 +1,11 @@
 //! Blocks and their items.
 
 ghost use Rattle.std.specs.Prelude.{◌≡◌, None, Some, length, MatchResult};
+ghost use Rattle.move_tree.specs.ExpressionView.{unboxed};
 ghost use Rattle.token_reading.specs.ReadFault.{IfNoTree};
 ghost use Rattle.expression_parse.specs.ExpressionReading.{body_at, body_block_at, initial_at, let_at, readers, step_at, step_behind, whole_contents_at};
 
-use crate::expression::read_expression;
+use crate::expression::{read_boxed, read_expression};
 use crate::leaf::{read_annotation, read_loop_spec, read_spec_opening};
 use move_tree::expression::{Block, Expression, ExpressionNode, Item, ItemNode};
 use pv_base::span::Span;
@@ -63,21 +64,24 @@ fn read_step(
         let (item, rest) = read_let(alloc, place, rest, budget)?;
         return Ok((BlockStep::One(item), rest));
     }
-    let (expression, rest) = read_expression(alloc, 0, tokens, budget)?;
+    let (expression, rest) = read_boxed(alloc, 0, tokens, budget)?;
     step_behind(expression, rest)
 }
 
 /// An expression with its semicolon, or the value of a block with the brace that closes it.
 #[tactic(auto, unfolding(crate::specs::ExpressionReading::step_behind))]
-fn step_behind(expression: Expression, tokens: &[Token]) -> Result<(BlockStep, &[Token]), ReadFault>
-    ensures { MatchResult result (λ read. step_behind expression tokens.now ≡ Some (read.0, read.1.now)) (λ fault. IfNoTree fault (step_behind expression tokens.now ≡ None)) }
+fn step_behind(
+    expression: Box<Expression>,
+    tokens: &[Token],
+) -> Result<(BlockStep, &[Token]), ReadFault>
+    ensures { MatchResult result (λ read. step_behind expression.value tokens.now ≡ Some (read.0, read.1.now)) (λ fault. IfNoTree fault (step_behind expression.value tokens.now ≡ None)) }
 {
     if let Some(rest) = skip_sign(tokens, Punctuation::Semicolon) {
         let node = ItemNode::Expression(expression);
         return Ok((BlockStep::One(Item { node }), rest));
     }
     match skip_sign(tokens, Punctuation::RightBrace) {
-        Some(rest) => Ok((BlockStep::End(Some(expression)), rest)),
+        Some(rest) => Ok((BlockStep::End(Some(Box::into_inner(expression))), rest)),
         None => Err(ReadFault::NoTree { left: tokens.len() }),
     }
 }
@@ -113,12 +117,12 @@ fn read_initial(
     alloc: Global,
     tokens: &[Token],
     budget: usize,
-) -> Result<(Option<Expression>, &[Token]), ReadFault>
-    ensures { MatchResult result (λ read. initial_at (readers budget) tokens.now ≡ Some (read.0, read.1.now)) (λ fault. IfNoTree fault (initial_at (readers budget) tokens.now ≡ None)) }
+) -> Result<(Option<Box<Expression>>, &[Token]), ReadFault>
+    ensures { MatchResult result (λ read. initial_at (readers budget) tokens.now ≡ Some (unboxed read.0, read.1.now)) (λ fault. IfNoTree fault (initial_at (readers budget) tokens.now ≡ None)) }
 {
     match skip_sign(tokens, Punctuation::Equal) {
         Some(rest) => {
-            let (value, rest) = read_expression(alloc, 0, rest, budget)?;
+            let (value, rest) = read_boxed(alloc, 0, rest, budget)?;
             Ok((Some(value), rest))
         }
         None => Ok((None, tokens)),

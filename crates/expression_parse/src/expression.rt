@@ -33,7 +33,7 @@ pub fn read_expression(
     read_expression_form(alloc, minimum, tokens, budget - 1)
 }
 
-/// The same, in a box.
+/// An expression of at least this level in a box, with the causes of `read_expression` and where the box can't be had.
 #[cycle(expression)]
 pub(crate) fn read_boxed(
     alloc: Global,

@@ -40,5 +40,5 @@ expression_of_node (Cast place value target) = CastExpression place value.value 
 expression_of_node (Block block) = BlockExpression block.value
 
 abbrev pub item_of_node : ItemNode → ItemData
-item_of_node (Expression expression) = ExpressionItem expression
-item_of_node (Let place pattern annotation value) = LetItem place pattern annotation (maybe_expression_of value)
+item_of_node (Expression expression) = ExpressionItem expression.value
+item_of_node (Let place pattern annotation value) = LetItem place pattern annotation (maybe_expression_of (unboxed value))

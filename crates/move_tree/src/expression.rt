@@ -168,12 +168,12 @@ impl Drop for Item {
 #[cycle(expression)]
 #[derive(Drop)]
 pub enum ItemNode {
-    Expression(Expression),
+    Expression(Box<Expression>),
     Let {
         place: Span,
         pattern: Pattern,
         annotation: Option<SourceType>,
-        value: Option<Expression>,
+        value: Option<Box<Expression>>,
     },
 }
 

@@ -8,7 +8,7 @@ ghost use Rattle.move_tree.specs.PathSpelling.{path_spelling};
 ghost use Rattle.move_tree.specs.TypeTreeData.{maybe_arguments_of};
 ghost use Rattle.move_tree.specs.TypeSpelling.{type_spelling, maybe_arguments_spelling};
 ghost use Rattle.move_tree.specs.ExpressionView.{unboxed};
-ghost use Rattle.move_tree.specs.ExpressionData.{maybe_expression_of, expressions_of, items_of, field_values_of};
+ghost use Rattle.move_tree.specs.ExpressionData.{IfExpression, maybe_expression_of, expressions_of, items_of, field_values_of};
 ghost use Rattle.move_tree.specs.ExpressionSpelling.{ends_in_path, annotation_spelling, maybe_loop_spec_spelling, expression_spelling, maybe_expression_spelling, else_spelling, block_spelling, items_spelling, item_spelling, initial_spelling, field_value_spelling, expression_spellings, field_value_spellings, expression_after_comma, field_value_after_comma};
 
 use crate::expression::{Block, Expression, ExpressionNode, FieldValue, Item, ItemNode};
@@ -176,11 +176,7 @@ pub fn spell_expression(
             condition,
             then_branch,
             else_branch,
-        } => {
-            spell_condition(alloc, b"if", *place, condition, into)?;
-            spell_expression(alloc, then_branch, into)?;
-            spell_else(alloc, else_branch, into)
-        }
+        } => spell_if(alloc, *place, condition, then_branch, else_branch, into),
         ExpressionNode::While {
             place,
             condition,
@@ -294,6 +290,23 @@ pub fn spell_expression(
         }
         ExpressionNode::Block(block) => spell_block(alloc, block, into),
     }
+}
+
+/// The tokens of an `if` with its branches.
+#[cycle(spell_expression)]
+fn spell_if(
+    alloc: Global,
+    place: Span,
+    condition: &Expression,
+    then_branch: &Expression,
+    else_branch: &Option<Box<Expression>>,
+    into: &mut Lexemes,
+) -> Result<(), NoMemory>
+    ensures { OnOk result (into.new ≡ into.old ++ expression_spelling (IfExpression place condition.now then_branch.now (maybe_expression_of (unboxed else_branch.now)))) }
+{
+    spell_condition(alloc, b"if", place, condition, into)?;
+    spell_expression(alloc, then_branch, into)?;
+    spell_else(alloc, else_branch, into)
 }
 
 /// The tokens of an expression and the sign behind it.
@@ -532,10 +545,10 @@ pub fn spell_item(alloc: Global, item: &Item, into: &mut Lexemes) -> Result<(), 
 #[cycle(spell_expression)]
 fn spell_initial(
     alloc: Global,
-    value: &Option<Expression>,
+    value: &Option<Box<Expression>>,
     into: &mut Lexemes,
 ) -> Result<(), NoMemory>
-    ensures { OnOk result (into.new ≡ into.old ++ initial_spelling (maybe_expression_of value.now)) }
+    ensures { OnOk result (into.new ≡ into.old ++ initial_spelling (maybe_expression_of (unboxed value.now))) }
 {
     match value {
         None => Ok(()),

@@ -439,7 +439,7 @@ fn binding(rt: &impl Abort, alloc: Global) -> Box<Item> {
         place: at(2, 5),
         pattern: Box::into_inner(pair_pattern(rt, alloc)),
         annotation: Some(Box::into_inner(named_type(rt, alloc, b"u64", 14, 17))),
-        value: Some(Box::into_inner(local(rt, alloc, b"p", 20, 21))),
+        value: Some(local(rt, alloc, b"p", 20, 21)),
     };
     Box::new(alloc, Item { node }).expect(rt, "memory")
 }
@@ -483,7 +483,7 @@ fn block(rt: &impl Abort, alloc: Global) -> Box<Expression> {
         .expect(rt, "memory");
     items
         .push(Item {
-            node: ItemNode::Expression(Box::into_inner(assignment(rt, alloc))),
+            node: ItemNode::Expression(assignment(rt, alloc)),
         })
         .expect(rt, "memory");
     let value = ExpressionNode::Return {

@@ -8,6 +8,9 @@ use Rattle.move_tree.proofs.spell_expression.+spell_expression.Given as goal
 abbrev pub decreases-spell_expression : goal.decreases-spell_expression
 decreases-spell_expression l = 4 * expression_size l.expression.now
 
+abbrev pub decreases-spell_if : goal.decreases-spell_if
+decreases-spell_if l = 4 * (expression_size l.condition.now + expression_size l.then_branch.now + maybe_expression_size (maybe_expression_of (unboxed l.else_branch.now))) + 3
+
 abbrev pub decreases-spell_condition : goal.decreases-spell_condition
 decreases-spell_condition l = 4 * expression_size l.condition.now + 2
 
@@ -54,7 +57,7 @@ abbrev pub decreases-spell_item : goal.decreases-spell_item
 decreases-spell_item l = 4 * item_size l.item.now
 
 abbrev pub decreases-spell_initial : goal.decreases-spell_initial
-decreases-spell_initial l = 4 * maybe_expression_size (maybe_expression_of l.value.now)
+decreases-spell_initial l = 4 * maybe_expression_size (maybe_expression_of (unboxed l.value.now))
 
 abbrev pub invariant-spell_more_expressions-loop-one : goal.invariant-spell_more_expressions-loop-one
 invariant-spell_more_expressions-loop-one l = l.into ≡ l.initial.into ++ flat_map expression_after_comma (take l.one-index l.expressions)
