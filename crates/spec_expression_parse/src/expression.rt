@@ -15,10 +15,11 @@ use crate::leaf::{
     has_postfix, pack_opened, read_address_literal, read_plain_literal, read_quantifier,
     separator_of_binds,
 };
-use crate::operator::{next_operator, right_level, skip_glued};
+use crate::operator::{next_operator, skip_glued};
 use move_tree::path::Path;
 use move_tree::types::TypeArguments;
 use pv_base::span::Span;
+use spec_tree::level::right_level;
 use spec_tree::spec_expression::{Bind, Domain, SpecExpression, SpecField, SpecNode, Trigger};
 use spec_tree::spec_operator::Quantifier;
 use src_tree::token::{Punctuation, Token};
