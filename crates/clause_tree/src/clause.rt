@@ -36,7 +36,7 @@ pub enum AbortCode {
     Bare,
     /// That of an abort without a code.
     Failure,
-    Code(SpecExpression),
+    Code(Box<SpecExpression>),
 }
 
 /// The places of storage that a `modifies` names.
