@@ -1,3 +1,4 @@
 pub mod Outside
 pub mod MemorySink
 pub mod MemorySources
+pub mod Writing

@@ -4,3 +4,4 @@
 pub mod memory_sink;
 pub mod memory_sources;
 pub mod outside;
+pub mod writing;

@@ -6,7 +6,7 @@ use Rattle.prove.specs.declared.stages.Stop.TheVariants.{TooManyFiles, SourceFau
 use Rattle.report.specs.declared.status.Status.{Status}
 use Rattle.report.specs.declared.status.Status.TheVariants.{AllProved, NotAllProved, Refused, Fault, BadWords, Limit, NoMemory}
 use Rattle.report.specs.declared.status.Device.TheVariants.{Source, Sink}
-use Rattle.report.specs.declared.writing.SinkFault.{SinkFault}
+use Rattle.outside.specs.declared.writing.SinkFault.{SinkFault}
 use Rattle.prove.specs.Outcome.{status_of}
 use Rattle.outside.specs.Outside.{Files}
 use Rattle.report.specs.ReportData.{ReportData}

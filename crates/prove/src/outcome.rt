@@ -7,6 +7,7 @@ ghost use Rattle.report.specs.Writes.{Writes};
 
 use crate::stages::Stop;
 use outside::outside::Sink;
+use outside::writing::SinkFault;
 use pv_base::lists::Bytes;
 use pv_base::memory::NoMemory;
 use pv_base::name::Name;
@@ -14,7 +15,7 @@ use report::status::{Device, LimitKind, Status};
 use report::status_text::{
     files_limit_line, limit_line, no_memory_line, refusal_line, source_fault_line,
 };
-use report::writing::{SinkFault, write_text};
+use report::writing::write_text;
 use std::alloc::Global;
 
 /// The status of a run that stopped.

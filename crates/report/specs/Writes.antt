@@ -2,9 +2,9 @@
 use Rattle.std.specs.Prelude.{◌≡◌, ℕ, List, Option, Result, Ok, Err}
 use Rattle.std.specs.Io.KnownBytes.{append_known}
 use Rattle.outside.specs.Outside.{HasFaulted}
-use Rattle.report.specs.Writing.{TakesPrefix}
+use Rattle.outside.specs.Writing.{TakesPrefix}
 use Rattle.report.specs.declared.status.Status.{Status}
-use Rattle.report.specs.declared.writing.SinkFault.{SinkFault}
+use Rattle.outside.specs.declared.writing.SinkFault.{SinkFault}
 
 -- this status and this text
 abbrev pub IsJust : Status → List ℕ → Status → List ℕ → Type 0

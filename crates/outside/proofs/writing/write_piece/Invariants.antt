@@ -1,6 +1,6 @@
 use Rattle.std.proofs.Common.{◌≡◌, length}
-use Rattle.report.specs.Writing.{TakesFront}
-use Rattle.report.proofs.writing.write_piece.Given as goal
+use Rattle.outside.specs.Writing.{TakesFront}
+use Rattle.outside.proofs.writing.write_piece.Given as goal
 
 abbrev pub invariant-loop-rest : goal.invariant-loop-rest
 invariant-loop-rest g l = record {

@@ -1,6 +1,6 @@
 use Rattle.std.proofs.Common.{◌∙◌}
-use Rattle.report.proofs.TakenLemmas.{TakesFront-more}
-use Rattle.report.proofs.writing.write_piece.Goals as goal
+use Rattle.outside.proofs.TakenLemmas.{TakesFront-more}
+use Rattle.outside.proofs.writing.write_piece.Goals as goal
 
 pub loop-rest-preserved : goal.loop-rest-preserved
 loop-rest-preserved g c = record {
