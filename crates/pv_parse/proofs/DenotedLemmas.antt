@@ -14,9 +14,9 @@ use Rattle.token_reading.proofs.SpelledTokens.{tokens_for, are_tokens_for}
 use Rattle.left_out.specs.declared.explain.ParseFault.{ParseFault}
 use Rattle.left_out.specs.declared.explain.ParseFault.TheVariants.{Grammar, LeftOut, NoMemory}
 use Rattle.left_out.specs.ParseFault.{Explains}
-use Rattle.pv_parse.specs.FileReading.{file_at}
+use Rattle.file_parse.specs.FileReading.{file_at}
 use Rattle.pv_parse.specs.Denoted.{IsFileOf, AreOfNoFile, IsCause}
-use Rattle.pv_parse.proofs.FileLemmas.{file_at-sound, file_at-complete}
+use Rattle.file_parse.proofs.FileLemmas.{file_at-sound, file_at-complete}
 
 pub read_is_file : (n : ℕ) (ts : List Token) (xs : List ModuleData) → file_at n ts ≡ Some xs → IsFileOf xs ts
 read_is_file n ts xs e = let s = file_at-sound n ts xs e in record { spelled = are_tokens (file_spelling xs) ts s.0; proper = s.1 }

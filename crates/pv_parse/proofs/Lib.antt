@@ -1,5 +1,1 @@
-pub mod HeadLemmas
-pub mod MemberLemmas
-pub mod FileLemmas
-pub mod FileSteps
 pub mod DenotedLemmas

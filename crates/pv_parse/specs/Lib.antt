@@ -1,3 +1,1 @@
-pub mod MemberReading
-pub mod FileReading
 pub mod Denoted

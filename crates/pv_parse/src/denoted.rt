@@ -7,7 +7,7 @@ ghost use Rattle.file_tree.specs.MemberSpelling.{file_spelling};
 ghost use Rattle.file_tree.specs.ProperMembers.{IsProperFile};
 ghost use Rattle.pv_parse.specs.Denoted.{IsFileOf, IsCause};
 
-use crate::module::read_file;
+use file_parse::module::read_file;
 use file_tree::member::File;
 use left_out::explain::{ParseFault, explain};
 use src_tree::token::Tokens;

@@ -1,9 +1,4 @@
-//! Files of modules are read from tokens.
+//! Which file of modules tokens denote, or the one cause why they denote none.
 #![tactic(auto)]
 
-pub mod constant;
 pub mod denoted;
-pub mod function;
-pub mod member;
-pub mod module;
-pub mod spec_block;

@@ -2,7 +2,7 @@
 
 ghost use Rattle.std.specs.Prelude.{◌≡◌, None, Some, MatchResult};
 ghost use Rattle.token_reading.specs.ReadFault.{IfNoTree};
-ghost use Rattle.pv_parse.specs.FileReading.{file_at, members_at, module_behind};
+ghost use Rattle.file_parse.specs.FileReading.{file_at, members_at, module_behind};
 
 use crate::member::read_member;
 use declaration_parse::attributes::read_attributes;

@@ -1,8 +1,8 @@
 use Rattle.std.proofs.Common.{◌≡◌, ◌-◌, length}
 use Rattle.declaration_parse.specs.RepeatReading.{put_all, repeat_at}
-use Rattle.pv_parse.specs.MemberReading.{member_at}
-use Rattle.pv_parse.specs.FileReading.{before_member}
-use Rattle.pv_parse.proofs.module.read_members.Given as goal
+use Rattle.file_parse.specs.MemberReading.{member_at}
+use Rattle.file_parse.specs.FileReading.{before_member}
+use Rattle.file_parse.proofs.module.read_members.Given as goal
 
 abbrev pub invariant-loop : goal.invariant-loop
 invariant-loop l =

@@ -8,7 +8,7 @@ use Rattle.token_reading.specs.TokenReading.{Read, after_sign, word_place_at}
 use Rattle.type_parse.specs.PathReading.{module_name_at}
 use Rattle.declaration_parse.specs.AttributeReading.{attributes_at}
 use Rattle.declaration_parse.specs.RepeatReading.{repeat_at}
-use Rattle.pv_parse.specs.MemberReading.{member_at}
+use Rattle.file_parse.specs.MemberReading.{member_at}
 
 -- the same tokens, where another member begins: up to the brace of the module
 unfoldable pub before_member : List Token → Option (List Token)

@@ -1,6 +1,6 @@
 use Rattle.std.proofs.Common.{rules}
-use Rattle.pv_parse.proofs.HeadLemmas.{heading_ends, heading_is_open, heading_fails, heading_goes_on, heading_is_over}
-use Rattle.pv_parse.proofs.spec_block.read_head.Goals as goal
+use Rattle.file_parse.proofs.HeadLemmas.{heading_ends, heading_is_open, heading_fails, heading_goes_on, heading_is_over}
+use Rattle.file_parse.proofs.spec_block.read_head.Goals as goal
 
 pub returns-then-is_none_open : goal.returns-then-is_none_open
 returns-then-is_none_open c = heading_ends _ _ _ _ c.in-Some.token.now c.in-Some.behind.now c.loop-token.invariant c.in-Some.ensures.cases.0 (search rules) (search rules)

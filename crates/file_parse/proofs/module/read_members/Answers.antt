@@ -1,10 +1,10 @@
 use Rattle.std.proofs.Common.{arith, rules, length, ◌-◌, ◌+◌}
 use Rattle.token_reading.proofs.ListSteps.{fault_hands_on, IfNoTree-weaker}
 use Rattle.declaration_parse.proofs.RepeatLemmas.{repeating_stops, repeating_is_over, repeating_fails, repeating_goes_on}
-use Rattle.pv_parse.specs.MemberReading.{member_at}
-use Rattle.pv_parse.specs.FileReading.{before_member, members_at}
-use Rattle.pv_parse.proofs.FileSteps.{no_member, one_member}
-use Rattle.pv_parse.proofs.module.read_members.Goals as goal
+use Rattle.file_parse.specs.MemberReading.{member_at}
+use Rattle.file_parse.specs.FileReading.{before_member, members_at}
+use Rattle.file_parse.proofs.FileSteps.{no_member, one_member}
+use Rattle.file_parse.proofs.module.read_members.Goals as goal
 
 pub returns : goal.returns
 unfolding members_at

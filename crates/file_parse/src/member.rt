@@ -2,7 +2,7 @@
 
 ghost use Rattle.std.specs.Prelude.{◌≡◌, None, Some, MatchResult};
 ghost use Rattle.token_reading.specs.ReadFault.{IfNoTree};
-ghost use Rattle.pv_parse.specs.MemberReading.{form_at, member_at};
+ghost use Rattle.file_parse.specs.MemberReading.{form_at, member_at};
 
 use crate::constant::read_constant;
 use crate::function::read_function;

@@ -2,7 +2,7 @@
 
 ghost use Rattle.std.specs.Prelude.{◌≡◌, None, Some, MatchResult};
 ghost use Rattle.token_reading.specs.ReadFault.{IfNoTree};
-ghost use Rattle.pv_parse.specs.MemberReading.{constant_at, constant_behind_name};
+ghost use Rattle.file_parse.specs.MemberReading.{constant_at, constant_behind_name};
 
 use expression_parse::expression::read_expression;
 use file_tree::member::Constant;

@@ -7,7 +7,7 @@ use Rattle.src_tree.specs.declared.token.Punctuation.TheVariants.{RightBrace}
 use Rattle.file_tree.specs.FileData.{ModuleData}
 use Rattle.token_reading.specs.TokenReading.{after_sign}
 use Rattle.declaration_parse.specs.RepeatReading.{repeat_at}
-use Rattle.pv_parse.specs.FileReading.{before_member, module_behind, before_module, at_end, file_at}
+use Rattle.file_parse.specs.FileReading.{before_member, module_behind, before_module, at_end, file_at}
 
 pub no_member : (ts : List Token) → is_some (after_sign RightBrace ts) ≡ true → before_member ts ≡ None
 unfolding before_member

@@ -1,7 +1,7 @@
 use Rattle.std.proofs.Common.{◌≡◌, ◌-◌, length}
 use Rattle.declaration_parse.specs.RepeatReading.{put_all, repeat_at}
-use Rattle.pv_parse.specs.FileReading.{before_module, module_behind}
-use Rattle.pv_parse.proofs.module.read_file.Given as goal
+use Rattle.file_parse.specs.FileReading.{before_module, module_behind}
+use Rattle.file_parse.proofs.module.read_file.Given as goal
 
 abbrev pub invariant-loop : goal.invariant-loop
 invariant-loop l =

@@ -2,7 +2,7 @@
 
 ghost use Rattle.std.specs.Prelude.{◌≡◌, [], None, Some, reverse, MatchResult};
 ghost use Rattle.token_reading.specs.ReadFault.{IfNoTree};
-ghost use Rattle.pv_parse.specs.MemberReading.{head_at, is_none_open, spec_at};
+ghost use Rattle.file_parse.specs.MemberReading.{head_at, is_none_open, spec_at};
 
 use file_tree::member::SpecBlock;
 use pv_base::span::Span;

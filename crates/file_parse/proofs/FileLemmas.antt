@@ -23,9 +23,9 @@ use Rattle.declaration_parse.specs.AttributeReading.{attributes_at}
 use Rattle.declaration_parse.specs.RepeatReading.{repeat_at}
 use Rattle.declaration_parse.proofs.AttributeLemmas.{attributes_at-sound, attributes_at-complete}
 use Rattle.declaration_parse.proofs.RepeatLemmas.{Opening, repeat_at-sound, repeat_at-complete}
-use Rattle.pv_parse.specs.MemberReading.{member_at}
-use Rattle.pv_parse.specs.FileReading.{before_member, members_at, module_behind, before_module, at_end, file_at}
-use Rattle.pv_parse.proofs.MemberLemmas.{member_at-sound, member_at-complete, form_no_sign, form_some}
+use Rattle.file_parse.specs.MemberReading.{member_at}
+use Rattle.file_parse.specs.FileReading.{before_member, members_at, module_behind, before_module, at_end, file_at}
+use Rattle.file_parse.proofs.MemberLemmas.{member_at-sound, member_at-complete, form_no_sign, form_some}
 
 -- ---- members
 

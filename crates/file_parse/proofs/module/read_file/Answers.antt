@@ -1,9 +1,9 @@
 use Rattle.std.proofs.Common.{arith, rules, length, ◌-◌, ◌+◌}
 use Rattle.token_reading.proofs.ListSteps.{fault_hands_on, IfNoTree-weaker}
 use Rattle.declaration_parse.proofs.RepeatLemmas.{repeating_stops, repeating_is_over, repeating_fails, repeating_goes_on}
-use Rattle.pv_parse.specs.FileReading.{before_module, module_behind}
-use Rattle.pv_parse.proofs.FileSteps.{no_module, one_module, file_ends, file_goes_on, file_fails}
-use Rattle.pv_parse.proofs.module.read_file.Goals as goal
+use Rattle.file_parse.specs.FileReading.{before_module, module_behind}
+use Rattle.file_parse.proofs.FileSteps.{no_module, one_module, file_ends, file_goes_on, file_fails}
+use Rattle.file_parse.proofs.module.read_file.Goals as goal
 
 pub returns-then-is_empty : goal.returns-then-is_empty
 returns-then-is_empty c = file_ends _ _ _ _ (repeating_stops before_module (module_behind c.args.budget) _ _ _ (length c.args.tokens.now - (c.loop.counter + 1)) _ c.loop.invariant (omega arith) (no_module _ (search rules))) (search rules)

@@ -55,9 +55,9 @@ use Rattle.declaration_parse.proofs.ParameterLemmas.{parameters_at-sound, parame
 use Rattle.declaration_parse.proofs.TypedNameLemmas.{inputs_at-sound, inputs_at-complete}
 use Rattle.declaration_parse.proofs.HeaderLemmas.{visibility_at-sound, visibility_at-complete, entry_at-sound, entry_at-complete, annotation_at-sound, annotation_at-complete, acquires_at-sound, acquires_at-complete}
 use Rattle.declaration_parse.proofs.StructLemmas.{struct_at-sound, struct_behind, struct_at-complete}
-use Rattle.pv_parse.specs.declared.function.Signature.{Signature}
-use Rattle.pv_parse.specs.MemberReading.{constant_behind_name, constant_at, signature_at, function_behind, function_at, head_at, spec_at, form_at, member_at}
-use Rattle.pv_parse.proofs.HeadLemmas.{head_at-sound, head_at-complete}
+use Rattle.file_parse.specs.declared.function.Signature.{Signature}
+use Rattle.file_parse.specs.MemberReading.{constant_behind_name, constant_at, signature_at, function_behind, function_at, head_at, spec_at, form_at, member_at}
+use Rattle.file_parse.proofs.HeadLemmas.{head_at-sound, head_at-complete}
 
 -- ---- constants
 

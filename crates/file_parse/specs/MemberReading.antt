@@ -24,7 +24,7 @@ use Rattle.declaration_parse.specs.ParameterReading.{parameters_at}
 use Rattle.declaration_parse.specs.TypedNameReading.{inputs_at}
 use Rattle.declaration_parse.specs.HeaderReading.{visibility_at, entry_at, annotation_at, acquires_at}
 use Rattle.declaration_parse.specs.StructReading.{struct_at}
-use Rattle.pv_parse.specs.declared.function.Signature.{Signature}
+use Rattle.file_parse.specs.declared.function.Signature.{Signature}
 
 -- ---- constants
 

@@ -2,7 +2,7 @@
 
 ghost use Rattle.std.specs.Prelude.{◌≡◌, None, Some, MatchResult};
 ghost use Rattle.token_reading.specs.ReadFault.{IfNoTree};
-ghost use Rattle.pv_parse.specs.MemberReading.{function_at, function_behind, signature_at};
+ghost use Rattle.file_parse.specs.MemberReading.{function_at, function_behind, signature_at};
 
 use declaration_parse::header::{read_acquires, read_annotation, read_entry, read_visibility};
 use declaration_parse::parameters::read_parameters;

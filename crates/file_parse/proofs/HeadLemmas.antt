@@ -19,7 +19,7 @@ use Rattle.token_reading.specs.BalanceReading.{keep_before}
 use Rattle.token_reading.proofs.Steps.{step, last, some_one, if_read, either_read, bind_some, cond_true, cond_false}
 use Rattle.token_reading.proofs.TokenLemmas.{is_sign-sound, is_sign-same}
 use Rattle.token_reading.proofs.BalanceLemmas.{keep_before-twice, same_token, some_wanted}
-use Rattle.pv_parse.specs.MemberReading.{is_none_open, head_at}
+use Rattle.file_parse.specs.MemberReading.{is_none_open, head_at}
 
 -- the brackets that are wanted stand with the next one last
 pub none_open_by_length : (items : List Sign) → is_none_open (reverse items) ≡ (length items == 0)

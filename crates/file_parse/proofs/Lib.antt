@@ -1,0 +1,4 @@
+pub mod HeadLemmas
+pub mod MemberLemmas
+pub mod FileLemmas
+pub mod FileSteps

@@ -1,0 +1,2 @@
+pub mod MemberReading
+pub mod FileReading
