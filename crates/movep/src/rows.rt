@@ -7,46 +7,49 @@ use outside::memory_sources::MapSources;
 use outside::outside::{Sink, Wrote};
 use prove::top::movep;
 use pv_base::lists::{Bytes, Calls, FileMap, Words};
-use pv_base::memory::NoMemory;
 use pv_base::name::Name;
 use pv_base::steps::Steps;
 use report::status::{Device, Status};
 use std::alloc::Global;
 use std::marker::Brand;
+use std::panic::Expect;
+use std::process::Abort;
 use std::sync::ledger::{Blank, Ledger};
-use std::test::Fail;
 
 /// Words, and the files that the source holds.
-fn words_of(alloc: Global, given: &[&[u8]]) -> Result<Words, NoMemory> {
+fn words_of(rt: &impl Abort, alloc: Global, given: &[&[u8]]) -> Words {
     let mut words = Words::new(alloc);
     for word in given {
-        words.push(Name::from_slice(alloc, word)?)?;
+        words.push(name_of(rt, alloc, word)).expect(rt, "memory");
     }
-    Ok(words)
+    words
 }
 
-fn bytes_of(alloc: Global, text: &[u8]) -> Result<Bytes, NoMemory> {
+fn name_of(rt: &impl Abort, alloc: Global, text: &[u8]) -> Name {
+    Name::from_slice(alloc, text).expect(rt, "memory")
+}
+
+fn put(rt: &impl Abort, alloc: Global, files: &mut FileMap, name: &[u8], text: &[u8]) {
     let mut bytes = Bytes::new(alloc);
-    bytes.extend_from_slice(text)?;
-    Ok(bytes)
+    bytes.extend_from_slice(text).expect(rt, "memory");
+    files
+        .insert(name_of(rt, alloc, name), bytes)
+        .expect(rt, "memory");
 }
 
 /// A source that holds one file `a.move`, and whose fetches with these numbers fail.
-fn source_of(alloc: Global, text: &[u8], fails: &[u64]) -> Result<MapSources, NoMemory> {
+fn source_of(rt: &impl Abort, alloc: Global, text: &[u8], fails: &[u64]) -> MapSources {
     let mut files = FileMap::new(alloc);
-    files.insert(Name::from_slice(alloc, b"a.move")?, bytes_of(alloc, text)?)?;
-    Ok(MapSources::new(files, Calls::from_slice(alloc, fails)?))
+    put(rt, alloc, &mut files, b"a.move", text);
+    MapSources::new(files, Calls::from_slice(alloc, fails).expect(rt, "memory"))
 }
 
 /// A source that holds these two files.
-fn pair_of(alloc: Global, first: &[u8], second: &[u8]) -> Result<MapSources, NoMemory> {
+fn pair_of(rt: &impl Abort, alloc: Global, first: &[u8], second: &[u8]) -> MapSources {
     let mut files = FileMap::new(alloc);
-    files.insert(Name::from_slice(alloc, b"a.move")?, bytes_of(alloc, first)?)?;
-    files.insert(
-        Name::from_slice(alloc, b"b.move")?,
-        bytes_of(alloc, second)?,
-    )?;
-    Ok(MapSources::new(files, Calls::new(alloc)))
+    put(rt, alloc, &mut files, b"a.move", first);
+    put(rt, alloc, &mut files, b"b.move", second);
+    MapSources::new(files, Calls::new(alloc))
 }
 
 /// A sink that takes one byte at a time, and does not tell what it took.
@@ -84,6 +87,23 @@ fn run<W: Sink, L: Ledger>(
     movep(alloc, words, sources, sink, &mut steps)
 }
 
+/// What the verifier answers over a sink whose writes with these numbers fail, and which takes this output.
+fn answer(
+    rt: &impl Abort,
+    alloc: Global,
+    words: &Words,
+    sources: MapSources,
+    fails: &[u64],
+    output: &[u8],
+) -> Status {
+    let mut sources = sources;
+    let calls = Calls::from_slice(alloc, fails).expect(rt, "memory");
+    let mut sink = VecSink::new(alloc, 1000, calls).expect(rt, "memory");
+    let status = run::<_, Brand>(alloc, words, &mut sources, &mut sink, Blank::new(1));
+    assert_eq!(rt; sink.bytes(), output);
+    status
+}
+
 const SUM: &[u8] =
     b"module 0x1::m {\n    fun f(x: u64, y: u64): u64 { x + y }\n    spec f {\n        aborts_if x + y > MAX_U64;\n        ensures result == x + y;\n    }\n}\n";
 
@@ -91,9 +111,9 @@ const SUM_REPORT: &[u8] =
     b"0x1::m::f: proved\n  ensures a.move:5: proved\n  aborts_if a.move:4: proved\n  aborts a.move:2: proved\nproved 1 of 1\n";
 
 #[test]
-fn reports(rt: HostRuntime) -> Result<(), Fail> {
+fn reports(rt: HostRuntime) {
     let alloc = rt.alloc();
-    let words = words_of(alloc, &[b"a.move"])?;
+    let words = words_of(&rt, alloc, &[b"a.move"]);
     let rows: [(&[u8], &[u8], u8); 25] = [
         (SUM, SUM_REPORT, 0),
         (b"", b"proved 0 of 0\n", 0),
@@ -202,91 +222,75 @@ fn reports(rt: HostRuntime) -> Result<(), Fail> {
         ),
     ];
     for (text, output, code) in rows {
-        let mut sources = source_of(alloc, text, &[])?;
-        let mut sink = VecSink::new(alloc, 1000, Calls::new(alloc))?;
-        let status = run::<_, Brand>(alloc, &words, &mut sources, &mut sink, Blank::new(1));
-        assert_eq!(rt; sink.bytes(), output);
+        let sources = source_of(&rt, alloc, text, &[]);
+        let status = answer(&rt, alloc, &words, sources, &[], output);
         assert_eq!(rt; status.code(), code);
     }
-    Ok(())
 }
 
 #[test]
-fn words_that_are_refused(rt: HostRuntime) -> Result<(), Fail> {
+fn words_that_are_refused(rt: HostRuntime) {
     let alloc = rt.alloc();
     let rows: [&[&[u8]]; 3] = [&[b"--help"], &[b"-"], &[b"a.move", b"-x"]];
     for given in rows {
-        let words = words_of(alloc, given)?;
-        let mut sources = source_of(alloc, SUM, &[])?;
-        let mut sink = VecSink::new(alloc, 1000, Calls::new(alloc))?;
-        let status = run::<_, Brand>(alloc, &words, &mut sources, &mut sink, Blank::new(1));
+        let words = words_of(&rt, alloc, given);
+        let sources = source_of(&rt, alloc, SUM, &[]);
+        let output = b"usage: movep [FILE]...\n";
+        let status = answer(&rt, alloc, &words, sources, &[], output);
         assert_eq!(rt; status, Status::BadWords);
-        assert_eq!(rt; sink.bytes(), b"usage: movep [FILE]...\n".as_slice());
     }
-    Ok(())
 }
 
 #[test]
-fn files_that_are_not_fetched(rt: HostRuntime) -> Result<(), Fail> {
+fn files_that_are_not_fetched(rt: HostRuntime) {
     let alloc = rt.alloc();
     let rows: [(&[u8], &[u64], &[u8]); 2] = [
         (b"b.move", &[], b"fault source b.move\n"),
         (b"a.move", &[1], b"fault source a.move\n"),
     ];
     for (name, fails, output) in rows {
-        let words = words_of(alloc, &[name])?;
-        let mut sources = source_of(alloc, SUM, fails)?;
-        let mut sink = VecSink::new(alloc, 1000, Calls::new(alloc))?;
-        let status = run::<_, Brand>(alloc, &words, &mut sources, &mut sink, Blank::new(1));
+        let words = words_of(&rt, alloc, &[name]);
+        let sources = source_of(&rt, alloc, SUM, fails);
+        let status = answer(&rt, alloc, &words, sources, &[], output);
         assert_eq!(rt; status, Status::Fault(Device::Source));
-        assert_eq!(rt; sink.bytes(), output);
     }
-    Ok(())
 }
 
 #[test]
-fn writes_that_fail(rt: HostRuntime) -> Result<(), Fail> {
+fn writes_that_fail(rt: HostRuntime) {
     let alloc = rt.alloc();
-    let words = words_of(alloc, &[b"a.move"])?;
+    let words = words_of(&rt, alloc, &[b"a.move"]);
     // The number of the write that fails, and how many bytes the lines before it have.
     for (call, taken) in [(1u64, 0usize), (2, 18), (3, 45), (4, 74), (5, 100)] {
-        let mut sources = source_of(alloc, SUM, &[])?;
-        let mut sink = VecSink::new(alloc, 1000, Calls::from_slice(alloc, &[call])?)?;
-        let status = run::<_, Brand>(alloc, &words, &mut sources, &mut sink, Blank::new(1));
+        let sources = source_of(&rt, alloc, SUM, &[]);
+        let output = &SUM_REPORT[..taken];
+        let status = answer(&rt, alloc, &words, sources, &[call], output);
         assert_eq!(rt; status, Status::Fault(Device::Sink));
-        assert_eq!(rt; sink.bytes(), &SUM_REPORT[..taken]);
     }
-    Ok(())
 }
 
 #[test]
-fn a_slow_sink_takes_all(rt: HostRuntime) -> Result<(), Fail> {
+fn a_slow_sink_takes_all(rt: HostRuntime) {
     let alloc = rt.alloc();
-    let words = words_of(alloc, &[b"a.move"])?;
+    let words = words_of(&rt, alloc, &[b"a.move"]);
     let rows: [(&[u8], &[u8], u8); 2] = [
         (SUM, SUM_REPORT, 0),
         (b"module 0x1::m {", b"refused 2 Grammar a.move:1\n", 2),
     ];
     for (text, output, code) in rows {
-        let mut sources = source_of(alloc, text, &[])?;
-        let inner = VecSink::new(alloc, 1000, Calls::new(alloc))?;
+        let mut sources = source_of(&rt, alloc, text, &[]);
+        let inner = VecSink::new(alloc, 1000, Calls::new(alloc)).expect(&rt, "memory");
         let mut sink = SlowSink { inner };
         let status = run::<_, Brand>(alloc, &words, &mut sources, &mut sink, Blank::new(1));
         assert_eq!(rt; sink.inner.bytes(), output);
         assert_eq!(rt; status.code(), code);
     }
-    Ok(())
-}
-
-/// A file of one byte, many times.
-fn repeated(alloc: Global, byte: u8, count: usize) -> Result<Vec<u8>, NoMemory> {
-    Ok(vec![in alloc; byte; count]?)
 }
 
 #[test]
-fn limits(rt: HostRuntime) -> Result<(), Fail> {
+fn limits(rt: HostRuntime) {
     let alloc = rt.alloc();
-    let words = words_of(alloc, &[b"a.move"])?;
+    let words = words_of(&rt, alloc, &[b"a.move"]);
     let rows: [(u8, usize, &[u8], u8); 6] = [
         (b' ', 1_048_576, b"proved 0 of 0\n", 0),
         (b' ', 1_048_577, b"limit bytes a.move\n", 5),
@@ -296,20 +300,17 @@ fn limits(rt: HostRuntime) -> Result<(), Fail> {
         (b';', 200_001, b"limit tokens a.move\n", 5),
     ];
     for (byte, count, output, code) in rows {
-        let text = repeated(alloc, byte, count)?;
-        let mut sources = source_of(alloc, text.as_slice(), &[])?;
-        let mut sink = VecSink::new(alloc, 1000, Calls::new(alloc))?;
-        let status = run::<_, Brand>(alloc, &words, &mut sources, &mut sink, Blank::new(1));
-        assert_eq!(rt; sink.bytes(), output);
+        let text = vec![in alloc; byte; count].expect(&rt, "memory");
+        let sources = source_of(&rt, alloc, text.as_slice(), &[]);
+        let status = answer(&rt, alloc, &words, sources, &[], output);
         assert_eq!(rt; status.code(), code);
     }
-    Ok(())
 }
 
 #[test]
-fn many_files(rt: HostRuntime) -> Result<(), Fail> {
+fn many_files(rt: HostRuntime) {
     let alloc = rt.alloc();
-    let words = words_of(alloc, &[b"a.move", b"b.move"])?;
+    let words = words_of(&rt, alloc, &[b"a.move", b"b.move"]);
     let sums =
         b"module 0x2::n {\n  fun g(a: u64): u64 { a + 1 }\n  spec g { ensures result > a; aborts_if false; }\n  fun h(): u64 { 7 }\n}";
     let rows: [(&[u8], &[u8], &[u8], u8); 6] = [
@@ -341,17 +342,14 @@ fn many_files(rt: HostRuntime) -> Result<(), Fail> {
         (b"", b"", b"proved 0 of 0\n", 0),
     ];
     for (first, second, output, code) in rows {
-        let mut sources = pair_of(alloc, first, second)?;
-        let mut sink = VecSink::new(alloc, 1000, Calls::new(alloc))?;
-        let status = run::<_, Brand>(alloc, &words, &mut sources, &mut sink, Blank::new(1));
-        assert_eq!(rt; sink.bytes(), output);
+        let sources = pair_of(&rt, alloc, first, second);
+        let status = answer(&rt, alloc, &words, sources, &[], output);
         assert_eq!(rt; status.code(), code);
     }
-    Ok(())
 }
 
 #[test]
-fn counts_of_files(rt: HostRuntime) -> Result<(), Fail> {
+fn counts_of_files(rt: HostRuntime) {
     let alloc = rt.alloc();
     let rows: [(usize, &[u8], u8); 3] = [
         (0, b"proved 0 of 0\n", 0),
@@ -361,13 +359,12 @@ fn counts_of_files(rt: HostRuntime) -> Result<(), Fail> {
     for (count, output, code) in rows {
         let mut words = Words::new(alloc);
         for _ in 0..count {
-            words.push(Name::from_slice(alloc, b"a.move")?)?;
+            words
+                .push(name_of(&rt, alloc, b"a.move"))
+                .expect(&rt, "memory");
         }
-        let mut sources = source_of(alloc, b"", &[])?;
-        let mut sink = VecSink::new(alloc, 1000, Calls::new(alloc))?;
-        let status = run::<_, Brand>(alloc, &words, &mut sources, &mut sink, Blank::new(1));
-        assert_eq!(rt; sink.bytes(), output);
+        let sources = source_of(&rt, alloc, b"", &[]);
+        let status = answer(&rt, alloc, &words, sources, &[], output);
         assert_eq!(rt; status.code(), code);
     }
-    Ok(())
 }

@@ -4,12 +4,11 @@ use expression_parse::expression::read_expression;
 use move_tree::expression::{Expression, ExpressionNode};
 use move_tree::operator::BinaryOperator;
 use move_tree::path::Path;
-use pv_base::memory::NoMemory;
 use src_tree::scanner::tokens;
 use src_tree::token::Tokens;
 use std::alloc::Global;
+use std::panic::Expect;
 use std::process::Abort;
-use std::test::Fail;
 use token_reading::fault::ReadFault;
 
 fn operator(operator: BinaryOperator) -> &'static [u8] {
@@ -27,9 +26,30 @@ fn operator(operator: BinaryOperator) -> &'static [u8] {
     }
 }
 
+fn put(rt: &impl Abort, into: &mut Vec<u8>, bytes: &[u8]) {
+    into.extend_from_slice(bytes).expect(rt, "memory");
+}
+
+/// The letter of an expression whose form is not written out.
+fn letter(node: &ExpressionNode) -> &'static [u8] {
+    match node {
+        ExpressionNode::Call { .. } => b"C",
+        ExpressionNode::Pack { .. } => b"P",
+        ExpressionNode::Vector { .. } => b"V",
+        ExpressionNode::Assert { .. } => b"A",
+        ExpressionNode::Tuple { .. } => b"T",
+        ExpressionNode::Cast { .. } => b"K",
+        ExpressionNode::Block(_) => b"B",
+        ExpressionNode::Loop { .. } => b"L",
+        ExpressionNode::While { .. } => b"W",
+        ExpressionNode::Assign { .. } => b"=",
+        _ => b"?",
+    }
+}
+
 /// The form of an expression: each operator with what it joins in parentheses, each control form by its
 /// first letter, and a name as itself.
-fn form(alloc: Global, expression: &Expression, into: &mut Vec<u8>) -> Result<(), NoMemory> {
+fn form(rt: &impl Abort, expression: &Expression, into: &mut Vec<u8>) {
     match &expression.node {
         ExpressionNode::Binary {
             left,
@@ -37,11 +57,11 @@ fn form(alloc: Global, expression: &Expression, into: &mut Vec<u8>) -> Result<()
             right,
             ..
         } => {
-            into.push(b'(')?;
-            form(alloc, left, into)?;
-            into.extend_from_slice(operator(*joined))?;
-            form(alloc, right, into)?;
-            into.push(b')')?;
+            put(rt, into, b"(");
+            form(rt, left, into);
+            put(rt, into, operator(*joined));
+            form(rt, right, into);
+            put(rt, into, b")");
         }
         ExpressionNode::If {
             condition,
@@ -49,44 +69,33 @@ fn form(alloc: Global, expression: &Expression, into: &mut Vec<u8>) -> Result<()
             else_branch,
             ..
         } => {
-            into.extend_from_slice(b"i(")?;
-            form(alloc, condition, into)?;
-            form(alloc, then_branch, into)?;
+            put(rt, into, b"i(");
+            form(rt, condition, into);
+            form(rt, then_branch, into);
             if let Some(branch) = else_branch {
-                into.push(b':')?;
-                form(alloc, branch, into)?;
+                put(rt, into, b":");
+                form(rt, branch, into);
             }
-            into.push(b')')?;
+            put(rt, into, b")");
         }
         ExpressionNode::Return { value, .. } => {
-            into.push(b'r')?;
+            put(rt, into, b"r");
             if let Some(value) = value {
-                form(alloc, value, into)?;
+                form(rt, value, into);
             }
         }
         ExpressionNode::Unary { operand, .. } => {
-            into.push(b'!')?;
-            form(alloc, operand, into)?;
+            put(rt, into, b"!");
+            form(rt, operand, into);
         }
         ExpressionNode::Field { base, field } => {
-            form(alloc, base, into)?;
-            into.push(b'.')?;
-            into.extend_from_slice(field.text.as_slice())?;
+            form(rt, base, into);
+            put(rt, into, b".");
+            put(rt, into, field.text.as_slice());
         }
-        ExpressionNode::Path(Path::Name(name)) => into.extend_from_slice(name.text.as_slice())?,
-        ExpressionNode::Call { .. } => into.push(b'C')?,
-        ExpressionNode::Pack { .. } => into.push(b'P')?,
-        ExpressionNode::Vector { .. } => into.push(b'V')?,
-        ExpressionNode::Assert { .. } => into.push(b'A')?,
-        ExpressionNode::Tuple { .. } => into.push(b'T')?,
-        ExpressionNode::Cast { .. } => into.push(b'K')?,
-        ExpressionNode::Block(_) => into.push(b'B')?,
-        ExpressionNode::Loop { .. } => into.push(b'L')?,
-        ExpressionNode::While { .. } => into.push(b'W')?,
-        ExpressionNode::Assign { .. } => into.push(b'=')?,
-        _ => into.push(b'?')?,
+        ExpressionNode::Path(Path::Name(name)) => put(rt, into, name.text.as_slice()),
+        other => put(rt, into, letter(other)),
     }
-    Ok(())
 }
 
 fn scan(rt: &impl Abort, alloc: Global, text: &str) -> Tokens {
@@ -101,24 +110,17 @@ fn scan(rt: &impl Abort, alloc: Global, text: &str) -> Tokens {
 }
 
 /// The text is an expression of this form, with this many tokens behind it.
-fn reads(
-    rt: &impl Abort,
-    alloc: Global,
-    text: &str,
-    wanted: &str,
-    left: usize,
-) -> Result<(), NoMemory> {
+fn reads(rt: &impl Abort, alloc: Global, text: &str, wanted: &str, left: usize) {
     let found = scan(rt, alloc, text);
     match read_expression(alloc, 0, found.as_slice(), found.len().saturating_add(1)) {
         Ok((expression, rest)) => {
             assert!(rt; rest.len() == left, "{text}");
             let mut found = Vec::new(alloc);
-            form(alloc, &expression, &mut found)?;
+            form(rt, &expression, &mut found);
             assert!(rt; found.as_slice() == wanted.as_bytes(), "{text}");
         }
         Err(fault) => assert!(rt; false, "{text}: {fault:?}"),
     }
-    Ok(())
 }
 
 /// The text begins with no expression: the last tokens, this many, are where reading ended.
@@ -131,7 +133,7 @@ fn fails(rt: &impl Abort, alloc: Global, text: &str, left: usize) {
 }
 
 #[test]
-fn operators(rt: HostRuntime) -> Result<(), Fail> {
+fn operators(rt: HostRuntime) {
     let alloc = rt.alloc();
     for (text, wanted, left) in [
         ("a - b - c", "((a-b)-c)", 0),
@@ -143,16 +145,15 @@ fn operators(rt: HostRuntime) -> Result<(), Fail> {
         ("! a . b . c + d", "(!a.b.c+d)", 0),
         ("a + b )", "(a+b)", 1),
     ] {
-        reads(&rt, alloc, text, wanted, left)?;
+        reads(&rt, alloc, text, wanted, left);
     }
     for (text, left) in [("a > > b", 2), ("i<n", 0), ("a + if (b) c", 5)] {
         fails(&rt, alloc, text, left);
     }
-    Ok(())
 }
 
 #[test]
-fn control_forms(rt: HostRuntime) -> Result<(), Fail> {
+fn control_forms(rt: HostRuntime) {
     let alloc = rt.alloc();
     for (text, wanted, left) in [
         ("if (a) if (b) c else d", "i(ai(bc:d))", 0),
@@ -163,7 +164,7 @@ fn control_forms(rt: HostRuntime) -> Result<(), Fail> {
         ("loop { spec { invariant p; }; a; }", "L", 0),
         ("a.b = c", "=", 0),
     ] {
-        reads(&rt, alloc, text, wanted, left)?;
+        reads(&rt, alloc, text, wanted, left);
     }
     for (text, left) in [
         ("while ({ spec { invariant p; }; a; }) b", 2),
@@ -171,11 +172,10 @@ fn control_forms(rt: HostRuntime) -> Result<(), Fail> {
     ] {
         fails(&rt, alloc, text, left);
     }
-    Ok(())
 }
 
 #[test]
-fn terms(rt: HostRuntime) -> Result<(), Fail> {
+fn terms(rt: HostRuntime) {
     let alloc = rt.alloc();
     for (text, wanted, left) in [
         ("f<u64>(a, b,)", "C", 0),
@@ -190,7 +190,7 @@ fn terms(rt: HostRuntime) -> Result<(), Fail> {
         ("{ let x: u64 = 1; x }", "B", 0),
         ("s { f: 1 }", "s", 5),
     ] {
-        reads(&rt, alloc, text, wanted, left)?;
+        reads(&rt, alloc, text, wanted, left);
     }
     for (text, left) in [
         ("(a,)", 0),
@@ -201,5 +201,4 @@ fn terms(rt: HostRuntime) -> Result<(), Fail> {
     ] {
         fails(&rt, alloc, text, left);
     }
-    Ok(())
 }

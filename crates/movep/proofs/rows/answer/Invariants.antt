@@ -1,4 +1,4 @@
-use Rattle.movep.proofs.rows.words_that_are_refused.Given as goal
+use Rattle.movep.proofs.rows.answer.Given as goal
 
 -- the ledger that the blank opens
 abbrev pub ghosts-run : goal.ghosts-run
