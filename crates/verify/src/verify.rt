@@ -5,6 +5,7 @@ ghost use Rattle.cert.specs.Closes.{Certifies};
 ghost use Rattle.fol.specs.Validity.{Valid};
 ghost use Rattle.report.specs.Lines.{line_feeds};
 ghost use Rattle.report.specs.ReportText.{is_proved};
+ghost use Rattle.search.specs.Answer.{Shows};
 ghost use Rattle.verify.specs.Pairs.{ArePutBehind, Paired};
 ghost use Rattle.verify.specs.Verified.{AreVerifiable, IsConditionRecord, IsFunctionRecord, IsReportOf, IsShown, IsVerifiable, are_proved, functions_of, functions_of_module};
 
@@ -62,19 +63,19 @@ fn confirm(alloc: Global, formula: &Formula, certificate: &Cert)
     }
 }
 
-/// What the search finds out of a formula that speaks of no structs.
-fn finding_of<L: Ledger>(
+/// The finding that goes with an answer of the search.
+fn finding_for(
     alloc: Global,
     formula: &Formula,
     parameters: &[Name],
-    steps: &mut Steps<L>,
+    answer: &Answer,
 ) -> Result<Finding, NoMemory>
+    requires { Shows formula.now answer.now }
     ensures { IfOk result (λ found. IsShown formula.now parameters.now found.verdict found.values.items) }
 {
-    let shapes = Shapes::new(alloc);
-    match prove(alloc, &shapes, formula, BUDGET, steps)? {
+    match answer {
         Answer::Proved(certificate) => {
-            confirm(alloc, formula, &certificate);
+            confirm(alloc, formula, certificate);
             Ok(bare(alloc, ConditionVerdict::Proved))
         }
         Answer::Open(leaf, fractions) => Ok(Finding {
@@ -91,6 +92,20 @@ fn finding_of<L: Ledger>(
         Answer::Budget => Ok(bare(alloc, ConditionVerdict::Budget(BUDGET))),
         Answer::Size(_) => Ok(bare(alloc, ConditionVerdict::Size)),
     }
+}
+
+/// What the search finds out of a formula that speaks of no structs.
+fn finding_of<L: Ledger>(
+    alloc: Global,
+    formula: &Formula,
+    parameters: &[Name],
+    steps: &mut Steps<L>,
+) -> Result<Finding, NoMemory>
+    ensures { IfOk result (λ found. IsShown formula.now parameters.now found.verdict found.values.items) }
+{
+    let shapes = Shapes::new(alloc);
+    let answer = prove(alloc, &shapes, formula, BUDGET, steps)?;
+    finding_for(alloc, formula, parameters, &answer)
 }
 
 /// The record of a condition of a function with these parameters, in the file of this number.
