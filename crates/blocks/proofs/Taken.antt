@@ -1,7 +1,7 @@
 -- The blocks and the names of a list's first things, and of all.
 use Rattle.std.proofs.Common.{◌≡◌, ℕ, zero, suc, ◌≤◌, List, [], ◌∷◌, ◌++◌, length, take, refl, ap, arith}
 use Rattle.std.specs.List.{flat_map}
-use Rattle.move_tree.specs.ExpressionData.{ExpressionData, expressions_of, ItemData, items_of, FieldValueData, field_values_of}
+use Rattle.expression_tree.specs.ExpressionData.{ExpressionData, expressions_of, ItemData, items_of, FieldValueData, field_values_of}
 use Rattle.move_tree.specs.PatternData.{PatternData, patterns_of, FieldPatternData, field_patterns_of}
 use Rattle.blocks.specs.Locals.{names_of, names_of_field, names_of_patterns, names_of_fields, names_of_item, names_of_items}
 use Rattle.blocks.specs.Blocks.{blocks_of, blocks_of_item, blocks_of_items, blocks_of_field, blocks_of_expressions, blocks_of_fields}

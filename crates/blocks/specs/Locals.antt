@@ -3,7 +3,7 @@ use Rattle.std.specs.Prelude.{List, [], ◌∷◌, ◌++◌}
 use Rattle.std.specs.List.{flat_map}
 use Rattle.move_tree.specs.declared.lexeme.Identifier.{Identifier}
 use Rattle.move_tree.specs.PatternData.{PatternData, BindPattern, IgnorePattern, UnpackPattern, TuplePattern, FieldPatternData, ShortFieldPattern, LongFieldPattern, PatternsData, NoPatterns, MorePatterns, FieldPatternsData, NoFieldPatterns, MoreFieldPatterns}
-use Rattle.move_tree.specs.ExpressionData.{BlockData, BlockOf, ItemData, ExpressionItem, LetItem, ItemsData, NoItems, MoreItems}
+use Rattle.expression_tree.specs.ExpressionData.{BlockData, BlockOf, ItemData, ExpressionItem, LetItem, ItemsData, NoItems, MoreItems}
 use Rattle.blocks.specs.Blocks.{blocks_of_block}
 
 -- the names that a pattern binds, in their order

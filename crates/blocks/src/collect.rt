@@ -1,11 +1,11 @@
 //! The blocks of expressions, collected by a walk.
 
 ghost use Rattle.std.specs.Prelude.{◌≡◌, [], ◌∷◌, ◌++◌, OnOk, map};
-ghost use Rattle.move_tree.specs.ExpressionView.{unboxed};
-ghost use Rattle.move_tree.specs.ExpressionData.{maybe_expression_of, expressions_of, items_of, field_values_of};
+ghost use Rattle.expression_tree.specs.ExpressionView.{unboxed};
+ghost use Rattle.expression_tree.specs.ExpressionData.{maybe_expression_of, expressions_of, items_of, field_values_of};
 ghost use Rattle.blocks.specs.Blocks.{blocks_of, blocks_of_maybe, blocks_of_block, blocks_of_items, blocks_of_item, blocks_of_field, blocks_of_expressions, blocks_of_fields};
 
-use move_tree::expression::{Block, Expression, ExpressionNode, FieldValue, Item, ItemNode};
+use expression_tree::expression::{Block, Expression, ExpressionNode, FieldValue, Item, ItemNode};
 use pv_base::memory::NoMemory;
 use std::alloc::Global;
 use std::marker::Model;
@@ -19,8 +19,8 @@ pub struct Blocks<'a> {
 impl<'a> Model for Blocks<'a> {
     ghost use Rattle.std.specs.Coded.{codes};
     ghost use Rattle.std.specs.Prelude.{List, map};
-    ghost use Rattle.move_tree.specs.ExpressionCodes.{coded_block};
-    ghost use Rattle.move_tree.specs.ExpressionData.{BlockData};
+    ghost use Rattle.expression_tree.specs.ExpressionCodes.{coded_block};
+    ghost use Rattle.expression_tree.specs.ExpressionData.{BlockData};
 
     ghost Value = { List BlockData };
 
@@ -144,7 +144,7 @@ fn collect_from_value<'a>(
 }
 
 #[cycle(collect_blocks)]
-#[tactic(auto, using(move_tree::proofs::Smaller::expression_smaller))]
+#[tactic(auto, using(expression_tree::proofs::Smaller::expression_smaller))]
 fn collect_from_expressions<'a>(
     expressions: &'a [Expression],
     into: &mut Blocks<'a>,
@@ -168,7 +168,7 @@ fn collect_from_field<'a>(field: &'a FieldValue, into: &mut Blocks<'a>) -> Resul
 }
 
 #[cycle(collect_blocks)]
-#[tactic(auto, using(move_tree::proofs::Smaller::field_value_smaller))]
+#[tactic(auto, using(expression_tree::proofs::Smaller::field_value_smaller))]
 fn collect_from_fields<'a>(fields: &'a [FieldValue], into: &mut Blocks<'a>) -> Result<(), NoMemory>
     ensures { OnOk result (into.new ≡ into.old ++ blocks_of_fields (field_values_of fields.now)) }
 {
@@ -189,7 +189,7 @@ pub fn collect_from_block<'a>(block: &'a Block, into: &mut Blocks<'a>) -> Result
 }
 
 #[cycle(collect_blocks)]
-#[tactic(auto, using(move_tree::proofs::Smaller::item_smaller))]
+#[tactic(auto, using(expression_tree::proofs::Smaller::item_smaller))]
 fn collect_from_items<'a>(items: &'a [Item], into: &mut Blocks<'a>) -> Result<(), NoMemory>
     ensures { OnOk result (into.new ≡ into.old ++ blocks_of_items (items_of items.now)) }
 {

@@ -2,11 +2,11 @@
 
 ghost use Rattle.std.specs.Prelude.{◌≡◌, [], ◌∷◌, ◌++◌, OnOk, IfOk, length};
 ghost use Rattle.move_tree.specs.PatternData.{patterns_of, field_patterns_of};
-ghost use Rattle.move_tree.specs.ExpressionData.{items_of};
+ghost use Rattle.expression_tree.specs.ExpressionData.{items_of};
 ghost use Rattle.blocks.specs.Locals.{locals_of, names_of, names_of_block, names_of_field, names_of_fields, names_of_item, names_of_items, names_of_patterns};
 
 use crate::collect::{Blocks, collect_from_block};
-use move_tree::expression::{Block, Item, ItemNode};
+use expression_tree::expression::{Block, Item, ItemNode};
 use move_tree::lexeme::Identifier;
 use move_tree::pattern::{FieldPattern, Pattern, PatternNode};
 use pv_base::memory::NoMemory;

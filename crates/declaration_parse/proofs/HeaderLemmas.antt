@@ -11,9 +11,9 @@ use Rattle.move_tree.specs.Lexemes.{word, sign, comma_list}
 use Rattle.move_tree.specs.PathSpelling.{path_spelling}
 use Rattle.move_tree.specs.TypeTreeData.{SourceTypeData}
 use Rattle.move_tree.specs.TypeSpelling.{type_spelling}
-use Rattle.move_tree.specs.ExpressionSpelling.{annotation_spelling}
+use Rattle.expression_tree.specs.ExpressionSpelling.{annotation_spelling}
 use Rattle.move_tree.specs.ProperTypes.{IsProperPath}
-use Rattle.move_tree.specs.ProperExpressions.{IsProperAnnotation}
+use Rattle.expression_tree.specs.ProperExpressions.{IsProperAnnotation}
 use Rattle.file_tree.specs.declared.member.Visibility.{Visibility}
 use Rattle.file_tree.specs.declared.member.Visibility.TheVariants.{Module as in_module, Public, Friends}
 use Rattle.file_tree.specs.MemberData.{PathsData}

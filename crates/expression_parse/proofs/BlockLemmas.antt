@@ -5,9 +5,9 @@ use Rattle.src_tree.specs.declared.token.Token.{Token}
 use Rattle.src_tree.specs.declared.token.Punctuation.TheVariants.{LeftBrace, RightBrace}
 use Rattle.move_tree.specs.declared.lexeme.Lexeme.{Lexeme}
 use Rattle.move_tree.specs.Lexemes.{sign, sign_at}
-use Rattle.move_tree.specs.ExpressionData.{BlockExpression, BlockData, BlockOf, items_of, list_of_items, maybe_expression_of}
-use Rattle.move_tree.specs.ExpressionSpelling.{block_spelling, items_spelling, maybe_expression_spelling}
-use Rattle.move_tree.specs.ProperExpressions.{IsProperExpression}
+use Rattle.expression_tree.specs.ExpressionData.{BlockExpression, BlockData, BlockOf, items_of, list_of_items, maybe_expression_of}
+use Rattle.expression_tree.specs.ExpressionSpelling.{block_spelling, items_spelling, maybe_expression_spelling}
+use Rattle.expression_tree.specs.ProperExpressions.{IsProperExpression}
 use Rattle.token_reading.specs.Beginnings.{Begins}
 use Rattle.token_reading.proofs.Steps.{last, map_some}
 use Rattle.token_reading.proofs.BeginLemmas.{Begins-append, Begins-same}

@@ -19,9 +19,9 @@ use Rattle.move_tree.specs.TypeSpelling.{type_spelling}
 use Rattle.move_tree.specs.PatternData.{PatternData}
 use Rattle.move_tree.specs.PatternSpelling.{pattern_spelling}
 use Rattle.move_tree.specs.OperatorSpelling.{unary_spelling, use_spelling}
-use Rattle.move_tree.specs.ExpressionData.{ExpressionData, BinaryExpression, AssignExpression, IfExpression, WhileExpression, LoopExpression, ReturnExpression, AbortExpression, BreakExpression, ContinueExpression, UnaryExpression, UseExpression, FieldExpression, LiteralExpression, PathExpression, CallExpression, PackExpression, VectorExpression, AssertExpression, TupleExpression, CastExpression, BlockExpression, MaybeExpressionData, NoExpression, SomeExpression, BlockOf, ItemData, ExpressionItem, LetItem, ItemsData, NoItems, MoreItems, items_of, list_of_items, maybe_expression_of}
-use Rattle.move_tree.specs.ExpressionSpelling.{expression_spelling, annotation_spelling, maybe_expression_spelling, else_spelling, items_spelling, item_spelling, initial_spelling}
-use Rattle.move_tree.specs.ProperExpressions.{LeavesElse, elsewhere, right_level, level, unary_level, term_level, takes_else, IsProperAs, IsProperExpression, IsProperMaybe, IsProperItem, AreProperItems, IsProperAnnotation}
+use Rattle.expression_tree.specs.ExpressionData.{ExpressionData, BinaryExpression, AssignExpression, IfExpression, WhileExpression, LoopExpression, ReturnExpression, AbortExpression, BreakExpression, ContinueExpression, UnaryExpression, UseExpression, FieldExpression, LiteralExpression, PathExpression, CallExpression, PackExpression, VectorExpression, AssertExpression, TupleExpression, CastExpression, BlockExpression, MaybeExpressionData, NoExpression, SomeExpression, BlockOf, ItemData, ExpressionItem, LetItem, ItemsData, NoItems, MoreItems, items_of, list_of_items, maybe_expression_of}
+use Rattle.expression_tree.specs.ExpressionSpelling.{expression_spelling, annotation_spelling, maybe_expression_spelling, else_spelling, items_spelling, item_spelling, initial_spelling}
+use Rattle.expression_tree.specs.ProperExpressions.{LeavesElse, elsewhere, right_level, level, unary_level, term_level, takes_else, IsProperAs, IsProperExpression, IsProperMaybe, IsProperItem, AreProperItems, IsProperAnnotation}
 use Rattle.token_reading.specs.Beginnings.{Begins}
 use Rattle.token_reading.specs.TokenReading.{is_word, after_sign, sign_place_at, after_word, word_place_at, identifier_at}
 use Rattle.token_reading.specs.ChainReading.{next_operator, whole_chain_at}

@@ -13,9 +13,9 @@ use Rattle.move_tree.specs.declared.operator.BinaryOperator.{BinaryOperator}
 use Rattle.move_tree.specs.declared.operator.BinaryOperator.TheVariants.{Or, And, Equal as equal_operator, NotEqual, Less, LessEqual, Greater, GreaterEqual, BitOr, BitXor, BitAnd, ShiftLeft, ShiftRight, Add, Subtract, Multiply, Divide, Remainder}
 use Rattle.move_tree.specs.Lexemes.{lexeme, word, sign}
 use Rattle.move_tree.specs.OperatorSpelling.{apart_from_path, operator_spelling}
-use Rattle.move_tree.specs.ExpressionData.{ExpressionData, BinaryExpression}
-use Rattle.move_tree.specs.ExpressionSpelling.{ends_in_path}
-use Rattle.move_tree.specs.ProperExpressions.{operator_level, right_level, MayStandBefore, IsProperExpression, takes_else, level}
+use Rattle.expression_tree.specs.ExpressionData.{ExpressionData, BinaryExpression}
+use Rattle.expression_tree.specs.ExpressionSpelling.{ends_in_path}
+use Rattle.expression_tree.specs.ProperExpressions.{operator_level, right_level, MayStandBefore, IsProperExpression, takes_else, level}
 use Rattle.token_reading.specs.Beginnings.{Begins}
 use Rattle.token_reading.specs.TokenReading.{is_sign, is_keyword, after_sign, after_word}
 use Rattle.token_reading.specs.ChainReading.{next_operator}

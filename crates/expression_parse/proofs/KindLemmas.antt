@@ -25,9 +25,9 @@ use Rattle.move_tree.specs.TypeTreeData.{SourceTypeData}
 use Rattle.move_tree.specs.TypeSpelling.{type_spelling, maybe_arguments_spelling}
 use Rattle.move_tree.specs.PatternSpelling.{pattern_spelling}
 use Rattle.move_tree.specs.OperatorSpelling.{operator_spelling, unary_spelling, use_spelling}
-use Rattle.move_tree.specs.ExpressionData.{ExpressionData, BinaryExpression, AssignExpression, IfExpression, WhileExpression, LoopExpression, ReturnExpression, AbortExpression, BreakExpression, ContinueExpression, UnaryExpression, UseExpression, FieldExpression, LiteralExpression, PathExpression, CallExpression, PackExpression, VectorExpression, AssertExpression, TupleExpression, CastExpression, BlockExpression, MaybeExpressionData, NoExpression, SomeExpression, BlockOf, ItemData, ExpressionItem, LetItem, ItemsData, NoItems, MoreItems, items_of, list_of_items, maybe_expression_of}
-use Rattle.move_tree.specs.ExpressionSpelling.{expression_spellings, field_value_spellings, expression_spelling, ends_in_path, annotation_spelling, maybe_expression_spelling, items_spelling, item_spelling, initial_spelling}
-use Rattle.move_tree.specs.ProperExpressions.{Role, elsewhere, operator_level, right_level, level, unary_level, term_level, takes_else, MayHoldSpec, IsProperAs, IsProperExpression, IsProperMaybe, IsProperItem, AreProperItems}
+use Rattle.expression_tree.specs.ExpressionData.{ExpressionData, BinaryExpression, AssignExpression, IfExpression, WhileExpression, LoopExpression, ReturnExpression, AbortExpression, BreakExpression, ContinueExpression, UnaryExpression, UseExpression, FieldExpression, LiteralExpression, PathExpression, CallExpression, PackExpression, VectorExpression, AssertExpression, TupleExpression, CastExpression, BlockExpression, MaybeExpressionData, NoExpression, SomeExpression, BlockOf, ItemData, ExpressionItem, LetItem, ItemsData, NoItems, MoreItems, items_of, list_of_items, maybe_expression_of}
+use Rattle.expression_tree.specs.ExpressionSpelling.{expression_spellings, field_value_spellings, expression_spelling, ends_in_path, annotation_spelling, maybe_expression_spelling, items_spelling, item_spelling, initial_spelling}
+use Rattle.expression_tree.specs.ProperExpressions.{Role, elsewhere, operator_level, right_level, level, unary_level, term_level, takes_else, MayHoldSpec, IsProperAs, IsProperExpression, IsProperMaybe, IsProperItem, AreProperItems}
 use Rattle.token_reading.specs.Beginnings.{Begins}
 use Rattle.token_reading.specs.TokenReading.{is_sign, is_word, is_keyword, after_sign, sign_place_at, word_place_at}
 use Rattle.token_reading.specs.ChainReading.{next_operator}

@@ -23,7 +23,7 @@ use Rattle.move_tree.specs.declared.operator.UseKind.TheVariants.{Move, Copy}
 use Rattle.move_tree.specs.Lexemes.{Says, lexeme, word, sign, sign_at, numeral}
 use Rattle.move_tree.specs.LiteralSpelling.{literal_spelling}
 use Rattle.move_tree.specs.OperatorSpelling.{unary_spelling, use_spelling}
-use Rattle.move_tree.specs.ProperExpressions.{IsProperLiteral}
+use Rattle.expression_tree.specs.ProperExpressions.{IsProperLiteral}
 use Rattle.token_reading.specs.Beginnings.{Begins}
 use Rattle.token_reading.specs.TokenReading.{Read, same_name, is_sign, is_word, after_sign, sign_place_at, after_word, word_place_at}
 use Rattle.token_reading.proofs.Steps.{step, last, some_one, either, not_read, if_some, bind_some, map_some, map_or_none, map_or_some}

@@ -6,7 +6,7 @@ use Rattle.pv_base.specs.declared.span.Span.{Span}
 use Rattle.src_tree.specs.declared.token.Token.{Token}
 use Rattle.src_tree.specs.declared.token.Punctuation.TheVariants.{Period}
 use Rattle.move_tree.specs.declared.lexeme.Identifier.{Identifier}
-use Rattle.move_tree.specs.ExpressionData.{ExpressionData, FieldExpression, TupleExpression, ItemData, expressions_of}
+use Rattle.expression_tree.specs.ExpressionData.{ExpressionData, FieldExpression, TupleExpression, ItemData, expressions_of}
 use Rattle.token_reading.specs.TokenReading.{Read, after_sign, identifier_at}
 use Rattle.token_reading.specs.ListReading.{put_before, some_items_at, items_at, comma_list_at}
 use Rattle.token_reading.proofs.Steps.{map_or_none}

@@ -22,9 +22,9 @@ use Rattle.move_tree.specs.LiteralSpelling.{literal_spelling}
 use Rattle.move_tree.specs.TypeSpelling.{maybe_arguments_spelling}
 use Rattle.move_tree.specs.OperatorSpelling.{operator_spelling}
 use Rattle.move_tree.specs.ProperTypes.{IsProperAddress, IsProperPath}
-use Rattle.move_tree.specs.ExpressionData.{ExpressionData, BinaryExpression, AssignExpression, IfExpression, WhileExpression, LoopExpression, ReturnExpression, AbortExpression, BreakExpression, ContinueExpression, UnaryExpression, UseExpression, FieldExpression, LiteralExpression, PathExpression, CallExpression, PackExpression, VectorExpression, AssertExpression, TupleExpression, CastExpression, BlockExpression, BlockOf}
-use Rattle.move_tree.specs.ExpressionSpelling.{expression_spelling, expression_spellings, field_value_spellings, ends_in_path}
-use Rattle.move_tree.specs.ProperExpressions.{Role, takes_else, IsProperAs, IsProperExpression, level, term_level}
+use Rattle.expression_tree.specs.ExpressionData.{ExpressionData, BinaryExpression, AssignExpression, IfExpression, WhileExpression, LoopExpression, ReturnExpression, AbortExpression, BreakExpression, ContinueExpression, UnaryExpression, UseExpression, FieldExpression, LiteralExpression, PathExpression, CallExpression, PackExpression, VectorExpression, AssertExpression, TupleExpression, CastExpression, BlockExpression, BlockOf}
+use Rattle.expression_tree.specs.ExpressionSpelling.{expression_spelling, expression_spellings, field_value_spellings, ends_in_path}
+use Rattle.expression_tree.specs.ProperExpressions.{Role, takes_else, IsProperAs, IsProperExpression, level, term_level}
 use Rattle.token_reading.specs.Beginnings.{Begins}
 use Rattle.token_reading.specs.TokenReading.{is_sign, is_word, is_keyword, same_name, after_sign}
 use Rattle.token_reading.proofs.TokenLemmas.{is_sign-sound, is_word-sound, is_keyword-complete}

@@ -13,9 +13,9 @@ use Rattle.move_tree.specs.declared.operator.BinaryOperator.{BinaryOperator}
 use Rattle.move_tree.specs.declared.operator.BinaryOperator.TheVariants.{Or, And, Equal, NotEqual, Less, LessEqual, Greater, GreaterEqual, BitOr, BitXor, BitAnd, ShiftLeft, ShiftRight, Add, Subtract, Multiply, Divide, Remainder}
 use Rattle.move_tree.specs.Lexemes.{Says}
 use Rattle.move_tree.specs.OperatorSpelling.{sign_of, apart_from_path, operator_spelling}
-use Rattle.move_tree.specs.ExpressionData.{ExpressionData, BinaryExpression, UnaryExpression, PathExpression}
-use Rattle.move_tree.specs.ExpressionSpelling.{expression_spelling, ends_in_path}
-use Rattle.move_tree.specs.ProperExpressions.{operator_level, left_level, right_level, level, unary_level, EndsInOther, MayStandBefore, IsProperExpression}
+use Rattle.expression_tree.specs.ExpressionData.{ExpressionData, BinaryExpression, UnaryExpression, PathExpression}
+use Rattle.expression_tree.specs.ExpressionSpelling.{expression_spelling, ends_in_path}
+use Rattle.expression_tree.specs.ProperExpressions.{operator_level, left_level, right_level, level, unary_level, EndsInOther, MayStandBefore, IsProperExpression}
 use Rattle.token_reading.specs.Beginnings.{Begins}
 use Rattle.token_reading.specs.TokenReading.{Read}
 use Rattle.token_reading.specs.ChainReading.{next_operator}

@@ -2,9 +2,9 @@
 use Rattle.std.proofs.Common.{◌≡◌, List, None, refl}
 use Rattle.src_tree.specs.declared.token.Token.{Token}
 use Rattle.src_tree.specs.declared.token.Punctuation.TheVariants.{Greater}
-use Rattle.move_tree.specs.ExpressionData.{ExpressionData}
-use Rattle.move_tree.specs.ExpressionSpelling.{expression_spelling}
-use Rattle.move_tree.specs.ProperExpressions.{elsewhere, IsProperExpression}
+use Rattle.expression_tree.specs.ExpressionData.{ExpressionData}
+use Rattle.expression_tree.specs.ExpressionSpelling.{expression_spelling}
+use Rattle.expression_tree.specs.ProperExpressions.{elsewhere, IsProperExpression}
 use Rattle.token_reading.specs.Beginnings.{Begins}
 use Rattle.token_reading.proofs.ChainLemmas.{Rules}
 use Rattle.expression_parse.specs.LeafReading.{after_glued}

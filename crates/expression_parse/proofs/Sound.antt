@@ -23,9 +23,9 @@ use Rattle.move_tree.specs.TypeSpelling.{type_spelling, maybe_arguments_spelling
 use Rattle.move_tree.specs.PatternSpelling.{pattern_spelling}
 use Rattle.move_tree.specs.OperatorSpelling.{unary_spelling, use_spelling}
 use Rattle.move_tree.specs.ProperTypes.{IsProperPath, IsOther, IsProperType, AreProperMaybeArguments, last_name}
-use Rattle.move_tree.specs.ExpressionData.{ExpressionData, AssignExpression, IfExpression, LoopExpression, ReturnExpression, AbortExpression, BreakExpression, ContinueExpression, UnaryExpression, UseExpression, FieldExpression, LiteralExpression, PathExpression, TupleExpression, BlockExpression, NoExpression, SomeExpression, BlockOf, ItemData, ExpressionItem, FieldValueData, ShortFieldValue, LongFieldValue, NoExpressions, MoreExpressions, expressions_of, field_values_of, items_of, maybe_expression_of}
-use Rattle.move_tree.specs.ExpressionSpelling.{expression_spelling, expression_spellings, field_value_spelling, field_value_spellings, annotation_spelling, maybe_expression_spelling, items_spelling, item_spelling, initial_spelling}
-use Rattle.move_tree.specs.ProperExpressions.{takes_else, left_level, right_level, MayHoldSpec, Role, elsewhere, condition_of_while, body_of_loop, level, unary_level, term_level, IsProperAs, IsProperExpression, IsProperMaybe, IsProperItem, AreProperItems, IsProperFieldValue, AreProperExpressions, AreProperFieldValues, AreSomeExpressions, AreSomeValues, IsProperAnnotation, MayHaveArguments}
+use Rattle.expression_tree.specs.ExpressionData.{ExpressionData, AssignExpression, IfExpression, LoopExpression, ReturnExpression, AbortExpression, BreakExpression, ContinueExpression, UnaryExpression, UseExpression, FieldExpression, LiteralExpression, PathExpression, TupleExpression, BlockExpression, NoExpression, SomeExpression, BlockOf, ItemData, ExpressionItem, FieldValueData, ShortFieldValue, LongFieldValue, NoExpressions, MoreExpressions, expressions_of, field_values_of, items_of, maybe_expression_of}
+use Rattle.expression_tree.specs.ExpressionSpelling.{expression_spelling, expression_spellings, field_value_spelling, field_value_spellings, annotation_spelling, maybe_expression_spelling, items_spelling, item_spelling, initial_spelling}
+use Rattle.expression_tree.specs.ProperExpressions.{takes_else, left_level, right_level, MayHoldSpec, Role, elsewhere, condition_of_while, body_of_loop, level, unary_level, term_level, IsProperAs, IsProperExpression, IsProperMaybe, IsProperItem, AreProperItems, IsProperFieldValue, AreProperExpressions, AreProperFieldValues, AreSomeExpressions, AreSomeValues, IsProperAnnotation, MayHaveArguments}
 use Rattle.token_reading.specs.Beginnings.{Begins}
 use Rattle.token_reading.specs.TokenReading.{Read, after_sign, sign_place_at, after_word, word_place_at, identifier_at, begins_capital}
 use Rattle.token_reading.specs.ListReading.{Items, comma_list_at}

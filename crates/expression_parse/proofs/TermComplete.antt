@@ -24,9 +24,9 @@ use Rattle.move_tree.specs.LiteralSpelling.{literal_spelling}
 use Rattle.move_tree.specs.TypeTreeData.{SourceTypeData, Arguments, MaybeArgumentsData, NoArguments, SomeArguments}
 use Rattle.move_tree.specs.TypeSpelling.{type_spelling, maybe_arguments_spelling}
 use Rattle.move_tree.specs.ProperTypes.{IsProperAddress, IsProperPath, IsOther, AreProperMaybeArguments, last_name}
-use Rattle.move_tree.specs.ExpressionData.{ExpressionData, LiteralExpression, PathExpression, CallExpression, PackExpression, VectorExpression, AssertExpression, TupleExpression, CastExpression, FieldValueData, ShortFieldValue, LongFieldValue, ExpressionsData, NoExpressions, MoreExpressions, FieldValuesData, NoFieldValues, MoreFieldValues, expressions_of, field_values_of, list_of_expressions, list_of_field_values}
-use Rattle.move_tree.specs.ExpressionSpelling.{expression_spelling, expression_spellings, field_value_spelling, field_value_spellings}
-use Rattle.move_tree.specs.ProperExpressions.{elsewhere, level, IsProperExpression, IsProperLiteral, IsProperFieldValue, AreProperExpressions, AreProperFieldValues, AreSomeExpressions, AreSomeValues, MayHaveArguments}
+use Rattle.expression_tree.specs.ExpressionData.{ExpressionData, LiteralExpression, PathExpression, CallExpression, PackExpression, VectorExpression, AssertExpression, TupleExpression, CastExpression, FieldValueData, ShortFieldValue, LongFieldValue, ExpressionsData, NoExpressions, MoreExpressions, FieldValuesData, NoFieldValues, MoreFieldValues, expressions_of, field_values_of, list_of_expressions, list_of_field_values}
+use Rattle.expression_tree.specs.ExpressionSpelling.{expression_spelling, expression_spellings, field_value_spelling, field_value_spellings}
+use Rattle.expression_tree.specs.ProperExpressions.{elsewhere, level, IsProperExpression, IsProperLiteral, IsProperFieldValue, AreProperExpressions, AreProperFieldValues, AreSomeExpressions, AreSomeValues, MayHaveArguments}
 use Rattle.token_reading.specs.Beginnings.{Begins}
 use Rattle.token_reading.specs.TokenReading.{Read, is_sign, is_word, is_keyword, after_sign, sign_place_at, after_word, identifier_at, begins_capital}
 use Rattle.token_reading.specs.ListReading.{comma_list_at}

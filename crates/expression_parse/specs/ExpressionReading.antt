@@ -8,8 +8,8 @@ use Rattle.move_tree.specs.declared.literal.Literal.TheVariants.{Address as addr
 use Rattle.move_tree.specs.declared.path.Path.{Path}
 use Rattle.move_tree.specs.TypeTreeData.{SourceTypeData, MaybeArgumentsData}
 use Rattle.move_tree.specs.PatternData.{PatternData}
-use Rattle.move_tree.specs.ExpressionData.{ExpressionData, AssignExpression, IfExpression, WhileExpression, LoopExpression, ReturnExpression, AbortExpression, BreakExpression, ContinueExpression, UnaryExpression, UseExpression, FieldExpression, LiteralExpression, PathExpression, CallExpression, PackExpression, VectorExpression, AssertExpression, TupleExpression, CastExpression, BlockExpression, NoExpression, SomeExpression, BlockData, BlockOf, ItemData, ExpressionItem, LetItem, FieldValueData, ShortFieldValue, LongFieldValue, expressions_of, field_values_of, items_of, maybe_expression_of}
-use Rattle.move_tree.specs.ProperExpressions.{unary_level}
+use Rattle.expression_tree.specs.ExpressionData.{ExpressionData, AssignExpression, IfExpression, WhileExpression, LoopExpression, ReturnExpression, AbortExpression, BreakExpression, ContinueExpression, UnaryExpression, UseExpression, FieldExpression, LiteralExpression, PathExpression, CallExpression, PackExpression, VectorExpression, AssertExpression, TupleExpression, CastExpression, BlockExpression, NoExpression, SomeExpression, BlockData, BlockOf, ItemData, ExpressionItem, LetItem, FieldValueData, ShortFieldValue, LongFieldValue, expressions_of, field_values_of, items_of, maybe_expression_of}
+use Rattle.expression_tree.specs.ProperExpressions.{unary_level}
 use Rattle.token_reading.specs.TokenReading.{Read, after_sign, sign_place_at, after_word, word_place_at, identifier_at}
 use Rattle.token_reading.specs.ListReading.{Items, comma_list_at}
 use Rattle.token_reading.specs.ChainReading.{whole_chain_at}

@@ -9,9 +9,9 @@ use Rattle.src_tree.specs.declared.token.Punctuation.{Punctuation as Sign}
 use Rattle.src_tree.specs.declared.token.Punctuation.TheVariants.{PipePipe, AmpersandAmpersand, EqualEqual, ExclaimEqual, Less as less_sign, LessEqual as less_equal_sign, Greater as greater_sign, GreaterEqual as greater_equal_sign, Pipe, Caret, Ampersand, LessLess, Plus, Minus, Star, Slash, Percent}
 use Rattle.move_tree.specs.declared.operator.BinaryOperator.{BinaryOperator}
 use Rattle.move_tree.specs.declared.operator.BinaryOperator.TheVariants.{Or, And, Equal, NotEqual, Less, LessEqual, Greater, GreaterEqual, BitOr, BitXor, BitAnd, ShiftLeft, ShiftRight, Add, Subtract, Multiply, Divide, Remainder}
-use Rattle.move_tree.specs.ExpressionData.{ExpressionData, BinaryExpression, UnaryExpression, PathExpression}
-use Rattle.move_tree.specs.ExpressionSpelling.{ends_in_path}
-use Rattle.move_tree.specs.ProperExpressions.{operator_level, right_level}
+use Rattle.expression_tree.specs.ExpressionData.{ExpressionData, BinaryExpression, UnaryExpression, PathExpression}
+use Rattle.expression_tree.specs.ExpressionSpelling.{ends_in_path}
+use Rattle.expression_tree.specs.ProperExpressions.{operator_level, right_level}
 use Rattle.token_reading.specs.TokenReading.{Read}
 use Rattle.token_reading.specs.ChainReading.{Joints}
 use Rattle.type_parse.specs.PathReading.{is_single}

@@ -7,7 +7,7 @@ ghost use Rattle.expression_parse.specs.ExpressionReading.{control_form, if_at, 
 use crate::block::read_body;
 use crate::expression::read_boxed;
 use crate::leaf::{Control, may_begin};
-use move_tree::expression::{Expression, ExpressionNode};
+use expression_tree::expression::{Expression, ExpressionNode};
 use pv_base::span::Span;
 use src_tree::token::{Punctuation, Token};
 use std::alloc::Global;

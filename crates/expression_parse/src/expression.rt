@@ -10,7 +10,7 @@ use crate::control::read_control;
 use crate::leaf::read_control_word;
 use crate::operator::{next_operator, right_level};
 use crate::term::read_operand;
-use move_tree::expression::{Expression, ExpressionNode};
+use expression_tree::expression::{Expression, ExpressionNode};
 use src_tree::token::{Punctuation, Token};
 use std::alloc::Global;
 use token_reading::fault::ReadFault;

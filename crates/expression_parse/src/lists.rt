@@ -7,7 +7,7 @@ ghost use Rattle.token_reading.specs.ListReading.{comma_list_at};
 ghost use Rattle.expression_parse.specs.ExpressionReading.{any, field_value_at, readers};
 
 use crate::expression::read_expression;
-use move_tree::expression::{Expression, FieldValue};
+use expression_tree::expression::{Expression, FieldValue};
 use src_tree::token::{Punctuation, Token};
 use std::alloc::Global;
 use token_reading::fault::ReadFault;

@@ -2,14 +2,14 @@
 
 ghost use Rattle.std.specs.Prelude.{◌≡◌, None, Some};
 ghost use Rattle.std.specs.Option.{option_map};
-ghost use Rattle.move_tree.specs.ProperExpressions.{operator_level, right_level};
+ghost use Rattle.expression_tree.specs.ProperExpressions.{operator_level, right_level};
 ghost use Rattle.token_reading.specs.ChainReading.{next_operator};
 ghost use Rattle.expression_parse.specs.OperatorReading.{binary_of, ends_in_vector, joints, opens_arguments, operator_behind, whole_operator};
 
 use crate::leaf::skip_glued;
-use move_tree::expression::{Expression, ExpressionNode};
+use expression_tree::expression::{Expression, ExpressionNode};
+use expression_tree::spell_expression::is_path_last;
 use move_tree::operator::BinaryOperator;
-use move_tree::spell_expression::is_path_last;
 use pv_base::span::Span;
 use src_tree::token::{Punctuation, Token, TokenKind};
 use type_parse::path::is_single;

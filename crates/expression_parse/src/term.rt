@@ -12,7 +12,7 @@ use crate::leaf::{
     read_glued_arguments, read_path_form, read_plain_literal, read_prefix, read_use,
 };
 use crate::lists::{read_expressions, read_field_values};
-use move_tree::expression::{Block, Expression, ExpressionNode};
+use expression_tree::expression::{Block, Expression, ExpressionNode};
 use move_tree::literal::Literal;
 use pv_base::span::Span;
 use src_tree::token::{Punctuation, Token};

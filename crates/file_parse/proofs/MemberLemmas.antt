@@ -15,8 +15,8 @@ use Rattle.move_tree.specs.NameRules.{IsName}
 use Rattle.move_tree.specs.PathSpelling.{path_spelling}
 use Rattle.move_tree.specs.SpecTokenSpelling.{kept}
 use Rattle.move_tree.specs.TypeSpelling.{type_spelling}
-use Rattle.move_tree.specs.ExpressionSpelling.{expression_spelling, block_spelling, annotation_spelling}
-use Rattle.move_tree.specs.ProperExpressions.{IsProperAnnotation}
+use Rattle.expression_tree.specs.ExpressionSpelling.{expression_spelling, block_spelling, annotation_spelling}
+use Rattle.expression_tree.specs.ProperExpressions.{IsProperAnnotation}
 use Rattle.file_tree.specs.declared.member.Constant.{Constant}
 use Rattle.file_tree.specs.declared.member.Function.{Function}
 use Rattle.file_tree.specs.declared.member.Visibility.{Visibility}

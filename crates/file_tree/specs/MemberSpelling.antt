@@ -44,7 +44,7 @@ use Rattle.move_tree.specs.Lexemes.{word, identifier, sign, sign_at, comma_list}
 use Rattle.move_tree.specs.PathSpelling.{module_spelling, path_spelling}
 use Rattle.move_tree.specs.TypeSpelling.{type_spelling}
 use Rattle.move_tree.specs.SpecTokenSpelling.{kept}
-use Rattle.move_tree.specs.ExpressionSpelling.{annotation_spelling, expression_spelling, block_spelling}
+use Rattle.expression_tree.specs.ExpressionSpelling.{annotation_spelling, expression_spelling, block_spelling}
 use Rattle.file_tree.specs.MemberData.{AbilitiesData, TypeParameterData, TypeParametersData, TypedNamesData, PathsData}
 use Rattle.file_tree.specs.FileData.{MemberData, ModuleData}
 

@@ -21,8 +21,8 @@ use Rattle.file_tree.specs.declared.member.MemberForm.TheVariants.{Use as use_fo
 use Rattle.move_tree.specs.NameRules.{IsName, IsCapital, IsSmall}
 use Rattle.move_tree.specs.Balance.{IsBalanced}
 use Rattle.move_tree.specs.ProperTypes.{IsProperModuleName, IsProperPath, IsProperType}
-use Rattle.move_tree.specs.ProperExpressions.{IsProperExpression, IsProperAnnotation}
-use Rattle.move_tree.specs.ExpressionData.{BlockExpression}
+use Rattle.expression_tree.specs.ProperExpressions.{IsProperExpression, IsProperAnnotation}
+use Rattle.expression_tree.specs.ExpressionData.{BlockExpression}
 use Rattle.file_tree.specs.MemberData.{AbilitiesData, TypeParameterData, TypeParametersData, PathsData}
 use Rattle.file_tree.specs.FileData.{MemberData, ModuleData}
 

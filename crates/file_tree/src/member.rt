@@ -1,6 +1,6 @@
 //! Files, modules and their members.
 
-use move_tree::expression::{Block, Expression};
+use expression_tree::expression::{Block, Expression};
 use move_tree::lexeme::Identifier;
 use move_tree::path::{ModuleName, Path};
 use move_tree::types::SourceType;
@@ -292,7 +292,7 @@ impl Model for Paths {
 impl Model for Member {
     ghost use Rattle.std.specs.Coded.{codes};
     ghost use Rattle.move_tree.specs.TypeTreeCodes.{coded_source_type};
-    ghost use Rattle.move_tree.specs.ExpressionCodes.{coded_expression, coded_block};
+    ghost use Rattle.expression_tree.specs.ExpressionCodes.{coded_expression, coded_block};
     ghost use Rattle.file_tree.specs.FileData.{MemberData};
 
     ghost Value = { MemberData };
@@ -305,7 +305,7 @@ impl Model for Member {
 impl Model for Module {
     ghost use Rattle.std.specs.Coded.{codes};
     ghost use Rattle.move_tree.specs.TypeTreeCodes.{coded_source_type};
-    ghost use Rattle.move_tree.specs.ExpressionCodes.{coded_expression, coded_block};
+    ghost use Rattle.expression_tree.specs.ExpressionCodes.{coded_expression, coded_block};
     ghost use Rattle.file_tree.specs.FileData.{ModuleData};
 
     ghost Value = { ModuleData };
@@ -318,7 +318,7 @@ impl Model for Module {
 impl Model for File {
     ghost use Rattle.std.specs.Coded.{codes};
     ghost use Rattle.move_tree.specs.TypeTreeCodes.{coded_source_type};
-    ghost use Rattle.move_tree.specs.ExpressionCodes.{coded_expression, coded_block};
+    ghost use Rattle.expression_tree.specs.ExpressionCodes.{coded_expression, coded_block};
     ghost use Rattle.std.specs.Prelude.{List};
     ghost use Rattle.file_tree.specs.FileData.{ModuleData};
 

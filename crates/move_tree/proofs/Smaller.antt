@@ -2,7 +2,6 @@
 use Rattle.std.proofs.Common.{ℕ, zero, suc, ◌<◌, List, [], ◌∷◌, length, get_or, arith}
 use Rattle.move_tree.specs.TypeTreeData.{SourceTypeData, source_type_size, source_types_size, source_types_of}
 use Rattle.move_tree.specs.PatternData.{PatternData, pattern_size, patterns_size, patterns_of, FieldPatternData, field_pattern_size, field_patterns_size, field_patterns_of}
-use Rattle.move_tree.specs.ExpressionData.{ItemData, item_size, items_size, items_of, ExpressionData, expression_size, expressions_size, expressions_of, FieldValueData, field_value_size, field_values_size, field_values_of}
 
 pub source_type_smaller : (xs : List SourceTypeData) (i : ℕ) (d : SourceTypeData) → i < length xs → source_type_size (get_or xs i d) < source_types_size (source_types_of xs)
 source_type_smaller [] i d h = absurd (omega arith)
@@ -18,18 +17,3 @@ pub field_pattern_smaller : (xs : List FieldPatternData) (i : ℕ) (d : FieldPat
 field_pattern_smaller [] i d h = absurd (omega arith)
 field_pattern_smaller (x ∷ xs) zero d h = omega arith
 field_pattern_smaller (x ∷ xs) (suc i) d h = omega (arith, field_pattern_smaller xs i d (omega arith))
-
-pub expression_smaller : (xs : List ExpressionData) (i : ℕ) (d : ExpressionData) → i < length xs → expression_size (get_or xs i d) < expressions_size (expressions_of xs)
-expression_smaller [] i d h = absurd (omega arith)
-expression_smaller (x ∷ xs) zero d h = omega arith
-expression_smaller (x ∷ xs) (suc i) d h = omega (arith, expression_smaller xs i d (omega arith))
-
-pub field_value_smaller : (xs : List FieldValueData) (i : ℕ) (d : FieldValueData) → i < length xs → field_value_size (get_or xs i d) < field_values_size (field_values_of xs)
-field_value_smaller [] i d h = absurd (omega arith)
-field_value_smaller (x ∷ xs) zero d h = omega arith
-field_value_smaller (x ∷ xs) (suc i) d h = omega (arith, field_value_smaller xs i d (omega arith))
-
-pub item_smaller : (xs : List ItemData) (i : ℕ) (d : ItemData) → i < length xs → item_size (get_or xs i d) < items_size (items_of xs)
-item_smaller [] i d h = absurd (omega arith)
-item_smaller (x ∷ xs) zero d h = omega arith
-item_smaller (x ∷ xs) (suc i) d h = omega (arith, item_smaller xs i d (omega arith))

@@ -20,9 +20,3 @@ pub mod OperatorCodes
 pub mod SpecTokenSpelling
 pub mod SpecTokenCodes
 pub mod Balance
-pub mod ExpressionData
-pub mod ExpressionCodes
-pub mod ExpressionView
-pub mod ExpressionFalls
-pub mod ExpressionSpelling
-pub mod ProperExpressions

@@ -9,7 +9,7 @@ use Rattle.move_tree.specs.declared.literal.Literal.{Literal}
 use Rattle.move_tree.specs.declared.literal.Literal.TheVariants.{Number, Truth, Address}
 use Rattle.move_tree.specs.declared.path.Path.{Path}
 use Rattle.move_tree.specs.declared.path.Path.TheVariants.{Name as name_path, Member as member_path, Full as full_path}
-use Rattle.move_tree.specs.ExpressionData.{ExpressionData, BinaryExpression, AssignExpression, IfExpression, WhileExpression, LoopExpression, ReturnExpression, AbortExpression, BreakExpression, ContinueExpression, UnaryExpression, UseExpression, FieldExpression, LiteralExpression, PathExpression, CallExpression, PackExpression, VectorExpression, AssertExpression, TupleExpression, CastExpression, BlockExpression, ExpressionsData, NoExpressions, MoreExpressions, BlockData, BlockOf, ItemsData, NoItems, MoreItems, MaybeExpressionData, NoExpression, SomeExpression}
+use Rattle.expression_tree.specs.ExpressionData.{ExpressionData, BinaryExpression, AssignExpression, IfExpression, WhileExpression, LoopExpression, ReturnExpression, AbortExpression, BreakExpression, ContinueExpression, UnaryExpression, UseExpression, FieldExpression, LiteralExpression, PathExpression, CallExpression, PackExpression, VectorExpression, AssertExpression, TupleExpression, CastExpression, BlockExpression, ExpressionsData, NoExpressions, MoreExpressions, BlockData, BlockOf, ItemsData, NoItems, MoreItems, MaybeExpressionData, NoExpression, SomeExpression}
 use Rattle.file_tree.specs.declared.member.Function.{Function as FunctionTree}
 use Rattle.source_parse.specs.declared.source.SourceForm.{SourceForm}
 use Rattle.source_parse.specs.declared.source.SourceForm.TheVariants.{Use, Friend, Struct, Constant, Function, Spec}

@@ -1,7 +1,7 @@
 //! Expressions that are read from texts, with parentheses round what each operator joins.
 
 use expression_parse::expression::read_expression;
-use move_tree::expression::{Expression, ExpressionNode};
+use expression_tree::expression::{Expression, ExpressionNode};
 use move_tree::operator::BinaryOperator;
 use move_tree::path::Path;
 use src_tree::scanner::tokens;

@@ -3,7 +3,7 @@
 use Rattle.std.specs.Prelude.{List, [], Option, Some, None}
 use Rattle.std.specs.List.{AllByRecursion}
 use Rattle.move_tree.specs.declared.spec_tokens.LoopSpec.{LoopSpec}
-use Rattle.move_tree.specs.ExpressionData.{BlockData, BlockOf}
+use Rattle.expression_tree.specs.ExpressionData.{BlockData, BlockOf}
 use Rattle.file_tree.specs.FileData.{MemberData, ModuleData}
 use Rattle.file_tree.specs.declared.member.MemberForm.{MemberForm}
 use Rattle.file_tree.specs.declared.member.MemberForm.TheVariants.{Use, Friend, Struct, Constant, Function, Spec}

@@ -35,7 +35,7 @@ impl Drop for SourceMember {
 impl Model for SourceMember {
     ghost use Rattle.std.specs.Coded.{codes};
     ghost use Rattle.move_tree.specs.TypeTreeCodes.{coded_source_type, coded_arguments};
-    ghost use Rattle.move_tree.specs.ExpressionCodes.{coded_expression, coded_block};
+    ghost use Rattle.expression_tree.specs.ExpressionCodes.{coded_expression, coded_block};
     ghost use Rattle.spec_tree.specs.SpecExpressionCodes.{coded_spec_expression, coded_spec_field};
     ghost use Rattle.source_parse.specs.SourceData.{SourceMemberData};
 
@@ -59,7 +59,7 @@ pub struct SourceModule {
 impl Model for SourceModule {
     ghost use Rattle.std.specs.Coded.{codes};
     ghost use Rattle.move_tree.specs.TypeTreeCodes.{coded_source_type, coded_arguments};
-    ghost use Rattle.move_tree.specs.ExpressionCodes.{coded_expression, coded_block};
+    ghost use Rattle.expression_tree.specs.ExpressionCodes.{coded_expression, coded_block};
     ghost use Rattle.spec_tree.specs.SpecExpressionCodes.{coded_spec_expression, coded_spec_field};
     ghost use Rattle.source_parse.specs.SourceModuleData.{SourceModuleData};
 
@@ -80,7 +80,7 @@ impl Model for Source {
     ghost use Rattle.std.specs.Coded.{codes};
     ghost use Rattle.std.specs.Prelude.{List};
     ghost use Rattle.move_tree.specs.TypeTreeCodes.{coded_source_type, coded_arguments};
-    ghost use Rattle.move_tree.specs.ExpressionCodes.{coded_expression, coded_block};
+    ghost use Rattle.expression_tree.specs.ExpressionCodes.{coded_expression, coded_block};
     ghost use Rattle.spec_tree.specs.SpecExpressionCodes.{coded_spec_expression, coded_spec_field};
     ghost use Rattle.source_parse.specs.SourceModuleData.{SourceModuleData};
 

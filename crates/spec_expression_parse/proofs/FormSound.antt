@@ -7,7 +7,7 @@ use Rattle.src_tree.specs.declared.token.Token.{Token}
 use Rattle.src_tree.specs.declared.token.Punctuation.TheVariants.{LeftParenthesis, RightParenthesis, LeftBrace, RightBrace, Colon, Exclaim}
 use Rattle.move_tree.specs.declared.lexeme.Lexeme.{Lexeme}
 use Rattle.move_tree.specs.Lexemes.{word, sign, sign_at, identifier, comma_list}
-use Rattle.move_tree.specs.ProperExpressions.{unary_level, term_level}
+use Rattle.expression_tree.specs.ProperExpressions.{unary_level, term_level}
 use Rattle.move_tree.specs.TypeTreeData.{SourceTypeData}
 use Rattle.move_tree.specs.TypeSpelling.{type_spelling}
 use Rattle.spec_tree.specs.declared.spec_operator.SpecOperator.{SpecOperator}

@@ -24,7 +24,7 @@ use Rattle.move_tree.specs.NameRules.{IsName, IsCapital}
 use Rattle.move_tree.specs.LiteralSpelling.{literal_spelling}
 use Rattle.move_tree.specs.PathSpelling.{address_spelling, path_spelling}
 use Rattle.move_tree.specs.ProperTypes.{IsProperNumeral, IsProperAddress, IsProperPath, last_name}
-use Rattle.move_tree.specs.ProperExpressions.{IsProperLiteral}
+use Rattle.expression_tree.specs.ProperExpressions.{IsProperLiteral}
 use Rattle.spec_tree.specs.declared.spec_operator.Quantifier.{Quantifier}
 use Rattle.spec_tree.specs.declared.spec_operator.Quantifier.TheVariants.{ForAll, Exists}
 use Rattle.spec_tree.specs.SpecOperatorSpelling.{quantifier_spelling}

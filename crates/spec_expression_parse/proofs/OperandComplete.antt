@@ -7,7 +7,7 @@ use Rattle.pv_base.specs.declared.span.Span.{Span}
 use Rattle.src_tree.specs.declared.token.Token.{Token}
 use Rattle.src_tree.specs.declared.token.Punctuation.TheVariants.{LeftParenthesis, LeftBrace, LeftBracket, ColonColon, Period, Exclaim}
 use Rattle.move_tree.specs.Lexemes.{sign_at}
-use Rattle.move_tree.specs.ProperExpressions.{unary_level, term_level}
+use Rattle.expression_tree.specs.ProperExpressions.{unary_level, term_level}
 use Rattle.move_tree.specs.TypeTreeData.{SourceTypeData}
 use Rattle.spec_tree.specs.declared.spec_operator.SpecOperator.{SpecOperator}
 use Rattle.spec_tree.specs.SpecExpressionData.{SpecExpressionData, SpecBinary, SpecQuantified, SpecIf, SpecNot, SpecField, SpecIndex, SpecLiteral, SpecPath, SpecCall, SpecPack, SpecParenthesized}

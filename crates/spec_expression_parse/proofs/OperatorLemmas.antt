@@ -12,7 +12,7 @@ use Rattle.move_tree.specs.declared.operator.BinaryOperator.{BinaryOperator}
 use Rattle.move_tree.specs.declared.operator.BinaryOperator.TheVariants.{Or, And, Equal, NotEqual, Less, LessEqual, Greater, GreaterEqual, BitOr, BitXor, BitAnd, ShiftLeft, Add, Subtract, Multiply, Divide, Remainder, ShiftRight}
 use Rattle.move_tree.specs.Lexemes.{lexeme, sign_at, Says}
 use Rattle.move_tree.specs.OperatorSpelling.{sign_of, apart_from_path}
-use Rattle.move_tree.specs.ProperExpressions.{operator_level}
+use Rattle.expression_tree.specs.ProperExpressions.{operator_level}
 use Rattle.spec_tree.specs.declared.spec_operator.SpecOperator.{SpecOperator}
 use Rattle.spec_tree.specs.declared.spec_operator.SpecOperator.TheVariants.{Equivalent, Implies, Range, Common}
 use Rattle.spec_tree.specs.SpecOperatorSpelling.{spec_operator_spelling}

@@ -17,7 +17,7 @@ use Rattle.move_tree.specs.Lexemes.{lexeme, word, sign, sign_at, identifier, num
 use Rattle.move_tree.specs.PathSpelling.{address_spelling, module_spelling, path_spelling}
 use Rattle.move_tree.specs.LiteralSpelling.{literal_spelling}
 use Rattle.move_tree.specs.ProperTypes.{IsProperPath, AreProperMaybeArguments}
-use Rattle.move_tree.specs.ProperExpressions.{term_level, IsProperLiteral}
+use Rattle.expression_tree.specs.ProperExpressions.{term_level, IsProperLiteral}
 use Rattle.move_tree.specs.TypeTreeData.{SourceTypeData, Arguments, MaybeArgumentsData, NoArguments, SomeArguments}
 use Rattle.move_tree.specs.TypeSpelling.{maybe_arguments_spelling}
 use Rattle.spec_tree.specs.SpecExpressionData.{SpecExpressionData, SpecBinary, SpecQuantified, SpecIf, SpecNot, SpecField, SpecIndex, SpecLiteral, SpecPath, SpecCall, SpecPack, SpecParenthesized, SpecExpressionsData, SpecFieldData, ShortSpecField, LongSpecField, SpecFieldsData, spec_expressions_of, list_of_spec_expressions, spec_fields_of, list_of_spec_fields}

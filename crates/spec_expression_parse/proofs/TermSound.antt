@@ -7,7 +7,7 @@ use Rattle.move_tree.specs.declared.path.Path.{Path}
 use Rattle.move_tree.specs.Lexemes.{sign, sign_at, identifier, comma_list}
 use Rattle.move_tree.specs.PathSpelling.{path_spelling}
 use Rattle.move_tree.specs.ProperTypes.{IsProperPath, AreProperMaybeArguments}
-use Rattle.move_tree.specs.ProperExpressions.{term_level}
+use Rattle.expression_tree.specs.ProperExpressions.{term_level}
 use Rattle.move_tree.specs.TypeTreeData.{SourceTypeData, MaybeArgumentsData, NoArguments, SomeArguments}
 use Rattle.move_tree.specs.TypeSpelling.{maybe_arguments_spelling}
 use Rattle.spec_tree.specs.SpecExpressionData.{SpecExpressionData, SpecField, SpecIndex, SpecLiteral, SpecPath, SpecCall, SpecPack, SpecParenthesized, SpecFieldData, ShortSpecField, LongSpecField, spec_expressions_of, spec_fields_of}

@@ -7,7 +7,7 @@ use Rattle.pv_base.specs.declared.span.Span.{Span}
 use Rattle.src_tree.specs.declared.token.Token.{Token}
 use Rattle.src_tree.specs.declared.token.Punctuation.TheVariants.{LeftParenthesis, RightParenthesis, LeftBrace, RightBrace, LeftBracket, RightBracket, Colon, Period, Exclaim, Less, AtSign}
 use Rattle.move_tree.specs.declared.path.Path.{Path}
-use Rattle.move_tree.specs.ProperExpressions.{unary_level}
+use Rattle.expression_tree.specs.ProperExpressions.{unary_level}
 use Rattle.move_tree.specs.TypeTreeData.{SourceTypeData, MaybeArgumentsData, NoArguments, SomeArguments}
 use Rattle.spec_tree.specs.declared.spec_operator.Quantifier.{Quantifier}
 use Rattle.spec_tree.specs.SpecExpressionData.{SpecExpressionData, SpecQuantified, SpecIf, SpecNot, SpecField, SpecIndex, SpecLiteral, SpecPath, SpecCall, SpecPack, SpecParenthesized, BindData, TypedBind, RangeBind, TriggerData, TriggerOf, SpecFieldData, ShortSpecField, LongSpecField, spec_expressions_of, binds_of, triggers_of, spec_fields_of}

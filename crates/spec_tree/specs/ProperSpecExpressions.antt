@@ -5,7 +5,7 @@
 use Rattle.std.specs.Prelude.{◌≡◌, ◌≤◌, ℕ, suc, true}
 use Rattle.move_tree.specs.NameRules.{IsName, IsCapital}
 use Rattle.move_tree.specs.ProperTypes.{IsProperPath, last_name, IsProperType, AreProperMaybeArguments}
-use Rattle.move_tree.specs.ProperExpressions.{operator_level, unary_level, term_level, IsProperLiteral}
+use Rattle.expression_tree.specs.ProperExpressions.{operator_level, unary_level, term_level, IsProperLiteral}
 use Rattle.spec_tree.specs.declared.spec_operator.SpecOperator.{SpecOperator}
 use Rattle.spec_tree.specs.declared.spec_operator.SpecOperator.TheVariants.{Equivalent, Implies, Range, Common}
 use Rattle.spec_tree.specs.SpecExpressionData.{SpecExpressionData, SpecBinary, SpecQuantified, SpecIf, SpecNot, SpecField, SpecIndex, SpecLiteral, SpecPath, SpecCall, SpecPack, SpecParenthesized, BindData, TypedBind, RangeBind, TriggerData, TriggerOf, SpecFieldData, ShortSpecField, LongSpecField, SpecExpressionsData, NoSpecExpressions, MoreSpecExpressions, BindsData, NoBinds, MoreBinds, TriggersData, NoTriggers, MoreTriggers, SpecFieldsData, NoSpecFields, MoreSpecFields}

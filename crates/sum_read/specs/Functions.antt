@@ -4,7 +4,7 @@ use Rattle.std.specs.Prelude.{ℕ, Bool, true, false, ◌&&◌, is_none, if◌th
 use Rattle.std.specs.Option.{option_map}
 use Rattle.move_tree.specs.declared.path.Path.TheVariants.{Name as name_path}
 use Rattle.move_tree.specs.TypeTreeData.{SourceTypeData, NamedSourceType, NoArguments}
-use Rattle.move_tree.specs.ExpressionData.{SomeExpression, BlockData, BlockOf, NoItems}
+use Rattle.expression_tree.specs.ExpressionData.{SomeExpression, BlockData, BlockOf, NoItems}
 use Rattle.file_tree.specs.MemberData.{TypedNamesData}
 use Rattle.file_tree.specs.declared.member.TypedName.{TypedName}
 use Rattle.file_tree.specs.declared.member.Visibility.{Visibility}

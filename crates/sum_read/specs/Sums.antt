@@ -11,7 +11,7 @@ use Rattle.move_tree.specs.declared.path.Path.{Path}
 use Rattle.move_tree.specs.declared.path.Path.TheVariants.{Name as name_path, Member as member_path, Full as full_path}
 use Rattle.move_tree.specs.declared.operator.BinaryOperator.{BinaryOperator}
 use Rattle.move_tree.specs.declared.operator.BinaryOperator.TheVariants.{Add, Subtract}
-use Rattle.move_tree.specs.ExpressionData.{ExpressionData, BinaryExpression, LiteralExpression, PathExpression, TupleExpression, ExpressionsData, NoExpressions, MoreExpressions}
+use Rattle.expression_tree.specs.ExpressionData.{ExpressionData, BinaryExpression, LiteralExpression, PathExpression, TupleExpression, ExpressionsData, NoExpressions, MoreExpressions}
 use Rattle.spec_tree.specs.declared.spec_operator.SpecOperator.{SpecOperator}
 use Rattle.spec_tree.specs.declared.spec_operator.SpecOperator.TheVariants.{Equivalent, Implies, Range, Common}
 use Rattle.spec_tree.specs.SpecExpressionData.{SpecExpressionData, SpecBinary, SpecLiteral, SpecPath, SpecParenthesized}

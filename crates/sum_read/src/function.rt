@@ -6,8 +6,8 @@ ghost use Rattle.sum_read.specs.Functions.{function_of, inputs_of, is_plain, is_
 
 use crate::fault::FormFault;
 use crate::sum::read_sum;
+use expression_tree::expression::Block;
 use file_tree::member::{Function as FunctionTree, TypedName, TypedNames, Visibility};
-use move_tree::expression::Block;
 use move_tree::path::Path;
 use move_tree::types::{SourceType, SourceTypeNode};
 use pv_base::name::Name;

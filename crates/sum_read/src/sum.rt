@@ -6,7 +6,7 @@ ghost use Rattle.sum_read.specs.Sums.{sum_of};
 
 use crate::fault::FormFault;
 use crate::term::{join, operator_of, read_literal, read_word};
-use move_tree::expression::{Expression, ExpressionNode};
+use expression_tree::expression::{Expression, ExpressionNode};
 use std::alloc::Global;
 use sum_tree::sum::Sum;
 

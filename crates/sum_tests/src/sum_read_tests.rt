@@ -1,7 +1,7 @@
 //! Sums and clauses that are read off trees that are built by hand.
 
 use clause_tree::clause::{AbortCode, Clause as ClauseTree};
-use move_tree::expression::{Expression, ExpressionNode};
+use expression_tree::expression::{Expression, ExpressionNode};
 use move_tree::lexeme::{Identifier, Numeral};
 use move_tree::literal::Literal;
 use move_tree::operator::BinaryOperator;

@@ -1,13 +1,13 @@
 //! Trees that are built by hand, against the tokens of the texts that they are trees of.
 
-use move_tree::expression::{Block, Expression, ExpressionNode, FieldValue, Item, ItemNode};
+use expression_tree::expression::{Block, Expression, ExpressionNode, FieldValue, Item, ItemNode};
+use expression_tree::spell_expression::spell_expression;
 use move_tree::lexeme::{Identifier, Lexeme, Lexemes, Numeral};
 use move_tree::literal::Literal;
 use move_tree::operator::{BinaryOperator, UnaryOperator, UseKind};
 use move_tree::path::{Address, ModuleName, Path};
 use move_tree::pattern::{FieldPattern, Pattern, PatternNode};
 use move_tree::spec_tokens::LoopSpec;
-use move_tree::spell_expression::spell_expression;
 use move_tree::spell_pattern::spell_pattern;
 use move_tree::spell_type::spell_type;
 use move_tree::types::{SourceType, SourceTypeNode, TypeArguments};

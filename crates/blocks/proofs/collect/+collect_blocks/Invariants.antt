@@ -1,7 +1,7 @@
 use Rattle.std.proofs.Common.{◌≡◌, ◌*◌, ◌++◌, take}
 use Rattle.std.specs.List.{flat_map}
-use Rattle.move_tree.specs.ExpressionView.{unboxed}
-use Rattle.move_tree.specs.ExpressionData.{expression_size, maybe_expression_size, expressions_size, block_size, items_size, item_size, field_value_size, field_values_size, expressions_of, items_of, field_values_of, maybe_expression_of}
+use Rattle.expression_tree.specs.ExpressionView.{unboxed}
+use Rattle.expression_tree.specs.ExpressionData.{expression_size, maybe_expression_size, expressions_size, block_size, items_size, item_size, field_value_size, field_values_size, expressions_of, items_of, field_values_of, maybe_expression_of}
 use Rattle.blocks.specs.Blocks.{blocks_of, blocks_of_item, blocks_of_field}
 use Rattle.blocks.proofs.collect.+collect_blocks.Given as goal
 

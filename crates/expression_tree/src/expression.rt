@@ -1,12 +1,12 @@
 //! Expressions, blocks and their items.
 
-use crate::lexeme::Identifier;
-use crate::literal::Literal;
-use crate::operator::{BinaryOperator, UnaryOperator, UseKind};
-use crate::path::Path;
-use crate::pattern::Pattern;
-use crate::spec_tokens::LoopSpec;
-use crate::types::{SourceType, TypeArguments};
+use move_tree::lexeme::Identifier;
+use move_tree::literal::Literal;
+use move_tree::operator::{BinaryOperator, UnaryOperator, UseKind};
+use move_tree::path::Path;
+use move_tree::pattern::Pattern;
+use move_tree::spec_tokens::LoopSpec;
+use move_tree::types::{SourceType, TypeArguments};
 use pv_base::span::Span;
 use std::marker::Model;
 
@@ -186,27 +186,27 @@ pub struct FieldValue {
 }
 
 impl Model for Expression {
-    ghost use Rattle.move_tree.specs.ExpressionData.{ExpressionData, expression_size};
-    ghost use Rattle.move_tree.specs.ExpressionCodes.{coded_expression};
+    ghost use Rattle.expression_tree.specs.ExpressionData.{ExpressionData, expression_size};
+    ghost use Rattle.expression_tree.specs.ExpressionCodes.{coded_expression};
 
     ghost Value = { ExpressionData };
 
     ghost coded = { coded_expression };
 
-    ghost use Rattle.move_tree.specs.ExpressionView.{expression_of_node};
+    ghost use Rattle.expression_tree.specs.ExpressionView.{expression_of_node};
 
     ghost view = { λ a. expression_of_node a.node };
 
     ghost size = { expression_size };
 
-    ghost use Rattle.move_tree.specs.ExpressionFalls.{expression_falls};
+    ghost use Rattle.expression_tree.specs.ExpressionFalls.{expression_falls};
 
     ghost size_decreases = { λ a h. expression_falls a.node };
 }
 
 impl Model for Block {
-    ghost use Rattle.move_tree.specs.ExpressionData.{BlockData, BlockOf, block_size, items_of, maybe_expression_of};
-    ghost use Rattle.move_tree.specs.ExpressionCodes.{coded_block};
+    ghost use Rattle.expression_tree.specs.ExpressionData.{BlockData, BlockOf, block_size, items_of, maybe_expression_of};
+    ghost use Rattle.expression_tree.specs.ExpressionCodes.{coded_block};
 
     ghost Value = { BlockData };
 
@@ -216,45 +216,45 @@ impl Model for Block {
 
     ghost size = { block_size };
 
-    ghost use Rattle.move_tree.specs.ExpressionFalls.{block_falls};
+    ghost use Rattle.expression_tree.specs.ExpressionFalls.{block_falls};
 
     ghost size_decreases = { λ a h. block_falls a.place a.spec a.items a.value };
 }
 
 impl Model for Item {
-    ghost use Rattle.move_tree.specs.ExpressionData.{ItemData, item_size};
-    ghost use Rattle.move_tree.specs.ExpressionCodes.{coded_item};
+    ghost use Rattle.expression_tree.specs.ExpressionData.{ItemData, item_size};
+    ghost use Rattle.expression_tree.specs.ExpressionCodes.{coded_item};
 
     ghost Value = { ItemData };
 
     ghost coded = { coded_item };
 
-    ghost use Rattle.move_tree.specs.ExpressionView.{item_of_node};
+    ghost use Rattle.expression_tree.specs.ExpressionView.{item_of_node};
 
     ghost view = { λ a. item_of_node a.node };
 
     ghost size = { item_size };
 
-    ghost use Rattle.move_tree.specs.ExpressionFalls.{item_falls};
+    ghost use Rattle.expression_tree.specs.ExpressionFalls.{item_falls};
 
     ghost size_decreases = { λ a h. item_falls a.node };
 }
 
 impl Model for FieldValue {
-    ghost use Rattle.move_tree.specs.ExpressionData.{FieldValueData, field_value_size};
-    ghost use Rattle.move_tree.specs.ExpressionCodes.{coded_field_value};
+    ghost use Rattle.expression_tree.specs.ExpressionData.{FieldValueData, field_value_size};
+    ghost use Rattle.expression_tree.specs.ExpressionCodes.{coded_field_value};
 
     ghost Value = { FieldValueData };
 
     ghost coded = { coded_field_value };
 
-    ghost use Rattle.move_tree.specs.ExpressionView.{field_value_of};
+    ghost use Rattle.expression_tree.specs.ExpressionView.{field_value_of};
 
     ghost view = { λ a. field_value_of a.name a.value };
 
     ghost size = { field_value_size };
 
-    ghost use Rattle.move_tree.specs.ExpressionFalls.{field_value_falls};
+    ghost use Rattle.expression_tree.specs.ExpressionFalls.{field_value_falls};
 
     ghost size_decreases = { λ a h. field_value_falls a.name a.value };
 }

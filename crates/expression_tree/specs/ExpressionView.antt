@@ -2,11 +2,11 @@
 use Rattle.std.specs.Prelude.{Box, Option, Some, None}
 use Rattle.move_tree.specs.declared.lexeme.Identifier.{Identifier}
 use Rattle.move_tree.specs.TypeTreeData.{maybe_arguments_of}
-use Rattle.move_tree.specs.ExpressionData.{ExpressionData, BinaryExpression, AssignExpression, IfExpression, WhileExpression, LoopExpression, ReturnExpression, AbortExpression, BreakExpression, ContinueExpression, UnaryExpression, UseExpression, FieldExpression, LiteralExpression, PathExpression, CallExpression, PackExpression, VectorExpression, AssertExpression, TupleExpression, CastExpression, BlockExpression, ItemData, ExpressionItem, LetItem, FieldValueData, ShortFieldValue, LongFieldValue, maybe_expression_of, expressions_of, field_values_of}
-use Rattle.move_tree.specs.declared.expression.ExpressionNode.{ExpressionNode}
-use Rattle.move_tree.specs.declared.expression.ExpressionNode.TheVariants.{Binary, Assign, If, While, Loop, Return, Abort, Break, Continue, Unary, Use, Field, Literal, Path, Call, Pack, Vector, Assert, Tuple, Cast, Block}
-use Rattle.move_tree.specs.declared.expression.ItemNode.{ItemNode}
-use Rattle.move_tree.specs.declared.expression.ItemNode.TheVariants.{Expression, Let}
+use Rattle.expression_tree.specs.ExpressionData.{ExpressionData, BinaryExpression, AssignExpression, IfExpression, WhileExpression, LoopExpression, ReturnExpression, AbortExpression, BreakExpression, ContinueExpression, UnaryExpression, UseExpression, FieldExpression, LiteralExpression, PathExpression, CallExpression, PackExpression, VectorExpression, AssertExpression, TupleExpression, CastExpression, BlockExpression, ItemData, ExpressionItem, LetItem, FieldValueData, ShortFieldValue, LongFieldValue, maybe_expression_of, expressions_of, field_values_of}
+use Rattle.expression_tree.specs.declared.expression.ExpressionNode.{ExpressionNode}
+use Rattle.expression_tree.specs.declared.expression.ExpressionNode.TheVariants.{Binary, Assign, If, While, Loop, Return, Abort, Break, Continue, Unary, Use, Field, Literal, Path, Call, Pack, Vector, Assert, Tuple, Cast, Block}
+use Rattle.expression_tree.specs.declared.expression.ItemNode.{ItemNode}
+use Rattle.expression_tree.specs.declared.expression.ItemNode.TheVariants.{Expression, Let}
 
 abbrev pub unboxed : {A Z : Type 0} → Option (Box A Z) → Option A
 unboxed None = None

@@ -27,7 +27,7 @@ use Rattle.move_tree.specs.PatternSpelling.{pattern_spelling}
 use Rattle.move_tree.specs.LiteralSpelling.{literal_spelling}
 use Rattle.move_tree.specs.OperatorSpelling.{operator_spelling, unary_spelling, use_spelling}
 use Rattle.move_tree.specs.SpecTokenSpelling.{loop_spec_spelling}
-use Rattle.move_tree.specs.ExpressionData.{ExpressionData, BinaryExpression, AssignExpression, IfExpression, WhileExpression, LoopExpression, ReturnExpression, AbortExpression, BreakExpression, ContinueExpression, UnaryExpression, UseExpression, FieldExpression, LiteralExpression, PathExpression, CallExpression, PackExpression, VectorExpression, AssertExpression, TupleExpression, CastExpression, BlockExpression, MaybeExpressionData, NoExpression, SomeExpression, BlockData, BlockOf, ItemData, ExpressionItem, LetItem, FieldValueData, ShortFieldValue, LongFieldValue, ExpressionsData, NoExpressions, MoreExpressions, ItemsData, NoItems, MoreItems, FieldValuesData, NoFieldValues, MoreFieldValues}
+use Rattle.expression_tree.specs.ExpressionData.{ExpressionData, BinaryExpression, AssignExpression, IfExpression, WhileExpression, LoopExpression, ReturnExpression, AbortExpression, BreakExpression, ContinueExpression, UnaryExpression, UseExpression, FieldExpression, LiteralExpression, PathExpression, CallExpression, PackExpression, VectorExpression, AssertExpression, TupleExpression, CastExpression, BlockExpression, MaybeExpressionData, NoExpression, SomeExpression, BlockData, BlockOf, ItemData, ExpressionItem, LetItem, FieldValueData, ShortFieldValue, LongFieldValue, ExpressionsData, NoExpressions, MoreExpressions, ItemsData, NoItems, MoreItems, FieldValuesData, NoFieldValues, MoreFieldValues}
 
 -- whether the last token belongs to a path, so that a glued `<` behind it would open type arguments
 abbrev pub ends_in_path : ExpressionData → Bool

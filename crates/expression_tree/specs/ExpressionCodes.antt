@@ -9,7 +9,7 @@ use Rattle.move_tree.specs.OperatorCodes.{binary_operator_back, binary_operator_
 use Rattle.move_tree.specs.PatternCodes.{pattern_back, pattern_back-code, pattern_code}
 use Rattle.move_tree.specs.SpecTokenCodes.{maybe_loop_spec_back, maybe_loop_spec_back-code, maybe_loop_spec_code, maybe_source_type_back, maybe_source_type_back-code, maybe_source_type_code}
 use Rattle.move_tree.specs.TypeTreeCodes.{maybe_arguments_back, maybe_arguments_back-code, maybe_arguments_code, source_type_back, source_type_back-code, source_type_code}
-use Rattle.move_tree.specs.ExpressionData.{ExpressionData, BinaryExpression, AssignExpression, IfExpression, WhileExpression, LoopExpression, ReturnExpression, AbortExpression, BreakExpression, ContinueExpression, UnaryExpression, UseExpression, FieldExpression, LiteralExpression, PathExpression, CallExpression, PackExpression, VectorExpression, AssertExpression, TupleExpression, CastExpression, BlockExpression, MaybeExpressionData, NoExpression, SomeExpression, BlockData, BlockOf, ItemData, ExpressionItem, LetItem, FieldValueData, ShortFieldValue, LongFieldValue, ExpressionsData, NoExpressions, MoreExpressions, ItemsData, NoItems, MoreItems, FieldValuesData, NoFieldValues, MoreFieldValues}
+use Rattle.expression_tree.specs.ExpressionData.{ExpressionData, BinaryExpression, AssignExpression, IfExpression, WhileExpression, LoopExpression, ReturnExpression, AbortExpression, BreakExpression, ContinueExpression, UnaryExpression, UseExpression, FieldExpression, LiteralExpression, PathExpression, CallExpression, PackExpression, VectorExpression, AssertExpression, TupleExpression, CastExpression, BlockExpression, MaybeExpressionData, NoExpression, SomeExpression, BlockData, BlockOf, ItemData, ExpressionItem, LetItem, FieldValueData, ShortFieldValue, LongFieldValue, ExpressionsData, NoExpressions, MoreExpressions, ItemsData, NoItems, MoreItems, FieldValuesData, NoFieldValues, MoreFieldValues}
 
 abbrev mutual
   pub expression_code : ExpressionData → Gv

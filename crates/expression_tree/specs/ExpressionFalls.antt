@@ -3,17 +3,17 @@ use Rattle.std.specs.Prelude.{◌+◌, ◌≤◌, max, List, [], ◌∷◌, Opti
 use Rattle.std.proofs.Common.{arith}
 use denote.Param.Weighed.{most}
 use Rattle.move_tree.specs.declared.lexeme.Identifier.{Identifier}
-use Rattle.move_tree.specs.ExpressionData.{ExpressionData, ItemData, FieldValueData, BlockOf, expression_size, block_size, item_size, field_value_size, expressions_size, items_size, field_values_size, expressions_of, items_of, field_values_of, maybe_expression_of}
-use Rattle.move_tree.specs.ExpressionView.{expression_of_node, item_of_node, field_value_of}
-use Rattle.move_tree.specs.declared.expression.ExpressionNode.{ExpressionNode}
-use Rattle.move_tree.specs.declared.expression.ExpressionNode.TheVariants.{Binary, Assign, If, While, Loop, Return, Abort, Break, Continue, Unary, Use, Field, Literal, Path, Call, Pack, Vector, Assert, Tuple, Cast, Block}
-use Rattle.move_tree.specs.declared.expression.ItemNode.{ItemNode}
-use Rattle.move_tree.specs.declared.expression.ItemNode.TheVariants.{Expression, Let}
+use Rattle.expression_tree.specs.ExpressionData.{ExpressionData, ItemData, FieldValueData, BlockOf, expression_size, block_size, item_size, field_value_size, expressions_size, items_size, field_values_size, expressions_of, items_of, field_values_of, maybe_expression_of}
+use Rattle.expression_tree.specs.ExpressionView.{expression_of_node, item_of_node, field_value_of}
+use Rattle.expression_tree.specs.declared.expression.ExpressionNode.{ExpressionNode}
+use Rattle.expression_tree.specs.declared.expression.ExpressionNode.TheVariants.{Binary, Assign, If, While, Loop, Return, Abort, Break, Continue, Unary, Use, Field, Literal, Path, Call, Pack, Vector, Assert, Tuple, Cast, Block}
+use Rattle.expression_tree.specs.declared.expression.ItemNode.{ItemNode}
+use Rattle.expression_tree.specs.declared.expression.ItemNode.TheVariants.{Expression, Let}
 use Rattle.std.specs.Prelude.{Vec}
 use Rattle.std.specs.Global.{Global}
 use Rattle.pv_base.specs.declared.span.Span.{Span}
 use Rattle.move_tree.specs.declared.spec_tokens.LoopSpec.{LoopSpec}
-use Rattle.move_tree.specs.declared.expression.Block.TheDeep.{deep-ExpressionNode, deep-ItemNode, deep-FieldValue, deep-Block}
+use Rattle.expression_tree.specs.declared.expression.Block.TheDeep.{deep-ExpressionNode, deep-ItemNode, deep-FieldValue, deep-Block}
 
 -- no expression is larger than all of them together
 pub expressions_fall : (xs : List ExpressionData) → max (most (λ x. expression_size x + 1) xs) 0 ≤ expressions_size (expressions_of xs)
