@@ -4,11 +4,11 @@ use Rattle.std.specs.Prelude.{unsigned_abs, All}
 use Rattle.std.proofs.Math.IntN.{*ℤ_comm}
 use Rattle.std.proofs.lemmas.Int.{ints, by_lt_z}
 use Rattle.lin_arith.specs.Bounds.{IsOn, IsMetAt, IsAsTight, IsTightest, AreConsistent, AreNonzero}
-use Rattle.lin_arith.specs.Floor.{IsFloor}
+use Rattle.linear_rows.specs.Floor.{IsFloor}
 use Rattle.lin_arith.specs.declared.bounds.Bound.{Bound}
 use Rattle.lin_arith.specs.declared.bounds.Side.{Side}
 use Rattle.lin_arith.specs.declared.bounds.Side.TheVariants.{Upper, Lower}
-use Rattle.lin_arith.proofs.IntegerLemmas.{mul_swap, mul_neg, mul_le, le_of_mul, one_mul}
+use Rattle.linear_rows.proofs.IntegerLemmas.{mul_swap, mul_neg, mul_le, le_of_mul, one_mul}
 
 -- products of numbers with sizes, by the sizes of both
 pub products_not_negative : (a b : ℤ) (m n : ℕ) → pos 0 ≤ℤ a → pos 0 ≤ℤ b → ((unsigned_abs a * m ≤ unsigned_abs b * n) ↔ ((a *ℤ pos m) ≤ℤ (b *ℤ pos n)))

@@ -3,16 +3,16 @@ use Rattle.std.proofs.Common.{◌≡◌, ◌≢◌, ℕ, ◌+◌, ◌<◌, List,
 use Rattle.std.specs.Prelude.{All, Contains}
 use Rattle.std.proofs.Math.IntN.{*ℤ-zero}
 use Rattle.std.proofs.lemmas.List.Elements.{Contains-push, Contains-push_cases, Contains-append_left}
-use Rattle.lin_arith.specs.Inequality.{Inequality, coefficient}
+use Rattle.linear_rows.specs.Inequality.{Inequality, coefficient}
 use Rattle.lin_arith.specs.Bounds.{IsMetAt, AreConsistent}
 use Rattle.lin_arith.specs.Choice.{left_of, IsBoundOf, HasBound, HaveBounds, IsOfRow, AreCompatible, MeetsStage}
 use Rattle.lin_arith.specs.Substitution.{LinearForm, IsRatio}
 use Rattle.lin_arith.specs.declared.bounds.Bound.{Bound}
 use Rattle.lin_arith.specs.declared.elimination.Derived.{Derived}
 use Rattle.lin_arith.specs.declared.elimination.Stage.{Stage}
-use Rattle.lin_arith.specs.declared.rows.Fraction.{Fraction}
+use Rattle.linear_rows.specs.declared.rows.Fraction.{Fraction}
 use Rattle.lin_arith.proofs.ChoiceLemmas.{IsOfStageRow, bounds_consistent, form_met}
-use Rattle.lin_arith.proofs.ListLemmas.{get_or-any_default}
+use Rattle.linear_rows.proofs.ListLemmas.{get_or-any_default}
 
 -- the bounds of the first `count` rows are put at the end
 pub record ArePut (rows : List Derived) (values : List Fraction) (unknown : ℕ) (old : List Bound) (count : ℕ) (bounds : List Bound) : Type 0 where

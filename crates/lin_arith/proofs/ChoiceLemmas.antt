@@ -7,18 +7,18 @@ use Rattle.std.proofs.lemmas.Bool.Decides.{eqb_tells}
 use Rattle.std.proofs.lemmas.Int.{ints}
 use Rattle.std.proofs.lemmas.List.Sums.{fold-append}
 use Rattle.std.proofs.lemmas.List.Elements.{All-push, All-contains, Contains-get_or, Contains-push, Contains-push_cases, Contains-append_left}
-use Rattle.lin_arith.specs.Inequality.{Inequality, coefficient}
-use Rattle.lin_arith.specs.Closure.{IsWithout}
+use Rattle.linear_rows.specs.Inequality.{Inequality, coefficient}
+use Rattle.linear_rows.specs.Closure.{IsWithout}
 use Rattle.lin_arith.specs.Bounds.{IsMetAt, AreConsistent}
 use Rattle.lin_arith.specs.Choice.{left_of, IsBoundOf, HasBound, AreCompatible, MeetsStage}
 use Rattle.lin_arith.specs.Stages.{IsSound, StandsInStage, IsWhole}
 use Rattle.lin_arith.specs.Substitution.{LinearForm, form_of, put_in, put_in_all, IsTrueForm, Meets, ArePositive}
 use Rattle.lin_arith.specs.declared.bounds.Bound.{Bound}
 use Rattle.lin_arith.specs.declared.elimination.Stage.{Stage}
-use Rattle.lin_arith.specs.declared.rows.Fraction.{Fraction}
-use Rattle.lin_arith.proofs.ClosureLemmas.{size_positive, no_mix, without_in_sum, without_one_more}
-use Rattle.lin_arith.proofs.IntegerLemmas.{mul_assoc, mul_add, mul_neg, mul_sub, mul_swap, mul_positive, mul_negative, mul_not_negative, mul_le, le_of_mul, one_mul, positive_of_multiple, negative_of_multiple, sign_of_multiple, zero_of_multiple}
-use Rattle.lin_arith.proofs.ListLemmas.{get_or-past, below_or_past}
+use Rattle.linear_rows.specs.declared.rows.Fraction.{Fraction}
+use Rattle.linear_rows.proofs.ClosureLemmas.{size_positive, no_mix, without_in_sum, without_one_more}
+use Rattle.linear_rows.proofs.IntegerLemmas.{mul_assoc, mul_add, mul_neg, mul_sub, mul_swap, mul_positive, mul_negative, mul_not_negative, mul_le, le_of_mul, one_mul, positive_of_multiple, negative_of_multiple, sign_of_multiple, zero_of_multiple}
+use Rattle.linear_rows.proofs.ListLemmas.{get_or-past, below_or_past}
 
 left_push : (values : List Fraction) (value : Fraction) (row : Inequality) → left_of (values ++ value ∷ []) row ≡ put_in (left_of values row) value
 left_push values value row = fold-append put_in (form_of row) values (value ∷ [])

@@ -6,9 +6,9 @@ use Rattle.std.specs.List.{range_with_len}
 use Rattle.std.proofs.Math.IntN.{*ℤ-zero}
 use Rattle.std.proofs.lemmas.Int.{ints}
 use Rattle.std.proofs.lemmas.List.FromFn.{get_or-map-range_with_len, length-map-range_with_len}
-use Rattle.lin_arith.proofs.ListLemmas.{get_or-past, below_or_past}
-use Rattle.lin_arith.specs.Inequality.{Inequality, coefficient, IsWithinWidth}
-use Rattle.lin_arith.specs.Combination.{weighted_sum, StaysWithin, combination, CombinesWithin, IsContradiction}
+use Rattle.linear_rows.proofs.ListLemmas.{get_or-past, below_or_past}
+use Rattle.linear_rows.specs.Inequality.{Inequality, coefficient, IsWithinWidth}
+use Rattle.linear_rows.specs.Combination.{weighted_sum, StaysWithin, combination, CombinesWithin, IsContradiction}
 
 zero_fits : FitsSigned w128 (pos 0)
 zero_fits = omega (arith, ints)

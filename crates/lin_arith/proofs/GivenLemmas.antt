@@ -6,17 +6,17 @@ use Rattle.std.specs.List.{range_with_len}
 use Rattle.std.proofs.Math.IntN.{zero-*ℤ}
 use Rattle.std.proofs.lemmas.Int.{ints}
 use Rattle.std.proofs.lemmas.List.FromFn.{get_or-map-range_with_len, length-map-range_with_len}
-use Rattle.lin_arith.specs.Inequality.{Inequality, coefficient, padded}
-use Rattle.lin_arith.specs.Combination.{number, weighted_sum, StaysWithin, bound_of, combination, IsContradiction}
-use Rattle.lin_arith.specs.Elimination.{IsUnit}
-use Rattle.lin_arith.specs.Elimination.IsRowOfStage.{given}
+use Rattle.linear_rows.specs.Inequality.{Inequality, coefficient, padded}
+use Rattle.linear_rows.specs.Combination.{number, weighted_sum, StaysWithin, bound_of, combination, IsContradiction}
+use Rattle.linear_rows.specs.Elimination.{IsUnit}
+use Rattle.linear_rows.specs.Elimination.IsRowOfStage.{given}
 use Rattle.lin_arith.specs.Stages.{IsDerived, IsSound}
 use Rattle.lin_arith.specs.Substitution.{form_of}
 use Rattle.lin_arith.specs.declared.elimination.Derived.{Derived}
 use Rattle.std.proofs.lemmas.List.Elements.{All-nil}
-use Rattle.lin_arith.proofs.ClosureLemmas.{IsMultiple, multiple_of_itself}
-use Rattle.lin_arith.proofs.IntegerLemmas.{one_mul}
-use Rattle.lin_arith.proofs.ListLemmas.{get_or-past, below_or_past}
+use Rattle.linear_rows.proofs.ClosureLemmas.{IsMultiple, multiple_of_itself}
+use Rattle.linear_rows.proofs.IntegerLemmas.{one_mul}
+use Rattle.linear_rows.proofs.ListLemmas.{get_or-past, below_or_past}
 use Rattle.lin_arith.proofs.StageLemmas.{unit_multipliers, width_of_combination}
 
 zero_fits : FitsSigned w128 (pos 0)

@@ -10,17 +10,17 @@ use Rattle.std.proofs.lemmas.List.Quantifiers.{all_pairs_push}
 use Rattle.std.proofs.lemmas.Map.Made.{IsDistinct-from_AllPairs}
 use Rattle.std.proofs.lemmas.Map.Steps.{length-le_from_distinct_below}
 use Rattle.std.proofs.lemmas.Map.Views.{Contains-from_any}
-use Rattle.lin_arith.specs.Inequality.{Inequality, coefficient, padded}
-use Rattle.lin_arith.specs.Closure.{IsWithout, HasSum, HasSums, IsClosed, IsCompleteElimination, IsBegun}
-use Rattle.lin_arith.specs.Elimination.{IsFound}
-use Rattle.lin_arith.specs.Closure.IsClosed.{none, next}
+use Rattle.linear_rows.specs.Inequality.{Inequality, coefficient, padded}
+use Rattle.linear_rows.specs.Closure.{IsWithout, HasSum, HasSums, IsClosed, IsCompleteElimination, IsBegun}
+use Rattle.linear_rows.specs.Elimination.{IsFound}
+use Rattle.linear_rows.specs.Closure.IsClosed.{none, next}
 use Rattle.lin_arith.specs.Stages.{IsDerived, AreBefore, IsStage, IsStageBefore, IsUnderWay, StandsIn, KeepsRows, AreParted, HasGrown, IsCaughtUp, IsLeft, NoneIsLeft}
 use Rattle.lin_arith.specs.declared.elimination.Stage.{Stage}
 use Rattle.lin_arith.specs.declared.elimination.Derived.{Derived}
 use Rattle.lin_arith.specs.declared.elimination.Elimination.{Elimination}
-use Rattle.lin_arith.proofs.ClosureLemmas.{size_positive, not_zero_above, not_zero_below, closed_stays, without_last, without_others}
-use Rattle.lin_arith.proofs.IntegerLemmas.{mul_positive, mul_negative, positive_of_multiple, negative_of_multiple}
-use Rattle.lin_arith.proofs.ListLemmas.{get_or-past, below_or_past}
+use Rattle.linear_rows.proofs.ClosureLemmas.{size_positive, not_zero_above, not_zero_below, closed_stays, without_last, without_others}
+use Rattle.linear_rows.proofs.IntegerLemmas.{mul_positive, mul_negative, positive_of_multiple, negative_of_multiple}
+use Rattle.linear_rows.proofs.ListLemmas.{get_or-past, below_or_past}
 
 -- the same rows, the same unknowns
 pub grown_same : (old new : Elimination) → new.unknowns.items ≡ old.unknowns.items → new.found ≡ old.found → new.live.items ≡ old.live.items → new.stages.items ≡ old.stages.items → HasGrown old new

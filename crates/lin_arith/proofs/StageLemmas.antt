@@ -13,11 +13,11 @@ use Rattle.std.proofs.Math.IntN.{*ℤ-zero}
 use Rattle.std.proofs.lemmas.List.FromFn.{length-map-range_with_len}
 use Rattle.std.proofs.lemmas.List.Elements.{All-push, All-contains, Contains-get_or, Contains-push, Contains-append_left}
 use Rattle.std.proofs.lemmas.List.Quantifiers.{all_pairs_push}
-use Rattle.lin_arith.specs.Inequality.{Inequality, coefficient, IsWithinWidth}
-use Rattle.lin_arith.specs.Combination.{number, weighted_sum, combination}
-use Rattle.lin_arith.specs.Reduction.{IsReduced}
-use Rattle.lin_arith.specs.Elimination.{IsUnit, Cancels, IsLeastMix, as_row, IsCancellingSum, IsRowOfStage, IsFound, ReachesLimit}
-use Rattle.lin_arith.specs.Elimination.IsRowOfStage.{kept, sum}
+use Rattle.linear_rows.specs.Inequality.{Inequality, coefficient, IsWithinWidth}
+use Rattle.linear_rows.specs.Combination.{number, weighted_sum, combination}
+use Rattle.linear_rows.specs.Reduction.{IsReduced}
+use Rattle.linear_rows.specs.Elimination.{IsUnit, Cancels, IsLeastMix, as_row, IsCancellingSum, IsRowOfStage, IsFound, ReachesLimit}
+use Rattle.linear_rows.specs.Elimination.IsRowOfStage.{kept, sum}
 use Rattle.lin_arith.specs.Substitution.{form_of}
 use Rattle.lin_arith.specs.Wide.{SumLeaves, IsFormOfRow, IsWide}
 use Rattle.lin_arith.specs.Wide.IsWide.{sum as wide}
@@ -25,12 +25,12 @@ use Rattle.lin_arith.specs.Stages.{AreMultipliers, IsDerived, AreBefore, IsStage
 use Rattle.lin_arith.specs.declared.elimination.Stage.{Stage}
 use Rattle.lin_arith.specs.declared.elimination.Derived.{Derived}
 use Rattle.lin_arith.specs.declared.elimination.Elimination.{Elimination}
-use Rattle.lin_arith.specs.Closure.{IsWithout, IsSumOf, IsElimination, IsDue}
-use Rattle.lin_arith.specs.Closure.IsDue.{sum as due}
-use Rattle.lin_arith.proofs.ClosureLemmas.{IsMultiple, AreSummed, size_positive, multiple_of_reduced, combinations_summed, sum_of_multiples, without_in_sum, without_one_more}
-use Rattle.lin_arith.proofs.IntegerLemmas.{mul_not_negative, sign_of_multiple, zero_of_multiple}
+use Rattle.linear_rows.specs.Closure.{IsWithout, IsSumOf, IsElimination, IsDue}
+use Rattle.linear_rows.specs.Closure.IsDue.{sum as due}
+use Rattle.linear_rows.proofs.ClosureLemmas.{IsMultiple, AreSummed, size_positive, multiple_of_reduced, combinations_summed, sum_of_multiples, without_in_sum, without_one_more}
+use Rattle.linear_rows.proofs.IntegerLemmas.{mul_not_negative, sign_of_multiple, zero_of_multiple}
 use Rattle.lin_arith.proofs.KeyLemmas.{no_other_with}
-use Rattle.lin_arith.proofs.ListLemmas.{get_or-any_default}
+use Rattle.linear_rows.proofs.ListLemmas.{get_or-any_default}
 
 one_not_negative : pos 0 ≤ℤ pos 1
 one_not_negative = omega (arith, ints)

@@ -4,11 +4,11 @@ use Rattle.std.specs.Prelude.{if◌then◌else◌, ◌==◌}
 use Rattle.std.proofs.Math.IntN.{*ℤ-zero, zero-*ℤ}
 use Rattle.std.proofs.lemmas.Int.{ints}
 use Rattle.std.proofs.lemmas.Bool.{eqb-true}
-use Rattle.lin_arith.specs.Inequality.{Inequality, coefficient}
-use Rattle.lin_arith.specs.Reduction.{IsReduced}
+use Rattle.linear_rows.specs.Inequality.{Inequality, coefficient}
+use Rattle.linear_rows.specs.Reduction.{IsReduced}
 use Rattle.lin_arith.specs.Substitution.{LinearForm, form_of, put_in, IsRatio}
-use Rattle.lin_arith.specs.declared.rows.Fraction.{Fraction}
-use Rattle.lin_arith.proofs.IntegerLemmas.{mul_assoc, mul_sub, mul_positive, mul_swap, one_mul}
+use Rattle.linear_rows.specs.declared.rows.Fraction.{Fraction}
+use Rattle.linear_rows.proofs.IntegerLemmas.{mul_assoc, mul_sub, mul_positive, mul_swap, one_mul}
 
 zero_or_positive : (n : ℕ) → (n ≡ 0) ⊎ (0 < n)
 zero_or_positive zero = inl refl

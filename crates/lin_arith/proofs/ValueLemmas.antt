@@ -4,13 +4,13 @@ use Rattle.std.specs.Prelude.{All, Contains}
 use Rattle.std.proofs.lemmas.Bool.Decides.{eqb_tells}
 use Rattle.std.proofs.lemmas.List.{get_or-map, get_or-take, length-map, length-take-le, map_more, take_all}
 use Rattle.std.proofs.lemmas.List.Elements.{All-nil, All-push, All-contains, Contains-push, Contains-push_cases, Contains-append_left}
-use Rattle.lin_arith.specs.Inequality.{Inequality, coefficient, padded}
+use Rattle.linear_rows.specs.Inequality.{Inequality, coefficient, padded}
 use Rattle.lin_arith.specs.Answer.{IsSolution}
 use Rattle.lin_arith.specs.Choice.{AreCompatible, MeetsStage}
 use Rattle.lin_arith.specs.Stages.{IsSound, unknowns_of, HasAllStages}
 use Rattle.lin_arith.specs.Substitution.{LinearForm, IsTrueForm, put_in_all, ArePositive}
 use Rattle.lin_arith.specs.declared.elimination.Stage.{Stage}
-use Rattle.lin_arith.specs.declared.rows.Fraction.{Fraction}
+use Rattle.linear_rows.specs.declared.rows.Fraction.{Fraction}
 use Rattle.lin_arith.proofs.ChoiceLemmas.{HasValue, AreChosen, met_by_all, stage_compatible, chosen_next}
 use Rattle.lin_arith.proofs.GivenLemmas.{padded_form}
 

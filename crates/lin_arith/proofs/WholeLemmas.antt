@@ -6,16 +6,16 @@ use Rattle.std.proofs.Math.ListN.{get_or-map}
 use Rattle.std.proofs.Math.Seq.{take-append_seam}
 use Rattle.std.proofs.lemmas.List.{take-append-le, map-append, length-map}
 use Rattle.std.proofs.lemmas.List.Elements.{All-contains}
-use Rattle.lin_arith.specs.Inequality.{Inequality, coefficient}
-use Rattle.lin_arith.specs.Closure.{IsWithout}
+use Rattle.linear_rows.specs.Inequality.{Inequality, coefficient}
+use Rattle.linear_rows.specs.Closure.{IsWithout}
 use Rattle.lin_arith.specs.Stages.{IsDerived, IsUnderWay, IsCaughtUp, StandsIn, AreParted, HasGrown, IsWhole, unknowns_of, AreWhole, KeepsStages, NoneIsLeft, HasAllStages}
 use Rattle.lin_arith.specs.declared.elimination.Stage.{Stage}
 use Rattle.lin_arith.specs.declared.elimination.Derived.{Derived}
 use Rattle.lin_arith.specs.declared.elimination.Elimination.{Elimination}
 use Rattle.lin_arith.proofs.BoundLemmas.{side_of}
-use Rattle.lin_arith.proofs.ClosureLemmas.{sums_stay, without_others}
+use Rattle.linear_rows.proofs.ClosureLemmas.{sums_stay, without_others}
 use Rattle.lin_arith.proofs.GrowthLemmas.{HaveSums, next_keeps, next_fresh, next_old, next_sums, stands_above, stands_below, none_left, complete}
-use Rattle.lin_arith.proofs.ListLemmas.{each-push}
+use Rattle.linear_rows.proofs.ListLemmas.{each-push}
 
 -- before the first stage
 pub no_stages : (elimination : Elimination) → elimination.stages.items ≡ [] → elimination.unknowns.items ≡ [] → KeepsStages elimination

@@ -1,15 +1,15 @@
 -- What an answer to a system of rows shows.
 use Rattle.std.specs.Prelude.{List, All}
 use Rattle.std.proofs.Common.{ℤ}
-use Rattle.lin_arith.specs.Inequality.{Inequality}
-use Rattle.lin_arith.specs.Combination.{IsContradiction}
-use Rattle.lin_arith.specs.Closure.{IsCompleteElimination, IsDue}
-use Rattle.lin_arith.specs.Elimination.{ReachesLimit}
+use Rattle.linear_rows.specs.Inequality.{Inequality}
+use Rattle.linear_rows.specs.Combination.{IsContradiction}
+use Rattle.linear_rows.specs.Closure.{IsCompleteElimination, IsDue}
+use Rattle.linear_rows.specs.Elimination.{ReachesLimit}
 use Rattle.lin_arith.specs.Substitution.{Meets, ArePositive}
 use Rattle.lin_arith.specs.Wide.{IsWide}
-use Rattle.lin_arith.specs.declared.rows.Fraction.{Fraction}
-use Rattle.lin_arith.specs.declared.rows.LinAnswer.{LinAnswer}
-use Rattle.lin_arith.specs.declared.rows.LinAnswer.TheVariants.{Infeasible, Feasible, Wide, TooManyRows}
+use Rattle.linear_rows.specs.declared.rows.Fraction.{Fraction}
+use Rattle.linear_rows.specs.declared.rows.LinAnswer.{LinAnswer}
+use Rattle.linear_rows.specs.declared.rows.LinAnswer.TheVariants.{Infeasible, Feasible, Wide, TooManyRows}
 use Rattle.lin_arith.specs.declared.stop.Stop.{Stop}
 use Rattle.lin_arith.specs.declared.stop.Stop.TheVariants.{Answered, OutOfMemory}
 

@@ -1,13 +1,13 @@
 -- What is left of the rows of a stage when the values chosen before are put in, and what a value makes of it.
 use Rattle.std.specs.Prelude.{◌≡◌, ◌≢◌, ℕ, List, pos, ◌*ℤ◌, ◌≤ℤ◌, Contains}
 use Rattle.std.proofs.Common.{ℤ, ◌<ℤ◌}
-use Rattle.lin_arith.specs.Inequality.{Inequality}
+use Rattle.linear_rows.specs.Inequality.{Inequality}
 use Rattle.lin_arith.specs.Stages.{StandsIn, StandsInStage}
 use Rattle.lin_arith.specs.Substitution.{LinearForm, form_of, put_in, put_in_all}
 use Rattle.lin_arith.specs.declared.bounds.Bound.{Bound}
 use Rattle.lin_arith.specs.declared.elimination.Derived.{Derived}
 use Rattle.lin_arith.specs.declared.elimination.Stage.{Stage}
-use Rattle.lin_arith.specs.declared.rows.Fraction.{Fraction}
+use Rattle.linear_rows.specs.declared.rows.Fraction.{Fraction}
 
 abbrev pub left_of : List Fraction → Inequality → LinearForm
 left_of values row = put_in_all (form_of row) values

@@ -1,13 +1,6 @@
 pub mod Answer
 pub mod Bounds
 pub mod Choice
-pub mod Closure
-pub mod Combination
-pub mod Elimination
-pub mod Floor
-pub mod Inequality
-pub mod Packed
-pub mod Reduction
 pub mod Stages
 pub mod Substitution
 pub mod Wide

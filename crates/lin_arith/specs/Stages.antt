@@ -8,11 +8,11 @@ use Rattle.std.specs.Global.{Vec}
 use Rattle.std.specs.declared.cmp.Ordering.{Ordering}
 use Rattle.std.specs.Ordering.{int_cmp}
 use Rattle.std.specs.Cmp.Lexicographic.{slice_cmp}
-use Rattle.lin_arith.specs.Inequality.{Inequality, coefficient, padded, IsWithinWidth}
-use Rattle.lin_arith.specs.Closure.{IsWithout, HasSums, IsClosed, IsElimination, IsCompleteElimination}
-use Rattle.lin_arith.specs.Reduction.{IsTimes}
-use Rattle.lin_arith.specs.Combination.{combination}
-use Rattle.lin_arith.specs.Elimination.{IsRowOfStage, IsFound, AreDifferent}
+use Rattle.linear_rows.specs.Inequality.{Inequality, coefficient, padded, IsWithinWidth}
+use Rattle.linear_rows.specs.Closure.{IsWithout, HasSums, IsClosed, IsElimination, IsCompleteElimination}
+use Rattle.linear_rows.specs.Reduction.{IsTimes}
+use Rattle.linear_rows.specs.Combination.{combination}
+use Rattle.linear_rows.specs.Elimination.{IsRowOfStage, IsFound, AreDifferent}
 use Rattle.lin_arith.specs.declared.elimination.Derived.{Derived}
 use Rattle.lin_arith.specs.declared.elimination.Stage.{Stage}
 use Rattle.lin_arith.specs.declared.elimination.Elimination.{Elimination}

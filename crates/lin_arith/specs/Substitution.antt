@@ -2,8 +2,8 @@
 -- equation `q * unknown = p`, where c is the row's coefficient.
 use Rattle.std.specs.Prelude.{◌≡◌, ℕ, List, pos, ◌-ℤ◌, ◌*ℤ◌, ◌≤ℤ◌, ◌<ℤ◌, if◌then◌else◌, ◌==◌, All, fold}
 use Rattle.std.proofs.Common.{ℤ}
-use Rattle.lin_arith.specs.Inequality.{Inequality, coefficient}
-use Rattle.lin_arith.specs.declared.rows.Fraction.{Fraction}
+use Rattle.linear_rows.specs.Inequality.{Inequality, coefficient}
+use Rattle.linear_rows.specs.declared.rows.Fraction.{Fraction}
 
 -- a row as the coefficient of each unknown, and the bound
 pub record LinearForm : Type 0 where

@@ -2,12 +2,12 @@
 use Rattle.std.specs.Prelude.{◌≡◌, ◌≢◌, ℕ, ◌<◌, List, [], ◌∷◌, ◌++◌, Contains, pos, ◌-ℤ◌, ◌*ℤ◌, ◌≤ℤ◌, FitsSigned}
 use Rattle.std.specs.Int.{w128}
 use Rattle.std.proofs.Common.{ℤ, ◌<ℤ◌}
-use Rattle.lin_arith.specs.Inequality.{Inequality, coefficient, IsWithinWidth}
-use Rattle.lin_arith.specs.Closure.{IsElimination, IsCompleteElimination}
-use Rattle.lin_arith.specs.Combination.{combination, CombinesWithin}
-use Rattle.lin_arith.specs.Elimination.{Cancels, MixLeaves, IsLeastMix, IsRowOfStage}
+use Rattle.linear_rows.specs.Inequality.{Inequality, coefficient, IsWithinWidth}
+use Rattle.linear_rows.specs.Closure.{IsElimination, IsCompleteElimination}
+use Rattle.linear_rows.specs.Combination.{combination, CombinesWithin}
+use Rattle.linear_rows.specs.Elimination.{Cancels, MixLeaves, IsLeastMix, IsRowOfStage}
 use Rattle.lin_arith.specs.Substitution.{LinearForm, form_of, put_in_all, IsRatio, ArePositive}
-use Rattle.lin_arith.specs.declared.rows.Fraction.{Fraction}
+use Rattle.linear_rows.specs.declared.rows.Fraction.{Fraction}
 
 -- a number leaves 128 bits where x times the first multipliers and y times the second are added, or where the given
 -- rows are added, in their order, with the least whole numbers in the ratio of these sums

@@ -2,21 +2,21 @@
 
 ghost use Rattle.std.specs.Prelude.{◌≡◌, ◌<◌, ◌∷◌, ◌++◌, [], pos, ◌<ℤ◌, ◌≤ℤ◌, All, Contains, IfErr, IfOk, OnOk, IfSome, IfNone, ℕ, length, get_or, true, List};
 ghost use Rattle.std.specs.Option.{SomeIff};
-ghost use Rattle.lin_arith.specs.Inequality.{Inequality, coefficient, padded};
-ghost use Rattle.lin_arith.specs.Closure.{IsSumOf, HasSum, IsBegun, IsDue};
+ghost use Rattle.linear_rows.specs.Inequality.{Inequality, coefficient, padded};
+ghost use Rattle.linear_rows.specs.Closure.{IsSumOf, HasSum, IsBegun, IsDue};
 ghost use Rattle.lin_arith.specs.declared.elimination.Derived.{Derived};
-ghost use Rattle.lin_arith.specs.Combination.{combination, CombinesWithin};
-ghost use Rattle.lin_arith.specs.Elimination.{IsUnit};
+ghost use Rattle.linear_rows.specs.Combination.{combination, CombinesWithin};
+ghost use Rattle.linear_rows.specs.Elimination.{IsUnit};
 ghost use Rattle.lin_arith.specs.Stages.{AreMultipliers, IsDerived, AreBefore, IsStage, IsStageBefore, IsUnderWay, HasKey, AreParted, HasGrown, IsCaughtUp, IsLeft, NoneIsLeft, IsSound, KeepsStages, HasAllStages};
 ghost use Rattle.lin_arith.specs.Answer.{StopShows};
 
-use crate::combination::combined;
-use crate::packed::Packed;
-use crate::reduction::reduced;
-use crate::rows::{LinAnswer, LinRow, Multipliers, Rows};
 use crate::stop::{Stop, wide};
-use crate::sums::{cancelling, least_mixed, sum_of_rows};
 use crate::system::System;
+use linear_rows::combination::combined;
+use linear_rows::packed::Packed;
+use linear_rows::reduction::reduced;
+use linear_rows::rows::{LinAnswer, LinRow, Multipliers, Rows};
+use linear_rows::sums::{cancelling, least_mixed, sum_of_rows};
 use pv_base::memory::NoMemory;
 use std::alloc::Global;
 use std::collections::BTreeSet;

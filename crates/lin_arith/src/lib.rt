@@ -6,17 +6,10 @@
 #![tactic(auto)]
 
 mod bounds;
-mod combination;
 mod elimination;
-mod numbers;
-mod packed;
-mod reduction;
-mod rows;
 mod solver;
 mod stop;
 mod substitution;
-mod sums;
 mod system;
 
-pub use rows::{Fraction, Fractions, LinAnswer, LinRow, Multipliers, Rows};
 pub use solver::solve;

@@ -1,25 +1,25 @@
 //! The answer to a system of rows.
 
 ghost use Rattle.std.specs.Prelude.{◌≡◌, ◌≢◌, ◌⊎◌, ◌↔◌, pos, ◌<ℤ◌, ℕ, All, Contains, IsTrue, IfOk, IfErr, OnOk, List};
-ghost use Rattle.lin_arith.specs.Inequality.{Inequality, IsWithinWidth};
+ghost use Rattle.linear_rows.specs.Inequality.{Inequality, IsWithinWidth};
 ghost use Rattle.lin_arith.specs.Stages.{IsDerived, IsOfStages, HasAllStages};
 ghost use Rattle.lin_arith.specs.Wide.{IsWide};
-ghost use Rattle.lin_arith.specs.Combination.{IsContradiction};
+ghost use Rattle.linear_rows.specs.Combination.{IsContradiction};
 ghost use Rattle.lin_arith.specs.Bounds.{AreNonzero, AreWithinReach};
 ghost use Rattle.lin_arith.specs.Choice.{HaveBounds, IsOfRow, AreCompatible, MeetsStage};
-ghost use Rattle.lin_arith.specs.Closure.{IsCompleteElimination, IsDue};
+ghost use Rattle.linear_rows.specs.Closure.{IsCompleteElimination, IsDue};
 ghost use Rattle.lin_arith.specs.declared.bounds.Bound.{Bound};
 ghost use Rattle.lin_arith.specs.declared.elimination.Stage.{Stage};
-ghost use Rattle.lin_arith.specs.Elimination.{ReachesLimit};
+ghost use Rattle.linear_rows.specs.Elimination.{ReachesLimit};
 ghost use Rattle.lin_arith.specs.Substitution.{ArePositive};
 ghost use Rattle.lin_arith.specs.Answer.{IfInfeasible, IfFeasible, IfTooManyRows, IfWide, IsSolution, Shows, StopShows};
 
 use crate::bounds::{Bound, chosen, is_within_reach};
 use crate::elimination::{Derived, Elimination, Stage};
-use crate::rows::{Fraction, Fractions, LinAnswer, LinRow, Rows};
 use crate::stop::{Stop, wide};
 use crate::substitution::put_in_all;
 use crate::system::System;
+use linear_rows::rows::{Fraction, Fractions, LinAnswer, LinRow, Rows};
 use pv_base::memory::NoMemory;
 use std::alloc::Global;
 

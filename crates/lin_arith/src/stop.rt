@@ -2,12 +2,12 @@
 
 ghost use Rattle.std.specs.Prelude.{◌≡◌};
 ghost use Rattle.std.specs.Prelude.{List, IfOk};
-ghost use Rattle.lin_arith.specs.Inequality.{Inequality};
+ghost use Rattle.linear_rows.specs.Inequality.{Inequality};
 ghost use Rattle.lin_arith.specs.Answer.{StopShows};
 ghost use Rattle.lin_arith.specs.Wide.{IsWide};
 ghost use Rattle.lin_arith.specs.declared.stop.Stop.TheVariants.{OutOfMemory};
 
-use crate::rows::{LinAnswer, LinRow};
+use linear_rows::rows::{LinAnswer, LinRow};
 use pv_base::memory::NoMemory;
 use std::alloc::{AllocError, AllocFailed, Global};
 

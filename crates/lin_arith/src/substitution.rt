@@ -1,17 +1,17 @@
 //! Values put into rows.
 
 ghost use Rattle.std.specs.Prelude.{IfOk, IfErr, IfSome, IfNone, pos, ◌<ℤ◌, ◌≢◌, ◌≡◌, ◌==◌, ℕ, ◌*ℤ◌, ◌-ℤ◌, if◌then◌else◌, slice_index_or, List};
-ghost use Rattle.lin_arith.specs.Inequality.{Inequality, coefficient};
+ghost use Rattle.linear_rows.specs.Inequality.{Inequality, coefficient};
 ghost use Rattle.std.specs.Option.{SomeIff};
 ghost use Rattle.lin_arith.specs.Answer.{StopShows};
-ghost use Rattle.lin_arith.specs.Closure.{IsCompleteElimination};
+ghost use Rattle.linear_rows.specs.Closure.{IsCompleteElimination};
 ghost use Rattle.lin_arith.specs.Substitution.{put_in, put_in_all, form_of, IsRatio, ArePositive};
 ghost use Rattle.lin_arith.specs.Wide.{DifferenceWithin, IsFormOfRow, IsValueRow, PutInLeaves, ScaledLeaves};
 
-use crate::numbers::{exact_quotient, greatest_common_divisor};
-use crate::reduction::reduced;
-use crate::rows::{Fraction, LinAnswer, LinRow};
 use crate::stop::Stop;
+use linear_rows::numbers::{exact_quotient, greatest_common_divisor};
+use linear_rows::reduction::reduced;
+use linear_rows::rows::{Fraction, LinAnswer, LinRow};
 use pv_base::memory::NoMemory;
 use std::alloc::Global;
 

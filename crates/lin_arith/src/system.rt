@@ -1,9 +1,9 @@
 //! A system of rows and its width.
 
 ghost use Rattle.std.specs.Prelude.{◌≡◌, ◌≤◌, ◌<◌, ℕ, length};
-ghost use Rattle.lin_arith.specs.Inequality.{IsWithinWidth};
+ghost use Rattle.linear_rows.specs.Inequality.{IsWithinWidth};
 
-use crate::rows::LinRow;
+use linear_rows::rows::LinRow;
 
 /// Rows, and a number above that of each unknown in them.
 #[derive(Clone, Copy)]

@@ -1,6 +1,7 @@
 //! Systems with answers that were worked out by hand.
 
-use lin_arith::{Fraction, LinAnswer, LinRow, Rows, solve};
+use lin_arith::solve;
+use linear_rows::rows::{Fraction, LinAnswer, LinRow, Rows};
 use pv_base::memory::NoMemory;
 use std::alloc::Global;
 use std::process::Abort;

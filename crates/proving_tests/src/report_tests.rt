@@ -1,7 +1,7 @@
 //! The texts of reports and statuses, as a user sees them.
 
 use left_out::marker::Marker;
-use lin_arith::Fraction;
+use linear_rows::rows::Fraction;
 use outside::memory_sink::VecSink;
 use pv_base::lists::{Bytes, Calls};
 use pv_base::name::Name;

@@ -2,7 +2,7 @@
 
 use cert::certificate::Axiom;
 use fol::formula::{Formula, FormulaNode, Term};
-use lin_arith::{LinRow, Rows};
+use linear_rows::rows::{LinRow, Rows};
 use pv_base::types::{TypeNode, TypeTerm};
 use saturation::branch::{Branch, Origin};
 use saturation::checker::is_saturated;

@@ -3,7 +3,7 @@
 ghost use Rattle.std.specs.Prelude.{◌≡◌, IfOk};
 ghost use Rattle.report.specs.ReportText.{function_line, condition_line, count_line, lines_of_report};
 
-use lin_arith::Fraction;
+use linear_rows::rows::Fraction;
 use pv_base::lists::Bytes;
 use pv_base::memory::NoMemory;
 use pv_base::name::Name;

@@ -9,7 +9,7 @@ use Rattle.std.proofs.lemmas.Option.{slice_get_within, get_or_from_slice_get, sl
 use Rattle.std.proofs.Math.ListN.{drop_of_length-le}
 use Rattle.fol.specs.FormulaData.{TermData, FormulaData}
 use Rattle.cert.specs.Linear.{Row, row_of}
-use Rattle.lin_arith.specs.Inequality.{Inequality}
+use Rattle.linear_rows.specs.Inequality.{Inequality}
 use Rattle.saturation.specs.System.{IsKnown, turned, BeginsWith, BeginsWithEntry, AreRowsOf}
 use Rattle.saturation.specs.Rest.{IsAfterOne, IsAfterRow, IsAfterEntry}
 use Rattle.saturation.proofs.Walks.{is_true, not_true, holds, fails, One}

@@ -2,7 +2,7 @@
 use Rattle.std.specs.Prelude.{◌≡◌, Bool, true, false, List, ◌∷◌, Option, Some, None}
 use Rattle.fol.specs.FormulaData.{TermData}
 use Rattle.cert.specs.Linear.{Row}
-use Rattle.lin_arith.specs.Inequality.{Inequality}
+use Rattle.linear_rows.specs.Inequality.{Inequality}
 use Rattle.saturation.specs.System.{IsRowOf, turned}
 
 -- after one row

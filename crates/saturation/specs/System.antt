@@ -5,7 +5,7 @@ use Rattle.std.specs.List.{AllPairs}
 use Rattle.fol.specs.FormulaData.{TermData, FormulaData}
 use Rattle.cert.specs.Linear.{Row, row_of, row_weight}
 use Rattle.cert.specs.Unknowns.{EachUnknown}
-use Rattle.lin_arith.specs.Inequality.{Inequality, coefficient}
+use Rattle.linear_rows.specs.Inequality.{Inequality, coefficient}
 
 -- the term is one of the unknowns
 abbrev pub IsKnown : List TermData → TermData → Type 0

@@ -6,14 +6,14 @@ ghost use Rattle.fol.specs.FormulaData.{TermData};
 ghost use Rattle.cert.specs.Linear.{row_of, row_weight};
 ghost use Rattle.cert.specs.LinearView.{row_data};
 ghost use Rattle.cert.specs.Unknowns.{EachUnknown};
-ghost use Rattle.lin_arith.specs.Inequality.{Inequality, coefficient};
+ghost use Rattle.linear_rows.specs.Inequality.{Inequality, coefficient};
 ghost use Rattle.saturation.specs.System.{IsKnown, IsRowOf, AreRowsOf, IsSystemOf, turned};
 ghost use Rattle.saturation.specs.Rest.{IsAfterOne, IsAfterRow, IsAfterEntry};
 
 use cert::linear::{Part, Row, numeral_of, plain_row, row_weight};
 use fol::formula::{Formula, Term, TermNode};
 use fol::same::same_term;
-use lin_arith::{LinRow, Rows};
+use linear_rows::rows::{LinRow, Rows};
 
 /// Whether these are different unknowns, and the rows of the entries over them.
 pub fn is_system_of(entries: &[Formula], unknowns: &[Term], rows: &Rows) -> bool

@@ -3,10 +3,10 @@ use Rattle.std.specs.Prelude.{◌≡◌, Bool, true, false, List, length}
 use Rattle.fol.specs.FormulaData.{FormulaData}
 use Rattle.cert.specs.Closes.{Certifies, most_entries}
 use Rattle.lin_arith.specs.Answer.{IsSolution}
-use Rattle.lin_arith.specs.Elimination.{ReachesLimit}
-use Rattle.lin_arith.specs.Inequality.{Inequality}
+use Rattle.linear_rows.specs.Elimination.{ReachesLimit}
+use Rattle.linear_rows.specs.Inequality.{Inequality}
 use Rattle.lin_arith.specs.Wide.{IsWide}
-use Rattle.lin_arith.specs.declared.rows.Fraction.{Fraction}
+use Rattle.linear_rows.specs.declared.rows.Fraction.{Fraction}
 use Rattle.saturation.specs.Branch.{BranchData, IsBranchOf}
 use Rattle.search.specs.Leaf.{IsLeafOf}
 use Rattle.search.specs.declared.answer.Leaf.{Leaf}

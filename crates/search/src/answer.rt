@@ -2,7 +2,7 @@
 
 use cert::certificate::Cert;
 use fol::formula::Term;
-use lin_arith::{Fractions, LinRow, Rows};
+use linear_rows::rows::{Fractions, LinRow, Rows};
 use saturation::branch::Branch;
 
 /// A saturated branch, and the rows of its linear entries.

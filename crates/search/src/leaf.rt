@@ -6,7 +6,8 @@ ghost use Rattle.search.specs.Leaf.{IsLeafOf};
 
 use crate::answer::{Answer, Leaf};
 use fol::formula::Formula;
-use lin_arith::{LinAnswer, solve};
+use lin_arith::solve;
+use linear_rows::rows::LinAnswer;
 use pv_base::memory::NoMemory;
 use saturation::branch::Branch;
 use saturation::checker::is_saturated;

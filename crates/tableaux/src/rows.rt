@@ -3,7 +3,8 @@
 use cert::certificate::Multiple;
 use fol::formula::{Formula, FormulaNode, Term, TermNode};
 use fol::same::same_term;
-use lin_arith::{LinAnswer, LinRow, Rows, solve};
+use lin_arith::solve;
+use linear_rows::rows::{LinAnswer, LinRow, Rows};
 use pv_base::memory::NoMemory;
 use std::alloc::Global;
 

@@ -1,8 +1,8 @@
 -- The verdict on a condition is shown by what the search answered.
 use Rattle.std.proofs.Common.{◌≡◌, ℕ, List, [], sym, subst}
 use Rattle.fol.specs.FormulaData.{TermData, FormulaData}
-use Rattle.lin_arith.specs.Inequality.{Inequality}
-use Rattle.lin_arith.specs.declared.rows.Fraction.{Fraction}
+use Rattle.linear_rows.specs.Inequality.{Inequality}
+use Rattle.linear_rows.specs.declared.rows.Fraction.{Fraction}
 use Rattle.saturation.specs.Branch.{BranchData}
 use Rattle.search.specs.Answer.{IsOpenLeaf, IsWideLeaf, IsLargeLeaf, IsFullBranch}
 use Rattle.search.specs.declared.answer.Leaf.{Leaf}

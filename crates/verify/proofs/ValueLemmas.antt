@@ -5,7 +5,7 @@ use Rattle.std.proofs.lemmas.Bool.{cases_lt}
 use Rattle.std.proofs.lemmas.List.{take_all, take_more, map_push, length-map, length-take-le}
 use Rattle.std.proofs.lemmas.List.Elements.{All-more}
 use Rattle.fol.specs.FormulaData.{TermData}
-use Rattle.lin_arith.specs.declared.rows.Fraction.{Fraction}
+use Rattle.linear_rows.specs.declared.rows.Fraction.{Fraction}
 use Rattle.report.specs.ReportData.{ParameterValueData}
 use Rattle.verify.specs.OpenValues.{IsOfVariable, IsValueOf, AreValuesOf}
 

@@ -1,8 +1,8 @@
 -- Branches that show why a condition is not proved, and the values of a function's parameters on an open one.
 use Rattle.std.specs.Prelude.{◌≡◌, ℕ, pos, List, map, slice_get, Some, All}
 use Rattle.fol.specs.FormulaData.{TermData, VarTerm, FormulaData}
-use Rattle.lin_arith.specs.Inequality.{Inequality}
-use Rattle.lin_arith.specs.declared.rows.Fraction.{Fraction}
+use Rattle.linear_rows.specs.Inequality.{Inequality}
+use Rattle.linear_rows.specs.declared.rows.Fraction.{Fraction}
 use Rattle.saturation.specs.Branch.{BranchData}
 use Rattle.search.specs.Answer.{IsOpenLeaf, IsWideLeaf, IsLargeLeaf, IsFullBranch}
 use Rattle.search.specs.declared.answer.Leaf.{Leaf}

@@ -2,11 +2,11 @@
 
 ghost use Rattle.std.specs.Prelude.{◌≡◌, ◌↔◌, IsTrue, IfOk, MatchOption, Some, All, slice_get, ℕ, List};
 ghost use Rattle.fol.specs.FormulaData.{VarTerm};
-ghost use Rattle.lin_arith.specs.declared.rows.Fraction.{Fraction};
+ghost use Rattle.linear_rows.specs.declared.rows.Fraction.{Fraction};
 ghost use Rattle.verify.specs.OpenValues.{AreValuesOf, IsOfVariable, IsValueOf};
 
 use fol::formula::{Term, TermNode};
-use lin_arith::Fraction;
+use linear_rows::rows::Fraction;
 use pv_base::memory::NoMemory;
 use pv_base::name::Name;
 use report::report::ParameterValue;

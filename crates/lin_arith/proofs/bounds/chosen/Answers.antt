@@ -2,7 +2,7 @@ use Rattle.std.proofs.Common.{rules, ◌≡◌, ℕ, ◌≤ℤ◌, FitsSigned, a
 use Rattle.std.specs.Prelude.{unsigned_abs}
 use Rattle.std.specs.Int.{w128}
 use Rattle.std.proofs.lemmas.Int.{ints, to_z-of_z}
-use Rattle.lin_arith.specs.Floor.{IsFloor}
+use Rattle.linear_rows.specs.Floor.{IsFloor}
 use Rattle.lin_arith.proofs.BoundLemmas.{uppers_met, uppers_most, all_met, all_met_at_quotient}
 use Rattle.lin_arith.proofs.bounds.chosen.Goals as goal
 

@@ -2,8 +2,8 @@ use Rattle.std.proofs.Common.{rules, ◌≡◌, ℕ, neg_ℤ, FitsSigned, arith,
 use Rattle.std.specs.Prelude.{unsigned_abs}
 use Rattle.std.specs.Int.{w128}
 use Rattle.std.proofs.lemmas.Int.{ints, to_z-of_z}
-use Rattle.lin_arith.specs.Floor.{IsFloor}
-use Rattle.lin_arith.proofs.ListLemmas.{if_some, if_none}
+use Rattle.linear_rows.specs.Floor.{IsFloor}
+use Rattle.linear_rows.proofs.ListLemmas.{if_some, if_none}
 use Rattle.lin_arith.proofs.BoundLemmas.{lowers_met, lowers_least}
 use Rattle.lin_arith.proofs.bounds.least_whole.Goals as goal
 

@@ -2,8 +2,8 @@ use Rattle.std.proofs.Common.{rules, ◌≡◌, pos, ℤ, ◌*ℤ◌, FitsSigned
 use Rattle.std.specs.Prelude.{unsigned_abs}
 use Rattle.std.specs.Int.{w128}
 use Rattle.std.proofs.lemmas.Int.{to_z-of_z}
-use Rattle.lin_arith.proofs.NumberLemmas.{divisor_of_positive}
-use Rattle.lin_arith.proofs.IntegerLemmas.{mul_assoc, mul_swap}
+use Rattle.linear_rows.proofs.NumberLemmas.{divisor_of_positive}
+use Rattle.linear_rows.proofs.IntegerLemmas.{mul_assoc, mul_swap}
 use Rattle.lin_arith.proofs.bounds.quotient.Goals as goal
 
 pub exact_quotient-requires-clause-nonzero : goal.exact_quotient-requires-clause-nonzero

@@ -1,7 +1,7 @@
 use Rattle.std.proofs.Common.{◌<◌, ◌+◌, pos, length, get_or, arith, sym, subst, Option}
 use Rattle.lin_arith.specs.declared.bounds.Bound.{Bound}
 use Rattle.std.proofs.lemmas.Bool.{false≢true}
-use Rattle.lin_arith.proofs.ListLemmas.{get_or-any_default}
+use Rattle.linear_rows.proofs.ListLemmas.{get_or-any_default}
 use Rattle.lin_arith.proofs.BoundLemmas.{IsBestBefore, best_with, best_without}
 use Rattle.lin_arith.proofs.bounds.tightest.Goals as goal
 use Rattle.lin_arith.proofs.bounds.tightest.Goals.{then-is_on, else-is_on}

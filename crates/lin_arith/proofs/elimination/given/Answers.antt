@@ -1,11 +1,11 @@
 use Rattle.std.proofs.Common.{refl, ◌≡◌, ◌≤◌, ◌<ℤ◌, pos, ap, ◌∙◌, sym, subst, length, List, ℤ, FitsSigned}
 use Rattle.std.specs.Prelude.{All}
 use Rattle.std.specs.Int.{w128}
-use Rattle.lin_arith.specs.Inequality.{Inequality, padded}
-use Rattle.lin_arith.specs.Closure.{IsDue}
-use Rattle.lin_arith.specs.Closure.IsDue.{given as due}
-use Rattle.lin_arith.specs.Combination.{IsContradiction, combination}
-use Rattle.lin_arith.specs.Elimination.{IsUnit}
+use Rattle.linear_rows.specs.Inequality.{Inequality, padded}
+use Rattle.linear_rows.specs.Closure.{IsDue}
+use Rattle.linear_rows.specs.Closure.IsDue.{given as due}
+use Rattle.linear_rows.specs.Combination.{IsContradiction, combination}
+use Rattle.linear_rows.specs.Elimination.{IsUnit}
 use Rattle.lin_arith.proofs.GivenLemmas.{padded_is, given_contradicts, given_derived}
 use Rattle.std.proofs.lemmas.Bool.{false≢true}
 use Rattle.lin_arith.specs.Stages.{IsSound}

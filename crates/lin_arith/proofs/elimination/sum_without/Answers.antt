@@ -2,10 +2,10 @@ use Rattle.std.proofs.Common.{rules, ◌≡◌, ◌<ℤ◌, pos, subst, FitsSign
 use Rattle.std.specs.Int.{w128}
 use Rattle.std.proofs.lemmas.Int.{to_z-of_z}
 use Rattle.std.proofs.lemmas.Result.{err_from_is_err_and}
-use Rattle.lin_arith.specs.Inequality.{Inequality, coefficient}
-use Rattle.lin_arith.specs.Reduction.{IsReduced}
-use Rattle.lin_arith.specs.Combination.{combination, CombinesWithin}
-use Rattle.lin_arith.specs.Elimination.{Cancels, IsLeastMix, MixLeaves}
+use Rattle.linear_rows.specs.Inequality.{Inequality, coefficient}
+use Rattle.linear_rows.specs.Reduction.{IsReduced}
+use Rattle.linear_rows.specs.Combination.{combination, CombinesWithin}
+use Rattle.linear_rows.specs.Elimination.{Cancels, IsLeastMix, MixLeaves}
 use Rattle.lin_arith.specs.Wide.SumLeaves.{multiplier, number}
 use Rattle.lin_arith.proofs.StageLemmas.{least_multipliers, sum_derived, sum_of_derived, sum_due, wide_sum}
 use Rattle.lin_arith.proofs.elimination.sum_without.Goals as goal

@@ -1,10 +1,10 @@
 use Rattle.std.proofs.Common.{rules, ◌≡◌, ◌≢◌, ℕ, get_or, pos, sym, ◌∙◌, subst, arith, below_more, FitsSigned}
 use Rattle.std.specs.Int.{w128}
 use Rattle.std.proofs.lemmas.Int.{ints}
-use Rattle.lin_arith.specs.Inequality.{coefficient}
+use Rattle.linear_rows.specs.Inequality.{coefficient}
 use Rattle.lin_arith.specs.Stages.{IsLeft}
 use Rattle.lin_arith.specs.declared.elimination.Derived.{Derived}
-use Rattle.lin_arith.proofs.ListLemmas.{get_or-any_default}
+use Rattle.linear_rows.proofs.ListLemmas.{get_or-any_default}
 use Rattle.lin_arith.proofs.elimination.sums_with.Goals as goal
 use Rattle.lin_arith.proofs.elimination.sums_with.Goals.{then-coefficient-gt0, else-coefficient-gt0+then-coefficient-lt0, else-coefficient-gt0+else-coefficient-lt0}
 

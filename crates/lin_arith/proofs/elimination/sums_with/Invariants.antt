@@ -1,5 +1,5 @@
 use Rattle.std.proofs.Common.{◌≡◌, ℕ, ◌+◌, ◌<◌, ◌≤◌, get_or, pos}
-use Rattle.lin_arith.specs.Inequality.{coefficient}
+use Rattle.linear_rows.specs.Inequality.{coefficient}
 use Rattle.lin_arith.specs.Stages.{IsLeft}
 use Rattle.lin_arith.specs.declared.elimination.Derived.{Derived}
 use Rattle.lin_arith.proofs.elimination.sums_with.Given as goal

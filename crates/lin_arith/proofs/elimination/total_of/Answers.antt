@@ -1,6 +1,6 @@
 use Rattle.std.proofs.Common.{refl, subst, sym, ◌∙◌, List, ℤ}
-use Rattle.lin_arith.specs.Closure.{IsDue}
-use Rattle.lin_arith.specs.Combination.{IsContradiction}
+use Rattle.linear_rows.specs.Closure.{IsDue}
+use Rattle.linear_rows.specs.Combination.{IsContradiction}
 use Rattle.lin_arith.proofs.ContradictionLemmas.{contradicts}
 use Rattle.std.proofs.lemmas.Bool.{false≢true}
 use Rattle.lin_arith.proofs.StageLemmas.{sound_of}

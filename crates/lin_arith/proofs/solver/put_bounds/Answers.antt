@@ -4,7 +4,7 @@ use Rattle.std.proofs.lemmas.List.Elements.{All-push}
 use Rattle.std.specs.Int.{w128}
 use Rattle.std.proofs.lemmas.Result.{err_from_is_err_and}
 use Rattle.lin_arith.specs.Bounds.{IsReached}
-use Rattle.lin_arith.specs.Inequality.{coefficient}
+use Rattle.linear_rows.specs.Inequality.{coefficient}
 use Rattle.lin_arith.specs.declared.bounds.Bound.{Bound}
 use Rattle.lin_arith.specs.Substitution.{form_of}
 use Rattle.lin_arith.specs.Wide.{IsPutIn}

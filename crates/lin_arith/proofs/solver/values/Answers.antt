@@ -5,7 +5,7 @@ use Rattle.std.proofs.lemmas.Result.{err_from_is_err_and}
 use Rattle.lin_arith.specs.Choice.{AreCompatible, MeetsStage}
 use Rattle.lin_arith.specs.Stages.{IsOfStages, unknowns_of}
 use Rattle.lin_arith.specs.declared.elimination.Stage.{Stage}
-use Rattle.lin_arith.specs.declared.rows.Fraction.{Fraction}
+use Rattle.linear_rows.specs.declared.rows.Fraction.{Fraction}
 use Rattle.lin_arith.proofs.ChoiceLemmas.{AreChosen}
 use Rattle.lin_arith.proofs.ValueLemmas.{AreBegun, none_begun, one_begun, skip_begun, chosen_first, compatible_back, chosen_back, solved}
 use Rattle.lin_arith.proofs.solver.values.Goals as goal

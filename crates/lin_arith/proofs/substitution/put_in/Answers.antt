@@ -2,9 +2,9 @@ use Rattle.std.proofs.Common.{rules, ◌≡◌, ℕ, pos, ℤ, ◌*ℤ◌, ◌-�
 use Rattle.std.specs.Prelude.{unsigned_abs, if◌then◌else◌, ◌==◌}
 use Rattle.std.specs.Int.{w128}
 use Rattle.std.proofs.lemmas.Int.{to_z-of_z}
-use Rattle.lin_arith.specs.Inequality.{Inequality, coefficient}
+use Rattle.linear_rows.specs.Inequality.{Inequality, coefficient}
 use Rattle.lin_arith.specs.Wide.{DifferenceWithin, ScaledLeaves}
-use Rattle.lin_arith.proofs.NumberLemmas.{divisor_of_positive}
+use Rattle.linear_rows.proofs.NumberLemmas.{divisor_of_positive}
 use Rattle.lin_arith.proofs.SubstitutionLemmas.{ratio_of_put_in}
 use Rattle.lin_arith.proofs.substitution.put_in.Goals as goal
 

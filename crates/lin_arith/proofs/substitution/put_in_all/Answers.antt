@@ -4,11 +4,11 @@ use Rattle.std.specs.Int.{w128}
 use Rattle.std.proofs.lemmas.List.Elements.{All-take}
 use Rattle.std.proofs.lemmas.Int.{ints}
 use Rattle.std.proofs.lemmas.List.Sums.{fold_more}
-use Rattle.lin_arith.specs.Inequality.{Inequality}
+use Rattle.linear_rows.specs.Inequality.{Inequality}
 use Rattle.lin_arith.specs.Substitution.{LinearForm, put_in, put_in_all, form_of, IsRatio}
 use Rattle.lin_arith.specs.Wide.{IsPutIn}
 use Rattle.lin_arith.specs.Wide.IsWide.{value}
-use Rattle.lin_arith.specs.declared.rows.Fraction.{Fraction}
+use Rattle.linear_rows.specs.declared.rows.Fraction.{Fraction}
 use Rattle.lin_arith.proofs.SubstitutionLemmas.{itself, ratio_put_in, ratio_skip}
 use Rattle.lin_arith.proofs.substitution.put_in_all.Goals as goal
 use Rattle.lin_arith.proofs.substitution.put_in_all.Goals.{then-coefficient-ne0+in_ok-next+in-Some, else-coefficient-ne0}

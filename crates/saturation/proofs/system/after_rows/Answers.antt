@@ -1,6 +1,6 @@
 use Rattle.std.proofs.Common.{List, Bor, subst}
 use Rattle.cert.specs.LinearView.{row_data}
-use Rattle.lin_arith.specs.Inequality.{Inequality}
+use Rattle.linear_rows.specs.Inequality.{Inequality}
 use Rattle.saturation.specs.Rest.{IsAfterOne, IsAfterRow}
 use Rattle.saturation.proofs.SystemLemmas.{Left, no_first, none_left, second_left}
 use Rattle.saturation.proofs.system.after_rows.Goals as goal

@@ -2,7 +2,7 @@ use Rattle.std.proofs.Common.{◌≡◌, ℕ, Some}
 use Rattle.fol.specs.FormulaData.{TermData}
 use Rattle.cert.specs.Linear.{row_weight}
 use Rattle.cert.specs.LinearView.{row_data}
-use Rattle.lin_arith.specs.Inequality.{coefficient}
+use Rattle.linear_rows.specs.Inequality.{coefficient}
 use Rattle.saturation.proofs.Walks.{each_turn, each_fails, each_end}
 use Rattle.saturation.proofs.system.has_coefficients.Goals as goal
 

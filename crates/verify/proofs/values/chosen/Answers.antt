@@ -1,5 +1,5 @@
 use Rattle.std.proofs.Common.{pos}
-use Rattle.lin_arith.specs.declared.rows.Fraction.{Fraction}
+use Rattle.linear_rows.specs.declared.rows.Fraction.{Fraction}
 use Rattle.verify.proofs.ValueLemmas.{another_turn, another_end}
 use Rattle.verify.proofs.values.chosen.Goals as goal
 

@@ -2,7 +2,7 @@ use Rattle.std.proofs.Common.{◌∷◌, ◌++◌, [], ap, ◌∙◌, sym, refl,
 use Rattle.std.specs.Prelude.{Contains}
 use Rattle.std.proofs.lemmas.List.Elements.{Contains-push}
 use Rattle.lin_arith.proofs.GrowthLemmas.{grown_same, grown_with}
-use Rattle.lin_arith.specs.Inequality.{Inequality}
+use Rattle.linear_rows.specs.Inequality.{Inequality}
 use Rattle.lin_arith.specs.declared.elimination.Elimination.{Elimination}
 use Rattle.lin_arith.proofs.StageLemmas.{under_way_with, limit_with, under_way_same, negated, negated_false}
 use Rattle.lin_arith.proofs.elimination.Elimination.add.Goals as goal

@@ -2,7 +2,7 @@ use Rattle.std.proofs.Common.{sym, ◌∙◌}
 use Rattle.std.proofs.lemmas.Result.{err_from_is_err_and}
 use Rattle.lin_arith.specs.Stages.{HasKey}
 use Rattle.lin_arith.proofs.GrowthLemmas.{row_above, row_below}
-use Rattle.lin_arith.proofs.ListLemmas.{on_ok}
+use Rattle.linear_rows.proofs.ListLemmas.{on_ok}
 use Rattle.lin_arith.proofs.elimination.Elimination.add_sum.Goals as goal
 
 pub returns-clause-err : goal.returns-clause-err

@@ -1,10 +1,10 @@
 use Rattle.std.proofs.Common.{ℕ, List, get_or, ap, sym, ◌∙◌, subst, arith, below_more}
 use Rattle.std.specs.Prelude.{All}
-use Rattle.lin_arith.specs.Closure.{HasSum}
+use Rattle.linear_rows.specs.Closure.{HasSum}
 use Rattle.lin_arith.specs.declared.elimination.Derived.{Derived}
-use Rattle.lin_arith.proofs.ClosureLemmas.{sum_stays}
+use Rattle.linear_rows.proofs.ClosureLemmas.{sum_stays}
 use Rattle.lin_arith.proofs.GrowthLemmas.{grown_twice, stage_grown, pair_of_stage}
-use Rattle.lin_arith.proofs.ListLemmas.{get_or-any_default}
+use Rattle.linear_rows.proofs.ListLemmas.{get_or-any_default}
 use Rattle.lin_arith.proofs.elimination.Elimination.add_sums.Goals as goal
 
 pub loop-lower-preserved : goal.loop-lower-preserved

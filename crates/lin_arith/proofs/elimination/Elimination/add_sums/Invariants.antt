@@ -1,6 +1,6 @@
 use Rattle.std.proofs.Common.{◌≡◌, ℕ, ◌<◌, get_or}
 use Rattle.std.specs.Prelude.{All}
-use Rattle.lin_arith.specs.Closure.{HasSum}
+use Rattle.linear_rows.specs.Closure.{HasSum}
 use Rattle.lin_arith.specs.Stages.{IsStageBefore, IsUnderWay, HasGrown}
 use Rattle.lin_arith.specs.declared.elimination.Derived.{Derived}
 use Rattle.lin_arith.proofs.elimination.Elimination.add_sums.Given as goal

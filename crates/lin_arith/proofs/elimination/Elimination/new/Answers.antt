@@ -1,7 +1,7 @@
 use Rattle.std.proofs.Common.{ℕ, get_or, ◌∙◌, subst, arith, below_more}
 use Rattle.std.specs.Prelude.{Contains}
 use Rattle.std.proofs.lemmas.Result.{err_from_is_err_and}
-use Rattle.lin_arith.specs.Inequality.{Inequality, padded}
+use Rattle.linear_rows.specs.Inequality.{Inequality, padded}
 use Rattle.lin_arith.specs.Stages.{IsDerived}
 use Rattle.lin_arith.proofs.GrowthLemmas.{keeps_grown, caught_up_first, begun}
 use Rattle.lin_arith.proofs.WholeLemmas.{no_stages}

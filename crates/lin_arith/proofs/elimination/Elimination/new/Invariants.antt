@@ -1,6 +1,6 @@
 use Rattle.std.proofs.Common.{◌≡◌, ℕ, ◌<◌, [], get_or}
 use Rattle.std.specs.Prelude.{Contains}
-use Rattle.lin_arith.specs.Inequality.{Inequality, padded}
+use Rattle.linear_rows.specs.Inequality.{Inequality, padded}
 use Rattle.lin_arith.specs.Stages.{IsUnderWay, KeepsRows}
 use Rattle.lin_arith.proofs.elimination.Elimination.new.Given as goal
 

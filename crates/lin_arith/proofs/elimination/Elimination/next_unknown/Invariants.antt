@@ -1,6 +1,6 @@
 use Rattle.std.proofs.Common.{ℕ, ◌<◌, ◌≡◌, pos, IfSome, IfNone}
 use Rattle.std.specs.Prelude.{All}
-use Rattle.lin_arith.specs.Inequality.{coefficient}
+use Rattle.linear_rows.specs.Inequality.{coefficient}
 use Rattle.lin_arith.specs.Stages.{IsLeft}
 use Rattle.lin_arith.specs.declared.elimination.Derived.{Derived}
 use Rattle.lin_arith.proofs.elimination.Elimination.next_unknown.Given as goal

@@ -3,10 +3,10 @@ use Rattle.std.specs.Int.{w128}
 use Rattle.std.proofs.lemmas.Int.{ints}
 use Rattle.std.specs.Global.{Vec}
 use Rattle.lin_arith.specs.declared.elimination.Stage.{Stage}
-use Rattle.lin_arith.specs.Inequality.{coefficient}
+use Rattle.linear_rows.specs.Inequality.{coefficient}
 use Rattle.lin_arith.proofs.StageLemmas.{head_derived, tail_derived, stage_with_upper, stage_with_lower, kept_derived, live_with, under_way_next}
 use Rattle.lin_arith.specs.declared.elimination.Derived.{Derived}
-use Rattle.lin_arith.proofs.ClosureLemmas.{not_zero_above, not_zero_below, not_both}
+use Rattle.linear_rows.proofs.ClosureLemmas.{not_zero_above, not_zero_below, not_both}
 use Rattle.lin_arith.proofs.GrowthLemmas.{moved, not_moved, all_moved, from_with, first_from, rest_from}
 use Rattle.lin_arith.proofs.elimination.Elimination.split.Goals as goal
 

@@ -1,6 +1,6 @@
 use Rattle.std.proofs.Common.{◌≡◌, ◌∷◌, ◌++◌, [], ℕ, List, pos, ◌<ℤ◌, ◌⊎◌}
 use Rattle.std.specs.Prelude.{All, Contains}
-use Rattle.lin_arith.specs.Inequality.{Inequality, coefficient}
+use Rattle.linear_rows.specs.Inequality.{Inequality, coefficient}
 use Rattle.lin_arith.specs.declared.elimination.Derived.{Derived}
 use Rattle.lin_arith.specs.Stages.{IsDerived, IsStage, IsUnderWay}
 use Rattle.lin_arith.proofs.elimination.Elimination.split.Given as goal

@@ -1,5 +1,5 @@
 use Rattle.std.proofs.Common.{◌≤◌, ◌<◌, ℕ, length, get_or}
-use Rattle.lin_arith.specs.Inequality.{Inequality}
+use Rattle.linear_rows.specs.Inequality.{Inequality}
 use Rattle.lin_arith.proofs.system.System.new.Given as goal
 
 abbrev pub invariant-loop-row : goal.invariant-loop-row

@@ -1,0 +1,10 @@
+pub mod ClosureLemmas
+pub mod CombinationLemmas
+pub mod CombinedLemmas
+pub mod IntegerLemmas
+pub mod LeastLemmas
+pub mod ListLemmas
+pub mod NumberLemmas
+pub mod PackedLemmas
+pub mod ProductLemmas
+pub mod SumLemmas
