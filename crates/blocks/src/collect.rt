@@ -205,6 +205,6 @@ fn collect_from_item<'a>(item: &'a Item, into: &mut Blocks<'a>) -> Result<(), No
 {
     match &item.node {
         ItemNode::Expression(expression) => collect_from_expression(expression, into),
-        ItemNode::Let { value, .. } => collect_from_value(value, into),
+        ItemNode::Let { value, .. } => collect_from_boxed(value, into),
     }
 }

@@ -1,4 +1,8 @@
 //! What the conditions of a function suppose.
+//!
+//! A function has at most 2^32 parameters, and the only error is that memory ran out. When a sum aborts is told in
+//! The Move Book, "Integers"; what `requires` and `aborts_if` speak of, in the Move Specification Language
+//! reference, "Requires" and "AbortsIf Condition".
 
 ghost use Rattle.std.specs.Prelude.{◌≡◌, ◌^◌, ◌≤◌, ◌++◌, IfOk, OnOk, length, map};
 ghost use Rattle.fol.specs.FormulaData.{ImpliesFormula};

@@ -1,4 +1,7 @@
 //! Sums and the conditions of clauses as terms and formulas.
+//!
+//! A parameter is the variable of its number, so a function has at most 2^32 parameters. The only error is that
+//! memory ran out. What words mean in clauses is told in the Move Specification Language reference, "Expressions".
 
 ghost use Rattle.std.specs.Prelude.{◌≡◌, ◌^◌, ◌≤◌, IfOk, length};
 ghost use Rattle.std.specs.List.{position};
