@@ -1,9 +1,4 @@
-pub mod LeafLemmas
 pub mod Loops
-pub mod OperatorLemmas
-pub mod OpenLemmas
-pub mod Operators
-pub mod EndLemmas
 pub mod Sound
 pub mod TermComplete
 pub mod KindLemmas

@@ -6,14 +6,14 @@ use Rattle.pv_base.specs.declared.span.Span.{Span}
 use Rattle.src_tree.specs.declared.token.Token.{Token}
 use Rattle.src_tree.specs.declared.token.Punctuation.TheVariants.{Period}
 use Rattle.move_tree.specs.declared.lexeme.Identifier.{Identifier}
-use Rattle.expression_tree.specs.ExpressionData.{ExpressionData, FieldExpression, TupleExpression, ItemData, expressions_of}
+use Rattle.expression_tree.specs.ExpressionData.{ExpressionData, FieldExpression, ItemData}
 use Rattle.token_reading.specs.TokenReading.{Read, after_sign, identifier_at}
 use Rattle.token_reading.specs.ListReading.{put_before, some_items_at, items_at, comma_list_at}
 use Rattle.token_reading.proofs.Steps.{map_or_none}
 use Rattle.token_reading.proofs.ListSteps.{put_before-nil}
 use Rattle.expression_parse.specs.declared.block.BlockStep.{BlockStep}
 use Rattle.expression_parse.specs.declared.block.BlockStep.TheVariants.{End, One}
-use Rattle.expression_parse.specs.ExpressionReading.{Readers, readers, several, fields_at, Contents, put_items, contents_behind, contents_at, step_at, expression_at, expression_form}
+use Rattle.expression_parse.specs.ExpressionReading.{Readers, readers, fields_at, Contents, put_items, contents_behind, contents_at, step_at, expression_at, expression_form}
 
 pub expression_at-turn : (n m : ℕ) (ts : List Token) → 0 < n → expression_at n m ts ≡ expression_form (readers (n - 1)) m ts
 unfolding expression_at
@@ -78,13 +78,3 @@ pub block_goes_on : (inner : Readers) (all : Read Contents) (items more : List I
     → more ≡ items ++ item ∷ [] → all ≡ put_items more (contents_at inner n rest)
 block_goes_on inner all items more k n ts rest s item before e h is m =
     before ∙ ap (put_items items) (step_turn inner k n ts (Some (One item, rest)) e (h ∙ ap (λ t. Some (t, rest)) is)) ∙ put_items-twice items (item ∷ []) (contents_at inner n rest) ∙ ap (λ xs. put_items xs (contents_at inner n rest)) (sym m)
-
--- ---- several expressions in parentheses
-
-pub several_none : (place : Span) (first : ExpressionData) (xs : List ExpressionData) (last : Bool) (rest : List Token) → length xs ≡ 0 → several place first (xs, last) rest ≡ None
-several_none place first [] last rest e = refl
-several_none place first (x ∷ xs) last rest e = absurd (omega (arith, e))
-
-pub several_some : (place : Span) (first : ExpressionData) (xs ys : List ExpressionData) (last : Bool) (rest : List Token) → 0 < length xs → ys ≡ first ∷ xs → several place first (xs, last) rest ≡ Some (TupleExpression place (expressions_of ys) last, rest)
-several_some place first [] ys last rest e h = absurd (omega (arith, e))
-several_some place first (x ∷ xs) ys last rest e h = ap (λ zs. Some (TupleExpression place (expressions_of zs) last, rest)) (sym h)

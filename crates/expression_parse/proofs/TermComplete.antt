@@ -39,14 +39,15 @@ use Rattle.type_parse.specs.PathReading.{path_at, address_at, is_single}
 use Rattle.type_parse.specs.TypeReading.{arguments_at, maybe_arguments_at}
 use Rattle.type_parse.proofs.PathLemmas.{path_at-complete, address_at-complete, path_no_sign, is_single-sound, is_single-complete}
 use Rattle.type_parse.proofs.TypeLemmas.{ReadsBackTypes, inside_spelling, arguments_spelled, arguments_at-complete, maybe_arguments_at-complete}
-use Rattle.expression_parse.specs.declared.leaf.PathForm.TheVariants.{Call, Pack, Alone}
-use Rattle.expression_parse.specs.declared.leaf.BehindFirst.{BehindFirst}
-use Rattle.expression_parse.specs.declared.leaf.BehindFirst.TheVariants.{Close, As, Comma}
-use Rattle.expression_parse.specs.LeafReading.{begins_operand, plain_literal_at, vector_place_at, assert_place_at, path_form_at, glued_arguments_at, has_arguments, behind_first_at, cast_target_at, after_glued}
-use Rattle.expression_parse.specs.ExpressionReading.{Readers, any, field_value_at, path_term_at, vector_at, assert_at, several, behind_first, parenthesized_at, term_at}
-use Rattle.expression_parse.proofs.LeafLemmas.{number_at-other, number_at-path, plain_number, plain_truth, plain_none, vector_place_at-complete, vector_place_at-other, vector_place_at-path, assert_place_at-complete, assert_place_at-other, assert_place_at-path, after_glued-complete, after_glued-other}
-use Rattle.expression_parse.proofs.OpenLemmas.{expression_no_sign}
-use Rattle.expression_parse.proofs.EndLemmas.{Quiet, TermEnds, Follows, follows_sign, follows_closed, closes_word, as_begins_none, closing}
+use Rattle.expression_leaf.specs.declared.leaf.PathForm.TheVariants.{Call, Pack, Alone}
+use Rattle.expression_leaf.specs.declared.leaf.BehindFirst.{BehindFirst}
+use Rattle.expression_leaf.specs.declared.leaf.BehindFirst.TheVariants.{Close, As, Comma}
+use Rattle.expression_leaf.specs.LeafReading.{begins_operand, plain_literal_at, vector_place_at, assert_place_at, path_form_at, glued_arguments_at, has_arguments, behind_first_at, cast_target_at, after_glued}
+use Rattle.expression_leaf.specs.ParenthesesReading.{several}
+use Rattle.expression_parse.specs.ExpressionReading.{Readers, any, field_value_at, path_term_at, vector_at, assert_at, behind_first, parenthesized_at, term_at}
+use Rattle.expression_leaf.proofs.LeafLemmas.{number_at-other, number_at-path, plain_number, plain_truth, plain_none, vector_place_at-complete, vector_place_at-other, vector_place_at-path, assert_place_at-complete, assert_place_at-other, assert_place_at-path, after_glued-complete, after_glued-other}
+use Rattle.expression_leaf.proofs.OpenLemmas.{expression_no_sign}
+use Rattle.expression_leaf.proofs.EndLemmas.{Quiet, TermEnds, Follows, follows_sign, follows_closed, closes_word, as_begins_none, closing}
 use Rattle.expression_parse.proofs.Sound.{assert_spelled, cast_spelled, several_spelled}
 
 abbrev pub ReadsBackExpressions : ℕ → (ℕ → List Token → Read ExpressionData) → Type 0

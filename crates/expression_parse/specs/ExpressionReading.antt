@@ -11,21 +11,22 @@ use Rattle.move_tree.specs.PatternData.{PatternData}
 use Rattle.expression_tree.specs.ExpressionData.{ExpressionData, AssignExpression, IfExpression, WhileExpression, LoopExpression, ReturnExpression, AbortExpression, BreakExpression, ContinueExpression, UnaryExpression, UseExpression, FieldExpression, LiteralExpression, PathExpression, CallExpression, PackExpression, VectorExpression, AssertExpression, TupleExpression, CastExpression, BlockExpression, NoExpression, SomeExpression, BlockData, BlockOf, ItemData, ExpressionItem, LetItem, FieldValueData, ShortFieldValue, LongFieldValue, expressions_of, field_values_of, items_of, maybe_expression_of}
 use Rattle.expression_tree.specs.ProperExpressions.{unary_level}
 use Rattle.token_reading.specs.TokenReading.{Read, after_sign, sign_place_at, after_word, word_place_at, identifier_at}
-use Rattle.token_reading.specs.ListReading.{Items, comma_list_at}
+use Rattle.token_reading.specs.ListReading.{comma_list_at}
 use Rattle.token_reading.specs.ChainReading.{whole_chain_at}
 use Rattle.type_parse.specs.PathReading.{path_at, address_at}
 use Rattle.type_parse.specs.TypeReading.{type_at, maybe_arguments_at}
 use Rattle.type_parse.specs.PatternReading.{pattern_at}
-use Rattle.expression_parse.specs.declared.leaf.Control.{Control}
-use Rattle.expression_parse.specs.declared.leaf.Control.TheVariants.{If, While, Loop, Return, Abort, Break, Continue}
+use Rattle.expression_leaf.specs.declared.leaf.Control.{Control}
+use Rattle.expression_leaf.specs.declared.leaf.Control.TheVariants.{If, While, Loop, Return, Abort, Break, Continue}
 use Rattle.expression_parse.specs.declared.block.BlockStep.{BlockStep}
 use Rattle.expression_parse.specs.declared.block.BlockStep.TheVariants.{End, One}
-use Rattle.expression_parse.specs.declared.leaf.PathForm.{PathForm}
-use Rattle.expression_parse.specs.declared.leaf.PathForm.TheVariants.{Call, Pack, Alone}
-use Rattle.expression_parse.specs.declared.leaf.BehindFirst.{BehindFirst}
-use Rattle.expression_parse.specs.declared.leaf.BehindFirst.TheVariants.{Close, As, Comma}
-use Rattle.expression_parse.specs.LeafReading.{plain_literal_at, vector_place_at, assert_place_at, prefix_at, use_at, control_at, may_begin, spec_opening_at, path_form_at, glued_arguments_at, has_arguments, behind_first_at, loop_spec_at, annotation_at, cast_target_at}
-use Rattle.expression_parse.specs.OperatorReading.{joints}
+use Rattle.expression_leaf.specs.declared.leaf.PathForm.{PathForm}
+use Rattle.expression_leaf.specs.declared.leaf.PathForm.TheVariants.{Call, Pack, Alone}
+use Rattle.expression_leaf.specs.declared.leaf.BehindFirst.{BehindFirst}
+use Rattle.expression_leaf.specs.declared.leaf.BehindFirst.TheVariants.{Close, As, Comma}
+use Rattle.expression_leaf.specs.LeafReading.{plain_literal_at, vector_place_at, assert_place_at, prefix_at, use_at, control_at, may_begin, spec_opening_at, path_form_at, glued_arguments_at, has_arguments, behind_first_at, loop_spec_at, annotation_at, cast_target_at}
+use Rattle.expression_leaf.specs.OperatorReading.{joints}
+use Rattle.expression_leaf.specs.ParenthesesReading.{several}
 
 -- what reads types, patterns, and expressions of at least some level
 pub record Readers : Type 0 where
@@ -75,11 +76,6 @@ assert_at inner place ts =
     (after_sign RightParenthesis code.1)) (any inner behind)) (after_sign comma_sign condition.1)) (any inner inside)) (after_sign LeftParenthesis ts)
 
 -- ---- parentheses
-
--- several expressions, the first of which was read
-abbrev pub several : Span → ExpressionData → Items ExpressionData → List Token → Read ExpressionData
-several place first ([], last) rest = None
-several place first (x ∷ xs, last) rest = Some (TupleExpression place (expressions_of (first ∷ x ∷ xs)) last, rest)
 
 abbrev pub behind_first : Readers → Span → ExpressionData → BehindFirst → List Token → Read ExpressionData
 behind_first inner place first Close ts = Some (TupleExpression place (expressions_of (first ∷ [])) false, ts)

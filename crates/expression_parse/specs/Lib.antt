@@ -1,3 +1,1 @@
-pub mod LeafReading
-pub mod OperatorReading
 pub mod ExpressionReading

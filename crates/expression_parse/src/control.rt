@@ -6,13 +6,13 @@ ghost use Rattle.expression_parse.specs.ExpressionReading.{control_form, if_at, 
 
 use crate::block::read_body;
 use crate::expression::read_boxed;
-use crate::leaf::{Control, may_begin};
+use expression_leaf::leaf::{Control, may_begin, skip_else};
 use expression_tree::expression::{Expression, ExpressionNode};
 use pv_base::span::Span;
 use src_tree::token::{Punctuation, Token};
 use std::alloc::Global;
 use token_reading::fault::ReadFault;
-use token_reading::tokens::{expect_sign, skip_word};
+use token_reading::tokens::expect_sign;
 
 /// A control form behind its word.
 #[cycle(expression)]
@@ -76,7 +76,7 @@ fn read_if(
     let (condition, rest) = read_boxed(alloc, 0, rest, budget)?;
     let rest = expect_sign(rest, Punctuation::RightParenthesis)?;
     let (then_branch, rest) = read_boxed(alloc, 0, rest, budget)?;
-    let Some(behind) = skip_word(rest, b"else") else {
+    let Some(behind) = skip_else(rest) else {
         let node = ExpressionNode::If {
             place,
             condition,

@@ -4,7 +4,5 @@
 pub mod block;
 pub mod control;
 pub mod expression;
-pub mod leaf;
 pub mod lists;
-pub mod operator;
 pub mod term;

@@ -3,15 +3,16 @@
 ghost use Rattle.std.specs.Prelude.{◌≡◌, None, Some, MatchResult};
 ghost use Rattle.move_tree.specs.TypeTreeData.{maybe_arguments_of};
 ghost use Rattle.token_reading.specs.ReadFault.{IfNoTree};
-ghost use Rattle.expression_parse.specs.ExpressionReading.{assert_at, operand_at, parenthesized_at, path_term_at, readers, several, term_at, vector_at, whole_fields_at};
+ghost use Rattle.expression_parse.specs.ExpressionReading.{assert_at, operand_at, parenthesized_at, path_term_at, readers, term_at, vector_at, whole_fields_at};
 
 use crate::block::read_contents;
 use crate::expression::read_boxed;
-use crate::leaf::{
+use crate::lists::{read_expressions, read_field_values};
+use expression_leaf::leaf::{
     BehindFirst, PathForm, place_of_assert, place_of_vector, read_behind_first, read_cast_target,
     read_glued_arguments, read_path_form, read_plain_literal, read_prefix, read_use,
 };
-use crate::lists::{read_expressions, read_field_values};
+use expression_leaf::parentheses::several;
 use expression_tree::expression::{Block, Expression, ExpressionNode};
 use move_tree::literal::Literal;
 use pv_base::span::Span;
@@ -167,30 +168,6 @@ fn read_parenthesized(
             several(place, first, more, last_comma, rest)
         }
     }
-}
-
-/// Several expressions in parentheses, the first of which was read before the others.
-#[tactic(auto, using(crate::proofs::Loops::several_none, crate::proofs::Loops::several_some))]
-fn several(
-    place: Span,
-    first: Box<Expression>,
-    more: Vec<Expression>,
-    last_comma: bool,
-    rest: &[Token],
-) -> Result<(Expression, &[Token]), ReadFault>
-    ensures { MatchResult result (λ read. several place first.value (more.items, last_comma) rest.now ≡ Some (read.0, read.1.now)) (λ fault. IfNoTree fault (several place first.value (more.items, last_comma) rest.now ≡ None)) }
-{
-    if more.is_empty() {
-        return Err(ReadFault::NoTree { left: rest.len() });
-    }
-    let mut items = more;
-    items.insert(0, Box::into_inner(first))?;
-    let node = ExpressionNode::Tuple {
-        place,
-        items,
-        last_comma,
-    };
-    Ok((Expression { node }, rest))
 }
 
 /// A call, a pack, or a path alone.

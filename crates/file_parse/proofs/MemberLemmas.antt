@@ -41,7 +41,7 @@ use Rattle.type_parse.proofs.TypeLemmas.{type_at-sound, type_at-complete}
 use Rattle.expression_parse.specs.ExpressionReading.{readers, expression_at, body_block_at}
 use Rattle.expression_parse.proofs.Sound.{expression_at-sound}
 use Rattle.expression_parse.proofs.Complete.{expression_at-complete}
-use Rattle.expression_parse.proofs.EndLemmas.{follows_sign}
+use Rattle.expression_leaf.proofs.EndLemmas.{follows_sign}
 use Rattle.expression_parse.proofs.BlockLemmas.{body_block-sound, block_place, block_inside, body_block_spelled, body_block-complete}
 use Rattle.declaration_parse.specs.AttributeReading.{attributes_at}
 use Rattle.declaration_parse.specs.ImportReading.{use_at, friend_at}

@@ -29,9 +29,9 @@ use Rattle.token_reading.specs.TokenReading.{Read, same_name, is_sign, is_word, 
 use Rattle.token_reading.proofs.Steps.{step, last, some_one, either, not_read, if_some, bind_some, map_some, map_or_none, map_or_some}
 use Rattle.token_reading.proofs.BeginLemmas.{Begins-append, Begins-first}
 use Rattle.token_reading.proofs.TokenLemmas.{is_sign-sound, is_sign-same, after_sign-sound, after_sign-complete, sign_place_at-sound, sign_place_at-complete, sign_place_at-other, after_word-sound, after_word-complete, word_place_at-sound, word_place_at-complete, word_place_at-other}
-use Rattle.expression_parse.specs.declared.leaf.Control.{Control}
-use Rattle.expression_parse.specs.declared.leaf.Control.TheVariants.{If, While, Loop, Return, Abort, Break, Continue}
-use Rattle.expression_parse.specs.LeafReading.{fitting, fitting_number_of, number_at, truth_at, plain_literal_at, vector_place_at, assert_place_at, after_glued, borrow_behind, prefix_at, use_at, control_of_word, control_of, control_at, spec_opening_at}
+use Rattle.expression_leaf.specs.declared.leaf.Control.{Control}
+use Rattle.expression_leaf.specs.declared.leaf.Control.TheVariants.{If, While, Loop, Return, Abort, Break, Continue}
+use Rattle.expression_leaf.specs.LeafReading.{fitting, fitting_number_of, number_at, truth_at, plain_literal_at, vector_place_at, assert_place_at, after_glued, borrow_behind, prefix_at, use_at, control_of_word, control_of, control_at, spec_opening_at}
 
 -- ---- literals
 

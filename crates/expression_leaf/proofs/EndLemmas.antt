@@ -22,11 +22,11 @@ use Rattle.token_reading.specs.ChainReading.{next_operator}
 use Rattle.token_reading.proofs.Steps.{bind_some, true_or_false}
 use Rattle.token_reading.proofs.TokenLemmas.{is_sign-sound, after_sign-other, after_word-other}
 use Rattle.token_reading.proofs.FirstLemmas.{First, First-weaker, after_sign-first}
-use Rattle.expression_parse.specs.LeafReading.{after_glued, may_begin, begins_expression}
-use Rattle.expression_parse.specs.OperatorReading.{opens_arguments, whole_operator, binary_of_sign, binary_of, ends_in_vector, operator_behind, joints}
-use Rattle.expression_parse.proofs.LeafLemmas.{after_glued-none, after_glued-apart}
-use Rattle.expression_parse.proofs.OperatorLemmas.{ends_in_vector-complete, operator_behind-complete}
-use Rattle.expression_parse.proofs.OpenLemmas.{differs, high_no_else}
+use Rattle.expression_leaf.specs.LeafReading.{after_glued, may_begin, begins_expression}
+use Rattle.expression_leaf.specs.OperatorReading.{opens_arguments, whole_operator, binary_of_sign, binary_of, ends_in_vector, operator_behind, joints}
+use Rattle.expression_leaf.proofs.LeafLemmas.{after_glued-none, after_glued-apart}
+use Rattle.expression_leaf.proofs.OperatorLemmas.{ends_in_vector-complete, operator_behind-complete}
+use Rattle.expression_leaf.proofs.OpenLemmas.{differs, high_no_else}
 
 -- no token with which a term could go on
 pub record Quiet (rest : List Token) : Type 0 where

@@ -24,12 +24,12 @@ use Rattle.move_tree.specs.TypeTreeData.{SourceTypeData, MaybeArgumentsData, NoA
 use Rattle.move_tree.specs.ProperTypes.{last_name}
 use Rattle.type_parse.specs.PathReading.{is_single}
 use Rattle.type_parse.specs.TypeReading.{arguments_at}
-use Rattle.expression_parse.specs.declared.leaf.PathForm.{PathForm}
-use Rattle.expression_parse.specs.declared.leaf.PathForm.TheVariants.{Call, Pack, Alone}
-use Rattle.expression_parse.specs.declared.leaf.BehindFirst.{BehindFirst}
-use Rattle.expression_parse.specs.declared.leaf.BehindFirst.TheVariants.{Close, As, Comma}
-use Rattle.expression_parse.specs.declared.leaf.Control.{Control}
-use Rattle.expression_parse.specs.declared.leaf.Control.TheVariants.{If, While, Loop, Return, Abort, Break, Continue}
+use Rattle.expression_leaf.specs.declared.leaf.PathForm.{PathForm}
+use Rattle.expression_leaf.specs.declared.leaf.PathForm.TheVariants.{Call, Pack, Alone}
+use Rattle.expression_leaf.specs.declared.leaf.BehindFirst.{BehindFirst}
+use Rattle.expression_leaf.specs.declared.leaf.BehindFirst.TheVariants.{Close, As, Comma}
+use Rattle.expression_leaf.specs.declared.leaf.Control.{Control}
+use Rattle.expression_leaf.specs.declared.leaf.Control.TheVariants.{If, While, Loop, Return, Abort, Break, Continue}
 
 -- ---- literals
 

@@ -22,9 +22,9 @@ use Rattle.token_reading.specs.ChainReading.{next_operator}
 use Rattle.token_reading.proofs.Steps.{step, some_one, if_not, bind_some, map_or_none, map_or_some}
 use Rattle.token_reading.proofs.ChainLemmas.{Rules, Parts}
 use Rattle.type_parse.proofs.PathLemmas.{is_single-sound, is_single-complete}
-use Rattle.expression_parse.specs.LeafReading.{after_glued}
-use Rattle.expression_parse.specs.OperatorReading.{binary_of_sign, binary_of, ends_in_vector, opens_arguments, whole_operator, operator_behind, joints}
-use Rattle.expression_parse.proofs.LeafLemmas.{after_glued-sound, after_glued-complete}
+use Rattle.expression_leaf.specs.LeafReading.{after_glued}
+use Rattle.expression_leaf.specs.OperatorReading.{binary_of_sign, binary_of, ends_in_vector, opens_arguments, whole_operator, operator_behind, joints}
+use Rattle.expression_leaf.proofs.LeafLemmas.{after_glued-sound, after_glued-complete}
 
 -- ---- expressions that end in `vector`
 

@@ -1,12 +1,13 @@
 //! The tokens with which terms, control forms and blocks begin.
 
-ghost use Rattle.std.specs.Prelude.{◌≡◌, None, Some, is_some, IfOk, MatchResult};
+ghost use Rattle.std.specs.Prelude.{◌≡◌, None, Some, codes, is_some, IfOk, MatchResult};
 ghost use Rattle.std.specs.Option.{option_map};
 ghost use Rattle.move_tree.specs.TypeTreeData.{maybe_arguments_of};
 ghost use Rattle.move_tree.specs.ProperTypes.{last_name};
 ghost use Rattle.token_reading.specs.ReadFault.{IfNoTree};
+ghost use Rattle.token_reading.specs.TokenReading.{after_word};
 ghost use Rattle.type_parse.specs.TypeReading.{type_at};
-ghost use Rattle.expression_parse.specs.LeafReading.{after_glued, annotation_at, assert_place_at, behind_first_at, cast_target_at, glued_arguments_at, loop_spec_at, path_form_at, begins_by_keyword, begins_expression, begins_operand, borrow_behind, control_at, control_of, control_of_word, fitting_number_of, may_begin, number_at, plain_literal_at, prefix_at, spec_opening_at, truth_at, use_at, vector_place_at};
+ghost use Rattle.expression_leaf.specs.LeafReading.{after_glued, annotation_at, assert_place_at, behind_first_at, cast_target_at, glued_arguments_at, loop_spec_at, path_form_at, begins_by_keyword, begins_expression, begins_operand, borrow_behind, control_at, control_of, control_of_word, fitting_number_of, may_begin, number_at, plain_literal_at, prefix_at, spec_opening_at, truth_at, use_at, vector_place_at};
 
 use move_tree::lexeme::Numeral;
 use move_tree::literal::Literal;
@@ -273,6 +274,13 @@ pub fn may_begin(tokens: &[Token]) -> bool
         Some(token) => begins_expression(&token.kind),
         None => false,
     }
+}
+
+/// The tokens behind `else`, where it stands here. It belongs to the innermost `if` before it that has none.
+pub fn skip_else(tokens: &[Token]) -> Option<&[Token]>
+    ensures { option_map (λ rest. rest.now) result ≡ after_word (codes "else") tokens.now }
+{
+    skip_word(tokens, b"else")
 }
 
 /// The places of the brace and of the word `spec` with which the spec block of a loop begins, where it

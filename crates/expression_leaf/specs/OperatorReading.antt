@@ -15,7 +15,7 @@ use Rattle.expression_tree.specs.ProperExpressions.{operator_level, right_level}
 use Rattle.token_reading.specs.TokenReading.{Read}
 use Rattle.token_reading.specs.ChainReading.{Joints}
 use Rattle.type_parse.specs.PathReading.{is_single}
-use Rattle.expression_parse.specs.LeafReading.{after_glued}
+use Rattle.expression_leaf.specs.LeafReading.{after_glued}
 
 abbrev pub binary_of_sign : Sign → Option BinaryOperator
 binary_of_sign PipePipe = Some Or

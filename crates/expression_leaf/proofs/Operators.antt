@@ -7,11 +7,11 @@ use Rattle.expression_tree.specs.ExpressionSpelling.{expression_spelling}
 use Rattle.expression_tree.specs.ProperExpressions.{elsewhere, IsProperExpression}
 use Rattle.token_reading.specs.Beginnings.{Begins}
 use Rattle.token_reading.proofs.ChainLemmas.{Rules}
-use Rattle.expression_parse.specs.LeafReading.{after_glued}
-use Rattle.expression_parse.specs.OperatorReading.{joints}
-use Rattle.expression_parse.proofs.LeafLemmas.{after_glued-none}
-use Rattle.expression_parse.proofs.OpenLemmas.{expression_no_sign}
-use Rattle.expression_parse.proofs.OperatorLemmas.{RightSides, rules}
+use Rattle.expression_leaf.specs.LeafReading.{after_glued}
+use Rattle.expression_leaf.specs.OperatorReading.{joints}
+use Rattle.expression_leaf.proofs.LeafLemmas.{after_glued-none}
+use Rattle.expression_leaf.proofs.OpenLemmas.{expression_no_sign}
+use Rattle.expression_leaf.proofs.OperatorLemmas.{RightSides, rules}
 
 pub no_greater : (e : ExpressionData) (ts rest : List Token) → Begins (expression_spelling e) ts rest → IsProperExpression e → after_glued Greater ts ≡ None
 no_greater e ts rest b p = after_glued-none Greater ts (expression_no_sign Greater refl elsewhere e ts rest b p)

@@ -4,7 +4,7 @@ ghost use Rattle.std.specs.Prelude.{◌≡◌, None, Some};
 ghost use Rattle.std.specs.Option.{option_map};
 ghost use Rattle.expression_tree.specs.ProperExpressions.{operator_level, right_level};
 ghost use Rattle.token_reading.specs.ChainReading.{next_operator};
-ghost use Rattle.expression_parse.specs.OperatorReading.{binary_of, ends_in_vector, joints, opens_arguments, operator_behind, whole_operator};
+ghost use Rattle.expression_leaf.specs.OperatorReading.{binary_of, ends_in_vector, joints, opens_arguments, operator_behind, whole_operator};
 
 use crate::leaf::skip_glued;
 use expression_tree::expression::{Expression, ExpressionNode};

@@ -29,8 +29,8 @@ use Rattle.token_reading.specs.Beginnings.{Begins}
 use Rattle.token_reading.specs.TokenReading.{is_sign, is_word, is_keyword, same_name, after_sign}
 use Rattle.token_reading.proofs.TokenLemmas.{is_sign-sound, is_word-sound, is_keyword-complete}
 use Rattle.token_reading.proofs.FirstLemmas.{First, First-append, First-weaker, after_sign-first}
-use Rattle.expression_parse.proofs.OperatorLemmas.{level_small}
-use Rattle.expression_parse.specs.LeafReading.{begins_operand, begins_by_keyword, begins_expression}
+use Rattle.expression_leaf.proofs.OperatorLemmas.{level_small}
+use Rattle.expression_leaf.specs.LeafReading.{begins_operand, begins_by_keyword, begins_expression}
 
 -- ---- three sets of tokens, each in the next one
 

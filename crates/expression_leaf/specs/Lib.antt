@@ -1,0 +1,3 @@
+pub mod LeafReading
+pub mod OperatorReading
+pub mod ParenthesesReading
