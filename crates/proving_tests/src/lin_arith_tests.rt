@@ -2,134 +2,119 @@
 
 use lin_arith::solve;
 use linear_rows::rows::{Fraction, LinAnswer, LinRow, Rows};
-use pv_base::memory::NoMemory;
 use std::alloc::Global;
+use std::panic::Expect;
 use std::process::Abort;
-use std::test::Fail;
 
 const BIG: i128 = 1267650600228229401496703205376;
 
-fn write_numbers(numbers: &[i128], text: &mut String) -> Result<(), NoMemory> {
+fn write_numbers(rt: &impl Abort, numbers: &[i128], text: &mut String) {
     for number in numbers {
-        write!(text, " {number}")?;
+        write!(text, " {number}").expect(rt, "memory");
     }
-    Ok(())
 }
 
-fn write_values(values: &[Fraction], text: &mut String) -> Result<(), NoMemory> {
+fn write_values(rt: &impl Abort, values: &[Fraction], text: &mut String) {
     for value in values {
         let unknown = value.unknown;
         let numerator = value.numerator;
         let denominator = value.denominator;
-        write!(text, " {unknown}:{numerator}/{denominator}")?;
+        write!(text, " {unknown}:{numerator}/{denominator}").expect(rt, "memory");
     }
-    Ok(())
 }
 
-fn write_answer(answer: &LinAnswer, text: &mut String) -> Result<(), NoMemory> {
+fn write_answer(rt: &impl Abort, answer: &LinAnswer, text: &mut String) {
     match answer {
         LinAnswer::Infeasible(multipliers) => {
-            write!(text, "infeasible")?;
-            write_numbers(multipliers.as_slice(), text)
+            write!(text, "infeasible").expect(rt, "memory");
+            write_numbers(rt, multipliers.as_slice(), text);
         }
         LinAnswer::Feasible(values) => {
-            write!(text, "feasible")?;
-            write_values(values.as_slice(), text)
+            write!(text, "feasible").expect(rt, "memory");
+            write_values(rt, values.as_slice(), text);
         }
         LinAnswer::Wide(first, second) => {
-            write!(text, "wide")?;
-            write_numbers(&[first.bound(), second.bound()], text)
+            write!(text, "wide").expect(rt, "memory");
+            write_numbers(rt, &[first.bound(), second.bound()], text);
         }
         LinAnswer::TooManyRows(rows) => {
             let count = rows.as_slice().len();
-            write!(text, "rows {count}")?;
-            Ok(())
+            write!(text, "rows {count}").expect(rt, "memory");
         }
     }
 }
 
-fn text_of(alloc: Global, rows: &[(&[i128], i128)]) -> Result<String, NoMemory> {
+fn text_of(rt: &impl Abort, alloc: Global, rows: &[(&[i128], i128)]) -> String {
     let mut system = Rows::new(alloc);
     for (coefficients, bound) in rows {
-        system.push(LinRow::new(Vec::from_slice(alloc, *coefficients)?, *bound))?;
+        let coefficients = Vec::from_slice(alloc, *coefficients).expect(rt, "memory");
+        system
+            .push(LinRow::new(coefficients, *bound))
+            .expect(rt, "memory");
     }
-    let answer = solve(alloc, &system)?;
+    let answer = solve(alloc, &system).expect(rt, "memory");
     let mut text = String::new(alloc);
-    write_answer(&answer, &mut text)?;
-    Ok(text)
+    write_answer(rt, &answer, &mut text);
+    text
 }
 
 // The answer to a system, as a text.
-fn answers(
-    rt: &impl Abort,
-    alloc: Global,
-    rows: &[(&[i128], i128)],
-    wanted: &str,
-) -> Result<(), NoMemory> {
-    let text = text_of(alloc, rows)?;
+fn answers(rt: &impl Abort, alloc: Global, rows: &[(&[i128], i128)], wanted: &str) {
+    let text = text_of(rt, alloc, rows);
     assert_eq!(rt; text.as_str(), wanted);
-    Ok(())
 }
 
 // The word of an answer, without what it carries.
-fn answers_with(
-    rt: &impl Abort,
-    alloc: Global,
-    rows: &[(&[i128], i128)],
-    wanted: &str,
-) -> Result<(), NoMemory> {
-    let text = text_of(alloc, rows)?;
+fn answers_with(rt: &impl Abort, alloc: Global, rows: &[(&[i128], i128)], wanted: &str) {
+    let text = text_of(rt, alloc, rows);
     let word = text.split(' ').next().unwrap_or("");
     assert_eq!(rt; word, wanted, "{text}");
-    Ok(())
 }
 
 #[test]
-fn systems_of_one_unknown(rt: HostRuntime) -> Result<(), Fail> {
+fn systems_of_one_unknown(rt: HostRuntime) {
     let a = rt.alloc();
-    answers(&rt, a, &[], "feasible")?;
-    answers(&rt, a, &[(&[], 0)], "feasible")?;
-    answers(&rt, a, &[(&[], -1)], "infeasible 1")?;
-    answers(&rt, a, &[(&[2], 1), (&[-2], -1)], "feasible 0:1/2")?;
-    answers(&rt, a, &[(&[2], 5), (&[-2], -3)], "feasible 0:2/1")?;
-    answers(&rt, a, &[(&[3], -4)], "feasible 0:-2/1")?;
-    answers(&rt, a, &[(&[-3], -4)], "feasible 0:2/1")?;
-    answers(&rt, a, &[(&[2], 1), (&[-3], -2)], "infeasible 3 2")?;
+    answers(&rt, a, &[], "feasible");
+    answers(&rt, a, &[(&[], 0)], "feasible");
+    answers(&rt, a, &[(&[], -1)], "infeasible 1");
+    answers(&rt, a, &[(&[2], 1), (&[-2], -1)], "feasible 0:1/2");
+    answers(&rt, a, &[(&[2], 5), (&[-2], -3)], "feasible 0:2/1");
+    answers(&rt, a, &[(&[3], -4)], "feasible 0:-2/1");
+    answers(&rt, a, &[(&[-3], -4)], "feasible 0:2/1");
+    answers(&rt, a, &[(&[2], 1), (&[-3], -2)], "infeasible 3 2");
     answers(
         &rt,
         a,
         &[(&[1], i128::MIN)],
         "feasible 0:-170141183460469231731687303715884105728/1",
-    )?;
-    answers(&rt, a, &[(&[i128::MIN], i128::MIN)], "feasible 0:1/1")?;
-    Ok(())
+    );
+    answers(&rt, a, &[(&[i128::MIN], i128::MIN)], "feasible 0:1/1");
 }
 
 #[test]
-fn systems_of_several_unknowns(rt: HostRuntime) -> Result<(), Fail> {
+fn systems_of_several_unknowns(rt: HostRuntime) {
     let a = rt.alloc();
-    answers(&rt, a, &[(&[1, -1], -1), (&[-1, 1], 0)], "infeasible 1 1")?;
-    answers(&rt, a, &[(&[BIG, -1], 0), (&[-1, BIG], -1)], "wide 0 -1")?;
+    answers(&rt, a, &[(&[1, -1], -1), (&[-1, 1], 0)], "infeasible 1 1");
+    answers(&rt, a, &[(&[BIG, -1], 0), (&[-1, BIG], -1)], "wide 0 -1");
     answers(
         &rt,
         a,
         &[(&[1, 1], 10), (&[-1], -3), (&[0, -1], -8)],
         "infeasible 1 1 1",
-    )?;
+    );
     answers(
         &rt,
         a,
         &[(&[1, 1], 10), (&[1, 1], 10), (&[-1, -1], -11)],
         "infeasible 1 0 1",
-    )?;
-    Ok(())
+    );
 }
 
 // Whether bounded systems of few unknowns have a solution was worked out by trying every corner, in
 // exact fractions; the rest by hand. Where a row has the least number as a coefficient, the sum needs the
 // multiplier 2^127, which leaves 128 bits.
 #[test]
-fn twenty_systems(rt: HostRuntime) -> Result<(), Fail> {
+fn twenty_systems(rt: HostRuntime) {
     let a = rt.alloc();
     answers_with(
         &rt,
@@ -145,7 +130,7 @@ fn twenty_systems(rt: HostRuntime) -> Result<(), Fail> {
             (&[4, -1, -4], -7),
         ],
         "feasible",
-    )?;
+    );
     answers_with(
         &rt,
         a,
@@ -160,7 +145,7 @@ fn twenty_systems(rt: HostRuntime) -> Result<(), Fail> {
             (&[-1, -4, 2], -8),
         ],
         "infeasible",
-    )?;
+    );
     answers_with(
         &rt,
         a,
@@ -174,7 +159,7 @@ fn twenty_systems(rt: HostRuntime) -> Result<(), Fail> {
             (&[-3, -1], 2),
         ],
         "infeasible",
-    )?;
+    );
     answers_with(
         &rt,
         a,
@@ -187,7 +172,7 @@ fn twenty_systems(rt: HostRuntime) -> Result<(), Fail> {
             (&[1, 3], 5),
         ],
         "feasible",
-    )?;
+    );
     answers_with(
         &rt,
         a,
@@ -202,7 +187,7 @@ fn twenty_systems(rt: HostRuntime) -> Result<(), Fail> {
             (&[1, 3, 0], -7),
         ],
         "infeasible",
-    )?;
+    );
     answers_with(
         &rt,
         a,
@@ -216,7 +201,7 @@ fn twenty_systems(rt: HostRuntime) -> Result<(), Fail> {
             (&[1, 1], 6),
         ],
         "feasible",
-    )?;
+    );
     answers_with(
         &rt,
         a,
@@ -232,7 +217,7 @@ fn twenty_systems(rt: HostRuntime) -> Result<(), Fail> {
             (&[-4, 3, 1], -4),
         ],
         "infeasible",
-    )?;
+    );
     answers_with(
         &rt,
         a,
@@ -247,7 +232,7 @@ fn twenty_systems(rt: HostRuntime) -> Result<(), Fail> {
             (&[2, 3, -3], -4),
         ],
         "feasible",
-    )?;
+    );
     answers_with(
         &rt,
         a,
@@ -263,7 +248,7 @@ fn twenty_systems(rt: HostRuntime) -> Result<(), Fail> {
             (&[-2, -2, -1], -2),
         ],
         "feasible",
-    )?;
+    );
     answers_with(
         &rt,
         a,
@@ -277,41 +262,40 @@ fn twenty_systems(rt: HostRuntime) -> Result<(), Fail> {
             (&[1, -2], -8),
         ],
         "infeasible",
-    )?;
-    answers_with(&rt, a, &[(&[3, 3], 2), (&[-3, -3], -1)], "feasible")?;
+    );
+    answers_with(&rt, a, &[(&[3, 3], 2), (&[-3, -3], -1)], "feasible");
     answers_with(
         &rt,
         a,
         &[(&[1, -1], 0), (&[0, 1, -1], 0), (&[-1, 0, 1], -1)],
         "infeasible",
-    )?;
+    );
     answers_with(
         &rt,
         a,
         &[(&[1, -1], 0), (&[0, 1, -1], 0), (&[-1, 0, 1], 0)],
         "feasible",
-    )?;
-    answers_with(&rt, a, &[(&[], 5), (&[0, 0], 0), (&[0], -2)], "infeasible")?;
+    );
+    answers_with(&rt, a, &[(&[], 5), (&[0, 0], 0), (&[0], -2)], "infeasible");
     answers_with(
         &rt,
         a,
         &[(&[0, 0, 1], 7), (&[1], -7), (&[0, -1], 3)],
         "feasible",
-    )?;
-    answers_with(&rt, a, &[(&[i128::MIN], 0), (&[1], -1)], "wide")?;
-    answers_with(&rt, a, &[(&[-1], i128::MIN)], "wide")?;
-    answers_with(&rt, a, &[(&[1], i128::MIN), (&[-1], i128::MIN)], "wide")?;
+    );
+    answers_with(&rt, a, &[(&[i128::MIN], 0), (&[1], -1)], "wide");
+    answers_with(&rt, a, &[(&[-1], i128::MIN)], "wide");
+    answers_with(&rt, a, &[(&[1], i128::MIN), (&[-1], i128::MIN)], "wide");
     answers_with(
         &rt,
         a,
         &[(&[i128::MIN, 1], 0), (&[1, i128::MIN], -1)],
         "wide",
-    )?;
+    );
     answers_with(
         &rt,
         a,
         &[(&[i128::MAX], i128::MAX), (&[i128::MIN], i128::MIN)],
         "wide",
-    )?;
-    Ok(())
+    );
 }

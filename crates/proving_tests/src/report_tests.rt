@@ -14,8 +14,8 @@ use report::status_text::{files_limit_line, limit_line, refusal_line, source_fau
 use report::text::{Lines, push_hexadecimal};
 use report::writing::write_lines;
 use std::alloc::Global;
+use std::panic::Expect;
 use std::process::Abort;
-use std::test::Fail;
 use vc_gen::condition::ConditionKind;
 
 fn condition(
@@ -34,42 +34,54 @@ fn condition(
     }
 }
 
-// Values of a parameter, one below 0 and one that is no whole number.
-fn values(alloc: Global) -> Result<Vec<ParameterValue>, Fail> {
-    Ok(vec![in alloc;
-        ParameterValue {
-            name: Name::from_slice(alloc, b"x")?,
-            value: Fraction {
-                unknown: 0,
-                numerator: -3,
-                denominator: 1,
-            },
-        },
-        ParameterValue {
-            name: Name::from_slice(alloc, b"y")?,
-            value: Fraction {
-                unknown: 1,
-                numerator: 170_141_183_460_469_231_731_687_303_715_884_105_727,
-                denominator: 2,
-            },
-        },
-    ]?)
+fn name_of(rt: &impl Abort, alloc: Global, text: &[u8]) -> Name {
+    Name::from_slice(alloc, text).expect(rt, "memory")
 }
 
-fn conditions(alloc: Global) -> Result<Vec<ConditionRecord>, Fail> {
+fn value(
+    rt: &impl Abort,
+    alloc: Global,
+    name: &[u8],
+    unknown: usize,
+    numerator: i128,
+    denominator: i128,
+) -> ParameterValue {
+    ParameterValue {
+        name: name_of(rt, alloc, name),
+        value: Fraction {
+            unknown,
+            numerator,
+            denominator,
+        },
+    }
+}
+
+// Values of a parameter, one below 0 and one that is no whole number.
+fn values(rt: &impl Abort, alloc: Global) -> Vec<ParameterValue> {
+    let mut made = Vec::new(alloc);
+    made.push(value(rt, alloc, b"x", 0, -3, 1))
+        .expect(rt, "memory");
+    made.push(value(rt, alloc, b"y", 1, i128::MAX, 2))
+        .expect(rt, "memory");
+    made
+}
+
+fn conditions(rt: &impl Abort, alloc: Global) -> Vec<ConditionRecord> {
     let mut made = Vec::new(alloc);
     made.push(condition(
         ConditionKind::Ensures,
         5,
         ConditionVerdict::Proved,
         Vec::new(alloc),
-    ))?;
+    ))
+    .expect(rt, "memory");
     made.push(condition(
         ConditionKind::AbortsIf,
         4,
         ConditionVerdict::Open,
-        values(alloc)?,
-    ))?;
+        values(rt, alloc),
+    ))
+    .expect(rt, "memory");
     let mut spent = condition(
         ConditionKind::Aborts,
         2,
@@ -77,79 +89,78 @@ fn conditions(alloc: Global) -> Result<Vec<ConditionRecord>, Fail> {
         Vec::new(alloc),
     );
     spent.check_line = Some(7);
-    made.push(spent)?;
-    Ok(made)
+    made.push(spent).expect(rt, "memory");
+    made
 }
 
 fn function(
+    rt: &impl Abort,
     alloc: Global,
     address: u128,
     name: &[u8],
     verdict: FunctionVerdict,
     conditions: Vec<ConditionRecord>,
-) -> Result<FunctionRecord, Fail> {
-    let module_name = Name::from_slice(alloc, b"m")?;
-    let name = Name::from_slice(alloc, name)?;
-    Ok(FunctionRecord {
+) -> FunctionRecord {
+    FunctionRecord {
         address,
-        module_name,
-        name,
+        module_name: name_of(rt, alloc, b"m"),
+        name: name_of(rt, alloc, name),
         verdict,
         conditions,
-    })
+    }
 }
 
-fn functions(alloc: Global) -> Result<Vec<FunctionRecord>, Fail> {
-    let conditions = conditions(alloc)?;
-    let mut made = Vec::new(alloc);
-    made.push(function(alloc, 1, b"f", FunctionVerdict::Unknown, conditions)?)?;
-    made.push(function(
-        alloc,
-        0xcafe,
-        b"g",
-        FunctionVerdict::Proved,
-        Vec::new(alloc),
-    )?)?;
-    Ok(made)
-}
-
-fn report(alloc: Global) -> Result<Report, Fail> {
-    let functions = functions(alloc)?;
+fn report(rt: &impl Abort, alloc: Global) -> Report {
+    let mut functions = Vec::new(alloc);
+    functions
+        .push(function(
+            rt,
+            alloc,
+            1,
+            b"f",
+            FunctionVerdict::Unknown,
+            conditions(rt, alloc),
+        ))
+        .expect(rt, "memory");
+    functions
+        .push(function(
+            rt,
+            alloc,
+            0xcafe,
+            b"g",
+            FunctionVerdict::Proved,
+            Vec::new(alloc),
+        ))
+        .expect(rt, "memory");
     let mut files = Vec::new(alloc);
-    files.push(Name::from_slice(alloc, b"a.move")?)?;
-    Ok(Report { files, functions })
+    files
+        .push(name_of(rt, alloc, b"a.move"))
+        .expect(rt, "memory");
+    Report { files, functions }
 }
 
 const REPORT: &[u8] =
     b"0x1::m::f: unknown\n  ensures a.move:5: proved\n  aborts_if a.move:4: open\n    x = -3\n    y = 170141183460469231731687303715884105727/2\n  aborts a.move:2 at 7: budget 20000\n0xcafe::m::g: proved\nproved 1 of 2\n";
 
 // How many bytes of the report a sink of this room takes, whose writes with these numbers fail.
-fn writes(
-    rt: &impl Abort,
-    alloc: Global,
-    lines: &Lines,
-    fails: &[u64],
-    room: usize,
-    taken: usize,
-) -> Result<(), Fail> {
-    let calls = Calls::from_slice(alloc, fails)?;
-    let mut sink = VecSink::new(alloc, room, calls)?;
+fn writes(rt: &impl Abort, alloc: Global, lines: &Lines, fails: &[u64], room: usize, taken: usize) {
+    let calls = Calls::from_slice(alloc, fails).expect(rt, "memory");
+    let mut sink = VecSink::new(alloc, room, calls).expect(rt, "memory");
     let written = write_lines(&mut sink, lines);
     assert_eq!(rt; written.is_ok(), taken == REPORT.len(), "room {room}");
     assert!(rt; taken <= REPORT.len());
     assert_eq!(rt; sink.bytes(), &REPORT[..taken]);
-    Ok(())
 }
 
 #[test]
-fn reports_are_written_whole_or_up_to_a_fault(rt: HostRuntime) -> Result<(), Fail> {
-    let lines = report_lines(rt.alloc(), &report(rt.alloc())?)?;
+fn reports_are_written_whole_or_up_to_a_fault(rt: HostRuntime) {
+    let lines = report_lines(rt.alloc(), &report(&rt, rt.alloc())).expect(&rt, "memory");
     let whole = REPORT.len();
-    writes(&rt, rt.alloc(), &lines, &[], 1000, whole)?;
-    writes(&rt, rt.alloc(), &lines, &[], whole, whole)?;
-    writes(&rt, rt.alloc(), &lines, &[], 30, 30)?;
-    writes(&rt, rt.alloc(), &lines, &[1], 1000, 0)?;
-    writes(&rt, rt.alloc(), &lines, &[2], 1000, 19)
+    writes(&rt, rt.alloc(), &lines, &[], 1000, whole);
+    writes(&rt, rt.alloc(), &lines, &[], whole, whole);
+    writes(&rt, rt.alloc(), &lines, &[], 30, 30);
+    writes(&rt, rt.alloc(), &lines, &[1], 1000, 0);
+    writes(&rt, rt.alloc(), &lines, &[2], 1000, 19);
 }
 
 #[test]
@@ -180,21 +191,20 @@ fn refuses(
     line: u32,
     marker: Option<Marker>,
     text: &[u8],
-) -> Result<(), Fail> {
-    let file = Name::from_slice(alloc, b"a.move")?;
+) {
+    let file = name_of(rt, alloc, b"a.move");
     let refusal = Refusal {
         rule,
         file: 0,
         line,
         marker,
     };
-    let refused = refusal_line(alloc, &file, refusal)?;
+    let refused = refusal_line(alloc, &file, refusal).expect(rt, "memory");
     assert_eq!(rt; refused.as_slice(), text);
-    Ok(())
 }
 
 #[test]
-fn refusals_have_a_line(rt: HostRuntime) -> Result<(), Fail> {
+fn refusals_have_a_line(rt: HostRuntime) {
     let inline = Some(Marker::Inline);
     refuses(
         &rt,
@@ -203,7 +213,7 @@ fn refusals_have_a_line(rt: HostRuntime) -> Result<(), Fail> {
         1,
         None,
         b"refused 1 BadToken a.move:1\n",
-    )?;
+    );
     refuses(
         &rt,
         rt.alloc(),
@@ -211,7 +221,7 @@ fn refusals_have_a_line(rt: HostRuntime) -> Result<(), Fail> {
         20,
         None,
         b"refused 2 Grammar a.move:20\n",
-    )?;
+    );
     refuses(
         &rt,
         rt.alloc(),
@@ -219,7 +229,7 @@ fn refusals_have_a_line(rt: HostRuntime) -> Result<(), Fail> {
         3,
         inline,
         b"refused 3 LeftOut inline a.move:3\n",
-    )?;
+    );
     refuses(
         &rt,
         rt.alloc(),
@@ -227,24 +237,23 @@ fn refusals_have_a_line(rt: HostRuntime) -> Result<(), Fail> {
         1,
         None,
         b"refused 18 NotBuilt a.move:1\n",
-    )
+    );
 }
 
 #[test]
-fn faults_and_limits_have_a_line(rt: HostRuntime) -> Result<(), Fail> {
+fn faults_and_limits_have_a_line(rt: HostRuntime) {
     let alloc = rt.alloc();
-    let file = Name::from_slice(alloc, b"a.move")?;
-    let files = files_limit_line(alloc, 65)?;
+    let file = name_of(&rt, alloc, b"a.move");
+    let files = files_limit_line(alloc, 65).expect(&rt, "memory");
     assert_eq!(rt; files.as_slice(), b"limit files 65\n".as_slice());
-    let fault = source_fault_line(alloc, &file)?;
+    let fault = source_fault_line(alloc, &file).expect(&rt, "memory");
     assert_eq!(rt; fault.as_slice(), b"fault source a.move\n".as_slice());
-    let limit = limit_line(alloc, &file, LimitKind::Nesting)?;
+    let limit = limit_line(alloc, &file, LimitKind::Nesting).expect(&rt, "memory");
     assert_eq!(rt; limit.as_slice(), b"limit nesting a.move\n".as_slice());
-    Ok(())
 }
 
 #[test]
-fn addresses_are_hexadecimal(rt: HostRuntime) -> Result<(), Fail> {
+fn addresses_are_hexadecimal(rt: HostRuntime) {
     let rows: [(u128, &[u8]); 4] = [
         (0, b"0"),
         (16, b"10"),
@@ -253,8 +262,7 @@ fn addresses_are_hexadecimal(rt: HostRuntime) -> Result<(), Fail> {
     ];
     for (number, text) in rows {
         let mut digits = Bytes::new(rt.alloc());
-        push_hexadecimal(&mut digits, number)?;
+        push_hexadecimal(&mut digits, number).expect(&rt, "memory");
         assert_eq!(rt; digits.as_slice(), text);
     }
-    Ok(())
 }

@@ -1,5 +1,6 @@
 //! Parts of members that are read from texts: how many things they hold, and how many tokens are left.
 
+use crate::texts::scan;
 use declaration_parse::abilities::{read_abilities, read_constraint};
 use declaration_parse::attributes::read_attributes;
 use declaration_parse::header::{read_acquires, read_visibility};
@@ -8,8 +9,6 @@ use declaration_parse::structs::read_struct;
 use declaration_parse::typed_names::read_inputs;
 use file_tree::member::{Imported, Visibility};
 use pv_base::span::Span;
-use src_tree::scanner::tokens;
-use src_tree::token::Tokens;
 use std::alloc::Global;
 use std::process::Abort;
 use token_reading::fault::ReadFault;
@@ -26,17 +25,6 @@ const PLACE: Span = Span {
     start: 0,
     end: 0,
 };
-
-fn scan(rt: &impl Abort, alloc: Global, text: &[u8]) -> Tokens {
-    assert!(rt; text.len() < 1000);
-    match tokens(alloc, 0, text) {
-        Ok(found) => found,
-        Err(fault) => {
-            assert!(rt; false, "{fault:?}");
-            Tokens::new(alloc)
-        }
-    }
-}
 
 fn reads(rt: &impl Abort, counts: Result<Counts, ReadFault>, things: usize, left: usize) {
     match counts {

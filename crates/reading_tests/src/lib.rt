@@ -13,3 +13,5 @@ mod pv_parse_spelling_tests;
 mod pv_parse_tests;
 #[cfg(test)]
 mod source_parse_tests;
+#[cfg(test)]
+mod texts;

@@ -1,23 +1,11 @@
 //! Files that are read from texts, and why others are not.
 
+use crate::texts::scan;
 use left_out::explain::ParseFault;
 use left_out::marker::Marker;
 use pv_parse::denoted::modules;
-use src_tree::scanner::tokens;
-use src_tree::token::Tokens;
 use std::alloc::Global;
 use std::process::Abort;
-
-fn scan(rt: &impl Abort, alloc: Global, text: &[u8]) -> Tokens {
-    assert!(rt; text.len() < 1000);
-    match tokens(alloc, 0, text) {
-        Ok(found) => found,
-        Err(fault) => {
-            assert!(rt; false, "{fault:?}");
-            Tokens::new(alloc)
-        }
-    }
-}
 
 /// The modules of the text have this many members in all.
 fn reads(rt: &impl Abort, alloc: Global, text: &[u8], members: usize) {

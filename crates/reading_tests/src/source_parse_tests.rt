@@ -1,23 +1,11 @@
 //! Sources that are read from texts, and why others are not.
 
+use crate::texts::scan;
 use left_out::explain::ParseFault;
 use left_out::marker::Marker;
 use source_parse::denoted::source;
-use src_tree::scanner::tokens;
-use src_tree::token::Tokens;
 use std::alloc::Global;
 use std::process::Abort;
-
-fn scan(rt: &impl Abort, alloc: Global, text: &[u8]) -> Tokens {
-    assert!(rt; text.len() < 1000);
-    match tokens(alloc, 0, text) {
-        Ok(found) => found,
-        Err(fault) => {
-            assert!(rt; false, "{fault:?}");
-            Tokens::new(alloc)
-        }
-    }
-}
 
 /// How many members the modules of a text have in all, or why it is no source.
 fn found(rt: &impl Abort, alloc: Global, text: &[u8]) -> Result<usize, ParseFault> {

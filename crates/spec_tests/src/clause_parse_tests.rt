@@ -1,24 +1,12 @@
 //! Spec blocks and their clauses that are read from texts, and texts that are none.
 
+use crate::texts::scan;
 use clause_parse::block::read_block;
 use clause_parse::spec_block::read_spec_block;
 use clause_tree::clause::{Clause, Spec};
 use clause_tree::slot::Slot;
-use src_tree::scanner::tokens;
-use src_tree::token::Tokens;
 use std::alloc::Global;
 use std::process::Abort;
-
-fn scan(rt: &impl Abort, alloc: Global, text: &[u8]) -> Tokens {
-    assert!(rt; text.len() < 1000);
-    match tokens(alloc, 0, text) {
-        Ok(found) => found,
-        Err(fault) => {
-            assert!(rt; false, "{fault:?}");
-            Tokens::new(alloc)
-        }
-    }
-}
 
 /// Whether `update` or `post` stands in a clause as a sign.
 fn has_sign(clause: &Clause) -> bool {

@@ -9,3 +9,5 @@ mod spec_expression_parse_tests;
 mod spec_parse_spelling_tests;
 #[cfg(test)]
 mod spec_parse_tests;
+#[cfg(test)]
+mod texts;

@@ -1,59 +1,15 @@
 //! One text of each form of a spec expression, and of each form of a spec block, read and spelled again.
 
+use crate::texts::{compares, scan};
 use clause_tree::slot::Slot;
 use clause_tree::spell_clause::spell;
-use move_tree::lexeme::{Lexeme, Lexemes};
+use move_tree::lexeme::Lexemes;
 use spec_parse::block::spec_block;
 use spec_parse::denoted::spec_expression;
 use spec_tree::spec_expression::{SpecExpression, SpecNode};
 use spec_tree::spell_spec_expression::spell_spec_expression;
-use src_tree::scanner::tokens;
-use src_tree::token::{Token, TokenKind, Tokens};
 use std::alloc::Global;
 use std::process::Abort;
-
-fn is_kind(kind: &TokenKind, said: &TokenKind) -> bool {
-    match (kind, said) {
-        (TokenKind::Word(a), TokenKind::Word(b)) => a == b,
-        (TokenKind::ByteString(a), TokenKind::ByteString(b)) => a == b,
-        (TokenKind::Number(a), TokenKind::Number(b)) => {
-            a.text == b.text && a.value == b.value && a.suffix == b.suffix
-        }
-        (TokenKind::Punctuation(a), TokenKind::Punctuation(b)) => a == b,
-        _ => false,
-    }
-}
-
-/// Whether a token is one that a tree speaks of.
-fn is_token(token: &Token, said: &Lexeme) -> bool {
-    let is_placed = match said.place {
-        None => true,
-        Some(place) => place == token.span,
-    };
-    let is_glued = match said.glued {
-        None => true,
-        Some(glued) => glued == token.glued,
-    };
-    is_placed && is_glued && is_kind(&token.kind, &said.kind)
-}
-
-fn compares(rt: &impl Abort, found: &Tokens, spelled: &Lexemes) {
-    assert_eq!(rt; found.len(), spelled.as_slice().len());
-    for (i, (token, said)) in found.as_slice().iter().zip(spelled.as_slice()).enumerate() {
-        assert!(rt; is_token(token, said), "token {i}");
-    }
-}
-
-fn scan(rt: &impl Abort, alloc: Global, text: &[u8]) -> Tokens {
-    assert!(rt; text.len() < 1000);
-    match tokens(alloc, 0, text) {
-        Ok(found) => found,
-        Err(fault) => {
-            assert!(rt; false, "{fault:?}");
-            Tokens::new(alloc)
-        }
-    }
-}
 
 /// What a spec expression is as a whole.
 #[derive(Clone, Copy, Debug, PartialEq, Eq)]

@@ -1,5 +1,6 @@
 //! Spec blocks and spec expressions that texts denote, and why others denote none.
 
+use crate::texts::scan;
 use clause_tree::clause::Spec;
 use clause_tree::slot::Slot;
 use left_out::explain::ParseFault;
@@ -7,21 +8,8 @@ use left_out::marker::Marker;
 use spec_parse::block::spec_block;
 use spec_parse::denoted::spec_expression;
 use spec_tree::spec_expression::{SpecExpression, SpecNode};
-use src_tree::scanner::tokens;
-use src_tree::token::Tokens;
 use std::alloc::Global;
 use std::process::Abort;
-
-fn scan(rt: &impl Abort, alloc: Global, text: &[u8]) -> Tokens {
-    assert!(rt; text.len() < 1000);
-    match tokens(alloc, 0, text) {
-        Ok(found) => found,
-        Err(fault) => {
-            assert!(rt; false, "{fault:?}");
-            Tokens::new(alloc)
-        }
-    }
-}
 
 /// What a spec expression is as a whole.
 #[derive(Clone, Copy, Debug, PartialEq, Eq)]

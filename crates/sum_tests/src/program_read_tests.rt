@@ -8,6 +8,7 @@ use program_read::program::read_program;
 use pv_base::lists::Bytes;
 use pv_base::memory::NoMemory;
 use std::alloc::Global;
+use std::panic::Expect;
 use std::process::Abort;
 use std::test::Fail;
 use sum_tree::function::SumModule;
@@ -135,29 +136,43 @@ fn limits_of_files(rt: HostRuntime) -> Result<(), Fail> {
     Ok(())
 }
 
+/// The module is in this file, and has this address, this name and so many functions.
+fn compares(
+    rt: &impl Abort,
+    module: &SumModule,
+    file: u32,
+    address: u128,
+    name: &[u8],
+    functions: usize,
+) {
+    assert_eq!(rt; module.file, file);
+    assert_eq!(rt; module.address, address);
+    assert!(rt; module.name.as_slice() == name);
+    assert_eq!(rt; module.functions.len(), functions);
+}
+
+/// The modules of files that have a program.
+fn modules_of(rt: &impl Abort, alloc: Global, texts: &[&str]) -> Vec<SumModule> {
+    match read(rt, alloc, texts).expect(rt, "memory") {
+        Ok(modules) => modules,
+        Err(fault) => {
+            assert!(rt; false, "{fault:?}");
+            Vec::new(alloc)
+        }
+    }
+}
+
 #[test]
-fn programs_of_files(rt: HostRuntime) -> Result<(), Fail> {
+fn programs_of_files(rt: HostRuntime) {
     let alloc = rt.alloc();
     let first =
         "module 0x1::m { #[test] fun f(x: u64): u64 { (x + 1) - x } spec f { aborts_if false; } }";
     let second = "module 0x1::n { } module 0x2::m { fun g(): u64 { 1 } fun h(): u64 { 2 } }";
-    let program = read(&rt, alloc, &[first, "", second])?;
+    let modules = modules_of(&rt, alloc, &[first, "", second]);
+    assert_eq!(rt; modules.len(), 3);
     let expected = [(0, 1, b"m", 1), (2, 1, b"n", 0), (2, 2, b"m", 2)];
-    match program {
-        Ok(modules) => {
-            assert_eq!(rt; modules.len(), 3);
-            for (module, (file, address, name, functions)) in modules.iter().zip(expected) {
-                assert_eq!(rt; module.file, file);
-                assert_eq!(rt; module.address, address);
-                assert!(rt; module.name.as_slice() == name.as_slice());
-                assert_eq!(rt; module.functions.len(), functions);
-            }
-        }
-        Err(fault) => assert!(rt; false, "{fault:?}"),
+    for (module, (file, address, name, functions)) in modules.iter().zip(expected) {
+        compares(&rt, module, file, address, name, functions);
     }
-    match read(&rt, alloc, &[])? {
-        Ok(modules) => assert!(rt; modules.is_empty()),
-        Err(fault) => assert!(rt; false, "{fault:?}"),
-    }
-    Ok(())
+    assert!(rt; modules_of(&rt, alloc, &[]).is_empty());
 }

@@ -153,8 +153,23 @@ fn truth(value: bool) -> SpecExpression {
     SpecExpression { node }
 }
 
+/// The clauses are one `aborts_if false`, whose word begins here.
+fn are_one_abort(rt: &impl Abort, alloc: Global, clauses: &[ClauseTree], start: u32) {
+    match read_clauses(alloc, clauses) {
+        Ok(read) => {
+            for clause in read.iter() {
+                assert_eq!(rt; clause.kind, ClauseKind::AbortsIf);
+                assert_eq!(rt; clause.start, start);
+                assert!(rt; matches!(clause.condition, Condition::False));
+            }
+            assert_eq!(rt; read.len(), 1);
+        }
+        Err(fault) => assert!(rt; false, "{fault:?}"),
+    }
+}
+
 #[test]
-fn clauses_are_read(rt: HostRuntime) -> Result<(), Fail> {
+fn clauses_are_read(rt: HostRuntime) {
     let alloc = rt.alloc();
     let mut clauses = Vec::new(alloc);
     clauses
@@ -164,17 +179,7 @@ fn clauses_are_read(rt: HostRuntime) -> Result<(), Fail> {
             code: AbortCode::Bare,
         })
         .expect(&rt, "memory");
-    match read_clauses(alloc, clauses.as_slice()) {
-        Ok(read) => {
-            for clause in read.iter() {
-                assert_eq!(rt; clause.kind, ClauseKind::AbortsIf);
-                assert_eq!(rt; clause.start, 7);
-                assert!(rt; matches!(clause.condition, Condition::False));
-            }
-            assert_eq!(rt; read.len(), 1);
-        }
-        Err(fault) => assert!(rt; false, "{fault:?}"),
-    }
+    are_one_abort(&rt, alloc, clauses.as_slice(), 7);
     clauses
         .push(ClauseTree::Invariant {
             place: at(9),
@@ -183,5 +188,4 @@ fn clauses_are_read(rt: HostRuntime) -> Result<(), Fail> {
         })
         .expect(&rt, "memory");
     assert!(rt; read_clauses(alloc, clauses.as_slice()).is_err());
-    Ok(())
 }

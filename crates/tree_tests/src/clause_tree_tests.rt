@@ -1,62 +1,23 @@
 //! Trees that are built by hand, against the tokens of the texts that they are trees of.
 
+use crate::texts::compares;
 use clause_tree::clause::{
     AbortCode, Bindings, Clause, Clauses, Include, Pragma, PragmaValue, Pragmas, Schema, Spec,
     SpecFunction, Targets,
 };
 use clause_tree::spell_clause::{spell, spell_clause};
 use file_tree::member::{TypeParameter, TypeParameters, TypedName, TypedNames};
-use move_tree::lexeme::{Identifier, Lexeme, Lexemes, Numeral};
+use move_tree::lexeme::{Identifier, Lexemes, Numeral};
 use move_tree::path::Path;
 use move_tree::types::{SourceType, SourceTypeNode, TypeArguments};
 use pv_base::name::Name;
 use pv_base::span::Span;
 use spec_tree::spec_expression::{SpecExpression, SpecField, SpecNode};
-use src_tree::scanner::tokens;
-use src_tree::token::{NumberLiteral, NumberSuffix, Token, TokenKind};
+use src_tree::token::{NumberLiteral, NumberSuffix};
 use std::alloc::Global;
 use std::panic::Expect;
 use std::process::Abort;
 use std::test::Fail;
-
-// ---- the tokens of a text are those that a tree speaks of
-
-fn is_kind(kind: &TokenKind, said: &TokenKind) -> bool {
-    match (kind, said) {
-        (TokenKind::Word(a), TokenKind::Word(b)) => a == b,
-        (TokenKind::ByteString(a), TokenKind::ByteString(b)) => a == b,
-        (TokenKind::Number(a), TokenKind::Number(b)) => {
-            a.text == b.text && a.value == b.value && a.suffix == b.suffix
-        }
-        (TokenKind::Punctuation(a), TokenKind::Punctuation(b)) => a == b,
-        _ => false,
-    }
-}
-
-fn is_token(token: &Token, said: &Lexeme) -> bool {
-    let is_placed = match said.place {
-        None => true,
-        Some(place) => place == token.span,
-    };
-    let is_glued = match said.glued {
-        None => true,
-        Some(glued) => glued == token.glued,
-    };
-    is_placed && is_glued && is_kind(&token.kind, &said.kind)
-}
-
-fn compares(rt: &impl Abort, alloc: Global, text: &[u8], spelled: &Lexemes) {
-    assert!(rt; text.len() < 1000);
-    match tokens(alloc, 0, text) {
-        Ok(found) => {
-            assert_eq!(rt; found.len(), spelled.as_slice().len());
-            for (i, (token, said)) in found.as_slice().iter().zip(spelled.as_slice()).enumerate() {
-                assert!(rt; is_token(token, said), "token {i}");
-            }
-        }
-        Err(fault) => assert!(rt; false, "{fault:?}"),
-    }
-}
 
 fn clause_spells(rt: &impl Abort, alloc: Global, text: &[u8], tree: Box<Clause>) {
     let mut spelled = Lexemes::new(alloc);

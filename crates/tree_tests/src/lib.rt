@@ -7,3 +7,5 @@ mod clause_tree_tests;
 mod move_tree_tests;
 #[cfg(test)]
 mod src_tree_tests;
+#[cfg(test)]
+mod texts;
