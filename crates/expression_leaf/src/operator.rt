@@ -2,39 +2,18 @@
 
 ghost use Rattle.std.specs.Prelude.{◌≡◌, None, Some};
 ghost use Rattle.std.specs.Option.{option_map};
-ghost use Rattle.expression_tree.specs.ProperExpressions.{operator_level, right_level};
+ghost use Rattle.expression_tree.specs.ProperExpressions.{right_level};
 ghost use Rattle.token_reading.specs.ChainReading.{next_operator};
 ghost use Rattle.expression_leaf.specs.OperatorReading.{binary_of, ends_in_vector, joints, opens_arguments, operator_behind, whole_operator};
 
 use crate::leaf::skip_glued;
+use expression_tree::ending::is_path_last;
 use expression_tree::expression::{Expression, ExpressionNode};
-use expression_tree::spell_expression::is_path_last;
+use expression_tree::level::operator_level;
 use move_tree::operator::BinaryOperator;
 use pv_base::span::Span;
 use src_tree::token::{Punctuation, Token, TokenKind};
 use type_parse::path::is_single;
-
-/// The level of an operator, from 3, the loosest, to 12, the tightest.
-fn operator_level(operator: BinaryOperator) -> usize
-    ensures { result ≡ operator_level operator }
-{
-    match operator {
-        BinaryOperator::Or => 3,
-        BinaryOperator::And => 4,
-        BinaryOperator::Equal
-        | BinaryOperator::NotEqual
-        | BinaryOperator::Less
-        | BinaryOperator::LessEqual
-        | BinaryOperator::Greater
-        | BinaryOperator::GreaterEqual => 5,
-        BinaryOperator::BitOr => 7,
-        BinaryOperator::BitXor => 8,
-        BinaryOperator::BitAnd => 9,
-        BinaryOperator::ShiftLeft | BinaryOperator::ShiftRight => 10,
-        BinaryOperator::Add | BinaryOperator::Subtract => 11,
-        BinaryOperator::Multiply | BinaryOperator::Divide | BinaryOperator::Remainder => 12,
-    }
-}
 
 /// The loosest level of what stands on the right of an operator: all of them associate to the left.
 pub fn right_level(operator: BinaryOperator) -> usize

@@ -1,5 +1,6 @@
-//! Expressions, blocks and their items as source trees, and the tokens that spell them.
+//! Expressions, blocks and their items as source trees: what their tokens are, and which trees are proper.
 #![tactic(auto)]
 
+pub mod ending;
 pub mod expression;
-pub mod spell_expression;
+pub mod level;

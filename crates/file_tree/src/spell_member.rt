@@ -12,7 +12,7 @@ use crate::member::{
     Member, MemberForm, Module, Paths, SpecBlock, Struct, TypeParameter, TypeParameters, TypedName,
     TypedNames, Use, Visibility,
 };
-use expression_tree::spell_expression::{spell_annotation, spell_block, spell_expression};
+use expression_spelling::spell_expression::{spell_annotation, spell_block, spell_expression};
 use move_tree::lexeme::{Identifier, Lexemes};
 use move_tree::path::{Path, spell_identifier, spell_module_name, spell_path};
 use move_tree::spec_tokens::spell_tokens;

@@ -19,7 +19,7 @@ use crate::operator::{next_operator, skip_glued};
 use move_tree::path::Path;
 use move_tree::types::TypeArguments;
 use pv_base::span::Span;
-use spec_tree::level::right_level;
+use spec_level::level::right_level;
 use spec_tree::spec_expression::{Bind, Domain, SpecExpression, SpecField, SpecNode, Trigger};
 use spec_tree::spec_operator::Quantifier;
 use src_tree::token::{Punctuation, Token};

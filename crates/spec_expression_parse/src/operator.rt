@@ -8,7 +8,7 @@ ghost use Rattle.spec_expression_parse.specs.OperatorReading.{kind_operator, len
 
 use move_tree::operator::BinaryOperator;
 use pv_base::span::Span;
-use spec_tree::level::operator_level;
+use spec_level::level::spec_operator_level;
 use spec_tree::spec_expression::SpecExpression;
 use spec_tree::spec_operator::SpecOperator;
 use spec_tree::spell_spec_expression::is_path_last;
@@ -126,7 +126,7 @@ pub fn next_operator<'a>(
     ensures { option_map (λ read. ((read.0, read.1), read.2.now)) result ≡ next_operator spec_joints minimum left.now tokens.now }
 {
     let (operator, place, rest) = read_operator(tokens, is_path_last(left))?;
-    if minimum <= operator_level(operator) {
+    if minimum <= spec_operator_level(operator) {
         Some((operator, place, rest))
     } else {
         None

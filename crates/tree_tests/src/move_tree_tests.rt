@@ -1,8 +1,8 @@
 //! Trees that are built by hand, against the tokens of the texts that they are trees of.
 
 use crate::texts::compares;
+use expression_spelling::spell_expression::spell_expression;
 use expression_tree::expression::{Block, Expression, ExpressionNode, FieldValue, Item, ItemNode};
-use expression_tree::spell_expression::spell_expression;
 use move_tree::lexeme::{Identifier, Lexemes, Numeral};
 use move_tree::literal::Literal;
 use move_tree::operator::{BinaryOperator, UnaryOperator, UseKind};

@@ -3,8 +3,8 @@ use Rattle.expression_tree.specs.ExpressionData.{ExpressionData}
 use Rattle.expression_tree.specs.ExpressionView.{expression_of_node}
 use Rattle.expression_tree.specs.ExpressionSpelling.{expression_spelling}
 use Rattle.move_tree.proofs.CommaLists.{three_parts}
-use Rattle.expression_tree.proofs.CommaLists.{items_taken, expressions_comma_list, field_values_comma_list}
-use Rattle.expression_tree.proofs.spell_expression.+spell_expression.Goals as goal
+use Rattle.expression_spelling.proofs.CommaLists.{items_taken, expressions_comma_list, field_values_comma_list}
+use Rattle.expression_spelling.proofs.spell_expression.+spell_expression.Goals as goal
 
 pub spell_expressions-returns : goal.spell_expressions-returns
 spell_expressions-returns t c =

@@ -9,9 +9,10 @@ ghost use Rattle.move_tree.specs.TypeTreeData.{maybe_arguments_of};
 ghost use Rattle.move_tree.specs.TypeSpelling.{type_spelling, maybe_arguments_spelling};
 ghost use Rattle.expression_tree.specs.ExpressionView.{unboxed};
 ghost use Rattle.expression_tree.specs.ExpressionData.{IfExpression, maybe_expression_of, expressions_of, items_of, field_values_of};
-ghost use Rattle.expression_tree.specs.ExpressionSpelling.{ends_in_path, annotation_spelling, maybe_loop_spec_spelling, expression_spelling, maybe_expression_spelling, else_spelling, block_spelling, items_spelling, item_spelling, initial_spelling, field_value_spelling, expression_spellings, field_value_spellings, expression_after_comma, field_value_after_comma};
+ghost use Rattle.expression_tree.specs.ExpressionSpelling.{annotation_spelling, maybe_loop_spec_spelling, expression_spelling, maybe_expression_spelling, else_spelling, block_spelling, items_spelling, item_spelling, initial_spelling, field_value_spelling, expression_spellings, field_value_spellings, expression_after_comma, field_value_after_comma};
 
-use crate::expression::{Block, Expression, ExpressionNode, FieldValue, Item, ItemNode};
+use expression_tree::ending::is_path_last;
+use expression_tree::expression::{Block, Expression, ExpressionNode, FieldValue, Item, ItemNode};
 use move_tree::lexeme::{Identifier, Lexemes};
 use move_tree::literal::spell_literal;
 use move_tree::operator::{spell_operator, spell_unary, spell_use};
@@ -24,35 +25,6 @@ use pv_base::memory::NoMemory;
 use pv_base::span::Span;
 use src_tree::token::Punctuation;
 use std::alloc::Global;
-
-/// Whether the last token of an expression belongs to a path.
-pub fn is_path_last(expression: &Expression) -> bool
-    ensures { result ≡ ends_in_path expression.now }
-{
-    match &expression.node {
-        ExpressionNode::Path(_) => true,
-        ExpressionNode::Binary { right, .. } => is_path_last(right),
-        ExpressionNode::Unary { operand, .. } => is_path_last(operand),
-        ExpressionNode::Assign { .. }
-        | ExpressionNode::If { .. }
-        | ExpressionNode::While { .. }
-        | ExpressionNode::Loop { .. }
-        | ExpressionNode::Return { .. }
-        | ExpressionNode::Abort { .. }
-        | ExpressionNode::Break(_)
-        | ExpressionNode::Continue(_)
-        | ExpressionNode::Use { .. }
-        | ExpressionNode::Field { .. }
-        | ExpressionNode::Literal(_)
-        | ExpressionNode::Call { .. }
-        | ExpressionNode::Pack { .. }
-        | ExpressionNode::Vector { .. }
-        | ExpressionNode::Assert { .. }
-        | ExpressionNode::Tuple { .. }
-        | ExpressionNode::Cast { .. }
-        | ExpressionNode::Block(_) => false,
-    }
-}
 
 /// The tokens of a type behind its colon, where there is one.
 pub fn spell_annotation(
@@ -418,7 +390,7 @@ fn spell_expressions(
 }
 
 #[cycle(spell_expression)]
-#[tactic(auto, using(crate::proofs::Smaller::expression_smaller))]
+#[tactic(auto, using(expression_tree::proofs::Smaller::expression_smaller))]
 fn spell_more_expressions(
     alloc: Global,
     expressions: &[Expression],
@@ -466,7 +438,7 @@ fn spell_field_values(
 }
 
 #[cycle(spell_expression)]
-#[tactic(auto, using(crate::proofs::Smaller::field_value_smaller))]
+#[tactic(auto, using(expression_tree::proofs::Smaller::field_value_smaller))]
 fn spell_more_field_values(
     alloc: Global,
     fields: &[FieldValue],
@@ -508,7 +480,7 @@ fn spell_value(
 }
 
 #[cycle(spell_expression)]
-#[tactic(auto, using(crate::proofs::Smaller::item_smaller))]
+#[tactic(auto, using(expression_tree::proofs::Smaller::item_smaller))]
 fn spell_items(alloc: Global, items: &[Item], into: &mut Lexemes) -> Result<(), NoMemory>
     ensures { OnOk result (into.new ≡ into.old ++ items_spelling (items_of items.now)) }
 {

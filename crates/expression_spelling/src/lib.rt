@@ -1,0 +1,4 @@
+//! The tokens that spell expressions, blocks and their items.
+#![tactic(auto)]
+
+pub mod spell_expression;
