@@ -1,7 +1,11 @@
--- A fault of a part is one of the whole.
-use Rattle.std.proofs.Common.{ℕ, sym, subst}
-use Rattle.std.specs.Prelude.{◌≡◌, Result, Ok, Err, IsErrAnd, MatchResult}
+-- A fault of a part is one of the whole, and what two faults tell.
+use Rattle.std.proofs.Common.{ℕ, Bool, true, false, if◌then◌else◌, sym, ap, subst, refl, ◌∙◌}
+use Rattle.std.specs.Prelude.{◌≡◌, Option, Result, Ok, Err, IsErrAnd, MatchResult}
+use Rattle.answers.specs.Rules.{tells_place}
+use Rattle.answers.specs.declared.rule.Rule.{Rule}
+use Rattle.left_out.specs.declared.marker.Marker.{Marker}
 use Rattle.program_read.specs.declared.fault.FileFault.{FileFault}
+use Rattle.program_read.specs.declared.fault.FileFault.TheVariants.{Breaks, Passes}
 use Rattle.program_read.specs.declared.fault.ProgramFault.{ProgramFault}
 use Rattle.program_read.specs.declared.fault.ProgramFault.TheVariants.{InFile, NoMemory}
 use Rattle.program_read.specs.FileFault.{IfInFile}

@@ -1,12 +1,12 @@
 mod FaultLemmas
 pub mod NumberedLemmas
 mod NumberedLaws
+pub mod ChainLemmas
+mod ChainLaws
 mod MarkerLaws
 mod TextLemmas
-mod TextLaws
-mod SourceLemmas
 mod LocalLemmas
 mod ModuleLemmas
 mod BuiltLaws
 mod ModuleLaws
-mod ProgramLaws
+pub mod StageLaws

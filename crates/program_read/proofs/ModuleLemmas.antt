@@ -7,6 +7,7 @@ use Rattle.std.specs.BTreeSet.{BTreeSet}
 use Rattle.std.specs.BTreeSet as set
 use Rattle.std.proofs.lemmas.List.{map-append, take_more}
 use Rattle.std.proofs.lemmas.List.Folds.{list_any-append}
+use Rattle.answers.specs.declared.rule.Rule.TheVariants.{NotBuilt}
 use Rattle.token_reading.specs.TokenReading.{same_name}
 use Rattle.source_parse.specs.SourceModuleData.{SourceModuleData}
 use Rattle.sum_tree.specs.SumModuleData.{SumModuleData}
@@ -14,8 +15,8 @@ use Rattle.sum_module.specs.Built.{IsUnbuiltAt}
 use Rattle.sum_module.specs.Places.{module_place}
 use Rattle.sum_program.specs.Program.{IsSumModule}
 use Rattle.program_read.specs.declared.fault.FileFault.{FileFault}
-use Rattle.program_read.specs.declared.fault.FileFault.TheVariants.{BadToken, TooManyTokens, NestsTooDeep, Grammar, LeftOut, TooManyLocals, NotBuilt}
-use Rattle.program_read.specs.Modules.{AreModules, IsFirstUnbuilt, ModulesStopped, is_taken, numbered}
+use Rattle.program_read.specs.FileFault.{breaks}
+use Rattle.program_read.specs.Modules.{AreModules, HasUnbuilt, IsFirstUnbuilt, is_taken, numbered}
 use Rattle.program_read.specs.ModuleReading.{AreRead, IsSetOf, is_in, key_cmp}
 use Rattle.program_read.proofs.NumberedLemmas.{behind, counted, parts_at, taken_all}
 
@@ -70,46 +71,52 @@ read_new modules found more old new file m f key added a i k n t s e =
 -- ---- a module that is not built
 
 pub unbuilt : (modules : List (ℕ × SourceModuleData)) (found : List SumModuleData) (taken : BTreeSet (ℕ × List ℕ)) (file : ℕ) (m : SourceModuleData) (place : ℕ)
-    → AreRead modules found taken → IsUnbuiltAt m place → IsFirstUnbuilt (modules ++ (file, m) ∷ []) file place
+    → AreRead modules found taken → IsUnbuiltAt m place → HasUnbuilt (modules ++ (file, m) ∷ []) file (breaks NotBuilt place)
 unbuilt modules found taken file m place a u = record {
-  before = modules;
-  module_tree = m;
-  behind = [];
-  parts = refl;
-  found = found;
-  are = a.0;
-  unbuilt = inl u;
+  place = place;
+  fault_is = refl;
+  first = record {
+    before = modules;
+    module_tree = m;
+    behind = [];
+    parts = refl;
+    found = found;
+    are = a.0;
+    unbuilt = inl u;
+  };
 }
 
 pub taken_twice : (modules : List (ℕ × SourceModuleData)) (found : List SumModuleData) (taken : BTreeSet (ℕ × List ℕ)) (file : ℕ) (m : SourceModuleData) (f : SumModuleData) (place : ℕ)
-    → AreRead modules found taken → IsSumModule file m f → is_in taken f.address f.name ≡ true → place ≡ (module_place m).start → IsFirstUnbuilt (modules ++ (file, m) ∷ []) file place
+    → AreRead modules found taken → IsSumModule file m f → is_in taken f.address f.name ≡ true → place ≡ (module_place m).start → HasUnbuilt (modules ++ (file, m) ∷ []) file (breaks NotBuilt place)
 taken_twice modules found taken file m f place a i t e = record {
-  before = modules;
-  module_tree = m;
-  behind = [];
-  parts = refl;
-  found = found;
-  are = a.0;
-  unbuilt = inr (record { found = f; is = i; taken = sym (a.1 f.address f.name) ∙ t; place_is = e });
+  place = place;
+  fault_is = refl;
+  first = record {
+    before = modules;
+    module_tree = m;
+    behind = [];
+    parts = refl;
+    found = found;
+    are = a.0;
+    unbuilt = inr (record { found = f; is = i; taken = sym (a.1 f.address f.name) ∙ t; place_is = e });
+  };
 }
 
 -- others behind it change nothing
-pub stopped_before : (modules more : List (ℕ × SourceModuleData)) (file : ℕ) (fault : FileFault) → ModulesStopped modules file fault → ModulesStopped (modules ++ more) file fault
-stopped_before modules more file (NotBuilt place) u = record {
-  before = u.before;
-  module_tree = u.module_tree;
-  behind = u.behind ++ more;
-  parts = ap (λ list. list ++ more) u.parts ∙ append_assoc u.before ((file, u.module_tree) ∷ u.behind) more;
-  found = u.found;
-  are = u.are;
-  unbuilt = u.unbuilt;
+pub stopped_before : (modules more : List (ℕ × SourceModuleData)) (file : ℕ) (fault : FileFault) → HasUnbuilt modules file fault → HasUnbuilt (modules ++ more) file fault
+stopped_before modules more file fault u = record {
+  place = u.place;
+  fault_is = u.fault_is;
+  first = record {
+    before = u.first.before;
+    module_tree = u.first.module_tree;
+    behind = u.first.behind ++ more;
+    parts = ap (λ list. list ++ more) u.first.parts ∙ append_assoc u.first.before ((file, u.first.module_tree) ∷ u.first.behind) more;
+    found = u.first.found;
+    are = u.first.are;
+    unbuilt = u.first.unbuilt;
+  };
 }
-stopped_before modules more file (BadToken place) u = absurd u
-stopped_before modules more file (TooManyTokens count) u = absurd u
-stopped_before modules more file NestsTooDeep u = absurd u
-stopped_before modules more file (Grammar place) u = absurd u
-stopped_before modules more file (LeftOut marker place) u = absurd u
-stopped_before modules more file (TooManyLocals count) u = absurd u
 
 -- ---- the modules of a file
 
@@ -124,9 +131,9 @@ file_more before file modules i d h =
 
 -- a module stops the reading of its file
 pub stops_in_file : (before : List (ℕ × SourceModuleData)) (number : ℕ) (modules : List SourceModuleData) (i : ℕ) (d : SourceModuleData) (file : ℕ) (fault : FileFault) → i < length modules
-    → ModulesStopped ((before ++ in_file number (take i modules)) ++ (number, get_or modules i d) ∷ []) file fault → ModulesStopped (before ++ in_file number modules) file fault
+    → HasUnbuilt ((before ++ in_file number (take i modules)) ++ (number, get_or modules i d) ∷ []) file fault → HasUnbuilt (before ++ in_file number modules) file fault
 stops_in_file before number modules i d file fault h u =
-    subst (λ list. ModulesStopped list file fault) (sym whole) (stopped_before ((before ++ in_file number (take i modules)) ++ (number, get_or modules i d) ∷ []) (in_file number (behind modules i)) file fault u)
+    subst (λ list. HasUnbuilt list file fault) (sym whole) (stopped_before ((before ++ in_file number (take i modules)) ++ (number, get_or modules i d) ∷ []) (in_file number (behind modules i)) file fault u)
   where
     whole : before ++ in_file number modules ≡ ((before ++ in_file number (take i modules)) ++ (number, get_or modules i d) ∷ []) ++ in_file number (behind modules i)
     whole =
@@ -161,9 +168,9 @@ all_more sources i d h = ap (numbered 0) (take_more sources i d h) ∙ numbered_
 
 -- a file stops the reading of all
 pub stops_in_all : (sources : List (List SourceModuleData)) (i : ℕ) (d : List SourceModuleData) (file : ℕ) (fault : FileFault) → i < length sources
-    → ModulesStopped (numbered 0 (take i sources) ++ in_file i (get_or sources i d)) file fault → ModulesStopped (numbered 0 sources) file fault
+    → HasUnbuilt (numbered 0 (take i sources) ++ in_file i (get_or sources i d)) file fault → HasUnbuilt (numbered 0 sources) file fault
 stops_in_all sources i d file fault h u =
-    subst (λ list. ModulesStopped list file fault) (sym (ap (numbered 0) (parts_at sources i d h) ∙ numbered_at sources (behind sources i) i d h))
+    subst (λ list. HasUnbuilt list file fault) (sym (ap (numbered 0) (parts_at sources i d h) ∙ numbered_at sources (behind sources i) i d h))
     (stopped_before (numbered 0 (take i sources) ++ in_file i (get_or sources i d)) (numbered (1 + i) (behind sources i)) file fault u)
 
 pub all_over : (sources : List (List SourceModuleData)) (i : ℕ) (found : List SumModuleData) (taken : BTreeSet (ℕ × List ℕ)) → length sources ≤ i → AreRead (numbered 0 (take i sources)) found taken → AreModules [] (numbered 0 sources) found

@@ -1,31 +1,23 @@
 -- The tokens of files, read in order.
-use Rattle.std.proofs.Common.{◌≡◌, ℕ, suc, ◌+◌, ◌<◌, List, [], ◌∷◌, ◌++◌, length, map, take, get_or, refl, sym, ap, subst, ◌∙◌, append_assoc, append-nil, arith}
-use Rattle.src_tree.specs.Spelling.{Spells}
+use Rattle.std.proofs.Common.{◌≡◌, ℕ, suc, ◌+◌, ◌<◌, List, [], ◌∷◌, ◌++◌, length, map, refl, sym, ap, subst, ◌∙◌, append_assoc, append-nil, arith}
 use Rattle.src_tree.specs.declared.token.Token.{Token}
+use Rattle.program_read.specs.Chain.{Stage, GivesBehind, at_first, at_second, ◌▷◌}
 use Rattle.program_read.specs.Numbered.{Each, EachPair, IsFirst}
-use Rattle.program_read.specs.Texts.{AreTexts, HasBadToken, HasTokens, IsLong, IsShort, TextsStopped}
-use Rattle.program_read.specs.TextReading.{IsBadText, IsFirstHeavy, IsFirstLong, IsShortText, IsText}
+use Rattle.program_read.specs.Texts.{AreTokensOf, IsLong, IsShort, length_stage, text_stages, tokens_stage}
+use Rattle.program_read.specs.TextReading.{IsFirstLong, IsLongText, IsShortText, IsText}
 use Rattle.program_read.specs.declared.fault.FileFault.{FileFault}
-use Rattle.program_read.specs.declared.fault.FileFault.TheVariants.{BadToken, TooManyTokens, NestsTooDeep, Grammar, LeftOut, TooManyLocals, NotBuilt}
+use Rattle.program_read.specs.declared.fault.FileFault.TheVariants.{Passes}
+use Rattle.program_read.specs.declared.fault.FileLimit.TheVariants.{Tokens}
 use Rattle.program_read.specs.declared.texts.Text.{Text}
 use Rattle.program_read.specs.declared.texts.Text.TheVariants.{Short, Long}
-use Rattle.program_read.proofs.NumberedLemmas.{each_of_pairs, first_across, first_at, pairs_length}
+use Rattle.program_read.proofs.NumberedLemmas.{first_across, pairs_length}
+
+infixl 20 ◌▷◌
 
 -- each text has tokens
-abbrev pub text_tokens : (n : ℕ) (bytes : List ℕ) (text : Text) → IsText n bytes text → HasTokens n bytes
+pub text_tokens : (n : ℕ) (bytes : List ℕ) (text : Text) → IsText n bytes text → (tokens : List Token) × AreTokensOf n bytes tokens
 text_tokens n bytes (Short tokens) t = (tokens, t.0)
 text_tokens n bytes (Long count) t = (t.0, t.1)
-
--- a bad token stops the reading
-pub bad_stops : (files : List (List ℕ)) (i : ℕ) (d : List ℕ) (texts : List Text) (file : ℕ) (fault : FileFault) → i < length files → EachPair IsText 0 (take i files) texts → IsBadText i (get_or files i d) file fault → TextsStopped files file fault
-bad_stops files i d texts file (BadToken place) h e b =
-    subst (λ k. IsFirst HasTokens (HasBadToken place) files k) (sym b.0) (first_at files i d h (each_of_pairs IsText HasTokens 0 (take i files) texts text_tokens e) b.1)
-bad_stops files i d texts file (TooManyTokens count) h e b = absurd b
-bad_stops files i d texts file NestsTooDeep h e b = absurd b
-bad_stops files i d texts file (Grammar place) h e b = absurd b
-bad_stops files i d texts file (LeftOut marker place) h e b = absurd b
-bad_stops files i d texts file (TooManyLocals count) h e b = absurd b
-bad_stops files i d texts file (NotBuilt place) h e b = absurd b
 
 -- ---- too many tokens
 
@@ -59,7 +51,7 @@ taking_more {texts = texts} {found = found} tokens back t e n m = record {
     length_more [] x = refl
     length_more (y ∷ xs) x = omega (arith, length_more xs x)
 
-pub taking_stop : {texts rest : List Text} {count : ℕ} {found : List (List Token)} (long : ℕ) (back : List Text) → Taking texts rest count found → rest ≡ Long long ∷ back → IsFirst IsShortText (λ n text. text ≡ Long long) texts count
+pub taking_stop : {texts rest : List Text} {count : ℕ} {found : List (List Token)} (long : ℕ) (back : List Text) → Taking texts rest count found → rest ≡ Long long ∷ back → IsFirstLong texts count (Passes Tokens long)
 taking_stop {found = found} long back t e = record {
   before = map Short found;
   item = Long long;
@@ -67,7 +59,7 @@ taking_stop {found = found} long back t e = record {
   parts = t.parts ∙ ap (λ r. map Short found ++ r) e;
   number_is = t.counted ∙ sym (length_map Short found);
   right = each_short 0 found;
-  found = refl;
+  found = record { count = long; fault_is = refl; long = refl };
 }
 
 pub taking_end : {texts rest : List Text} {count : ℕ} {found : List (List Token)} → Taking texts rest count found → rest ≡ [] → map Short found ≡ texts
@@ -75,23 +67,27 @@ taking_end {found = found} t e = sym (t.parts ∙ ap (λ r. map Short found ++ r
 
 -- ---- all texts have tokens
 
+-- the tokens are those of the text, or are too many as the text says
 abbrev Agrees : ℕ → Text → List Token → Type 0
-Agrees n text tokens = (IsShortText n text → IsShort n tokens) × ((count : ℕ) → text ≡ Long count → IsLong count n tokens)
+Agrees n text tokens = (IsShortText n text → IsShort n tokens) × ((fault : FileFault) → IsLongText n text fault → IsLong n tokens fault)
 
 record AllTokens (n : ℕ) (files : List (List ℕ)) (texts : List Text) : Type 0 where
   all : List (List Token)
-  are : EachPair (λ k bytes tokens. Spells k tokens bytes) n files all
+  are : EachPair AreTokensOf n files all
   agree : EachPair Agrees n texts all
 
 short_is_no_long : (tokens : List Token) (count : ℕ) → Short tokens ≡ Long count → ⊥
 short_is_no_long tokens count e = absurd (cc)
 
+same_count : {a b : ℕ} → Long a ≡ Long b → a ≡ b
+same_count e = cc
+
 text_agrees : (n : ℕ) (bytes : List ℕ) (text : Text) (t : IsText n bytes text) → Agrees n text (text_tokens n bytes text t).0
-text_agrees n bytes (Short tokens) t = ((λ _. t.1), λ count e. absurd (short_is_no_long tokens count e))
-text_agrees n bytes (Long long) t = ((λ h. absurd h), λ count e. subst (λ k. IsLong k n t.0) (same_count e) t.2)
-  where
-    same_count : {a b : ℕ} → Long a ≡ Long b → a ≡ b
-    same_count e = cc
+text_agrees n bytes (Short tokens) t = ((λ _. t.1), λ fault l. absurd (short_is_no_long tokens l.count l.long))
+text_agrees n bytes (Long long) t = (
+  λ h. absurd h,
+  λ fault l. record { fault_is = l.fault_is ∙ ap (Passes Tokens) (sym (same_count l.long) ∙ sym t.2); many = subst (λ k. 200000 < k) (sym t.2) t.3 },
+)
 
 all_tokens : (n : ℕ) (files : List (List ℕ)) (texts : List Text) → EachPair IsText n files texts → AllTokens n files texts
 all_tokens n [] [] e = record { all = []; are = tt; agree = tt }
@@ -102,39 +98,30 @@ all_tokens n (f ∷ fs) (t ∷ ts) e =
     let one = text_tokens n f t e.0 in
     record { all = one.0 ∷ more.all; are = (one.1, more.are); agree = (text_agrees n f t e.0, more.agree) }
 
-pub long_stops : (files : List (List ℕ)) (texts : List Text) (file : ℕ) (fault : FileFault) → EachPair IsText 0 files texts → IsFirstLong texts file fault → TextsStopped files file fault
-long_stops files texts file (TooManyTokens count) e first =
+pub long_stops : (files : List (List ℕ)) (texts : List Text) (file : ℕ) (fault : FileFault) → EachPair IsText 0 files texts → IsFirstLong texts file fault → text_stages.Stops files file fault
+long_stops files texts file fault e first =
     let all = all_tokens 0 files texts e in
-    record { texts = all.all; are = all.are; first = first_across Agrees texts all.all file (λ k a b r. r.0) (λ k a b r. r.1 count) all.agree first }
-long_stops files texts file (BadToken place) e first = absurd first
-long_stops files texts file NestsTooDeep e first = absurd first
-long_stops files texts file (Grammar place) e first = absurd first
-long_stops files texts file (LeftOut marker place) e first = absurd first
-long_stops files texts file (TooManyLocals count) e first = absurd first
-long_stops files texts file (NotBuilt place) e first = absurd first
+    at_first (at_second all.all all.are (first_across Agrees texts all.all file (λ k a b r. r.0) (λ k a b r. r.1 fault) all.agree first))
+
+pub bad_stops : (files : List (List ℕ)) (file : ℕ) (fault : FileFault) → tokens_stage.Stops files file fault → text_stages.Stops files file fault
+bad_stops files file fault stops = at_first (at_first stops)
 
 -- ---- short texts
 
-short_texts : (n : ℕ) (files : List (List ℕ)) (found : List (List Token)) → EachPair IsText n files (map Short found) → EachPair (λ k bytes tokens. Spells k tokens bytes) n files found × Each IsShort n found
+short_texts : (n : ℕ) (files : List (List ℕ)) (found : List (List Token)) → EachPair IsText n files (map Short found) → EachPair AreTokensOf n files found × Each IsShort n found
 short_texts n [] [] e = (tt, tt)
 short_texts n [] (t ∷ ts) e = absurd e
 short_texts n (f ∷ fs) [] e = absurd e
 short_texts n (f ∷ fs) (t ∷ ts) e = let more = short_texts (1 + n) fs ts e.1 in ((e.0.0, more.0), (e.0.1, more.1))
 
-pub short : (files : List (List ℕ)) (texts : List Text) (found : List (List Token)) → EachPair IsText 0 files texts → map Short found ≡ texts → AreTexts files found × Each IsShort 0 found
-short files texts found e m = short_texts 0 files found (subst (EachPair IsText 0 files) (sym m) e)
-
-pub heavy_stops : (files : List (List ℕ)) (texts : List (List Token)) (file : ℕ) (fault : FileFault) → AreTexts files texts × Each IsShort 0 texts → IsFirstHeavy texts file fault → TextsStopped files file fault
-heavy_stops files texts file NestsTooDeep e first = record { texts = texts; are = e.0; short = e.1; first = first }
-heavy_stops files texts file (BadToken place) e first = absurd first
-heavy_stops files texts file (TooManyTokens count) e first = absurd first
-heavy_stops files texts file (Grammar place) e first = absurd first
-heavy_stops files texts file (LeftOut marker place) e first = absurd first
-heavy_stops files texts file (TooManyLocals count) e first = absurd first
-heavy_stops files texts file (NotBuilt place) e first = absurd first
+-- what the first two stages give
+pub short : (files : List (List ℕ)) (texts : List Text) (found : List (List Token)) → EachPair IsText 0 files texts → map Short found ≡ texts → (tokens_stage ▷ length_stage).Gives files found
+short files texts found e m =
+    let s = short_texts 0 files found (subst (EachPair IsText 0 files) (sym m) e) in
+    record { between = found; first = s.0; second = (refl, s.1) }
 
 pub texts_length : (files : List (List ℕ)) (texts : List Text) → EachPair IsText 0 files texts → length texts ≡ length files
 texts_length files texts e = pairs_length IsText 0 files texts e
 
-pub found_length : (files : List (List ℕ)) (found : List (List Token)) → AreTexts files found → length found ≡ length files
-found_length files found e = pairs_length (λ k bytes tokens. Spells k tokens bytes) 0 files found e
+pub short_length : (files : List (List ℕ)) (texts : List Text) (found : List (List Token)) → EachPair IsText 0 files texts → map Short found ≡ texts → length found ≡ length files
+short_length files texts found e m = sym (length_map Short found) ∙ ap length m ∙ texts_length files texts e

@@ -1,6 +1,9 @@
 -- Facts about why files were not read.
-use Rattle.std.specs.Prelude.{ℕ}
+use Rattle.std.specs.Prelude.{◌≡◌, ℕ, if◌then◌else◌, Option, None}
+use Rattle.answers.specs.Rules.{tells_place}
+use Rattle.answers.specs.declared.rule.Rule.{Rule}
 use Rattle.program_read.specs.declared.fault.FileFault.{FileFault}
+use Rattle.program_read.specs.declared.fault.FileFault.TheVariants.{Breaks, Passes}
 use Rattle.program_read.specs.declared.fault.ProgramFault.{ProgramFault}
 use Rattle.program_read.specs.declared.fault.ProgramFault.TheVariants.{InFile, NoMemory}
 
@@ -8,3 +11,17 @@ use Rattle.program_read.specs.declared.fault.ProgramFault.TheVariants.{InFile, N
 abbrev pub IfInFile : ProgramFault → (ℕ → FileFault → Type 0) → Type 0
 IfInFile (InFile file fault) P = P file fault
 IfInFile NoMemory P = Unit {0}
+
+-- the file breaks this rule at this place, and no marker explains why
+abbrev pub breaks : Rule → ℕ → FileFault
+breaks rule place = Breaks rule place None
+
+-- a fault, without the place that no definition tells
+abbrev pub without_place : FileFault → FileFault
+without_place (Breaks rule place marker) = Breaks rule (if tells_place rule then place else 0) marker
+without_place (Passes limit count) = Passes limit count
+
+-- the reading stopped at the same file for the same reason
+pub record IsSameStop (file other_file : ℕ) (fault other : FileFault) : Type 0 where
+  pub file_is : file ≡ other_file
+  pub fault_is : without_place fault ≡ without_place other

@@ -1,9 +1,10 @@
 pub mod Numbered
 pub mod FileFault
+pub mod FileReading
+pub mod Chain
 pub mod Texts
 pub mod TextReading
 pub mod Sources
-pub mod SourceReading
 pub mod LocalCounts
 pub mod Modules
 pub mod ModuleReading

@@ -8,9 +8,10 @@ use Rattle.source_parse.specs.declared.source.SourceForm.TheVariants.{Use, Frien
 use Rattle.source_parse.specs.SourceData.{SourceMemberData}
 use Rattle.source_parse.specs.SourceModuleData.{SourceModuleData}
 use Rattle.blocks.specs.Locals.{locals_of}
-use Rattle.program_read.specs.Numbered.{IsFirst}
+use Rattle.program_read.specs.Chain.{Stage, checks}
 use Rattle.program_read.specs.declared.fault.FileFault.{FileFault}
-use Rattle.program_read.specs.declared.fault.FileFault.TheVariants.{TooManyLocals}
+use Rattle.program_read.specs.declared.fault.FileFault.TheVariants.{Passes}
+use Rattle.program_read.specs.declared.fault.FileLimit.TheVariants.{Locals}
 
 -- the parameters of a function, and the names that the `let`s in it bring in
 abbrev pub local_count : FunctionTree → ℕ
@@ -46,7 +47,11 @@ excess_of source = first_of excess_of_module source
 abbrev pub HasFewLocals : ℕ → List SourceModuleData → Type 0
 HasFewLocals n source = excess_of source ≡ None
 
--- Why the counting stopped: no function of a file before this one passes the limit, and the first that does in it has this many.
-abbrev pub LocalsStopped : List (List SourceModuleData) → ℕ → FileFault → Type 0
-LocalsStopped sources file (TooManyLocals count) = IsFirst HasFewLocals (λ n source. excess_of source ≡ Some count) sources file
-LocalsStopped sources file _ = ⊥
+-- A function has too many: the first that passes the limit has this many.
+pub record HasManyLocals (n : ℕ) (source : List SourceModuleData) (fault : FileFault) : Type 0 where
+  pub count : ℕ
+  pub fault_is : fault ≡ Passes Locals count
+  pub excess : excess_of source ≡ Some count
+
+abbrev pub locals_stage : Stage (List (List SourceModuleData)) (List (List SourceModuleData))
+locals_stage = checks HasFewLocals HasManyLocals

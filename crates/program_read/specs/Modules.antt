@@ -2,14 +2,16 @@
 -- address and one name.
 use Rattle.std.specs.Prelude.{◌≡◌, ◌⊎◌, ℕ, ◌+◌, Bool, true, false, ◌&&◌, ◌==◌, List, [], ◌∷◌, ◌++◌, map}
 use Rattle.std.specs.List.{list_any}
+use Rattle.answers.specs.declared.rule.Rule.TheVariants.{NotBuilt}
 use Rattle.token_reading.specs.TokenReading.{same_name}
 use Rattle.source_parse.specs.SourceModuleData.{SourceModuleData}
 use Rattle.sum_tree.specs.SumModuleData.{SumModuleData}
 use Rattle.sum_module.specs.Built.{IsUnbuiltAt}
 use Rattle.sum_module.specs.Places.{module_place}
 use Rattle.sum_program.specs.Program.{IsSumModule}
+use Rattle.program_read.specs.Chain.{Stage}
+use Rattle.program_read.specs.FileFault.{breaks}
 use Rattle.program_read.specs.declared.fault.FileFault.{FileFault}
-use Rattle.program_read.specs.declared.fault.FileFault.TheVariants.{NotBuilt}
 
 -- the modules of sources in order, each with the number of its file, the first of which is this one
 abbrev pub numbered : ℕ → List (List SourceModuleData) → List (ℕ × SourceModuleData)
@@ -49,7 +51,14 @@ pub record IsFirstUnbuilt (modules : List (ℕ × SourceModuleData)) (file place
   pub are : AreModules [] before found
   pub unbuilt : IsUnbuiltBehind found file module_tree place
 
--- Why the reading of modules stopped.
-abbrev pub ModulesStopped : List (ℕ × SourceModuleData) → ℕ → FileFault → Type 0
-ModulesStopped modules file (NotBuilt place) = IsFirstUnbuilt modules file place
-ModulesStopped modules file _ = ⊥
+-- The modules are not all built: what is not begins at this place.
+pub record HasUnbuilt (modules : List (ℕ × SourceModuleData)) (file : ℕ) (fault : FileFault) : Type 0 where
+  pub place : ℕ
+  pub fault_is : fault ≡ breaks NotBuilt place
+  pub first : IsFirstUnbuilt modules file place
+
+abbrev pub modules_stage : Stage (List (List SourceModuleData)) (List SumModuleData)
+modules_stage = record {
+  Gives = λ sources program. AreModules [] (numbered 0 sources) program;
+  Stops = λ sources file fault. HasUnbuilt (numbered 0 sources) file fault;
+}

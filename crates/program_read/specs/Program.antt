@@ -1,69 +1,29 @@
 -- Which program files are of, and why files are of none.
-use Rattle.std.specs.Prelude.{◌≡◌, ℕ, List, []}
-use Rattle.src_tree.specs.declared.token.Token.{Token}
+use Rattle.std.specs.Prelude.{ℕ, List}
 use Rattle.source_parse.specs.SourceModuleData.{SourceModuleData}
 use Rattle.sum_tree.specs.SumModuleData.{SumModuleData}
-use Rattle.program_read.specs.Numbered.{Each}
-use Rattle.program_read.specs.Texts.{HaveTexts, TextsStopped}
-use Rattle.program_read.specs.Sources.{AreSources, SourcesStopped}
-use Rattle.program_read.specs.LocalCounts.{HasFewLocals, LocalsStopped}
-use Rattle.program_read.specs.Modules.{AreModules, ModulesStopped, numbered}
+use Rattle.program_read.specs.Chain.{Stage, ◌▷◌}
+use Rattle.program_read.specs.Texts.{text_stages}
+use Rattle.program_read.specs.Sources.{source_stage}
+use Rattle.program_read.specs.LocalCounts.{locals_stage}
+use Rattle.program_read.specs.Modules.{modules_stage}
 use Rattle.program_read.specs.declared.fault.FileFault.{FileFault}
-use Rattle.program_read.specs.declared.fault.FileFault.TheVariants.{BadToken, TooManyTokens, NestsTooDeep, Grammar, LeftOut, TooManyLocals, NotBuilt}
 
--- The files have tokens within the limits, these denote sources, no function of these has too many locals, and their modules
--- are these modules of sums.
-pub record IsProgramOf (files : List (List ℕ)) (program : List SumModuleData) : Type 0 where
-  pub texts : List (List Token)
-  pub have_texts : HaveTexts files texts
-  pub sources : List (List SourceModuleData)
-  pub are_sources : AreSources texts sources
-  pub few : Each HasFewLocals 0 sources
-  pub are_modules : AreModules [] (numbered 0 sources) program
+infixl 20 ◌▷◌
 
--- the tokens of the files denote no sources
-pub record StopsAtSources (files : List (List ℕ)) (file : ℕ) (fault : FileFault) : Type 0 where
-  pub texts : List (List Token)
-  pub have_texts : HaveTexts files texts
-  pub stopped : SourcesStopped texts file fault
+-- the stages up to the sources
+abbrev pub source_stages : Stage (List (List ℕ)) (List (List SourceModuleData))
+source_stages = text_stages ▷ source_stage ▷ locals_stage
 
--- a function has too many locals
-pub record StopsAtLocals (files : List (List ℕ)) (file : ℕ) (fault : FileFault) : Type 0 where
-  pub texts : List (List Token)
-  pub have_texts : HaveTexts files texts
-  pub sources : List (List SourceModuleData)
-  pub are_sources : AreSources texts sources
-  pub stopped : LocalsStopped sources file fault
+-- All stages, in their order: the files have tokens; not too many; they do not nest too deep; they denote sources; no function
+-- of these has too many locals; and their modules are modules of sums. The next rule stands behind the others.
+abbrev pub program_stages : Stage (List (List ℕ)) (List SumModuleData)
+program_stages = source_stages ▷ modules_stage
 
--- a module is not built
-pub record StopsAtModules (files : List (List ℕ)) (file : ℕ) (fault : FileFault) : Type 0 where
-  pub texts : List (List Token)
-  pub have_texts : HaveTexts files texts
-  pub sources : List (List SourceModuleData)
-  pub are_sources : AreSources texts sources
-  pub few : Each HasFewLocals 0 sources
-  pub stopped : ModulesStopped (numbered 0 sources) file fault
+-- Each stage has an answer for every file, and the last one gives this program.
+abbrev pub IsProgramOf : List (List ℕ) → List SumModuleData → Type 0
+IsProgramOf files program = program_stages.Gives files program
 
 -- Why files are of no program: the first stage that stops, at the first file at which it does.
-pub data ProgramStopped (files : List (List ℕ)) (file : ℕ) (fault : FileFault) : Type 0 where
-  at_texts : TextsStopped files file fault → ProgramStopped files file fault
-  at_sources : StopsAtSources files file fault → ProgramStopped files file fault
-  at_locals : StopsAtLocals files file fault → ProgramStopped files file fault
-  at_modules : StopsAtModules files file fault → ProgramStopped files file fault
-
--- ---- one way to stop
-
--- a fault, without the place at which the reading of a tree ended
-abbrev pub without_place : FileFault → FileFault
-without_place (Grammar place) = Grammar 0
-without_place (BadToken place) = BadToken place
-without_place (TooManyTokens count) = TooManyTokens count
-without_place NestsTooDeep = NestsTooDeep
-without_place (LeftOut marker place) = LeftOut marker place
-without_place (TooManyLocals count) = TooManyLocals count
-without_place (NotBuilt place) = NotBuilt place
-
--- the reading stopped at the same file for the same reason
-pub record IsSameStop (file other_file : ℕ) (fault other : FileFault) : Type 0 where
-  pub file_is : file ≡ other_file
-  pub fault_is : without_place fault ≡ without_place other
+abbrev pub ProgramStopped : List (List ℕ) → ℕ → FileFault → Type 0
+ProgramStopped files file fault = program_stages.Stops files file fault

@@ -1,22 +1,35 @@
 -- The sources of files. Source: The Move Book, "Modules and Scripts".
-use Rattle.std.specs.Prelude.{ℕ, List}
+use Rattle.std.specs.Prelude.{◌≡◌, ◌⊎◌, ℕ, List, Some}
+use Rattle.answers.specs.declared.rule.Rule.TheVariants.{Grammar, LeftOut}
 use Rattle.src_tree.specs.declared.token.Token.{Token}
 use Rattle.left_out.specs.declared.explain.ParseFault.TheVariants.{Grammar as no_grammar, LeftOut as left_out}
+use Rattle.left_out.specs.declared.marker.Marker.{Marker}
 use Rattle.source_parse.specs.Denoted.{IsSourceOf, IsCause}
 use Rattle.source_parse.specs.SourceModuleData.{SourceModuleData}
-use Rattle.program_read.specs.Numbered.{EachPair, IsFirst}
+use Rattle.program_read.specs.Chain.{Stage, makes}
+use Rattle.program_read.specs.FileFault.{breaks}
 use Rattle.program_read.specs.declared.fault.FileFault.{FileFault}
-use Rattle.program_read.specs.declared.fault.FileFault.TheVariants.{Grammar, LeftOut}
+use Rattle.program_read.specs.declared.fault.FileFault.TheVariants.{Breaks}
 
--- these are the sources that the tokens denote
-abbrev pub AreSources : List (List Token) → List (List SourceModuleData) → Type 0
-AreSources texts sources = EachPair (λ n tokens source. IsSourceOf source tokens) 0 texts sources
+-- the tokens denote the source
+abbrev pub Denote : ℕ → List Token → List SourceModuleData → Type 0
+Denote n tokens source = IsSourceOf source tokens
 
-abbrev pub HasSource : ℕ → List Token → Type 0
-HasSource n tokens = (source : List SourceModuleData) × IsSourceOf source tokens
+-- They denote none, and hold no marker; the place is where the reader stood.
+pub record HasNoTree (tokens : List Token) (fault : FileFault) : Type 0 where
+  pub place : ℕ
+  pub fault_is : fault ≡ breaks Grammar place
+  pub cause : IsCause tokens (no_grammar place)
 
--- Why the reading of sources stopped: each file before this one has a source.
-abbrev pub SourcesStopped : List (List Token) → ℕ → FileFault → Type 0
-SourcesStopped texts file (Grammar place) = IsFirst HasSource (λ n tokens. IsCause tokens (no_grammar place)) texts file
-SourcesStopped texts file (LeftOut marker place) = IsFirst HasSource (λ n tokens. IsCause tokens (left_out marker place)) texts file
-SourcesStopped texts file _ = ⊥
+-- They denote none, and this is their first marker, at this place.
+pub record HasMarker (tokens : List Token) (fault : FileFault) : Type 0 where
+  pub marker : Marker
+  pub place : ℕ
+  pub fault_is : fault ≡ Breaks LeftOut place (Some marker)
+  pub cause : IsCause tokens (left_out marker place)
+
+abbrev pub DenoteNone : ℕ → List Token → FileFault → Type 0
+DenoteNone n tokens fault = HasNoTree tokens fault ⊎ HasMarker tokens fault
+
+abbrev pub source_stage : Stage (List (List Token)) (List (List SourceModuleData))
+source_stage = makes Denote DenoteNone

@@ -1,29 +1,41 @@
 //! Why no program was read.
 
 ghost use Rattle.std.specs.Prelude.{◌≡◌};
+ghost use Rattle.program_read.specs.FileFault.{breaks};
 
+use answers::rule::Rule;
 use left_out::marker::Marker;
 use pv_base::memory::NoMemory;
 use std::alloc::AllocFailed;
 
+/// A limit that a file can pass.
+#[derive(Clone, Copy, Debug, PartialEq, Eq)]
+pub enum FileLimit {
+    /// The tokens of a file, 200,000 at most.
+    Tokens,
+    /// The weight with which its brackets and signs nest, 200 at most.
+    Nesting,
+    /// The parameters and locals of a function, 256 at most.
+    Locals,
+}
+
 /// What is wrong with a file. Places are bytes, counted from 0.
 #[derive(Clone, Copy, Debug, PartialEq, Eq)]
 pub enum FileFault {
-    /// No list of tokens spells it: here begins a token that is none, or a comment that has no end.
-    BadToken(u32),
-    /// It has more than 200,000 tokens: this many.
-    TooManyTokens(u32),
-    /// Its brackets and signs nest with a weight of more than 200.
-    NestsTooDeep,
-    /// Its tokens are of no source, and hold no marker of a form that is left out: here begins the first token
-    /// that can't stand there.
-    Grammar(u32),
-    /// Its tokens are of no source, and this is the first marker of a form that is left out, at this place.
-    LeftOut(Marker, u32),
-    /// A function has more than 256 parameters and locals: this many, and it is the first.
-    TooManyLocals(usize),
-    /// A module, or a member of one, is not built yet: here begins the first.
-    NotBuilt(u32),
+    /// It breaks this rule: here begins what breaks it, and for `LeftOut` this is the marker.
+    Breaks(Rule, u32, Option<Marker>),
+    /// It passes this limit, with the count at which that is seen: for `Nesting` 201, for `Locals` that of the
+    /// first function that has too many.
+    Passes(FileLimit, u64),
+}
+
+impl FileFault {
+    /// That a file breaks a rule which no marker explains.
+    pub fn breaks(rule: Rule, place: u32) -> FileFault
+        ensures { result ≡ breaks rule place }
+    {
+        FileFault::Breaks(rule, place, None)
+    }
 }
 
 /// Why no program was read.

@@ -3,9 +3,9 @@
 ghost use Rattle.std.specs.Prelude.{◌≡◌, ◌≤◌, ◌^◌, length, IfOk, MatchResult};
 ghost use Rattle.program_read.specs.FileFault.{IfInFile};
 ghost use Rattle.program_read.specs.Numbered.{Each};
-ghost use Rattle.program_read.specs.LocalCounts.{HasFewLocals, LocalsStopped, excess_of, excess_of_form, excess_of_module, local_count, over_limit};
+ghost use Rattle.program_read.specs.LocalCounts.{HasFewLocals, excess_of, excess_of_form, excess_of_module, local_count, locals_stage, over_limit};
 
-use crate::fault::{FileFault, ProgramFault};
+use crate::fault::{FileFault, FileLimit, ProgramFault};
 use blocks::locals::locals_of;
 use file_tree::member::Function;
 use pv_base::memory::NoMemory;
@@ -76,14 +76,15 @@ fn excess_of(alloc: Global, modules: &[SourceModule]) -> Result<Option<usize>, N
 ///
 /// # Errors
 ///
-/// `TooManyLocals` exactly where a function has more, with the first such file and function.
+/// The limit of locals exactly where a function has more, with the first such file and function.
 pub fn check_locals(alloc: Global, sources: &[Source]) -> Result<(), ProgramFault>
     requires few { length sources.now ≤ 2 ^ 32 }
-    ensures { MatchResult result (λ _. Each HasFewLocals 0 sources.now) (λ fault. IfInFile fault (LocalsStopped sources.now)) }
+    ensures { MatchResult result (λ _. Each HasFewLocals 0 sources.now) (λ fault. IfInFile fault (locals_stage.Stops sources.now)) }
 {
     for (number, source) in sources.iter().enumerate() {
         if let Some(count) = excess_of(alloc, source.modules.as_slice())? {
-            return Err(ProgramFault::InFile(number as u32, FileFault::TooManyLocals(count)));
+            let fault = FileFault::Passes(FileLimit::Locals, count as u64);
+            return Err(ProgramFault::InFile(number as u32, fault));
         }
     }
     Ok(())

@@ -4,9 +4,10 @@ ghost use Rattle.std.specs.Prelude.{◌≡◌, ◌≤◌, ◌^◌, ◌++◌, ◌
 ghost use Rattle.source_parse.specs.SourceModuleData.{SourceModuleData};
 ghost use Rattle.program_read.specs.FileFault.{IfInFile};
 ghost use Rattle.program_read.specs.ModuleReading.{AreRead, IsSetOf, is_in};
-ghost use Rattle.program_read.specs.Modules.{AreModules, ModulesStopped, numbered};
+ghost use Rattle.program_read.specs.Modules.{HasUnbuilt, modules_stage};
 
 use crate::fault::{FileFault, ProgramFault};
+use answers::rule::Rule;
 use pv_base::memory::NoMemory;
 use pv_base::name::Name;
 use source_parse::source::{Source, SourceModule};
@@ -37,19 +38,20 @@ impl Found {
 
     /// One more module of the file with this number.
     fn add(&mut self, alloc: Global, file: u32, module: &SourceModule) -> Result<(), ProgramFault>
-        ensures { (before : List (ℕ × SourceModuleData)) → AreRead before self.old.modules.items self.old.taken → MatchResult result (λ _. AreRead (before ++ (file, module.now) ∷ []) self.new.modules.items self.new.taken) (λ fault. IfInFile fault (ModulesStopped (before ++ (file, module.now) ∷ []))) }
+        ensures { (before : List (ℕ × SourceModuleData)) → AreRead before self.old.modules.items self.old.taken → MatchResult result (λ _. AreRead (before ++ (file, module.now) ∷ []) self.new.modules.items self.new.taken) (λ fault. IfInFile fault (HasUnbuilt (before ++ (file, module.now) ∷ []))) }
     {
         let found = match read_sum_module(alloc, file, module) {
             Ok(found) => found,
             Err(ModuleFault::NotBuilt(place)) => {
-                return Err(ProgramFault::InFile(file, FileFault::NotBuilt(place)));
+                let fault = FileFault::breaks(Rule::NotBuilt, place);
+                return Err(ProgramFault::InFile(file, fault));
             }
             Err(ModuleFault::NoMemory) => return Err(ProgramFault::NoMemory),
         };
         let key = (found.address, found.name.try_clone(alloc)?);
         if !self.taken.insert(key)? {
-            let place = module_place(module).start;
-            return Err(ProgramFault::InFile(file, FileFault::NotBuilt(place)));
+            let fault = FileFault::breaks(Rule::NotBuilt, module_place(module).start);
+            return Err(ProgramFault::InFile(file, fault));
         }
         self.modules.push(found)?;
         Ok(())
@@ -62,7 +64,7 @@ impl Found {
         file: u32,
         modules: &[SourceModule],
     ) -> Result<(), ProgramFault>
-        ensures { (before : List (ℕ × SourceModuleData)) → AreRead before self.old.modules.items self.old.taken → MatchResult result (λ _. AreRead (before ++ map (λ m. (file, m)) modules.now) self.new.modules.items self.new.taken) (λ fault. IfInFile fault (ModulesStopped (before ++ map (λ m. (file, m)) modules.now))) }
+        ensures { (before : List (ℕ × SourceModuleData)) → AreRead before self.old.modules.items self.old.taken → MatchResult result (λ _. AreRead (before ++ map (λ m. (file, m)) modules.now) self.new.modules.items self.new.taken) (λ fault. IfInFile fault (HasUnbuilt (before ++ map (λ m. (file, m)) modules.now))) }
     {
         for module in modules {
             self.add(alloc, file, module)?;
@@ -79,7 +81,7 @@ impl Found {
 /// first such.
 pub fn read_modules(alloc: Global, sources: &[Source]) -> Result<Vec<SumModule>, ProgramFault>
     requires few { length sources.now ≤ 2 ^ 32 }
-    ensures { MatchResult result (λ found. AreModules [] (numbered 0 sources.now) found.items) (λ fault. IfInFile fault (ModulesStopped (numbered 0 sources.now))) }
+    ensures { MatchResult result (λ found. modules_stage.Gives sources.now found.items) (λ fault. IfInFile fault (modules_stage.Stops sources.now)) }
 {
     let mut found = Found::new(alloc);
     for (number, source) in sources.iter().enumerate() {

@@ -2,10 +2,10 @@
 
 ghost use Rattle.std.specs.Prelude.{◌≡◌, ◌≤◌, ◌<◌, ◌^◌, ℕ, List, length, MatchResult};
 ghost use Rattle.std.specs.List.{AllByRecursion};
-ghost use Rattle.program_read.specs.FileFault.{IfInFile};
+ghost use Rattle.program_read.specs.FileFault.{IfInFile, IsSameStop};
 ghost use Rattle.sum_tree.specs.SumModuleData.{SumModuleData};
 ghost use Rattle.program_read.specs.declared.fault.FileFault.{FileFault};
-ghost use Rattle.program_read.specs.Program.{IsProgramOf, IsSameStop, ProgramStopped};
+ghost use Rattle.program_read.specs.Program.{IsProgramOf, ProgramStopped};
 
 use crate::fault::ProgramFault;
 use crate::locals::check_locals;

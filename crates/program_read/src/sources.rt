@@ -4,10 +4,11 @@ ghost use Rattle.std.specs.Prelude.{◌≡◌, ◌≤◌, ◌^◌, length, Match
 ghost use Rattle.src_tree.specs.declared.token.Token.{Token};
 ghost use Rattle.source_parse.specs.Denoted.{IsSourceOf};
 ghost use Rattle.program_read.specs.FileFault.{IfInFile};
-ghost use Rattle.program_read.specs.SourceReading.{IsBadSource};
-ghost use Rattle.program_read.specs.Sources.{AreSources, SourcesStopped};
+ghost use Rattle.program_read.specs.FileReading.{IsIn};
+ghost use Rattle.program_read.specs.Sources.{DenoteNone, source_stage};
 
 use crate::fault::{FileFault, ProgramFault};
+use answers::rule::Rule;
 use left_out::explain::ParseFault;
 use source_parse::denoted::source;
 use source_parse::source::Source;
@@ -16,17 +17,18 @@ use std::alloc::Global;
 
 /// The source of a file of this number.
 fn read_source(alloc: Global, number: u32, text: &Tokens) -> Result<Source, ProgramFault>
-    ensures { MatchResult result (λ found. IsSourceOf found text.now) (λ fault. IfInFile fault (IsBadSource number text.now)) }
+    ensures { MatchResult result (λ found. IsSourceOf found text.now) (λ fault. IfInFile fault (IsIn number (DenoteNone number text.now))) }
 {
     match source(alloc, text) {
         Ok(found) => Ok(found),
         Err(ParseFault::Grammar(place)) => {
-            Err(ProgramFault::InFile(number, FileFault::Grammar(place)))
+            let fault = FileFault::breaks(Rule::Grammar, place);
+            Err(ProgramFault::InFile(number, fault))
         }
-        Err(ParseFault::LeftOut(marker, place)) => Err(ProgramFault::InFile(
-            number,
-            FileFault::LeftOut(marker, place),
-        )),
+        Err(ParseFault::LeftOut(marker, place)) => {
+            let fault = FileFault::Breaks(Rule::LeftOut, place, Some(marker));
+            Err(ProgramFault::InFile(number, fault))
+        }
         Err(ParseFault::NoMemory) => Err(ProgramFault::NoMemory),
     }
 }
@@ -38,7 +40,7 @@ fn read_source(alloc: Global, number: u32, text: &Tokens) -> Result<Source, Prog
 /// `Grammar` or `LeftOut` exactly where the tokens of a file are of no source, with the first such file.
 pub fn read_sources(alloc: Global, texts: &[Tokens]) -> Result<Vec<Source>, ProgramFault>
     requires few { length texts.now ≤ 2 ^ 32 }
-    ensures { MatchResult result (λ sources. AreSources texts.now sources.items) (λ fault. IfInFile fault (SourcesStopped texts.now)) }
+    ensures { MatchResult result (λ sources. source_stage.Gives texts.now sources.items) (λ fault. IfInFile fault (source_stage.Stops texts.now)) }
 {
     let mut sources = Vec::new(alloc);
     for (number, text) in texts.iter().enumerate() {

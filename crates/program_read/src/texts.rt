@@ -3,12 +3,14 @@
 ghost use Rattle.std.specs.Prelude.{◌≡◌, ◌<◌, ◌≤◌, ◌^◌, length, map, MatchResult};
 ghost use Rattle.std.specs.List.{AllByRecursion};
 ghost use Rattle.program_read.specs.FileFault.{IfInFile};
+ghost use Rattle.program_read.specs.FileReading.{IsIn};
 ghost use Rattle.program_read.specs.Numbered.{Each, EachPair};
-ghost use Rattle.program_read.specs.Texts.{HaveTexts, IsLight, TextsStopped};
-ghost use Rattle.program_read.specs.TextReading.{IsBadText, IsFirstHeavy, IsFirstLong, IsText};
+ghost use Rattle.program_read.specs.Texts.{HasBadToken, IsLight, nesting_stage, text_stages, tokens_stage};
+ghost use Rattle.program_read.specs.TextReading.{IsFirstLong, IsText};
 ghost use Rattle.program_read.specs.declared.texts.Text.TheVariants.{Short};
 
-use crate::fault::{FileFault, ProgramFault};
+use crate::fault::{FileFault, FileLimit, ProgramFault};
+use answers::rule::Rule;
 use pv_base::lists::Bytes;
 use src_tree::scanner::tokens;
 use src_tree::token::{TokenFault, Tokens};
@@ -25,13 +27,14 @@ enum Text {
 /// The tokens of a file of this number.
 fn spell(alloc: Global, number: u32, bytes: &[u8]) -> Result<Text, ProgramFault>
     requires { length bytes.now < 2 ^ 32 }
-    ensures { MatchResult result (IsText number bytes.now) (λ fault. IfInFile fault (IsBadText number bytes.now)) }
+    ensures { MatchResult result (IsText number bytes.now) (λ fault. IfInFile fault (IsIn number (HasBadToken number bytes.now))) }
 {
     match tokens(alloc, number, bytes) {
         Ok(found) => Ok(Text::Short(found)),
         Err(TokenFault::TooMany(count)) => Ok(Text::Long(count)),
         Err(TokenFault::BadToken(place)) => {
-            Err(ProgramFault::InFile(number, FileFault::BadToken(place)))
+            let fault = FileFault::breaks(Rule::BadToken, place);
+            Err(ProgramFault::InFile(number, fault))
         }
         Err(TokenFault::NoMemory) => Err(ProgramFault::NoMemory),
     }
@@ -41,7 +44,7 @@ fn spell(alloc: Global, number: u32, bytes: &[u8]) -> Result<Text, ProgramFault>
 fn spell_each(alloc: Global, files: &[Bytes]) -> Result<Vec<Text>, ProgramFault>
     requires few { length files.now ≤ 2 ^ 32 }
     requires short { AllByRecursion (λ bytes. length bytes < 2 ^ 32) files.now }
-    ensures { MatchResult result (λ texts. EachPair IsText 0 files.now texts.items) (λ fault. IfInFile fault (TextsStopped files.now)) }
+    ensures { MatchResult result (λ texts. EachPair IsText 0 files.now texts.items) (λ fault. IfInFile fault (tokens_stage.Stops files.now)) }
 {
     let mut texts = Vec::new(alloc);
     for (number, bytes) in files.iter().enumerate() {
@@ -60,7 +63,8 @@ fn take_short(alloc: Global, texts: Vec<Text>) -> Result<Vec<Tokens>, ProgramFau
         match text {
             Text::Short(tokens) => found.push(tokens)?,
             Text::Long(count) => {
-                return Err(ProgramFault::InFile(number as u32, FileFault::TooManyTokens(count)));
+                let fault = FileFault::Passes(FileLimit::Tokens, u64::from(count));
+                return Err(ProgramFault::InFile(number as u32, fault));
             }
         }
     }
@@ -70,11 +74,12 @@ fn take_short(alloc: Global, texts: Vec<Text>) -> Result<Vec<Tokens>, ProgramFau
 /// That the tokens of each file nest within their limit.
 fn check_nesting(texts: &[Tokens]) -> Result<(), ProgramFault>
     requires few { length texts.now ≤ 2 ^ 32 }
-    ensures { MatchResult result (λ _. Each IsLight 0 texts.now) (λ fault. IfInFile fault (IsFirstHeavy texts.now)) }
+    ensures { MatchResult result (λ _. Each IsLight 0 texts.now) (λ fault. IfInFile fault (nesting_stage.Stops texts.now)) }
 {
     for (number, text) in texts.iter().enumerate() {
         if weight(text) >= WEIGHT_LIMIT {
-            return Err(ProgramFault::InFile(number as u32, FileFault::NestsTooDeep));
+            let fault = FileFault::Passes(FileLimit::Nesting, u64::from(WEIGHT_LIMIT));
+            return Err(ProgramFault::InFile(number as u32, fault));
         }
     }
     Ok(())
@@ -84,12 +89,13 @@ fn check_nesting(texts: &[Tokens]) -> Result<(), ProgramFault>
 ///
 /// # Errors
 ///
-/// In this order, each over all files before the next: `BadToken` exactly where no tokens spell a file, with the
-/// first such; `TooManyTokens` exactly where a file has too many; `NestsTooDeep` exactly where they nest too deep.
+/// In this order, each over all files before the next, with the first such file: `BadToken` exactly where no
+/// tokens spell a file; the limit of tokens exactly where a file has too many; that of nesting exactly where they
+/// nest too deep.
 pub fn read_texts(alloc: Global, files: &[Bytes]) -> Result<Vec<Tokens>, ProgramFault>
     requires few { length files.now ≤ 2 ^ 32 }
     requires short { AllByRecursion (λ bytes. length bytes < 2 ^ 32) files.now }
-    ensures { MatchResult result (λ texts. HaveTexts files.now texts.items) (λ fault. IfInFile fault (TextsStopped files.now)) }
+    ensures { MatchResult result (λ texts. text_stages.Gives files.now texts.items) (λ fault. IfInFile fault (text_stages.Stops files.now)) }
 {
     let texts = take_short(alloc, spell_each(alloc, files)?)?;
     check_nesting(texts.as_slice())?;

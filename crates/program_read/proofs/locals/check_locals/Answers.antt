@@ -1,4 +1,4 @@
-use Rattle.std.proofs.Common.{ap, sym, ◌∙◌}
+use Rattle.std.proofs.Common.{ap, refl, sym, ◌∙◌}
 use Rattle.program_read.specs.LocalCounts.{HasFewLocals, excess_of}
 use Rattle.program_read.proofs.LocalLemmas.{none_is}
 use Rattle.program_read.proofs.NumberedLemmas.{each_taken, first_at}
@@ -8,7 +8,7 @@ pub returns-in-Some : goal.returns-in-Some
 returns-in-Some c =
     let source = c.as_slice.ensures.value ∙ c.source.view_is ∙ c.index-sources-number.is in
     first_at c.args.sources.now c.loop-number.number c.index-sources-number.result c.loop-number-test.true c.loop-number.invariant
-    (sym (ap excess_of source) ∙ sym c.in_ok-count.ensures ∙ c.in-Some.is)
+    (record { count = c.in-Some.count; fault_is = refl; excess = sym (ap excess_of source) ∙ sym c.in_ok-count.ensures ∙ c.in-Some.is })
 
 pub loop-number-preserved : goal.loop-number-preserved
 loop-number-preserved c =

@@ -1,19 +1,20 @@
 use Rattle.std.proofs.Common.{subst}
+use Rattle.source_parse.specs.SourceModuleData.{SourceModuleData}
 use Rattle.program_read.specs.FileFault.{IfInFile}
-use Rattle.program_read.specs.Sources.{SourcesStopped}
-use Rattle.program_read.specs.SourceReading.{IsBadSource}
+use Rattle.program_read.specs.FileReading.{IsIn}
+use Rattle.program_read.specs.Sources.{Denote, DenoteNone, source_stage}
+use Rattle.program_read.proofs.ChainLemmas.{stops_at}
 use Rattle.program_read.proofs.FaultLemmas.{hands_on}
 use Rattle.program_read.proofs.NumberedLemmas.{pairs_taken}
-use Rattle.program_read.proofs.SourceLemmas.{Denotes, bad_stops}
 use Rattle.program_read.proofs.sources.read_sources.Goals as goal
 
 pub returns-in_err-read_source : goal.returns-in_err-read_source
 returns-in_err-read_source c =
-    hands_on c.from_residual.result _ _ _ (SourcesStopped c.args.texts.now) c.from_residual.ensures.1
-    (λ file fault. bad_stops c.args.texts.now c.loop-number.number c.index-texts-number.result c.loop-number.sources.items file fault c.loop-number-test.true c.loop-number.invariant)
-    (subst (λ tokens. IfInFile c.in_err-read_source.field-0.0 (IsBadSource c.loop-number.number tokens)) c.index-texts-number.is c.in_err-read_source.ensures)
+    hands_on c.from_residual.result _ _ _ (source_stage.Stops c.args.texts.now) c.from_residual.ensures.1
+    (λ file fault. stops_at Denote Denote DenoteNone c.args.texts.now c.loop-number.number c.index-texts-number.result c.loop-number.sources.items file fault (λ n tokens source s. (source, s)) c.loop-number-test.true c.loop-number.invariant)
+    (subst (λ tokens. IfInFile c.in_err-read_source.field-0.0 (IsIn c.loop-number.number (DenoteNone c.loop-number.number tokens))) c.index-texts-number.is c.in_err-read_source.ensures)
 
 pub loop-number-preserved : goal.loop-number-preserved
 loop-number-preserved c =
-    pairs_taken Denotes c.args.texts.now c.loop-number.number c.index-texts-number.result c.loop-number.sources.items c.push.new.self.items c.in_ok-read_source.field-0 c.loop-number-test.true c.loop-number.invariant
-    (subst (λ tokens. Denotes c.loop-number.number tokens c.in_ok-read_source.field-0) c.index-texts-number.is c.in_ok-read_source.ensures) c.in_ok-push.ensures.items
+    pairs_taken Denote c.args.texts.now c.loop-number.number c.index-texts-number.result c.loop-number.sources.items c.push.new.self.items c.in_ok-read_source.field-0 c.loop-number-test.true c.loop-number.invariant
+    (subst (λ tokens. Denote c.loop-number.number tokens c.in_ok-read_source.field-0) c.index-texts-number.is c.in_ok-read_source.ensures) c.in_ok-push.ensures.items

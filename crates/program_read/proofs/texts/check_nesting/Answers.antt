@@ -1,6 +1,7 @@
-use Rattle.std.proofs.Common.{◌≡◌, ◌<◌, ◌≤◌, ℕ, subst, arith}
+use Rattle.std.proofs.Common.{◌≡◌, ◌<◌, ◌≤◌, ℕ, refl, subst, arith}
 use Rattle.std.specs.Prelude.{min}
-use Rattle.program_read.specs.Texts.{IsLight, IsHeavy}
+use Rattle.src_tree.specs.Weight.{greatest_weight}
+use Rattle.program_read.specs.Texts.{IsLight}
 use Rattle.program_read.proofs.NumberedLemmas.{each_taken, first_at}
 use Rattle.program_read.proofs.texts.check_nesting.Goals as goal
 
@@ -13,7 +14,7 @@ light w g e h = omega (arith, e, h)
 pub returns-then-weight-ge-WEIGHT_LIMIT : goal.returns-then-weight-ge-WEIGHT_LIMIT
 returns-then-weight-ge-WEIGHT_LIMIT c =
     first_at c.args.texts.now c.loop-number.number c.index-texts-number.result c.loop-number-test.true c.loop-number.invariant
-    (subst (IsHeavy c.loop-number.number) c.index-texts-number.is (heavy c.weight.result _ c.weight.ensures c.if-weight-ge-WEIGHT_LIMIT.true))
+    (record { fault_is = refl; heavy = subst (λ tokens. 200 < greatest_weight tokens) c.index-texts-number.is (heavy c.weight.result _ c.weight.ensures c.if-weight-ge-WEIGHT_LIMIT.true) })
 
 pub loop-number-preserved : goal.loop-number-preserved
 loop-number-preserved c =

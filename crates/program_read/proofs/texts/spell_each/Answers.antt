@@ -1,17 +1,19 @@
 use Rattle.std.proofs.Common.{subst, ◌∙◌}
 use Rattle.program_read.specs.FileFault.{IfInFile}
-use Rattle.program_read.specs.Texts.{TextsStopped}
-use Rattle.program_read.specs.TextReading.{IsBadText, IsText}
+use Rattle.program_read.specs.FileReading.{IsIn}
+use Rattle.program_read.specs.Texts.{AreTokensOf, HasBadToken, tokens_stage}
+use Rattle.program_read.specs.TextReading.{IsText}
+use Rattle.program_read.proofs.ChainLemmas.{stops_at}
 use Rattle.program_read.proofs.FaultLemmas.{hands_on}
 use Rattle.program_read.proofs.NumberedLemmas.{pairs_taken}
-use Rattle.program_read.proofs.TextLemmas.{bad_stops}
+use Rattle.program_read.proofs.TextLemmas.{text_tokens}
 use Rattle.program_read.proofs.texts.spell_each.Goals as goal
 
 pub returns-in_err-spell : goal.returns-in_err-spell
 returns-in_err-spell c =
-    hands_on c.from_residual.result _ _ _ (TextsStopped c.args.files.now) c.from_residual.ensures.1
-    (λ file fault. bad_stops c.args.files.now c.loop-number.number c.index-files-number.result c.loop-number.texts.items file fault c.loop-number-test.true c.loop-number.invariant)
-    (subst (λ bytes. IfInFile c.in_err-spell.field-0.0 (IsBadText c.loop-number.number bytes)) (c.as_slice.ensures ∙ c.index-files-number.is) c.in_err-spell.ensures)
+    hands_on c.from_residual.result _ _ _ (tokens_stage.Stops c.args.files.now) c.from_residual.ensures.1
+    (λ file fault. stops_at IsText AreTokensOf HasBadToken c.args.files.now c.loop-number.number c.index-files-number.result c.loop-number.texts.items file fault text_tokens c.loop-number-test.true c.loop-number.invariant)
+    (subst (λ bytes. IfInFile c.in_err-spell.field-0.0 (IsIn c.loop-number.number (HasBadToken c.loop-number.number bytes))) (c.as_slice.ensures ∙ c.index-files-number.is) c.in_err-spell.ensures)
 
 pub loop-number-preserved : goal.loop-number-preserved
 loop-number-preserved c =

@@ -1,0 +1,4 @@
+//! The words in which the verifier answers.
+#![tactic(auto)]
+
+pub mod rule;

@@ -1,0 +1,43 @@
+//! The rules of the language that a file can break.
+
+ghost use Rattle.std.specs.Prelude.{◌≡◌};
+ghost use Rattle.answers.specs.Rules.{rule_name, rule_number};
+
+/// A rule of the language that a file can break.
+#[derive(Clone, Copy, Debug, PartialEq, Eq)]
+pub enum Rule {
+    /// No list of tokens spells the bytes.
+    BadToken,
+    /// The tokens are of no source, and hold no marker of a form that is left out.
+    Grammar,
+    /// The tokens are of no source, and hold a marker of a form that is left out.
+    LeftOut,
+    /// The file holds a form that is not built yet.
+    NotBuilt,
+}
+
+impl Rule {
+    /// The number by which a refusal names the rule.
+    pub fn number(self) -> u32
+        ensures { result ≡ rule_number self }
+    {
+        match self {
+            Rule::BadToken => 1,
+            Rule::Grammar => 2,
+            Rule::LeftOut => 3,
+            Rule::NotBuilt => 18,
+        }
+    }
+
+    /// The name by which a refusal names the rule.
+    pub fn text(self) -> &'static [u8]
+        ensures { result.now ≡ rule_name self }
+    {
+        match self {
+            Rule::BadToken => b"BadToken",
+            Rule::Grammar => b"Grammar",
+            Rule::LeftOut => b"LeftOut",
+            Rule::NotBuilt => b"NotBuilt",
+        }
+    }
+}

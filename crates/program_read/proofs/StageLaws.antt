@@ -1,0 +1,111 @@
+-- The laws of each stage, and of all of them.
+use Rattle.std.proofs.Common.{◌≡◌, ℕ, List, [], Some, None, inl, inr, refl, sym, ap, ◌∙◌, arith}
+use Rattle.answers.specs.declared.rule.Rule.TheVariants.{BadToken, LeftOut, NotBuilt}
+use Rattle.src_tree.specs.Spelling.{IsBadAt, Spells}
+use Rattle.src_tree.specs.declared.token.Token.{Token}
+use Rattle.source_parse.specs.Denoted.{IsSourceOf}
+use Rattle.source_parse.specs.SourceModuleData.{SourceModuleData}
+use Rattle.sum_tree.specs.SumModuleData.{SumModuleData}
+use Rattle.program_read.specs.Chain.{Stage, ◌▷◌}
+use Rattle.program_read.specs.FileFault.{IsSameStop, breaks, without_place}
+use Rattle.program_read.specs.LocalCounts.{HasFewLocals, HasManyLocals, locals_stage}
+use Rattle.program_read.specs.Modules.{HasUnbuilt, modules_stage, numbered}
+use Rattle.program_read.specs.Program.{program_stages, source_stages}
+use Rattle.program_read.specs.Sources.{Denote, DenoteNone, HasMarker, HasNoTree, source_stage}
+use Rattle.program_read.specs.Texts.{AreTokensOf, HasBadToken, IsHeavy, IsLight, IsLong, IsShort, length_stage, nesting_stage, text_stages, tokens_stage}
+use Rattle.program_read.specs.declared.fault.FileFault.{FileFault}
+use Rattle.program_read.specs.declared.fault.FileFault.TheVariants.{Breaks, Passes}
+use Rattle.program_read.specs.declared.fault.FileLimit.TheVariants.{Locals}
+use Rattle.program_read.proofs.ChainLaws.{Laws, behind_laws, checks_laws, makes_laws}
+use Rattle.program_read.proofs.ChainLemmas.{KeepsCount, behind_keeps, checks_keeps, makes_keeps}
+use Rattle.program_read.proofs.MarkerLaws.{marker_once, marker_or_none}
+use Rattle.program_read.proofs.ModuleLaws.{all_or_first, first_once, one_program}
+
+infixl 20 ◌▷◌
+
+-- ---- tokens
+
+-- what is known of tokens and of sources
+pub record Known : Type 0 where
+  pub one_spelling : (file : ℕ) (bytes : List ℕ) (one other : List Token) → Spells file one bytes → Spells file other bytes → one ≡ other
+  pub one_place : (one other : ℕ) (bytes : List ℕ) → IsBadAt one bytes → IsBadAt other bytes → one ≡ other
+  pub one_source : (tokens : List Token) (one other : List SourceModuleData) → IsSourceOf one tokens → IsSourceOf other tokens → one ≡ other
+
+bad_once : Known → (n : ℕ) (bytes : List ℕ) (fault other : FileFault) → HasBadToken n bytes fault → HasBadToken n bytes other → without_place fault ≡ without_place other
+bad_once known n bytes fault other p q =
+    ap without_place (p.fault_is ∙ ap (breaks BadToken) (known.one_place p.place q.place bytes p.at q.at) ∙ sym q.fault_is)
+
+tokens_laws : Known → Laws tokens_stage
+tokens_laws known = makes_laws AreTokensOf HasBadToken known.one_spelling (λ n bytes tokens fault spells bad. bad.unspelled tokens spells) (bad_once known)
+
+length_laws : Laws length_stage
+length_laws = checks_laws IsShort IsLong (λ n tokens fault short long. omega (arith, short, long.many)) (λ n tokens fault other p q. ap without_place (p.fault_is ∙ sym q.fault_is))
+
+nesting_laws : Laws nesting_stage
+nesting_laws = checks_laws IsLight IsHeavy (λ n tokens fault light heavy. omega (arith, light, heavy.heavy)) (λ n tokens fault other p q. ap without_place (p.fault_is ∙ sym q.fault_is))
+
+-- ---- sources
+
+denote_none_apart : (n : ℕ) (tokens : List Token) (source : List SourceModuleData) (fault : FileFault) → Denote n tokens source → DenoteNone n tokens fault → ⊥
+denote_none_apart n tokens source fault s (inl none) = none.cause.0 source s
+denote_none_apart n tokens source fault s (inr marked) = marked.cause.0 source s
+
+none_once : (n : ℕ) (tokens : List Token) (fault other : FileFault) → DenoteNone n tokens fault → DenoteNone n tokens other → without_place fault ≡ without_place other
+none_once n tokens fault other (inl p) (inl q) = ap without_place p.fault_is ∙ sym (ap without_place q.fault_is)
+none_once n tokens fault other (inl p) (inr q) = absurd (marker_or_none tokens q.marker q.place q.cause.1 p.cause.1)
+none_once n tokens fault other (inr p) (inl q) = absurd (marker_or_none tokens p.marker p.place p.cause.1 q.cause.1)
+none_once n tokens fault other (inr p) (inr q) =
+    let o = marker_once tokens p.marker q.marker p.place q.place p.cause.1 q.cause.1 in
+    ap without_place (p.fault_is ∙ ap (λ m. Breaks LeftOut p.place (Some m)) o.marker ∙ ap (λ place. Breaks LeftOut place (Some q.marker)) o.place_is ∙ sym q.fault_is)
+
+source_laws : Known → Laws source_stage
+source_laws known = makes_laws Denote DenoteNone (λ n tokens x y p q. known.one_source tokens x y p q) denote_none_apart none_once
+
+-- ---- locals
+
+some_is : {a b : ℕ} → Some a ≡ Some b → a ≡ b
+some_is e = cc
+
+none_is_some : {a : ℕ} → None ≡ Some a → ⊥
+none_is_some e = absurd (cc)
+
+locals_laws : Laws locals_stage
+locals_laws =
+    checks_laws HasFewLocals HasManyLocals (λ n source fault few many. none_is_some (sym few ∙ many.excess))
+    (λ n source fault other p q. ap without_place (p.fault_is ∙ ap (Passes Locals) (some_is (sym p.excess ∙ q.excess)) ∙ sym q.fault_is))
+
+-- ---- modules
+
+unbuilt_once : (sources : List (List SourceModuleData)) (file other_file : ℕ) (fault other : FileFault) → HasUnbuilt (numbered 0 sources) file fault → HasUnbuilt (numbered 0 sources) other_file other → IsSameStop file other_file fault other
+unbuilt_once sources file other_file fault other p q =
+    let o = first_once (numbered 0 sources) file other_file p.place q.place p.first q.first in
+    record { file_is = o.file_is; fault_is = ap without_place (p.fault_is ∙ ap (breaks NotBuilt) o.place_is ∙ sym q.fault_is) }
+
+modules_laws : Laws modules_stage
+modules_laws = record {
+  one = λ sources one other p q. one_program [] (numbered 0 sources) one other p q;
+  either = λ sources program file fault p stops. all_or_first (numbered 0 sources) program file stops.place p stops.first;
+  stop = unbuilt_once;
+}
+
+-- ---- all stages
+
+text_laws : Known → Laws text_stages
+text_laws known = behind_laws (tokens_stage ▷ length_stage) nesting_stage (behind_laws tokens_stage length_stage (tokens_laws known) length_laws) nesting_laws
+
+source_chain_laws : Known → Laws source_stages
+source_chain_laws known = behind_laws (text_stages ▷ source_stage) locals_stage (behind_laws text_stages source_stage (text_laws known) (source_laws known)) locals_laws
+
+pub program_laws : Known → Laws program_stages
+program_laws known = behind_laws source_stages modules_stage (source_chain_laws known) modules_laws
+
+-- ---- how many files there are
+
+pub text_keeps : KeepsCount text_stages
+text_keeps = behind_keeps (tokens_stage ▷ length_stage) nesting_stage (behind_keeps tokens_stage length_stage (makes_keeps AreTokensOf HasBadToken) (checks_keeps IsShort IsLong)) (checks_keeps IsLight IsHeavy)
+
+pub read_keeps : KeepsCount (text_stages ▷ source_stage)
+read_keeps = behind_keeps text_stages source_stage text_keeps (makes_keeps Denote DenoteNone)
+
+pub source_keeps : KeepsCount source_stages
+source_keeps = behind_keeps (text_stages ▷ source_stage) locals_stage read_keeps (checks_keeps HasFewLocals HasManyLocals)
