@@ -13,7 +13,7 @@
 use Rattle.std.specs.Prelude.{Bool, true, false, List, [], ◌∷◌, ◌++◌, Option, None, Some, codes, map}
 use Rattle.std.specs.List.{flat_map}
 use Rattle.pv_base.specs.declared.span.Span.{Span}
-use Rattle.src_tree.specs.declared.token.Punctuation.TheVariants.{LeftBrace, RightBrace, Colon, Semicolon, Equal}
+use Rattle.move_tokens.specs.declared.token.Punctuation.TheVariants.{LeftBrace, RightBrace, Colon, Semicolon, Equal}
 use Rattle.move_tree.specs.declared.lexeme.Lexeme.{Lexeme}
 use Rattle.move_tree.specs.Lexemes.{word, identifier, numeral, sign, comma_list}
 use Rattle.move_tree.specs.PathSpelling.{path_spelling}

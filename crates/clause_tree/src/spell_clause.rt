@@ -20,7 +20,7 @@ use spec_tree::spec_expression::SpecExpression;
 use spec_tree::spell_spec_expression::{
     spell_spec_expression, spell_spec_expressions, spell_spec_fields,
 };
-use src_tree::token::Punctuation;
+use move_tokens::token::Punctuation;
 use std::alloc::Global;
 
 #[tactic(auto, unfolding(crate::specs::ClauseSpelling::requires_word))]

@@ -1,8 +1,8 @@
 -- The bodies of functions are read exactly.
 use Rattle.std.proofs.Common.{◌≡◌, ℕ, suc, ◌≤◌, List, [], ◌∷◌, ◌++◌, Some, None, length, sym, ap, subst, ◌∙◌, arith}
 use Rattle.pv_base.specs.declared.span.Span.{Span}
-use Rattle.src_tree.specs.declared.token.Token.{Token}
-use Rattle.src_tree.specs.declared.token.Punctuation.TheVariants.{LeftBrace, RightBrace}
+use Rattle.move_tokens.specs.declared.token.Token.{Token}
+use Rattle.move_tokens.specs.declared.token.Punctuation.TheVariants.{LeftBrace, RightBrace}
 use Rattle.move_tree.specs.declared.lexeme.Lexeme.{Lexeme}
 use Rattle.move_tree.specs.Lexemes.{sign, sign_at}
 use Rattle.expression_tree.specs.ExpressionData.{BlockExpression, BlockData, BlockOf, items_of, list_of_items, maybe_expression_of}
@@ -11,8 +11,8 @@ use Rattle.expression_tree.specs.ProperExpressions.{IsProperExpression}
 use Rattle.token_reading.specs.Beginnings.{Begins}
 use Rattle.token_reading.proofs.Steps.{last, map_some}
 use Rattle.token_reading.proofs.BeginLemmas.{Begins-append, Begins-same}
-use Rattle.type_parse.proofs.TypeLemmas.{type_at-sound, type_at-complete}
-use Rattle.type_parse.proofs.PatternLemmas.{pattern_at-sound, pattern_at-complete}
+use Rattle.leaf_parse.proofs.TypeLemmas.{type_at-sound, type_at-complete}
+use Rattle.leaf_parse.proofs.PatternLemmas.{pattern_at-sound, pattern_at-complete}
 use Rattle.expression_parse.specs.ExpressionReading.{readers, whole_contents_at, body_block_at}
 use Rattle.expression_parse.proofs.Sound.{block_spelled, contents-sound, expression_at-sound}
 use Rattle.expression_parse.proofs.KindLemmas.{option_of, maybe_option, listed_items}

@@ -3,8 +3,8 @@ use Rattle.std.proofs.Common.{◌≡◌, ℕ, zero, suc, ◌<◌, ◌≤◌, Boo
 use Rattle.std.specs.Prelude.{codes, map, option_and_then, is_some}
 use Rattle.std.proofs.Math.Dec.{eqb-suc-zero}
 use Rattle.pv_base.specs.declared.span.Span.{Span}
-use Rattle.src_tree.specs.declared.token.Token.{Token}
-use Rattle.src_tree.specs.declared.token.Punctuation.TheVariants.{LeftParenthesis, RightParenthesis, LeftBrace, RightBrace, Less, Semicolon, Colon, ColonColon, Period, Equal, Exclaim, Star, Ampersand}
+use Rattle.move_tokens.specs.declared.token.Token.{Token}
+use Rattle.move_tokens.specs.declared.token.Punctuation.TheVariants.{LeftParenthesis, RightParenthesis, LeftBrace, RightBrace, Less, Semicolon, Colon, ColonColon, Period, Equal, Exclaim, Star, Ampersand}
 use Rattle.move_tree.specs.declared.lexeme.Identifier.{Identifier}
 use Rattle.move_tree.specs.declared.lexeme.Lexeme.{Lexeme}
 use Rattle.move_tree.specs.declared.operator.BinaryOperator.{BinaryOperator}
@@ -32,19 +32,19 @@ use Rattle.token_reading.proofs.TokenLemmas.{after_sign-complete, after_sign-oth
 use Rattle.token_reading.proofs.FirstLemmas.{First-weaker, First-some, word_place_at-first, after_word-first}
 use Rattle.token_reading.proofs.BalanceLemmas.{balanced_at-complete}
 use Rattle.token_reading.proofs.ChainLemmas.{Spine, operand, joined, first_of, Fits, walk, chain-complete}
-use Rattle.type_parse.proofs.TypeLemmas.{ReadsBackTypes, type_at-complete}
-use Rattle.type_parse.proofs.PatternLemmas.{ReadsBackPatterns, pattern_at-complete}
-use Rattle.expression_leaf.specs.declared.leaf.Control.{Control}
-use Rattle.expression_leaf.specs.declared.leaf.Control.TheVariants.{If, While, Loop, Return, Abort, Break, Continue}
+use Rattle.leaf_parse.proofs.TypeLemmas.{ReadsBackTypes, type_at-complete}
+use Rattle.leaf_parse.proofs.PatternLemmas.{ReadsBackPatterns, pattern_at-complete}
+use Rattle.leaf_parse.specs.declared.leaf.Control.{Control}
+use Rattle.leaf_parse.specs.declared.leaf.Control.TheVariants.{If, While, Loop, Return, Abort, Break, Continue}
 use Rattle.expression_parse.specs.declared.block.BlockStep.TheVariants.{End, One}
-use Rattle.expression_leaf.specs.LeafReading.{prefix_at, use_at, control_at, may_begin, spec_opening_at, loop_spec_at, annotation_at}
-use Rattle.expression_leaf.specs.OperatorReading.{joints}
+use Rattle.leaf_parse.specs.LeafReading.{prefix_at, use_at, control_at, may_begin, spec_opening_at, loop_spec_at, annotation_at}
+use Rattle.leaf_parse.specs.OperatorReading.{joints}
 use Rattle.expression_parse.specs.ExpressionReading.{Readers, any, readers, initial_at, let_at, step_behind, step_at, put_items, contents_behind, contents_at, whole_contents_at, block_at, spec_body_at, body_at, else_at, if_at, while_at, return_at, control_form, term_at, fields_at, whole_fields_at, operand_at, behind_operand, any_form, expression_form, expression_at}
-use Rattle.expression_leaf.proofs.LeafLemmas.{prefix_at-complete, use_at-complete, control_word, control_at-complete, spec_opening_at-complete}
-use Rattle.expression_leaf.proofs.OpenLemmas.{BeginsExpression, BeginsTerm, expression_first, term_first, term_no_word, expression_no_sign, high_no_else}
-use Rattle.expression_leaf.proofs.OperatorLemmas.{none_as_tight, level_small, level_some}
-use Rattle.expression_leaf.proofs.Operators.{expression_rules}
-use Rattle.expression_leaf.proofs.EndLemmas.{TermEnds, OperandEnds, Follows, closed_stops, follows_closed, closes_word, follows_sign, else_begins_none, operator_follows}
+use Rattle.leaf_parse.proofs.LeafLemmas.{prefix_at-complete, use_at-complete, control_word, control_at-complete, spec_opening_at-complete}
+use Rattle.leaf_parse.proofs.OpenLemmas.{BeginsExpression, BeginsTerm, expression_first, term_first, term_no_word, expression_no_sign, high_no_else}
+use Rattle.leaf_parse.proofs.OperatorLemmas.{none_as_tight, level_small, level_some}
+use Rattle.leaf_parse.proofs.Operators.{expression_rules}
+use Rattle.leaf_parse.proofs.EndLemmas.{TermEnds, OperandEnds, Follows, closed_stops, follows_closed, closes_word, follows_sign, else_begins_none, operator_follows}
 use Rattle.expression_parse.proofs.Sound.{let_spelled, block_spelled, spec_block_spelled, role_of}
 use Rattle.expression_parse.proofs.TermComplete.{ReadsBackExpressions, literal-complete, path-complete, call-complete, pack-complete, vector-complete, assert-complete, cast-complete, tuple-complete}
 use Rattle.expression_parse.proofs.KindLemmas.{let_begins_none, mut_begins_none, move_begins_none, copy_begins_none, no_word_first, expression_begins, inside_first, no_spec_opening, option_of, maybe_option, listed_items, item_some, behind_annotation, behind_pattern, IsControl, IsPlainTerm, ends_at_period, term_no_place, unary_some, use_no_prefix, prefix_none, use_none, ends_at_equal, control_at-first, operand_first, kind_of_body, held_spec, Decomposed, decompose, first_ends, first_no_equal, part_follows}

@@ -3,11 +3,11 @@ use Rattle.std.proofs.Common.{◌≡◌, ℕ, zero, suc, ◌<◌, ◌≤◌, Boo
 use Rattle.std.specs.Prelude.{codes, option_and_then, is_some}
 use Rattle.std.specs.Option.{option_map}
 use Rattle.pv_base.specs.declared.span.Span.{Span}
-use Rattle.src_tree.specs.declared.token.Token.{Token}
-use Rattle.src_tree.specs.declared.token.TokenKind.{TokenKind}
-use Rattle.src_tree.specs.declared.token.TokenKind.TheVariants.{Word, Punctuation}
-use Rattle.src_tree.specs.declared.token.Punctuation.{Punctuation as Sign}
-use Rattle.src_tree.specs.declared.token.Punctuation.TheVariants.{LeftParenthesis, RightParenthesis, LeftBrace, RightBrace, LeftBracket, Less, Semicolon, Colon, ColonColon, Period, Equal, Exclaim, Star, Ampersand}
+use Rattle.move_tokens.specs.declared.token.Token.{Token}
+use Rattle.move_tokens.specs.declared.token.TokenKind.{TokenKind}
+use Rattle.move_tokens.specs.declared.token.TokenKind.TheVariants.{Word, Punctuation}
+use Rattle.move_tokens.specs.declared.token.Punctuation.{Punctuation as Sign}
+use Rattle.move_tokens.specs.declared.token.Punctuation.TheVariants.{LeftParenthesis, RightParenthesis, LeftBrace, RightBrace, LeftBracket, Less, Semicolon, Colon, ColonColon, Period, Equal, Exclaim, Star, Ampersand}
 use Rattle.move_tree.specs.declared.lexeme.Lexeme.{Lexeme}
 use Rattle.move_tree.specs.declared.operator.BinaryOperator.{BinaryOperator}
 use Rattle.move_tree.specs.declared.literal.Literal.TheVariants.{Number as number_literal, Truth as truth_literal, Address as address_literal}
@@ -35,15 +35,15 @@ use Rattle.token_reading.proofs.Steps.{map_or_none, true_or_false}
 use Rattle.token_reading.proofs.TokenLemmas.{after_sign-other}
 use Rattle.token_reading.proofs.FirstLemmas.{First, First-append, First-weaker, sign_place_at-first, word_place_at-first}
 use Rattle.token_reading.proofs.ChainLemmas.{Spine, operand, joined, first_of, Behind, next_above, next_same}
-use Rattle.expression_leaf.specs.declared.leaf.Control.{Control}
-use Rattle.expression_leaf.specs.declared.leaf.Control.TheVariants.{If, While, Loop, Return, Abort, Break, Continue}
-use Rattle.expression_leaf.specs.LeafReading.{begins_expression, borrow_behind, prefix_at, use_at, control_of, control_at, may_begin, spec_opening_at}
-use Rattle.expression_leaf.specs.OperatorReading.{joints}
-use Rattle.expression_leaf.proofs.LeafLemmas.{after_glued-other, control_of-sound, prefix_at-other, control_word, control_at-other, spec_opening_at-other}
-use Rattle.expression_leaf.proofs.OpenLemmas.{differs, path_first, BeginsExpression, BeginsTerm, begins_term, expression_first, term_first, term_no_sign, begin_no_word, high_no_else}
-use Rattle.expression_leaf.proofs.OperatorLemmas.{level_small, level_some}
-use Rattle.expression_leaf.proofs.Operators.{expression_rules}
-use Rattle.expression_leaf.proofs.EndLemmas.{TermEnds, OperandEnds, Follows, closed_stops, no_such_sign, operator_ends}
+use Rattle.leaf_parse.specs.declared.leaf.Control.{Control}
+use Rattle.leaf_parse.specs.declared.leaf.Control.TheVariants.{If, While, Loop, Return, Abort, Break, Continue}
+use Rattle.leaf_parse.specs.LeafReading.{begins_expression, borrow_behind, prefix_at, use_at, control_of, control_at, may_begin, spec_opening_at}
+use Rattle.leaf_parse.specs.OperatorReading.{joints}
+use Rattle.leaf_parse.proofs.LeafLemmas.{after_glued-other, control_of-sound, prefix_at-other, control_word, control_at-other, spec_opening_at-other}
+use Rattle.leaf_parse.proofs.OpenLemmas.{differs, path_first, BeginsExpression, BeginsTerm, begins_term, expression_first, term_first, term_no_sign, begin_no_word, high_no_else}
+use Rattle.leaf_parse.proofs.OperatorLemmas.{level_small, level_some}
+use Rattle.leaf_parse.proofs.Operators.{expression_rules}
+use Rattle.leaf_parse.proofs.EndLemmas.{TermEnds, OperandEnds, Follows, closed_stops, no_such_sign, operator_ends}
 use Rattle.expression_parse.proofs.Sound.{block_spelled, role_of}
 
 -- ---- words that begin no expression

@@ -3,8 +3,8 @@ use Rattle.std.proofs.Common.{◌≡◌, ℕ, zero, suc, ◌<◌, ◌-◌, Bool,
 use Rattle.std.specs.Prelude.{option_and_then}
 use Rattle.std.specs.Option.{option_map_or}
 use Rattle.pv_base.specs.declared.span.Span.{Span}
-use Rattle.src_tree.specs.declared.token.Token.{Token}
-use Rattle.src_tree.specs.declared.token.Punctuation.TheVariants.{Period}
+use Rattle.move_tokens.specs.declared.token.Token.{Token}
+use Rattle.move_tokens.specs.declared.token.Punctuation.TheVariants.{Period}
 use Rattle.move_tree.specs.declared.lexeme.Identifier.{Identifier}
 use Rattle.expression_tree.specs.ExpressionData.{ExpressionData, FieldExpression, ItemData}
 use Rattle.token_reading.specs.TokenReading.{Read, after_sign, identifier_at}

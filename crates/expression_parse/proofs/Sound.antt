@@ -4,10 +4,10 @@ use Rattle.std.specs.Prelude.{codes, map, is_some}
 use Rattle.std.specs.List.{AllByRecursion}
 use Rattle.std.proofs.lemmas.Bool.{eqb-true, eqb-false}
 use Rattle.pv_base.specs.declared.span.Span.{Span}
-use Rattle.src_tree.specs.declared.token.Token.{Token}
-use Rattle.src_tree.specs.declared.token.TokenKind.TheVariants.{Punctuation}
-use Rattle.src_tree.specs.declared.token.Punctuation.{Punctuation as Sign}
-use Rattle.src_tree.specs.declared.token.Punctuation.TheVariants.{LeftParenthesis, RightParenthesis, LeftBrace, RightBrace, LeftBracket, RightBracket, Less, Comma as comma_sign, Semicolon, Colon, Period, Equal, Exclaim, AtSign}
+use Rattle.move_tokens.specs.declared.token.Token.{Token}
+use Rattle.move_tokens.specs.declared.token.TokenKind.TheVariants.{Punctuation}
+use Rattle.move_tokens.specs.declared.token.Punctuation.{Punctuation as Sign}
+use Rattle.move_tokens.specs.declared.token.Punctuation.TheVariants.{LeftParenthesis, RightParenthesis, LeftBrace, RightBrace, LeftBracket, RightBracket, Less, Comma as comma_sign, Semicolon, Colon, Period, Equal, Exclaim, AtSign}
 use Rattle.move_tree.specs.declared.lexeme.Lexeme.{Lexeme}
 use Rattle.move_tree.specs.declared.literal.Literal.TheVariants.{Address as address_literal}
 use Rattle.move_tree.specs.declared.path.Path.{Path}
@@ -37,27 +37,27 @@ use Rattle.token_reading.proofs.TokenLemmas.{after_sign-sound, sign_place_at-sou
 use Rattle.token_reading.proofs.BalanceLemmas.{balanced_at-sound}
 use Rattle.token_reading.proofs.ListLemmas.{Filled, comma_list_at-sound}
 use Rattle.token_reading.proofs.ChainLemmas.{Joined, chain_at-sound}
-use Rattle.type_parse.specs.PathReading.{path_at, address_at, is_single}
-use Rattle.type_parse.specs.TypeReading.{arguments_at, maybe_arguments_at}
-use Rattle.type_parse.proofs.PathLemmas.{path_at-sound, address_at-sound, is_single-sound}
-use Rattle.type_parse.proofs.TypeLemmas.{ReadsTypes, inside_spelling, arguments_spelled, arguments_at-sound, maybe_arguments_at-sound, type_at-sound}
-use Rattle.type_parse.proofs.PatternLemmas.{ReadsPatterns, pattern_at-sound}
-use Rattle.expression_leaf.specs.declared.leaf.Control.{Control}
-use Rattle.expression_leaf.specs.declared.leaf.Control.TheVariants.{If, While, Loop, Return, Abort, Break, Continue}
-use Rattle.expression_leaf.specs.declared.leaf.PathForm.{PathForm}
-use Rattle.expression_leaf.specs.declared.leaf.PathForm.TheVariants.{Call, Pack, Alone}
-use Rattle.expression_leaf.specs.declared.leaf.BehindFirst.{BehindFirst}
-use Rattle.expression_leaf.specs.declared.leaf.BehindFirst.TheVariants.{Close, As, Comma}
+use Rattle.leaf_parse.specs.PathReading.{path_at, address_at, is_single}
+use Rattle.leaf_parse.specs.TypeReading.{arguments_at, maybe_arguments_at}
+use Rattle.leaf_parse.proofs.PathLemmas.{path_at-sound, address_at-sound, is_single-sound}
+use Rattle.leaf_parse.proofs.TypeLemmas.{ReadsTypes, inside_spelling, arguments_spelled, arguments_at-sound, maybe_arguments_at-sound, type_at-sound}
+use Rattle.leaf_parse.proofs.PatternLemmas.{ReadsPatterns, pattern_at-sound}
+use Rattle.leaf_parse.specs.declared.leaf.Control.{Control}
+use Rattle.leaf_parse.specs.declared.leaf.Control.TheVariants.{If, While, Loop, Return, Abort, Break, Continue}
+use Rattle.leaf_parse.specs.declared.leaf.PathForm.{PathForm}
+use Rattle.leaf_parse.specs.declared.leaf.PathForm.TheVariants.{Call, Pack, Alone}
+use Rattle.leaf_parse.specs.declared.leaf.BehindFirst.{BehindFirst}
+use Rattle.leaf_parse.specs.declared.leaf.BehindFirst.TheVariants.{Close, As, Comma}
 use Rattle.expression_parse.specs.declared.block.BlockStep.{BlockStep}
 use Rattle.expression_parse.specs.declared.block.BlockStep.TheVariants.{End, One}
-use Rattle.expression_leaf.specs.LeafReading.{plain_literal_at, vector_place_at, assert_place_at, prefix_at, use_at, control_at, may_begin, spec_opening_at, path_form_at, glued_arguments_at, has_arguments, behind_first_at, loop_spec_at, annotation_at, cast_target_at, after_glued}
-use Rattle.expression_leaf.specs.OperatorReading.{joints}
-use Rattle.expression_leaf.specs.ParenthesesReading.{several}
+use Rattle.leaf_parse.specs.LeafReading.{plain_literal_at, vector_place_at, assert_place_at, prefix_at, use_at, control_at, may_begin, spec_opening_at, path_form_at, glued_arguments_at, has_arguments, behind_first_at, loop_spec_at, annotation_at, cast_target_at, after_glued}
+use Rattle.leaf_parse.specs.OperatorReading.{joints}
+use Rattle.leaf_parse.specs.ParenthesesReading.{several}
 use Rattle.expression_parse.specs.ExpressionReading.{Readers, any, readers, field_value_at, path_form, path_term_at, vector_at, assert_at, behind_first, parenthesized_at, initial_at, let_at, step_behind, step_at, Contents, contents_behind, contents_at, whole_contents_at, block_at, spec_body_at, body_at, else_at, if_at, while_at, return_at, control_form, term_at, fields_at, operand_at, behind_operand, any_form, expression_form, expression_at}
-use Rattle.expression_leaf.proofs.LeafLemmas.{plain_literal_at-sound, vector_place_at-sound, assert_place_at-sound, after_glued-sound, prefix_at-sound, use_at-sound, control_word, control_at-sound, spec_opening_at-sound}
-use Rattle.expression_leaf.proofs.OpenLemmas.{high_no_else}
-use Rattle.expression_leaf.proofs.OperatorLemmas.{level_small}
-use Rattle.expression_leaf.proofs.Operators.{expression_rules}
+use Rattle.leaf_parse.proofs.LeafLemmas.{plain_literal_at-sound, vector_place_at-sound, assert_place_at-sound, after_glued-sound, prefix_at-sound, use_at-sound, control_word, control_at-sound, spec_opening_at-sound}
+use Rattle.leaf_parse.proofs.OpenLemmas.{high_no_else}
+use Rattle.leaf_parse.proofs.OperatorLemmas.{level_small}
+use Rattle.leaf_parse.proofs.Operators.{expression_rules}
 
 -- what was read is such an expression
 pub record Good (role : Role) (low : ℕ) (ts : List Token) (r : ExpressionData × List Token) : Type 0 where

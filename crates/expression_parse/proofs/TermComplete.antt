@@ -5,10 +5,10 @@ use Rattle.std.specs.Option.{option_map}
 use Rattle.std.specs.List.{AllByRecursion}
 use Rattle.std.specs.Cmp.Lexicographic.{same_text}
 use Rattle.pv_base.specs.declared.span.Span.{Span}
-use Rattle.src_tree.specs.declared.token.Token.{Token}
-use Rattle.src_tree.specs.declared.token.TokenKind.TheVariants.{Word, Punctuation}
-use Rattle.src_tree.specs.declared.token.Punctuation.{Punctuation as Sign}
-use Rattle.src_tree.specs.declared.token.Punctuation.TheVariants.{LeftParenthesis, RightParenthesis, LeftBrace, RightBrace, LeftBracket, RightBracket, Less, Comma as comma_sign, Colon, ColonColon, Exclaim, AtSign}
+use Rattle.move_tokens.specs.declared.token.Token.{Token}
+use Rattle.move_tokens.specs.declared.token.TokenKind.TheVariants.{Word, Punctuation}
+use Rattle.move_tokens.specs.declared.token.Punctuation.{Punctuation as Sign}
+use Rattle.move_tokens.specs.declared.token.Punctuation.TheVariants.{LeftParenthesis, RightParenthesis, LeftBrace, RightBrace, LeftBracket, RightBracket, Less, Comma as comma_sign, Colon, ColonColon, Exclaim, AtSign}
 use Rattle.move_tree.specs.declared.lexeme.Identifier.{Identifier}
 use Rattle.move_tree.specs.declared.lexeme.Lexeme.{Lexeme}
 use Rattle.move_tree.specs.declared.literal.Literal.{Literal}
@@ -35,19 +35,19 @@ use Rattle.token_reading.proofs.BeginLemmas.{Begins-split, Begins-first, Begins-
 use Rattle.token_reading.proofs.TokenLemmas.{after_sign-complete, after_sign-other, sign_place_at-complete, sign_place_at-none, sign_place_at-other, after_word-complete, after_word-other, identifier_at-complete, begins_capital-complete, same_name-other, name_is_no_keyword}
 use Rattle.token_reading.proofs.FirstLemmas.{after_sign-first}
 use Rattle.token_reading.proofs.ListLemmas.{Filled, comma_list_at-complete}
-use Rattle.type_parse.specs.PathReading.{path_at, address_at, is_single}
-use Rattle.type_parse.specs.TypeReading.{arguments_at, maybe_arguments_at}
-use Rattle.type_parse.proofs.PathLemmas.{path_at-complete, address_at-complete, path_no_sign, is_single-sound, is_single-complete}
-use Rattle.type_parse.proofs.TypeLemmas.{ReadsBackTypes, inside_spelling, arguments_spelled, arguments_at-complete, maybe_arguments_at-complete}
-use Rattle.expression_leaf.specs.declared.leaf.PathForm.TheVariants.{Call, Pack, Alone}
-use Rattle.expression_leaf.specs.declared.leaf.BehindFirst.{BehindFirst}
-use Rattle.expression_leaf.specs.declared.leaf.BehindFirst.TheVariants.{Close, As, Comma}
-use Rattle.expression_leaf.specs.LeafReading.{begins_operand, plain_literal_at, vector_place_at, assert_place_at, path_form_at, glued_arguments_at, has_arguments, behind_first_at, cast_target_at, after_glued}
-use Rattle.expression_leaf.specs.ParenthesesReading.{several}
+use Rattle.leaf_parse.specs.PathReading.{path_at, address_at, is_single}
+use Rattle.leaf_parse.specs.TypeReading.{arguments_at, maybe_arguments_at}
+use Rattle.leaf_parse.proofs.PathLemmas.{path_at-complete, address_at-complete, path_no_sign, is_single-sound, is_single-complete}
+use Rattle.leaf_parse.proofs.TypeLemmas.{ReadsBackTypes, inside_spelling, arguments_spelled, arguments_at-complete, maybe_arguments_at-complete}
+use Rattle.leaf_parse.specs.declared.leaf.PathForm.TheVariants.{Call, Pack, Alone}
+use Rattle.leaf_parse.specs.declared.leaf.BehindFirst.{BehindFirst}
+use Rattle.leaf_parse.specs.declared.leaf.BehindFirst.TheVariants.{Close, As, Comma}
+use Rattle.leaf_parse.specs.LeafReading.{begins_operand, plain_literal_at, vector_place_at, assert_place_at, path_form_at, glued_arguments_at, has_arguments, behind_first_at, cast_target_at, after_glued}
+use Rattle.leaf_parse.specs.ParenthesesReading.{several}
 use Rattle.expression_parse.specs.ExpressionReading.{Readers, any, field_value_at, path_term_at, vector_at, assert_at, behind_first, parenthesized_at, term_at}
-use Rattle.expression_leaf.proofs.LeafLemmas.{number_at-other, number_at-path, plain_number, plain_truth, plain_none, vector_place_at-complete, vector_place_at-other, vector_place_at-path, assert_place_at-complete, assert_place_at-other, assert_place_at-path, after_glued-complete, after_glued-other}
-use Rattle.expression_leaf.proofs.OpenLemmas.{expression_no_sign}
-use Rattle.expression_leaf.proofs.EndLemmas.{Quiet, TermEnds, Follows, follows_sign, follows_closed, closes_word, as_begins_none, closing}
+use Rattle.leaf_parse.proofs.LeafLemmas.{number_at-other, number_at-path, plain_number, plain_truth, plain_none, vector_place_at-complete, vector_place_at-other, vector_place_at-path, assert_place_at-complete, assert_place_at-other, assert_place_at-path, after_glued-complete, after_glued-other}
+use Rattle.leaf_parse.proofs.OpenLemmas.{expression_no_sign}
+use Rattle.leaf_parse.proofs.EndLemmas.{Quiet, TermEnds, Follows, follows_sign, follows_closed, closes_word, as_begins_none, closing}
 use Rattle.expression_parse.proofs.Sound.{assert_spelled, cast_spelled, several_spelled}
 
 abbrev pub ReadsBackExpressions : ℕ → (ℕ → List Token → Read ExpressionData) → Type 0

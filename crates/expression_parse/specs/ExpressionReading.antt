@@ -2,8 +2,8 @@
 use Rattle.std.specs.Prelude.{ℕ, zero, suc, Bool, true, false, ◌&&◌, ◌==◌, if◌then◌else◌, List, [], ◌∷◌, ◌++◌, Option, Some, None, is_some, option_and_then, codes, length}
 use Rattle.std.specs.Option.{option_map, option_map_or}
 use Rattle.pv_base.specs.declared.span.Span.{Span}
-use Rattle.src_tree.specs.declared.token.Token.{Token}
-use Rattle.src_tree.specs.declared.token.Punctuation.TheVariants.{LeftParenthesis, RightParenthesis, LeftBrace, RightBrace, LeftBracket, RightBracket, Comma as comma_sign, Semicolon, Colon, Period, Equal, AtSign}
+use Rattle.move_tokens.specs.declared.token.Token.{Token}
+use Rattle.move_tokens.specs.declared.token.Punctuation.TheVariants.{LeftParenthesis, RightParenthesis, LeftBrace, RightBrace, LeftBracket, RightBracket, Comma as comma_sign, Semicolon, Colon, Period, Equal, AtSign}
 use Rattle.move_tree.specs.declared.literal.Literal.TheVariants.{Address as address_literal}
 use Rattle.move_tree.specs.declared.path.Path.{Path}
 use Rattle.move_tree.specs.TypeTreeData.{SourceTypeData, MaybeArgumentsData}
@@ -13,20 +13,20 @@ use Rattle.expression_tree.specs.ProperExpressions.{unary_level}
 use Rattle.token_reading.specs.TokenReading.{Read, after_sign, sign_place_at, after_word, word_place_at, identifier_at}
 use Rattle.token_reading.specs.ListReading.{comma_list_at}
 use Rattle.token_reading.specs.ChainReading.{whole_chain_at}
-use Rattle.type_parse.specs.PathReading.{path_at, address_at}
-use Rattle.type_parse.specs.TypeReading.{type_at, maybe_arguments_at}
-use Rattle.type_parse.specs.PatternReading.{pattern_at}
-use Rattle.expression_leaf.specs.declared.leaf.Control.{Control}
-use Rattle.expression_leaf.specs.declared.leaf.Control.TheVariants.{If, While, Loop, Return, Abort, Break, Continue}
+use Rattle.leaf_parse.specs.PathReading.{path_at, address_at}
+use Rattle.leaf_parse.specs.TypeReading.{type_at, maybe_arguments_at}
+use Rattle.leaf_parse.specs.PatternReading.{pattern_at}
+use Rattle.leaf_parse.specs.declared.leaf.Control.{Control}
+use Rattle.leaf_parse.specs.declared.leaf.Control.TheVariants.{If, While, Loop, Return, Abort, Break, Continue}
 use Rattle.expression_parse.specs.declared.block.BlockStep.{BlockStep}
 use Rattle.expression_parse.specs.declared.block.BlockStep.TheVariants.{End, One}
-use Rattle.expression_leaf.specs.declared.leaf.PathForm.{PathForm}
-use Rattle.expression_leaf.specs.declared.leaf.PathForm.TheVariants.{Call, Pack, Alone}
-use Rattle.expression_leaf.specs.declared.leaf.BehindFirst.{BehindFirst}
-use Rattle.expression_leaf.specs.declared.leaf.BehindFirst.TheVariants.{Close, As, Comma}
-use Rattle.expression_leaf.specs.LeafReading.{plain_literal_at, vector_place_at, assert_place_at, prefix_at, use_at, control_at, may_begin, spec_opening_at, path_form_at, glued_arguments_at, has_arguments, behind_first_at, loop_spec_at, annotation_at, cast_target_at}
-use Rattle.expression_leaf.specs.OperatorReading.{joints}
-use Rattle.expression_leaf.specs.ParenthesesReading.{several}
+use Rattle.leaf_parse.specs.declared.leaf.PathForm.{PathForm}
+use Rattle.leaf_parse.specs.declared.leaf.PathForm.TheVariants.{Call, Pack, Alone}
+use Rattle.leaf_parse.specs.declared.leaf.BehindFirst.{BehindFirst}
+use Rattle.leaf_parse.specs.declared.leaf.BehindFirst.TheVariants.{Close, As, Comma}
+use Rattle.leaf_parse.specs.LeafReading.{plain_literal_at, vector_place_at, assert_place_at, prefix_at, use_at, control_at, may_begin, spec_opening_at, path_form_at, glued_arguments_at, has_arguments, behind_first_at, loop_spec_at, annotation_at, cast_target_at}
+use Rattle.leaf_parse.specs.OperatorReading.{joints}
+use Rattle.leaf_parse.specs.ParenthesesReading.{several}
 
 -- what reads types, patterns, and expressions of at least some level
 pub record Readers : Type 0 where

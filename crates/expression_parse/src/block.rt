@@ -6,14 +6,14 @@ ghost use Rattle.token_reading.specs.ReadFault.{IfNoTree};
 ghost use Rattle.expression_parse.specs.ExpressionReading.{body_at, body_block_at, initial_at, let_at, readers, step_at, step_behind, whole_contents_at};
 
 use crate::expression::{read_boxed, read_expression};
-use expression_leaf::leaf::{read_annotation, read_loop_spec, read_spec_opening};
+use leaf_parse::leaf::{read_annotation, read_loop_spec, read_spec_opening};
 use expression_tree::expression::{Block, Expression, ExpressionNode, Item, ItemNode};
 use pv_base::span::Span;
-use src_tree::token::{Punctuation, Token};
+use move_tokens::token::{Punctuation, Token};
 use std::alloc::Global;
 use token_reading::fault::ReadFault;
 use token_reading::tokens::{expect_sign, place_of_word, skip_sign};
-use type_parse::pattern::read_pattern;
+use leaf_parse::pattern::read_pattern;
 
 /// What stands next in a block.
 #[derive(Drop)]

@@ -3,15 +3,15 @@
 ghost use Rattle.std.specs.Prelude.{◌≡◌, None, Some, MatchResult};
 ghost use Rattle.token_reading.specs.ReadFault.{IfNoTree};
 ghost use Rattle.token_reading.specs.ChainReading.{whole_chain_at};
-ghost use Rattle.expression_leaf.specs.OperatorReading.{joints};
+ghost use Rattle.leaf_parse.specs.OperatorReading.{joints};
 ghost use Rattle.expression_parse.specs.ExpressionReading.{any_form, expression_at, expression_form, readers};
 
 use crate::control::read_control;
 use crate::term::read_operand;
-use expression_leaf::leaf::read_control_word;
-use expression_leaf::operator::{next_operator, right_level};
+use leaf_parse::leaf::read_control_word;
+use leaf_parse::operator::{next_operator, right_level};
 use expression_tree::expression::{Expression, ExpressionNode};
-use src_tree::token::{Punctuation, Token};
+use move_tokens::token::{Punctuation, Token};
 use std::alloc::Global;
 use token_reading::fault::ReadFault;
 use token_reading::tokens::place_of_sign;

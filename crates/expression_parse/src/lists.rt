@@ -8,7 +8,7 @@ ghost use Rattle.expression_parse.specs.ExpressionReading.{any, field_value_at, 
 
 use crate::expression::read_expression;
 use expression_tree::expression::{Expression, FieldValue};
-use src_tree::token::{Punctuation, Token};
+use move_tokens::token::{Punctuation, Token};
 use std::alloc::Global;
 use token_reading::fault::ReadFault;
 use token_reading::lists::{Separator, separator_behind};

@@ -2,7 +2,7 @@
 
 ghost use Rattle.std.specs.Prelude.{◌≡◌, [], ◌∷◌, ◌++◌, None, Some, true, codes, OnOk};
 ghost use Rattle.std.specs.List.{flat_map};
-ghost use Rattle.src_tree.specs.declared.token.Punctuation.TheVariants.{LeftParenthesis, RightParenthesis, LeftBracket, RightBrace, Exclaim, Period};
+ghost use Rattle.move_tokens.specs.declared.token.Punctuation.TheVariants.{LeftParenthesis, RightParenthesis, LeftBracket, RightBrace, Exclaim, Period};
 ghost use Rattle.move_tree.specs.Lexemes.{word, identifier, sign, comma_list};
 ghost use Rattle.move_tree.specs.PathSpelling.{path_spelling};
 ghost use Rattle.move_tree.specs.TypeTreeData.{maybe_arguments_of};
@@ -23,7 +23,7 @@ use move_tree::spell_type::{spell_maybe_arguments, spell_type};
 use move_tree::types::{SourceType, TypeArguments};
 use pv_base::memory::NoMemory;
 use pv_base::span::Span;
-use src_tree::token::Punctuation;
+use move_tokens::token::Punctuation;
 use std::alloc::Global;
 
 /// The tokens of a type behind its colon, where there is one.

@@ -16,7 +16,7 @@
 --           | "(" ")" | "(" Exp ")" | "(" Exp "," Exp, .. ")" | "(" Exp "as" Type ")" | Block
 -- A block with the invariants of a loop is spelled as any other; where it may stand is a matter of proper trees.
 use Rattle.std.specs.Prelude.{Bool, true, false, List, [], ◌∷◌, ◌++◌, Option, None, Some, codes}
-use Rattle.src_tree.specs.declared.token.Punctuation.TheVariants.{LeftParenthesis, RightParenthesis, LeftBrace, RightBrace, LeftBracket, RightBracket, Colon, Comma, Semicolon, Period, Exclaim, Equal}
+use Rattle.move_tokens.specs.declared.token.Punctuation.TheVariants.{LeftParenthesis, RightParenthesis, LeftBrace, RightBrace, LeftBracket, RightBracket, Colon, Comma, Semicolon, Period, Exclaim, Equal}
 use Rattle.move_tree.specs.declared.lexeme.Lexeme.{Lexeme}
 use Rattle.move_tree.specs.declared.spec_tokens.LoopSpec.{LoopSpec}
 use Rattle.move_tree.specs.Lexemes.{word, identifier, sign, sign_at, comma_list}

@@ -1,5 +1,5 @@
 -- Things with commas between them, as a walk from the first to the last spells them.
-use Rattle.src_tree.specs.declared.token.Punctuation.TheVariants.{Comma}
+use Rattle.move_tokens.specs.declared.token.Punctuation.TheVariants.{Comma}
 use Rattle.move_tree.specs.declared.lexeme.Lexeme.{Lexeme}
 use Rattle.std.proofs.Common.{map, ◌≡◌, List, [], ◌∷◌, ◌++◌, refl, ap, sym, Bool, ◌∙◌, append_assoc}
 use Rattle.std.specs.List.{flat_map}

@@ -1,6 +1,6 @@
 -- The parts of members with a comma before each, as they stand in a list behind the first.
 use Rattle.std.specs.Prelude.{List, ◌∷◌}
-use Rattle.src_tree.specs.declared.token.Punctuation.TheVariants.{Comma}
+use Rattle.move_tokens.specs.declared.token.Punctuation.TheVariants.{Comma}
 use Rattle.move_tree.specs.declared.lexeme.Lexeme.{Lexeme}
 use Rattle.move_tree.specs.declared.path.Path.{Path}
 use Rattle.file_tree.specs.declared.member.Import.{Import}

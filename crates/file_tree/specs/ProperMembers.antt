@@ -2,9 +2,9 @@
 -- names, on last commas and on brackets.
 use Rattle.std.specs.Prelude.{◌≡◌, ◌≢◌, Bool, true, false, List, [], ◌∷◌, Option, Some, None}
 use Rattle.std.specs.List.{AllByRecursion}
-use Rattle.src_tree.specs.declared.token.Token.{Token}
-use Rattle.src_tree.specs.declared.token.TokenKind.TheVariants.{Punctuation}
-use Rattle.src_tree.specs.declared.token.Punctuation.TheVariants.{LeftBrace}
+use Rattle.move_tokens.specs.declared.token.Token.{Token}
+use Rattle.move_tokens.specs.declared.token.TokenKind.TheVariants.{Punctuation}
+use Rattle.move_tokens.specs.declared.token.Punctuation.TheVariants.{LeftBrace}
 use Rattle.move_tree.specs.declared.lexeme.Identifier.{Identifier}
 use Rattle.file_tree.specs.declared.member.Attribute.{Attribute}
 use Rattle.file_tree.specs.declared.member.Import.{Import}

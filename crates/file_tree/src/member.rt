@@ -5,7 +5,7 @@ use move_tree::lexeme::Identifier;
 use move_tree::path::{ModuleName, Path};
 use move_tree::types::SourceType;
 use pv_base::span::Span;
-use src_tree::token::Tokens;
+use move_tokens::token::Tokens;
 use std::marker::Model;
 
 /// An attribute: a number sign, and brackets with what stands between them.

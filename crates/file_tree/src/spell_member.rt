@@ -19,7 +19,7 @@ use move_tree::spec_tokens::spell_tokens;
 use move_tree::spell_type::spell_type;
 use pv_base::memory::NoMemory;
 use pv_base::span::Span;
-use src_tree::token::Punctuation;
+use move_tokens::token::Punctuation;
 use std::alloc::Global;
 
 fn spell_attribute(alloc: Global, attribute: &Attribute, into: &mut Lexemes) -> Result<(), NoMemory>

@@ -3,9 +3,9 @@ use base.Stored.{Gv, gnil, gnum, gcons, num}
 use Rattle.std.specs.Prelude.{◌≡◌, Bool, true, false, [], ◌∷◌, refl}
 use Rattle.pv_base.specs.Codes.{pick, numbers_code, numbers_back, numbers_back-code}
 use Rattle.pv_base.specs.declared.span.Span.{Span}
-use Rattle.src_tree.specs.declared.token.NumberLiteral.{NumberLiteral}
-use Rattle.src_tree.specs.declared.token.NumberSuffix.{NumberSuffix}
-use Rattle.src_tree.specs.declared.token.NumberSuffix.TheVariants.{Absent, U8, U16, U32, U64, U128, U256}
+use Rattle.move_tokens.specs.declared.token.NumberLiteral.{NumberLiteral}
+use Rattle.move_tokens.specs.declared.token.NumberSuffix.{NumberSuffix}
+use Rattle.move_tokens.specs.declared.token.NumberSuffix.TheVariants.{Absent, U8, U16, U32, U64, U128, U256}
 use Rattle.move_tree.specs.declared.lexeme.Identifier.{Identifier}
 use Rattle.move_tree.specs.declared.lexeme.Numeral.{Numeral}
 use Rattle.move_tree.specs.declared.path.Address.{Address}

@@ -1,7 +1,7 @@
 -- How literals are spelled. Source: The Move Book, "Integers", "Bool" and "Address".
 --     Number | "true" | "false" | "@" Addr
 use Rattle.std.specs.Prelude.{true, false, List, [], ◌∷◌, Some, codes}
-use Rattle.src_tree.specs.declared.token.Punctuation.TheVariants.{AtSign}
+use Rattle.move_tokens.specs.declared.token.Punctuation.TheVariants.{AtSign}
 use Rattle.move_tree.specs.declared.lexeme.Lexeme.{Lexeme}
 use Rattle.move_tree.specs.declared.literal.Literal.{Literal}
 use Rattle.move_tree.specs.declared.literal.Literal.TheVariants.{Number, Truth, Address}

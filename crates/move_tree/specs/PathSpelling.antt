@@ -3,7 +3,7 @@
 --     Addr = Number | Word
 --     Path = Word | Word "::" Word | Addr "::" Word "::" Word
 use Rattle.std.specs.Prelude.{List, [], ◌∷◌, ◌++◌}
-use Rattle.src_tree.specs.declared.token.Punctuation.TheVariants.{ColonColon}
+use Rattle.move_tokens.specs.declared.token.Punctuation.TheVariants.{ColonColon}
 use Rattle.move_tree.specs.declared.lexeme.Lexeme.{Lexeme}
 use Rattle.move_tree.specs.declared.path.Address.{Address}
 use Rattle.move_tree.specs.declared.path.Address.TheVariants.{Number as number_address, Name as name_address}

@@ -1,7 +1,7 @@
 -- How patterns are spelled. Source: The Move Book, "Variables" and "Structs".
 --     Pat = Word | "_" | Path [ TArgs ] "{" [ Word [ ":" Pat ], .. ] "}" | "(" Pat, .. ")"
 use Rattle.std.specs.Prelude.{List, [], ◌∷◌, ◌++◌, None, Some, codes}
-use Rattle.src_tree.specs.declared.token.Punctuation.TheVariants.{LeftParenthesis, RightParenthesis, LeftBrace, RightBrace, Colon, Comma}
+use Rattle.move_tokens.specs.declared.token.Punctuation.TheVariants.{LeftParenthesis, RightParenthesis, LeftBrace, RightBrace, Colon, Comma}
 use Rattle.move_tree.specs.declared.lexeme.Lexeme.{Lexeme}
 use Rattle.move_tree.specs.Lexemes.{word, identifier, sign, sign_at, comma_list}
 use Rattle.move_tree.specs.PathSpelling.{path_spelling}

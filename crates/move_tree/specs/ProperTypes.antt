@@ -1,7 +1,7 @@
 -- Proper paths and types: those that the grammar has. What stands beside the grammar's text are its rules on names,
 -- last commas and numbers.
 use Rattle.std.specs.Prelude.{◌≡◌, ◌≢◌, ℕ, true, List, codes}
-use Rattle.src_tree.specs.declared.token.NumberSuffix.TheVariants.{Absent, U256}
+use Rattle.move_tokens.specs.declared.token.NumberSuffix.TheVariants.{Absent, U256}
 use Rattle.move_tree.specs.declared.lexeme.Numeral.{Numeral}
 use Rattle.move_tree.specs.declared.path.Address.{Address}
 use Rattle.move_tree.specs.declared.path.Address.TheVariants.{Number as number_address, Name as name_address}

@@ -1,8 +1,8 @@
 -- How a spec block that a file tree keeps as tokens is spelled.
 --     LoopSpec = "spec" "{" tokens with balanced brackets "}"
 use Rattle.std.specs.Prelude.{List, [], ◌∷◌, ◌++◌, Some, codes, map}
-use Rattle.src_tree.specs.declared.token.Token.{Token}
-use Rattle.src_tree.specs.declared.token.Punctuation.TheVariants.{LeftBrace, RightBrace}
+use Rattle.move_tokens.specs.declared.token.Token.{Token}
+use Rattle.move_tokens.specs.declared.token.Punctuation.TheVariants.{LeftBrace, RightBrace}
 use Rattle.move_tree.specs.declared.lexeme.Lexeme.{Lexeme}
 use Rattle.move_tree.specs.declared.spec_tokens.LoopSpec.{LoopSpec}
 use Rattle.move_tree.specs.Lexemes.{lexeme, word, sign}

@@ -2,8 +2,8 @@
 --     Type  = "&" [ "mut" ] Type | Path [ TArgs ] | "(" [ Type, .. ] ")"
 --     TArgs = "<" Type, .. ">"
 use Rattle.std.specs.Prelude.{Bool, List, [], ◌∷◌, ◌++◌, Option, None, codes}
-use Rattle.src_tree.specs.declared.token.TokenKind.TheVariants.{Punctuation}
-use Rattle.src_tree.specs.declared.token.Punctuation.TheVariants.{Ampersand, LeftParenthesis, RightParenthesis, Less, Greater, Comma}
+use Rattle.move_tokens.specs.declared.token.TokenKind.TheVariants.{Punctuation}
+use Rattle.move_tokens.specs.declared.token.Punctuation.TheVariants.{Ampersand, LeftParenthesis, RightParenthesis, Less, Greater, Comma}
 use Rattle.move_tree.specs.declared.lexeme.Lexeme.{Lexeme}
 use Rattle.move_tree.specs.Lexemes.{lexeme, word, sign, sign_at, comma_list}
 use Rattle.move_tree.specs.PathSpelling.{path_spelling}

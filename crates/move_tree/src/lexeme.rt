@@ -6,7 +6,7 @@ ghost use Rattle.move_tree.specs.Lexemes.{lexeme, word, sign, sign_at, last_comm
 use pv_base::memory::NoMemory;
 use pv_base::name::Name;
 use pv_base::span::Span;
-use src_tree::token::{NumberLiteral, Punctuation, Token, TokenKind};
+use move_tokens::token::{NumberLiteral, Punctuation, Token, TokenKind};
 use std::alloc::Global;
 use std::marker::Model;
 

@@ -7,7 +7,7 @@ use crate::lexeme::{Lexemes, Numeral};
 use crate::path::{Address, spell_address, spell_numeral};
 use pv_base::memory::NoMemory;
 use pv_base::span::Span;
-use src_tree::token::Punctuation;
+use move_tokens::token::Punctuation;
 use std::alloc::Global;
 
 /// A value that stands in the source.

@@ -6,7 +6,7 @@ ghost use Rattle.move_tree.specs.OperatorSpelling.{sign_of, operator_spelling, u
 use crate::lexeme::{Lexeme, Lexemes};
 use pv_base::memory::NoMemory;
 use pv_base::span::Span;
-use src_tree::token::{Punctuation, TokenKind};
+use move_tokens::token::{Punctuation, TokenKind};
 use std::alloc::Global;
 
 /// An operator between two expressions.

@@ -6,7 +6,7 @@ ghost use Rattle.move_tree.specs.PathSpelling.{address_spelling, module_spelling
 
 use crate::lexeme::{Identifier, Lexeme, Lexemes, Numeral};
 use pv_base::memory::NoMemory;
-use src_tree::token::{NumberLiteral, Punctuation, TokenKind};
+use move_tokens::token::{NumberLiteral, Punctuation, TokenKind};
 use std::alloc::Global;
 
 /// An address: a number, or the name of one.

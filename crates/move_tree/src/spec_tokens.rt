@@ -6,7 +6,7 @@ ghost use Rattle.move_tree.specs.SpecTokenSpelling.{kept, loop_spec_spelling};
 use crate::lexeme::{Lexeme, Lexemes};
 use pv_base::memory::NoMemory;
 use pv_base::span::Span;
-use src_tree::token::{NumberLiteral, Punctuation, Token, TokenKind, Tokens};
+use move_tokens::token::{NumberLiteral, Punctuation, Token, TokenKind, Tokens};
 use std::alloc::Global;
 
 /// The spec block of a loop.

@@ -11,7 +11,7 @@ use crate::path::{spell_identifier, spell_path};
 use crate::pattern::{FieldPattern, Pattern, PatternNode};
 use crate::spell_type::spell_maybe_arguments;
 use pv_base::memory::NoMemory;
-use src_tree::token::Punctuation;
+use move_tokens::token::Punctuation;
 use std::alloc::Global;
 
 /// The tokens of a pattern.

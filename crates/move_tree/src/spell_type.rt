@@ -10,7 +10,7 @@ use crate::lexeme::Lexemes;
 use crate::path::spell_path;
 use crate::types::{SourceType, SourceTypeNode, TypeArguments};
 use pv_base::memory::NoMemory;
-use src_tree::token::Punctuation;
+use move_tokens::token::Punctuation;
 use std::alloc::Global;
 
 /// The tokens of a type.

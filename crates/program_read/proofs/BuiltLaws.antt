@@ -11,8 +11,8 @@ use Rattle.sum_module.specs.BuiltModuleData.{BuiltModuleData}
 use Rattle.sum_module.specs.Built.{IsBuilt, IsFirstUnbuilt as IsFirstUnbuiltMember, IsUnbuiltAt, address_of}
 use Rattle.sum_module.specs.Members.{AreMembers, IsMember, IsUnbuilt}
 use Rattle.sum_module.specs.Places.{form_place}
-use Rattle.sum_program.specs.Joined.{module_of}
-use Rattle.sum_program.specs.Program.{IsSumModule}
+use Rattle.sum_module.specs.Joined.{module_of}
+use Rattle.sum_module.specs.Program.{IsSumModule}
 
 some_is : {A : Type 0} {x y : A} → Some x ≡ Some y → x ≡ y
 some_is e = cc

@@ -3,7 +3,7 @@ use Rattle.std.proofs.Common.{ℕ, Bool, true, false, if◌then◌else◌, sym, 
 use Rattle.std.specs.Prelude.{◌≡◌, Option, Result, Ok, Err, IsErrAnd, MatchResult}
 use Rattle.answers.specs.Rules.{tells_place}
 use Rattle.answers.specs.declared.rule.Rule.{Rule}
-use Rattle.left_out.specs.declared.marker.Marker.{Marker}
+use Rattle.token_reading.specs.declared.marker.Marker.{Marker}
 use Rattle.program_read.specs.declared.fault.FileFault.{FileFault}
 use Rattle.program_read.specs.declared.fault.FileFault.TheVariants.{Breaks, Passes}
 use Rattle.program_read.specs.declared.fault.ProgramFault.{ProgramFault}

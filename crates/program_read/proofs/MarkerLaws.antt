@@ -1,13 +1,13 @@
 -- Tokens have one first marker.
 use Rattle.std.proofs.Common.{◌≡◌, ℕ, zero, suc, Bool, true, false, ◌==◌, cond, List, [], ◌∷◌, Option, Some, None, refl, sym, ap, ◌∙◌, eqb-true}
-use Rattle.src_tree.specs.declared.token.Token.{Token}
-use Rattle.src_tree.specs.declared.token.TokenKind.{TokenKind}
-use Rattle.src_tree.specs.declared.token.TokenKind.TheVariants.{Word, Number, ByteString, Punctuation}
+use Rattle.move_tokens.specs.declared.token.Token.{Token}
+use Rattle.move_tokens.specs.declared.token.TokenKind.{TokenKind}
+use Rattle.move_tokens.specs.declared.token.TokenKind.TheVariants.{Word, Number, ByteString, Punctuation}
 use Rattle.token_reading.specs.TokenReading.{same_name}
-use Rattle.left_out.specs.declared.marker.Marker.{Marker}
-use Rattle.left_out.specs.declared.marker.Marker.TheVariants.{Inline, Script, Enum, Match, Native, Assume, Axiom, Choose, Emits, Apply, AbortsWith, Trace, Where, Package, With, Assert, WideType, WideNumber, Bytes, HexBytes}
-use Rattle.left_out.specs.Markers.{HoldNone, IsFirst, IsHex, IsMarker, marker_text, next_kind}
-use Rattle.left_out.specs.ParseFault.{HoldMarker, start_at}
+use Rattle.token_reading.specs.declared.marker.Marker.{Marker}
+use Rattle.token_reading.specs.declared.marker.Marker.TheVariants.{Inline, Script, Enum, Match, Native, Assume, Axiom, Choose, Emits, Apply, AbortsWith, Trace, Where, Package, With, Assert, WideType, WideNumber, Bytes, HexBytes}
+use Rattle.token_reading.specs.Markers.{HoldNone, IsFirst, IsHex, IsMarker, marker_text, next_kind}
+use Rattle.token_reading.specs.ParseFault.{HoldMarker, start_at}
 
 -- ---- a token is one marker at most
 

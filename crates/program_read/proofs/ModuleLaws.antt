@@ -2,7 +2,7 @@
 use Rattle.std.proofs.Common.{◌≡◌, ℕ, Bool, true, false, List, [], ◌∷◌, ◌++◌, refl, sym, ap, subst, ◌∙◌, append-nil, append_assoc, inl, inr}
 use Rattle.source_parse.specs.SourceModuleData.{SourceModuleData}
 use Rattle.sum_tree.specs.SumModuleData.{SumModuleData}
-use Rattle.sum_program.specs.Program.{IsSumModule}
+use Rattle.sum_module.specs.Program.{IsSumModule}
 use Rattle.program_read.specs.Modules.{AreModules, IsFirstUnbuilt, IsUnbuiltBehind, is_taken}
 use Rattle.program_read.proofs.BuiltLaws.{built_or_not, one_module, one_place}
 

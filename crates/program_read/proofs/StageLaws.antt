@@ -1,8 +1,8 @@
 -- The laws of each stage, and of all of them.
 use Rattle.std.proofs.Common.{◌≡◌, ℕ, List, [], Some, None, inl, inr, refl, sym, ap, ◌∙◌, arith}
 use Rattle.answers.specs.declared.rule.Rule.TheVariants.{BadToken, LeftOut, NotBuilt}
-use Rattle.src_tree.specs.Spelling.{IsBadAt, Spells}
-use Rattle.src_tree.specs.declared.token.Token.{Token}
+use Rattle.move_tokens.specs.Spelling.{IsBadAt, Spells}
+use Rattle.move_tokens.specs.declared.token.Token.{Token}
 use Rattle.source_parse.specs.Denoted.{IsSourceOf}
 use Rattle.source_parse.specs.SourceModuleData.{SourceModuleData}
 use Rattle.sum_tree.specs.SumModuleData.{SumModuleData}

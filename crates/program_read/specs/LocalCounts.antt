@@ -7,7 +7,7 @@ use Rattle.source_parse.specs.declared.source.SourceForm.{SourceForm}
 use Rattle.source_parse.specs.declared.source.SourceForm.TheVariants.{Use, Friend, Struct, Constant, Function, Spec}
 use Rattle.source_parse.specs.SourceData.{SourceMemberData}
 use Rattle.source_parse.specs.SourceModuleData.{SourceModuleData}
-use Rattle.blocks.specs.Locals.{locals_of}
+use Rattle.source_tree.specs.Locals.{locals_of}
 use Rattle.program_read.specs.Chain.{Stage, checks}
 use Rattle.program_read.specs.declared.fault.FileFault.{FileFault}
 use Rattle.program_read.specs.declared.fault.FileFault.TheVariants.{Passes}

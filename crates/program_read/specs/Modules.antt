@@ -8,7 +8,7 @@ use Rattle.source_parse.specs.SourceModuleData.{SourceModuleData}
 use Rattle.sum_tree.specs.SumModuleData.{SumModuleData}
 use Rattle.sum_module.specs.Built.{IsUnbuiltAt}
 use Rattle.sum_module.specs.Places.{module_place}
-use Rattle.sum_program.specs.Program.{IsSumModule}
+use Rattle.sum_module.specs.Program.{IsSumModule}
 use Rattle.program_read.specs.Chain.{Stage}
 use Rattle.program_read.specs.FileFault.{breaks}
 use Rattle.program_read.specs.declared.fault.FileFault.{FileFault}

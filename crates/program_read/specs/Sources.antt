@@ -1,9 +1,9 @@
 -- The sources of files. Source: The Move Book, "Modules and Scripts".
 use Rattle.std.specs.Prelude.{◌≡◌, ◌⊎◌, ℕ, List, Some}
 use Rattle.answers.specs.declared.rule.Rule.TheVariants.{Grammar, LeftOut}
-use Rattle.src_tree.specs.declared.token.Token.{Token}
-use Rattle.left_out.specs.declared.explain.ParseFault.TheVariants.{Grammar as no_grammar, LeftOut as left_out}
-use Rattle.left_out.specs.declared.marker.Marker.{Marker}
+use Rattle.move_tokens.specs.declared.token.Token.{Token}
+use Rattle.token_reading.specs.declared.explain.ParseFault.TheVariants.{Grammar as no_grammar, LeftOut as left_out}
+use Rattle.token_reading.specs.declared.marker.Marker.{Marker}
 use Rattle.source_parse.specs.Denoted.{IsSourceOf, IsCause}
 use Rattle.source_parse.specs.SourceModuleData.{SourceModuleData}
 use Rattle.program_read.specs.Chain.{Stage, makes}

@@ -1,7 +1,7 @@
 -- The steps by which the tokens of files are read.
 use Rattle.std.specs.Prelude.{◌≡◌, ℕ, ◌<◌, List, length}
-use Rattle.src_tree.specs.Spelling.{Spells}
-use Rattle.src_tree.specs.declared.token.Token.{Token}
+use Rattle.move_tokens.specs.Spelling.{Spells}
+use Rattle.move_tokens.specs.declared.token.Token.{Token}
 use Rattle.program_read.specs.Numbered.{IsFirst}
 use Rattle.program_read.specs.Texts.{IsShort}
 use Rattle.program_read.specs.declared.fault.FileFault.{FileFault}

@@ -2,9 +2,9 @@
 -- those of this verifier.
 use Rattle.std.specs.Prelude.{◌≡◌, ℕ, ◌<◌, ◌≤◌, List, length}
 use Rattle.answers.specs.declared.rule.Rule.TheVariants.{BadToken}
-use Rattle.src_tree.specs.Spelling.{IsBadAt, IsUnspelled, Spells}
-use Rattle.src_tree.specs.Weight.{greatest_weight}
-use Rattle.src_tree.specs.declared.token.Token.{Token}
+use Rattle.move_tokens.specs.Spelling.{IsBadAt, IsUnspelled, Spells}
+use Rattle.move_tokens.specs.Weight.{greatest_weight}
+use Rattle.move_tokens.specs.declared.token.Token.{Token}
 use Rattle.program_read.specs.Chain.{Stage, checks, makes, ◌▷◌}
 use Rattle.program_read.specs.FileFault.{breaks}
 use Rattle.program_read.specs.declared.fault.FileFault.{FileFault}

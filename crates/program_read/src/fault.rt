@@ -4,7 +4,7 @@ ghost use Rattle.std.specs.Prelude.{◌≡◌};
 ghost use Rattle.program_read.specs.FileFault.{breaks};
 
 use answers::rule::Rule;
-use left_out::marker::Marker;
+use token_reading::marker::Marker;
 use pv_base::memory::NoMemory;
 use std::alloc::AllocFailed;
 

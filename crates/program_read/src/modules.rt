@@ -15,7 +15,7 @@ use std::alloc::Global;
 use std::collections::BTreeSet;
 use sum_module::fault::ModuleFault;
 use sum_module::places::module_place;
-use sum_program::module::read_sum_module;
+use sum_module::sums::read_sum_module;
 use sum_tree::function::SumModule;
 
 /// The modules that were found so far, and their addresses and names.

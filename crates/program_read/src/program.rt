@@ -14,7 +14,7 @@ use crate::sources::read_sources;
 use crate::texts::read_texts;
 use pv_base::lists::Bytes;
 use source_parse::denoted::one_source;
-use src_tree::scanner::{one_spelling, spelled_or_bad};
+use move_tokens::scanner::{one_spelling, spelled_or_bad};
 use std::alloc::Global;
 use sum_tree::function::SumModule;
 

@@ -1,7 +1,7 @@
 //! The sources of files.
 
 ghost use Rattle.std.specs.Prelude.{◌≡◌, ◌≤◌, ◌^◌, length, MatchResult};
-ghost use Rattle.src_tree.specs.declared.token.Token.{Token};
+ghost use Rattle.move_tokens.specs.declared.token.Token.{Token};
 ghost use Rattle.source_parse.specs.Denoted.{IsSourceOf};
 ghost use Rattle.program_read.specs.FileFault.{IfInFile};
 ghost use Rattle.program_read.specs.FileReading.{IsIn};
@@ -9,10 +9,10 @@ ghost use Rattle.program_read.specs.Sources.{DenoteNone, source_stage};
 
 use crate::fault::{FileFault, ProgramFault};
 use answers::rule::Rule;
-use left_out::explain::ParseFault;
+use token_reading::explain::ParseFault;
 use source_parse::denoted::source;
 use source_parse::source::Source;
-use src_tree::token::Tokens;
+use move_tokens::token::Tokens;
 use std::alloc::Global;
 
 /// The source of a file of this number.

@@ -12,9 +12,9 @@ ghost use Rattle.program_read.specs.declared.texts.Text.TheVariants.{Short};
 use crate::fault::{FileFault, FileLimit, ProgramFault};
 use answers::rule::Rule;
 use pv_base::lists::Bytes;
-use src_tree::scanner::tokens;
-use src_tree::token::{TokenFault, Tokens};
-use src_tree::weight::{WEIGHT_LIMIT, weight};
+use move_tokens::scanner::tokens;
+use move_tokens::token::{TokenFault, Tokens};
+use move_tokens::weight::{WEIGHT_LIMIT, weight};
 use std::alloc::Global;
 
 /// The tokens of a file, or how many there are where they are too many.

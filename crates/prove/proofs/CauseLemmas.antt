@@ -3,7 +3,7 @@ use Rattle.std.proofs.Common.{◌≡◌, ℕ, ◌<◌, ◌≤◌, ◌↔◌, Boo
 use Rattle.std.specs.Prelude.{IfSome, IsSomeAnd}
 use Rattle.std.specs.List.{list_all, AllByRecursion}
 use Rattle.std.specs.FinMap as map
-use Rattle.left_out.specs.declared.marker.Marker.{Marker}
+use Rattle.token_reading.specs.declared.marker.Marker.{Marker}
 use Rattle.outside.specs.Outside.{Files, HasFaulted, IsLongFile}
 use Rattle.program_read.specs.Numbered.{Each, IsFirst}
 use Rattle.program_read.specs.Program.{IsProgramOf, IsSameStop, ProgramStopped, without_place}

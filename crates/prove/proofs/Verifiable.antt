@@ -26,8 +26,8 @@ use Rattle.sum_module.specs.declared.member.SumMember.{SumMember}
 use Rattle.sum_module.specs.declared.scope.Place.TheVariants.{Body}
 use Rattle.sum_module.specs.Scope.{all_differ, are_parameters, is_closed, knows_sum}
 use Rattle.sum_module.specs.Members.{AreMembers, IsMember}
-use Rattle.sum_program.specs.Joined.{functions_in, functions_of_member, specified}
-use Rattle.sum_program.specs.Program.{IsSumModule}
+use Rattle.sum_module.specs.Joined.{functions_in, functions_of_member, specified}
+use Rattle.sum_module.specs.Program.{IsSumModule}
 use Rattle.program_read.specs.Modules.{AreModules, numbered}
 use Rattle.ref_sem.specs.Bodies.{HasU64Body, IsU64Sum}
 use Rattle.verify.specs.Verified.{AreVerifiable, IsVerifiable}

@@ -2,7 +2,7 @@
 use Rattle.std.specs.Prelude.{◌≡◌, ℕ, ◌<◌, ◌≤◌, ◌⊎◌, ◌↔◌, List, length, Option, Some, None, IfSome}
 use Rattle.std.specs.List.{AllByRecursion}
 use Rattle.std.specs.FinMap as map
-use Rattle.left_out.specs.declared.marker.Marker.{Marker}
+use Rattle.token_reading.specs.declared.marker.Marker.{Marker}
 use Rattle.outside.specs.Outside.{Files, HasFaulted, IsLongFile}
 use Rattle.program_read.specs.Program.{IsProgramOf, ProgramStopped}
 use Rattle.program_read.specs.declared.fault.FileFault.TheVariants.{BadToken, TooManyTokens, NestsTooDeep, Grammar, LeftOut, TooManyLocals, NotBuilt}

@@ -13,7 +13,7 @@ use pv_base::memory::NoMemory;
 use pv_base::name::Name;
 use report::lines::LineFeeds;
 use report::status::{LimitKind, Refusal, Rule};
-use src_tree::weight::WEIGHT_LIMIT;
+use move_tokens::weight::WEIGHT_LIMIT;
 use std::alloc::{AllocFailed, Global};
 use sum_tree::function::SumModule;
 

@@ -1,6 +1,6 @@
 //! The texts of reports and statuses, as a user sees them.
 
-use left_out::marker::Marker;
+use token_reading::marker::Marker;
 use linear_rows::rows::Fraction;
 use outside::memory_sink::VecSink;
 use pv_base::lists::{Bytes, Calls};

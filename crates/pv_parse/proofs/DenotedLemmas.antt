@@ -1,6 +1,6 @@
 -- Tokens denote the file that is read of them, and no other.
 use Rattle.std.proofs.Common.{◌≡◌, ℕ, suc, ◌+◌, List, Option, Some, None, length, sym, ap, subst, ◌∙◌, arith}
-use Rattle.src_tree.specs.declared.token.Token.{Token}
+use Rattle.move_tokens.specs.declared.token.Token.{Token}
 use Rattle.move_tree.specs.Lexemes.{AreTokens}
 use Rattle.file_tree.specs.FileData.{ModuleData}
 use Rattle.file_tree.specs.MemberSpelling.{file_spelling}
@@ -11,12 +11,12 @@ use Rattle.token_reading.specs.declared.fault.ReadFault.TheVariants.{NoTree, NoM
 use Rattle.token_reading.proofs.Steps.{some_one}
 use Rattle.token_reading.proofs.BeginLemmas.{are_tokens, begin_all}
 use Rattle.token_reading.proofs.SpelledTokens.{tokens_for, are_tokens_for}
-use Rattle.left_out.specs.declared.explain.ParseFault.{ParseFault}
-use Rattle.left_out.specs.declared.explain.ParseFault.TheVariants.{Grammar, LeftOut, NoMemory}
-use Rattle.left_out.specs.ParseFault.{Explains}
-use Rattle.file_parse.specs.FileReading.{file_at}
+use Rattle.token_reading.specs.declared.explain.ParseFault.{ParseFault}
+use Rattle.token_reading.specs.declared.explain.ParseFault.TheVariants.{Grammar, LeftOut, NoMemory}
+use Rattle.token_reading.specs.ParseFault.{Explains}
+use Rattle.pv_parse.specs.FileReading.{file_at}
 use Rattle.pv_parse.specs.Denoted.{IsFileOf, AreOfNoFile, IsCause}
-use Rattle.file_parse.proofs.FileLemmas.{file_at-sound, file_at-complete}
+use Rattle.pv_parse.proofs.FileLemmas.{file_at-sound, file_at-complete}
 
 pub read_is_file : (n : ℕ) (ts : List Token) (xs : List ModuleData) → file_at n ts ≡ Some xs → IsFileOf xs ts
 read_is_file n ts xs e = let s = file_at-sound n ts xs e in record { spelled = are_tokens (file_spelling xs) ts s.0; proper = s.1 }

@@ -1,15 +1,15 @@
 -- Which file tokens denote, and what is known where they denote none.
 -- Source: The Move Book, "Modules and Scripts"; the trees and which of them are proper are those of the source trees.
 use Rattle.std.specs.Prelude.{◌≡◌, ℕ, List}
-use Rattle.src_tree.specs.declared.token.Token.{Token}
+use Rattle.move_tokens.specs.declared.token.Token.{Token}
 use Rattle.move_tree.specs.Lexemes.{AreTokens}
 use Rattle.file_tree.specs.FileData.{ModuleData}
 use Rattle.file_tree.specs.MemberSpelling.{file_spelling}
 use Rattle.file_tree.specs.ProperMembers.{IsProperFile}
-use Rattle.left_out.specs.declared.explain.ParseFault.{ParseFault}
-use Rattle.left_out.specs.declared.explain.ParseFault.TheVariants.{Grammar, LeftOut, NoMemory}
-use Rattle.left_out.specs.Markers.{HoldNone}
-use Rattle.left_out.specs.ParseFault.{HoldMarker}
+use Rattle.token_reading.specs.declared.explain.ParseFault.{ParseFault}
+use Rattle.token_reading.specs.declared.explain.ParseFault.TheVariants.{Grammar, LeftOut, NoMemory}
+use Rattle.token_reading.specs.Markers.{HoldNone}
+use Rattle.token_reading.specs.ParseFault.{HoldMarker}
 
 -- the tokens are those of this file, and the file is one that the grammar has
 pub record IsFileOf (modules : List ModuleData) (tokens : List Token) : Type 0 where

@@ -1,16 +1,16 @@
 //! Which file tokens denote.
 
 ghost use Rattle.std.specs.Prelude.{◌≡◌, List, IfOk, IfErr};
-ghost use Rattle.src_tree.specs.declared.token.Token.{Token};
+ghost use Rattle.move_tokens.specs.declared.token.Token.{Token};
 ghost use Rattle.file_tree.specs.FileData.{ModuleData};
 ghost use Rattle.file_tree.specs.MemberSpelling.{file_spelling};
 ghost use Rattle.file_tree.specs.ProperMembers.{IsProperFile};
 ghost use Rattle.pv_parse.specs.Denoted.{IsFileOf, IsCause};
 
-use file_parse::module::read_file;
+use crate::module::read_file;
 use file_tree::member::File;
-use left_out::explain::{ParseFault, explain};
-use src_tree::token::Tokens;
+use token_reading::explain::{ParseFault, explain};
+use move_tokens::token::Tokens;
 use std::alloc::Global;
 
 /// The file that the tokens denote: they spell it, and it is one that the grammar has. Spec blocks in it

@@ -1,12 +1,12 @@
 //! Parts of members that are read from texts: how many things they hold, and how many tokens are left.
 
 use crate::texts::scan;
-use declaration_parse::abilities::{read_abilities, read_constraint};
-use declaration_parse::attributes::read_attributes;
-use declaration_parse::header::{read_acquires, read_visibility};
-use declaration_parse::imports::read_use;
-use declaration_parse::structs::read_struct;
-use declaration_parse::typed_names::read_inputs;
+use pv_parse::abilities::{read_abilities, read_constraint};
+use pv_parse::attributes::read_attributes;
+use pv_parse::header::{read_acquires, read_visibility};
+use pv_parse::imports::read_use;
+use pv_parse::structs::read_struct;
+use pv_parse::typed_names::read_inputs;
 use file_tree::member::{Imported, Visibility};
 use pv_base::span::Span;
 use std::alloc::Global;

@@ -1,8 +1,8 @@
 //! The first marker of texts, and why they were not parsed.
 
-use left_out::explain::{ParseFault, explain};
-use left_out::marker::{Marker, first_marker};
-use src_tree::scanner::tokens;
+use token_reading::explain::{ParseFault, explain};
+use token_reading::marker::{Marker, first_marker};
+use move_tokens::scanner::tokens;
 use std::alloc::Global;
 use std::process::Abort;
 use token_reading::fault::ReadFault;

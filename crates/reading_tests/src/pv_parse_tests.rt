@@ -1,8 +1,8 @@
 //! Files that are read from texts, and why others are not.
 
 use crate::texts::scan;
-use left_out::explain::ParseFault;
-use left_out::marker::Marker;
+use token_reading::explain::ParseFault;
+use token_reading::marker::Marker;
 use pv_parse::denoted::modules;
 use std::alloc::Global;
 use std::process::Abort;

@@ -1,8 +1,8 @@
 //! Sources that are read from texts, and why others are not.
 
 use crate::texts::scan;
-use left_out::explain::ParseFault;
-use left_out::marker::Marker;
+use token_reading::explain::ParseFault;
+use token_reading::marker::Marker;
 use source_parse::denoted::source;
 use std::alloc::Global;
 use std::process::Abort;

@@ -1,8 +1,8 @@
 //! Texts as tokens, and whether these are those that a tree speaks of.
 
 use move_tree::lexeme::{Lexeme, Lexemes};
-use src_tree::scanner::tokens;
-use src_tree::token::{Token, TokenKind, Tokens};
+use move_tokens::scanner::tokens;
+use move_tokens::token::{Token, TokenKind, Tokens};
 use std::alloc::Global;
 use std::process::Abort;
 

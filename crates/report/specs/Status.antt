@@ -1,8 +1,8 @@
 -- The numbers of the statuses and of the rules, and the line that tells of a run without a report.
 use Rattle.std.specs.Prelude.{ℕ, List, [], ◌++◌, Option, Some, None, codes}
 use Rattle.std.specs.Fmt.{decimal}
-use Rattle.left_out.specs.declared.marker.Marker.{Marker}
-use Rattle.left_out.specs.Markers.{marker_text}
+use Rattle.token_reading.specs.declared.marker.Marker.{Marker}
+use Rattle.token_reading.specs.Markers.{marker_text}
 use Rattle.report.specs.ReportText.{line_feed}
 use Rattle.report.specs.declared.status.Refusal.{Refusal}
 use Rattle.report.specs.declared.status.Status.{Status}

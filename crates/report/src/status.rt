@@ -3,7 +3,7 @@
 ghost use Rattle.std.specs.Prelude.{◌≡◌};
 ghost use Rattle.report.specs.Status.{code_of, limit_text, rule_name, rule_number};
 
-use left_out::marker::Marker;
+use token_reading::marker::Marker;
 
 /// A rule of the language that a file can break.
 #[derive(Clone, Copy, Debug, PartialEq, Eq)]

@@ -5,7 +5,7 @@ ghost use Rattle.report.specs.Status.{files_limit_line, limit_line, marker_prefi
 
 use crate::status::{LimitKind, Refusal};
 use crate::text::push_decimal;
-use left_out::marker::Marker;
+use token_reading::marker::Marker;
 use pv_base::lists::Bytes;
 use pv_base::memory::NoMemory;
 use pv_base::name::Name;

@@ -3,9 +3,9 @@ use Rattle.std.proofs.Common.{◌≡◌, ℕ, Bool, true, false, cond, ◌&&◌,
 use Rattle.std.specs.Prelude.{not, codes, is_some}
 use Rattle.std.specs.Option.{option_map_or}
 use Rattle.pv_base.specs.declared.span.Span.{Span}
-use Rattle.src_tree.specs.declared.token.Token.{Token}
-use Rattle.src_tree.specs.declared.token.Punctuation.{Punctuation as Sign}
-use Rattle.src_tree.specs.declared.token.Punctuation.TheVariants.{LeftBrace, RightBrace}
+use Rattle.move_tokens.specs.declared.token.Token.{Token}
+use Rattle.move_tokens.specs.declared.token.Punctuation.{Punctuation as Sign}
+use Rattle.move_tokens.specs.declared.token.Punctuation.TheVariants.{LeftBrace, RightBrace}
 use Rattle.move_tree.specs.declared.lexeme.Identifier.{Identifier}
 use Rattle.move_tree.specs.declared.lexeme.Lexeme.{Lexeme}
 use Rattle.move_tree.specs.Lexemes.{word, identifier, sign}
@@ -22,7 +22,7 @@ use Rattle.token_reading.specs.TokenReading.{is_keyword, after_word, begins_capi
 use Rattle.token_reading.proofs.Steps.{true_or_false}
 use Rattle.token_reading.proofs.BeginLemmas.{Begins-first}
 use Rattle.token_reading.proofs.TokenLemmas.{name_is_no_keyword, after_word-sound, after_word-complete, after_word-other}
-use Rattle.clause_parse.proofs.SpecBlockLemmas.{function_behind, behind}
+use Rattle.spec_parse.proofs.SpecBlockLemmas.{function_behind, behind}
 use Rattle.source_parse.specs.FunctionNames.{is_one_of}
 use Rattle.source_parse.specs.Slots.{IsSlotOf}
 use Rattle.source_parse.specs.SlotReading.{word_of_kind, first_word, is_schema, names_struct, slot_at}

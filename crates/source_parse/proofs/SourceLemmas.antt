@@ -1,6 +1,6 @@
 -- Tokens denote the source that is read of them, and no other.
 use Rattle.std.proofs.Common.{◌≡◌, List, subst}
-use Rattle.src_tree.specs.declared.token.Token.{Token}
+use Rattle.move_tokens.specs.declared.token.Token.{Token}
 use Rattle.pv_parse.proofs.DenotedLemmas.{one_file}
 use Rattle.source_parse.specs.SourceModuleData.{SourceModuleData}
 use Rattle.source_parse.specs.Pairs.{Paired}

@@ -1,7 +1,7 @@
 -- The tree of a spec block is read of its tokens, and no other.
 use Rattle.std.proofs.Common.{◌≡◌, ℕ, Bool, List, [], ◌∷◌, refl, sym, subst, ◌∙◌}
 use Rattle.std.specs.BTreeSet.{BTreeSet}
-use Rattle.src_tree.specs.declared.token.Token.{Token}
+use Rattle.move_tokens.specs.declared.token.Token.{Token}
 use Rattle.move_tree.specs.Lexemes.{AreTokens}
 use Rattle.file_tree.specs.declared.member.SpecBlock.{SpecBlock}
 use Rattle.clause_tree.specs.declared.slot.Slot.{Slot}
@@ -9,9 +9,9 @@ use Rattle.clause_tree.specs.declared.clause.Spec.{Spec}
 use Rattle.clause_tree.specs.ClauseSpelling.{spec_tree_spelling}
 use Rattle.token_reading.specs.Beginnings.{Begins}
 use Rattle.token_reading.proofs.BeginLemmas.{Begins-same, begin_all}
-use Rattle.clause_parse.proofs.SpecBlockLemmas.{behind, spec_spelled}
-use Rattle.left_out.specs.declared.explain.ParseFault.{ParseFault}
-use Rattle.left_out.specs.declared.explain.ParseFault.TheVariants.{Grammar, LeftOut, NoMemory}
+use Rattle.spec_parse.proofs.SpecBlockLemmas.{behind, spec_spelled}
+use Rattle.token_reading.specs.declared.explain.ParseFault.{ParseFault}
+use Rattle.token_reading.specs.declared.explain.ParseFault.TheVariants.{Grammar, LeftOut, NoMemory}
 use Rattle.spec_parse.specs.DenotedBlocks.{IsSpecBlockOf, AreOfNoSpecBlock, IsCause}
 use Rattle.spec_parse.proofs.DenotedBlockLemmas.{one_spec_block}
 use Rattle.source_parse.specs.SpecFault.{IfNoSpec, fault_of}

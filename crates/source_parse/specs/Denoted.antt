@@ -2,12 +2,12 @@
 -- denote none. Source: The Move Book, "Modules and Scripts"; the Move Specification Language reference.
 use Rattle.std.specs.Prelude.{List}
 use Rattle.std.specs.List.{AllByRecursion}
-use Rattle.src_tree.specs.declared.token.Token.{Token}
+use Rattle.move_tokens.specs.declared.token.Token.{Token}
 use Rattle.file_tree.specs.FileData.{ModuleData}
-use Rattle.left_out.specs.declared.explain.ParseFault.{ParseFault}
-use Rattle.left_out.specs.declared.explain.ParseFault.TheVariants.{Grammar, LeftOut, NoMemory}
-use Rattle.left_out.specs.Markers.{HoldNone}
-use Rattle.left_out.specs.ParseFault.{HoldMarker}
+use Rattle.token_reading.specs.declared.explain.ParseFault.{ParseFault}
+use Rattle.token_reading.specs.declared.explain.ParseFault.TheVariants.{Grammar, LeftOut, NoMemory}
+use Rattle.token_reading.specs.Markers.{HoldNone}
+use Rattle.token_reading.specs.ParseFault.{HoldMarker}
 use Rattle.pv_parse.specs.Denoted.{IsFileOf}
 use Rattle.source_parse.specs.SourceModuleData.{SourceModuleData}
 use Rattle.source_parse.specs.Pairs.{Paired}

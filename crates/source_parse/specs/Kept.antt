@@ -2,10 +2,10 @@
 -- No tree says where braces stand, and whether they are glued, so any place does.
 use Rattle.std.specs.Prelude.{false, List, [], ◌∷◌, ◌++◌, codes}
 use Rattle.pv_base.specs.declared.span.Span.{Span}
-use Rattle.src_tree.specs.declared.token.Token.{Token}
-use Rattle.src_tree.specs.declared.token.TokenKind.{TokenKind}
-use Rattle.src_tree.specs.declared.token.TokenKind.TheVariants.{Word, Punctuation}
-use Rattle.src_tree.specs.declared.token.Punctuation.TheVariants.{LeftBrace, RightBrace}
+use Rattle.move_tokens.specs.declared.token.Token.{Token}
+use Rattle.move_tokens.specs.declared.token.TokenKind.{TokenKind}
+use Rattle.move_tokens.specs.declared.token.TokenKind.TheVariants.{Word, Punctuation}
+use Rattle.move_tokens.specs.declared.token.Punctuation.TheVariants.{LeftBrace, RightBrace}
 use Rattle.move_tree.specs.declared.spec_tokens.LoopSpec.{LoopSpec}
 use Rattle.file_tree.specs.declared.member.SpecBlock.{SpecBlock}
 

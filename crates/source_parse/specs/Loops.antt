@@ -7,7 +7,7 @@ use Rattle.expression_tree.specs.ExpressionData.{BlockData, BlockOf}
 use Rattle.file_tree.specs.FileData.{MemberData, ModuleData}
 use Rattle.file_tree.specs.declared.member.MemberForm.{MemberForm}
 use Rattle.file_tree.specs.declared.member.MemberForm.TheVariants.{Use, Friend, Struct, Constant, Function, Spec}
-use Rattle.blocks.specs.Blocks.{blocks_of, blocks_of_block}
+use Rattle.source_tree.specs.Blocks.{blocks_of, blocks_of_block}
 use Rattle.clause_tree.specs.declared.slot.Slot.TheVariants.{Loop}
 use Rattle.clause_tree.specs.declared.clause.Spec.{Spec as SpecTree}
 use Rattle.spec_parse.specs.DenotedBlocks.{IsSpecBlockOf}

@@ -1,6 +1,6 @@
 -- What the reader of modules knows where it finds none.
 use Rattle.std.specs.Prelude.{ℕ, List, [], ◌∷◌}
-use Rattle.src_tree.specs.declared.token.Token.{Token}
+use Rattle.move_tokens.specs.declared.token.Token.{Token}
 use Rattle.file_tree.specs.FileData.{MemberData, ModuleData}
 use Rattle.file_tree.specs.declared.member.MemberForm.{MemberForm}
 use Rattle.file_tree.specs.declared.member.SpecBlock.{SpecBlock}

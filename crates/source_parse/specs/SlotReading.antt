@@ -1,9 +1,9 @@
 -- How the slot of a block is read off the tokens behind its word, by a test of the names of functions.
 use Rattle.std.specs.Prelude.{ℕ, Bool, false, not, ◌&&◌, if◌then◌else◌, List, [], ◌∷◌, Option, Some, None, is_some, codes}
 use Rattle.std.specs.Option.{option_map_or}
-use Rattle.src_tree.specs.declared.token.Token.{Token}
-use Rattle.src_tree.specs.declared.token.TokenKind.{TokenKind}
-use Rattle.src_tree.specs.declared.token.TokenKind.TheVariants.{Word, Number, ByteString, Punctuation}
+use Rattle.move_tokens.specs.declared.token.Token.{Token}
+use Rattle.move_tokens.specs.declared.token.TokenKind.{TokenKind}
+use Rattle.move_tokens.specs.declared.token.TokenKind.TheVariants.{Word, Number, ByteString, Punctuation}
 use Rattle.clause_tree.specs.declared.slot.Slot.{Slot}
 use Rattle.clause_tree.specs.declared.slot.Slot.TheVariants.{Function, Struct, Module, Schema, SpecFunction}
 use Rattle.token_reading.specs.TokenReading.{after_word, begins_capital}

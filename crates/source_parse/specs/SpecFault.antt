@@ -1,6 +1,6 @@
 -- Why a spec block that a file keeps has no tree.
-use Rattle.left_out.specs.declared.explain.ParseFault.{ParseFault}
-use Rattle.left_out.specs.declared.explain.ParseFault.TheVariants.{Grammar, LeftOut, NoMemory as want}
+use Rattle.token_reading.specs.declared.explain.ParseFault.{ParseFault}
+use Rattle.token_reading.specs.declared.explain.ParseFault.TheVariants.{Grammar, LeftOut, NoMemory as want}
 use Rattle.source_parse.specs.declared.fault.SpecFault.{SpecFault}
 use Rattle.source_parse.specs.declared.fault.SpecFault.TheVariants.{NoTree, NoMemory}
 

@@ -1,7 +1,7 @@
 //! Which source tokens denote.
 
 ghost use Rattle.std.specs.Prelude.{◌≡◌, List, IfOk, IfErr};
-ghost use Rattle.src_tree.specs.declared.token.Token.{Token};
+ghost use Rattle.move_tokens.specs.declared.token.Token.{Token};
 ghost use Rattle.source_parse.specs.Denoted.{IsCause, IsSourceOf};
 ghost use Rattle.source_parse.specs.FileReading.{MatchesFile};
 ghost use Rattle.source_parse.specs.SourceModuleData.{SourceModuleData};
@@ -12,10 +12,10 @@ use crate::loops::check_modules;
 use crate::module::read_modules;
 use crate::source::Source;
 use file_tree::member::File;
-use left_out::explain::{ParseFault, explain_at};
+use token_reading::explain::{ParseFault, explain_at};
 use pv_base::memory::NoMemory;
 use pv_parse::denoted::{modules, one_file};
-use src_tree::token::{Token, Tokens};
+use move_tokens::token::{Token, Tokens};
 use std::alloc::Global;
 
 /// The source of a file: its trees with those of the spec blocks in it.

@@ -7,10 +7,10 @@ use crate::functions::{FunctionNames, names_among};
 use crate::kept::push_copies;
 use crate::module::slot_of_block;
 use clause_tree::slot::Slot;
-use left_out::explain::ParseFault;
+use token_reading::explain::ParseFault;
 use pv_base::memory::NoMemory;
-use spec_parse::block::spec_block;
-use src_tree::token::{Punctuation, Token, TokenKind, Tokens};
+use spec_parse::denoted_block::spec_block;
+use move_tokens::token::{Punctuation, Token, TokenKind, Tokens};
 use std::alloc::Global;
 use token_reading::tokens::{is_sign, is_word};
 

@@ -3,7 +3,7 @@
 ghost use Rattle.std.specs.Prelude.{◌≡◌};
 ghost use Rattle.source_parse.specs.SpecFault.{fault_of};
 
-use left_out::explain::ParseFault;
+use token_reading::explain::ParseFault;
 use pv_base::memory::NoMemory;
 use std::alloc::AllocFailed;
 

@@ -6,7 +6,7 @@ ghost use Rattle.source_parse.specs.FunctionNames.{IsSetOf, has, names_of};
 use file_tree::member::{Member, MemberForm};
 use pv_base::memory::NoMemory;
 use pv_base::name::Name;
-use src_tree::token::{Token, TokenKind};
+use move_tokens::token::{Token, TokenKind};
 use std::alloc::Global;
 use std::collections::BTreeSet;
 use std::marker::Model;

@@ -8,7 +8,7 @@ use move_tree::spec_tokens::{LoopSpec, copy_kind};
 use pv_base::memory::NoMemory;
 use pv_base::name::Name;
 use pv_base::span::Span;
-use src_tree::token::{Punctuation, Token, TokenKind, Tokens};
+use move_tokens::token::{Punctuation, Token, TokenKind, Tokens};
 use std::alloc::Global;
 
 /// Puts a token of this kind behind the others.

@@ -7,13 +7,13 @@ ghost use Rattle.source_parse.specs.SpecFault.{IfNoSpec};
 
 use crate::fault::{SpecFault, fault_of};
 use crate::kept::tokens_of_loop;
-use blocks::collect::{Blocks, collect_from_block, collect_from_expression};
+use source_tree::collect::{Blocks, collect_from_block, collect_from_expression};
 use clause_tree::slot::Slot;
 use expression_tree::expression::Block;
 use file_tree::member::{Member, MemberForm, Module};
 use move_tree::spec_tokens::LoopSpec;
 use pv_base::memory::NoMemory;
-use spec_parse::block::spec_block;
+use spec_parse::denoted_block::spec_block;
 use std::alloc::Global;
 
 /// Whether a loop's spec block has a tree.

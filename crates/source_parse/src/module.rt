@@ -15,8 +15,8 @@ use crate::source::{SourceForm, SourceMember, SourceModule};
 use clause_tree::clause::Spec;
 use clause_tree::slot::Slot;
 use file_tree::member::{Member, MemberForm, Module, SpecBlock};
-use spec_parse::block::spec_block;
-use src_tree::token::Token;
+use spec_parse::denoted_block::spec_block;
+use move_tokens::token::Token;
 use std::alloc::Global;
 
 /// What a spec block is of, by its tokens, of which the first is its word.

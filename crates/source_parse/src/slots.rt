@@ -8,7 +8,7 @@ ghost use Rattle.source_parse.specs.SlotReading.{first_word, is_schema, names_st
 use crate::functions::FunctionNames;
 use clause_tree::slot::Slot;
 use pv_base::name::Name;
-use src_tree::token::{Token, TokenKind};
+use move_tokens::token::{Token, TokenKind};
 use token_reading::tokens::{begins_capital, skip_word};
 
 /// The first token, where it is a word.

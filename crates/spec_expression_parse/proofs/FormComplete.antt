@@ -4,9 +4,9 @@ use Rattle.std.specs.Prelude.{codes, is_some}
 use Rattle.std.specs.Option.{option_map}
 use Rattle.std.proofs.lemmas.Bool.{ne_eqb}
 use Rattle.pv_base.specs.declared.span.Span.{Span}
-use Rattle.src_tree.specs.declared.token.Token.{Token}
-use Rattle.src_tree.specs.declared.token.Punctuation.{Punctuation as Sign}
-use Rattle.src_tree.specs.declared.token.Punctuation.TheVariants.{LeftParenthesis, RightParenthesis, LeftBrace, RightBrace, Comma, Colon, ColonColon, Less}
+use Rattle.move_tokens.specs.declared.token.Token.{Token}
+use Rattle.move_tokens.specs.declared.token.Punctuation.{Punctuation as Sign}
+use Rattle.move_tokens.specs.declared.token.Punctuation.TheVariants.{LeftParenthesis, RightParenthesis, LeftBrace, RightBrace, Comma, Colon, ColonColon, Less}
 use Rattle.move_tree.specs.declared.lexeme.Lexeme.{Lexeme}
 use Rattle.move_tree.specs.Lexemes.{word, sign, identifier, comma_list}
 use Rattle.move_tree.specs.TypeTreeData.{SourceTypeData}
@@ -24,8 +24,8 @@ use Rattle.token_reading.proofs.Steps.{bind_some, map_some, map_or_none, map_or_
 use Rattle.token_reading.proofs.BeginLemmas.{Begins-split, Begins-first, Begins-same, length-Begins}
 use Rattle.token_reading.proofs.TokenLemmas.{after_sign-complete, after_sign-other, after_word-complete, word_place_at-complete, identifier_at-complete}
 use Rattle.token_reading.proofs.ListLemmas.{some_items_at-complete, items_at-complete}
-use Rattle.type_parse.specs.TypeReading.{type_at}
-use Rattle.type_parse.proofs.TypeLemmas.{TypeEnds, ReadsBackTypes, type_at-complete}
+use Rattle.leaf_parse.specs.TypeReading.{type_at}
+use Rattle.leaf_parse.proofs.TypeLemmas.{TypeEnds, ReadsBackTypes, type_at-complete}
 use Rattle.spec_expression_parse.specs.RepeatReading.{repeat_at, whole_repeat_at}
 use Rattle.spec_expression_parse.specs.LeafReading.{opens_bind, quantifier_at}
 use Rattle.spec_expression_parse.specs.SpecReading.{Reader, operated_at, bind_at, binds_end, binds_at, trigger_at, has_trigger, quantified_at, condition_at, if_at, loose_at, spec_form, spec_at}

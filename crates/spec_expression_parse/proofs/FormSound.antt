@@ -3,8 +3,8 @@ use Rattle.std.proofs.Common.{◌≡◌, ℕ, zero, suc, ◌≤◌, Bool, true, 
 use Rattle.std.specs.Prelude.{codes, map, is_some}
 use Rattle.std.proofs.lemmas.Bool.{eqb-true}
 use Rattle.pv_base.specs.declared.span.Span.{Span}
-use Rattle.src_tree.specs.declared.token.Token.{Token}
-use Rattle.src_tree.specs.declared.token.Punctuation.TheVariants.{LeftParenthesis, RightParenthesis, LeftBrace, RightBrace, Colon, Exclaim}
+use Rattle.move_tokens.specs.declared.token.Token.{Token}
+use Rattle.move_tokens.specs.declared.token.Punctuation.TheVariants.{LeftParenthesis, RightParenthesis, LeftBrace, RightBrace, Colon, Exclaim}
 use Rattle.move_tree.specs.declared.lexeme.Lexeme.{Lexeme}
 use Rattle.move_tree.specs.Lexemes.{word, sign, sign_at, identifier, comma_list}
 use Rattle.expression_tree.specs.ProperExpressions.{unary_level, term_level}
@@ -25,8 +25,8 @@ use Rattle.token_reading.proofs.BeginLemmas.{Begins-append, Begins-same}
 use Rattle.token_reading.proofs.TokenLemmas.{after_sign-sound, sign_place_at-sound, after_word-sound, word_place_at-sound, identifier_at-sound}
 use Rattle.token_reading.proofs.ListLemmas.{items_at-sound, some_items_at-sound}
 use Rattle.token_reading.proofs.ChainLemmas.{Joined, chain_at-sound}
-use Rattle.type_parse.specs.TypeReading.{type_at}
-use Rattle.type_parse.proofs.TypeLemmas.{ReadsTypes, type_at-sound}
+use Rattle.leaf_parse.specs.TypeReading.{type_at}
+use Rattle.leaf_parse.proofs.TypeLemmas.{ReadsTypes, type_at-sound}
 use Rattle.spec_expression_parse.specs.OperatorReading.{spec_joints}
 use Rattle.spec_expression_parse.specs.LeafReading.{quantifier_at, has_postfix}
 use Rattle.spec_expression_parse.specs.SpecReading.{Reader, term_at, postfix_at, operand_at, operated_at, bind_at, binds_end, binds_at, trigger_at, has_trigger, quantified_at, condition_at, if_at, loose_at, spec_form, spec_at}

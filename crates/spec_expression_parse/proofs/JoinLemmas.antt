@@ -1,8 +1,8 @@
 -- The operators of spec expressions join them by the rules of their levels.
 use Rattle.std.proofs.Common.{◌≡◌, ◌<◌, Bool, true, false, List, [], None, length, refl, sym, subst, arith, append_assoc}
 use Rattle.pv_base.specs.declared.span.Span.{Span}
-use Rattle.src_tree.specs.declared.token.Token.{Token}
-use Rattle.src_tree.specs.declared.token.Punctuation.TheVariants.{Greater as greater_sign}
+use Rattle.move_tokens.specs.declared.token.Token.{Token}
+use Rattle.move_tokens.specs.declared.token.Punctuation.TheVariants.{Greater as greater_sign}
 use Rattle.spec_tree.specs.declared.spec_operator.SpecOperator.{SpecOperator}
 use Rattle.spec_tree.specs.SpecExpressionData.{SpecExpressionData, SpecBinary}
 use Rattle.spec_tree.specs.SpecOperatorSpelling.{spec_operator_spelling}

@@ -3,13 +3,13 @@ use Rattle.std.proofs.Common.{◌≡◌, ◌≢◌, ℕ, Bool, true, false, cond
 use Rattle.std.specs.Prelude.{codes, is_some, option_and_then}
 use Rattle.std.specs.Option.{option_map, option_map_or}
 use Rattle.pv_base.specs.declared.span.Span.{Span}
-use Rattle.src_tree.specs.declared.token.Token.{Token}
-use Rattle.src_tree.specs.declared.token.TokenKind.{TokenKind}
-use Rattle.src_tree.specs.declared.token.TokenKind.TheVariants.{Word, Number, ByteString, Punctuation}
-use Rattle.src_tree.specs.declared.token.NumberLiteral.{NumberLiteral}
-use Rattle.src_tree.specs.declared.token.NumberSuffix.{NumberSuffix}
-use Rattle.src_tree.specs.declared.token.NumberSuffix.TheVariants.{Absent, U8, U16, U32, U64, U128, U256}
-use Rattle.src_tree.specs.declared.token.Punctuation.TheVariants.{LeftBrace, Colon, ColonColon, AtSign}
+use Rattle.move_tokens.specs.declared.token.Token.{Token}
+use Rattle.move_tokens.specs.declared.token.TokenKind.{TokenKind}
+use Rattle.move_tokens.specs.declared.token.TokenKind.TheVariants.{Word, Number, ByteString, Punctuation}
+use Rattle.move_tokens.specs.declared.token.NumberLiteral.{NumberLiteral}
+use Rattle.move_tokens.specs.declared.token.NumberSuffix.{NumberSuffix}
+use Rattle.move_tokens.specs.declared.token.NumberSuffix.TheVariants.{Absent, U8, U16, U32, U64, U128, U256}
+use Rattle.move_tokens.specs.declared.token.Punctuation.TheVariants.{LeftBrace, Colon, ColonColon, AtSign}
 use Rattle.move_tree.specs.declared.lexeme.Identifier.{Identifier}
 use Rattle.move_tree.specs.declared.lexeme.Numeral.{Numeral}
 use Rattle.move_tree.specs.declared.lexeme.Lexeme.{Lexeme}
@@ -33,8 +33,8 @@ use Rattle.token_reading.specs.TokenReading.{Read, is_word, is_keyword, after_si
 use Rattle.token_reading.proofs.Steps.{step, last, some_one, either, if_some, if_not, if_read, bind_some, map_some, map_or_none, map_or_some, cond_true, cond_false}
 use Rattle.token_reading.proofs.BeginLemmas.{Begins-append, Begins-first}
 use Rattle.token_reading.proofs.TokenLemmas.{after_sign-sound, after_sign-complete, after_sign-other, after_word-complete, word_place_at-sound, word_place_at-complete, word_place_at-other, identifier_at-complete, identifier_at-other, begins_capital-sound, begins_capital-complete}
-use Rattle.type_parse.specs.PathReading.{address_at}
-use Rattle.type_parse.proofs.PathLemmas.{path_opens, opens_no_word, address_at-sound, address_at-complete}
+use Rattle.leaf_parse.specs.PathReading.{address_at}
+use Rattle.leaf_parse.proofs.PathLemmas.{path_opens, opens_no_word, address_at-sound, address_at-complete}
 use Rattle.spec_expression_parse.specs.LeafReading.{not_wider, number_of, number_at, plain_literal_at, address_literal_at, opens_bind, quantifier_word_at, quantifier_at, pack_opened}
 use Rattle.spec_expression_parse.proofs.GluedLemmas.{both}
 

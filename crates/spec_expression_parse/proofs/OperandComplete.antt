@@ -4,8 +4,8 @@ use Rattle.std.specs.Prelude.{is_some, option_and_then, nat_le}
 use Rattle.std.specs.Option.{option_map}
 use Rattle.std.proofs.lemmas.Bool.{leb-false, lt-leb}
 use Rattle.pv_base.specs.declared.span.Span.{Span}
-use Rattle.src_tree.specs.declared.token.Token.{Token}
-use Rattle.src_tree.specs.declared.token.Punctuation.TheVariants.{LeftParenthesis, LeftBrace, LeftBracket, ColonColon, Period, Exclaim}
+use Rattle.move_tokens.specs.declared.token.Token.{Token}
+use Rattle.move_tokens.specs.declared.token.Punctuation.TheVariants.{LeftParenthesis, LeftBrace, LeftBracket, ColonColon, Period, Exclaim}
 use Rattle.move_tree.specs.Lexemes.{sign_at}
 use Rattle.expression_tree.specs.ProperExpressions.{unary_level, term_level}
 use Rattle.move_tree.specs.TypeTreeData.{SourceTypeData}
@@ -21,7 +21,7 @@ use Rattle.token_reading.proofs.Steps.{bind_some, map_some, map_or_none, map_or_
 use Rattle.token_reading.proofs.BeginLemmas.{Begins-first, Begins-same, length-Begins}
 use Rattle.token_reading.proofs.TokenLemmas.{sign_place_at-complete, sign_place_at-none}
 use Rattle.token_reading.proofs.ChainLemmas.{Spine, operand as spine_end, joined as spine_joined, Behind, first_of, Fits, walk, chain-complete}
-use Rattle.type_parse.proofs.TypeLemmas.{ReadsBackTypes}
+use Rattle.leaf_parse.proofs.TypeLemmas.{ReadsBackTypes}
 use Rattle.spec_expression_parse.specs.RepeatReading.{repeat_at, whole_repeat_at}
 use Rattle.spec_expression_parse.specs.OperatorReading.{spec_operator_at, spec_joints}
 use Rattle.spec_expression_parse.specs.LeafReading.{has_postfix}

@@ -2,7 +2,7 @@
 use Rattle.std.proofs.Common.{◌≡◌, ℕ, suc, Bool, List, Some, None, sym, ap, ◌∙◌, length}
 use Rattle.std.specs.Prelude.{option_and_then}
 use Rattle.pv_base.specs.declared.span.Span.{Span}
-use Rattle.src_tree.specs.declared.token.Token.{Token}
+use Rattle.move_tokens.specs.declared.token.Token.{Token}
 use Rattle.move_tree.specs.TypeTreeData.{SourceTypeData}
 use Rattle.spec_tree.specs.declared.spec_operator.SpecOperator.{SpecOperator}
 use Rattle.spec_tree.specs.SpecExpressionData.{SpecExpressionData, SpecBinary}

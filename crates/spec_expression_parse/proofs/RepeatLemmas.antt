@@ -1,7 +1,7 @@
 -- Steps that are taken again and again: what comes of them, and one turn of a loop that takes them.
 use Rattle.std.proofs.Common.{◌≡◌, ℕ, zero, suc, Bool, true, false, cond, List, Some, None, ap, subst, ◌∙◌, inl, inr}
 use Rattle.std.specs.Prelude.{option_and_then}
-use Rattle.src_tree.specs.declared.token.Token.{Token}
+use Rattle.move_tokens.specs.declared.token.Token.{Token}
 use Rattle.token_reading.specs.TokenReading.{Read}
 use Rattle.token_reading.proofs.Steps.{step, some_one, either_read, bind_some, cond_true, cond_false}
 use Rattle.spec_expression_parse.specs.RepeatReading.{repeat_at}

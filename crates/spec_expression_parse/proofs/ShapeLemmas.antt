@@ -1,11 +1,11 @@
 -- How spec expressions begin.
 use Rattle.std.proofs.Common.{◌≡◌, ◌≤◌, true, false, ◌⊎◌, inl, inr, List, [], ◌∷◌, ◌++◌, Some, None, refl, sym, ap, ◌∙◌, arith, append_assoc, append-nil}
 use Rattle.std.specs.Prelude.{codes}
-use Rattle.src_tree.specs.declared.token.Token.{Token}
-use Rattle.src_tree.specs.declared.token.TokenKind.{TokenKind}
-use Rattle.src_tree.specs.declared.token.TokenKind.TheVariants.{Word, Number, ByteString, Punctuation}
-use Rattle.src_tree.specs.declared.token.Punctuation.{Punctuation as Sign}
-use Rattle.src_tree.specs.declared.token.Punctuation.TheVariants.{LeftParenthesis, RightParenthesis, LeftBrace, RightBrace, LeftBracket, RightBracket, ColonColon, Period, Exclaim, Less, AtSign}
+use Rattle.move_tokens.specs.declared.token.Token.{Token}
+use Rattle.move_tokens.specs.declared.token.TokenKind.{TokenKind}
+use Rattle.move_tokens.specs.declared.token.TokenKind.TheVariants.{Word, Number, ByteString, Punctuation}
+use Rattle.move_tokens.specs.declared.token.Punctuation.{Punctuation as Sign}
+use Rattle.move_tokens.specs.declared.token.Punctuation.TheVariants.{LeftParenthesis, RightParenthesis, LeftBrace, RightBrace, LeftBracket, RightBracket, ColonColon, Period, Exclaim, Less, AtSign}
 use Rattle.move_tree.specs.declared.lexeme.Identifier.{Identifier}
 use Rattle.move_tree.specs.declared.lexeme.Lexeme.{Lexeme}
 use Rattle.move_tree.specs.declared.literal.Literal.{Literal}
@@ -29,8 +29,8 @@ use Rattle.token_reading.specs.Beginnings.{Begins}
 use Rattle.token_reading.specs.TokenReading.{is_sign, is_word, name_of, after_sign, word_place_at}
 use Rattle.token_reading.proofs.BeginLemmas.{Begins-split, Begins-first, Begins-same}
 use Rattle.token_reading.proofs.TokenLemmas.{after_sign-other, word_place_at-other}
-use Rattle.type_parse.proofs.TypeLemmas.{inside_spelling}
-use Rattle.type_parse.proofs.PathLemmas.{OpensPath, Opened, path_opens}
+use Rattle.leaf_parse.proofs.TypeLemmas.{inside_spelling}
+use Rattle.leaf_parse.proofs.PathLemmas.{OpensPath, Opened, path_opens}
 use Rattle.spec_expression_parse.specs.LeafReading.{opens_bind, quantifier_at}
 use Rattle.spec_expression_parse.proofs.OperatorLemmas.{first_lexeme, later_lexemes, operator_first, level_is_some, own_left}
 use Rattle.spec_expression_parse.proofs.LeafLemmas.{if_is_keyword, path_no_place, opens_bind-other, quantifier_at-behind, quantifier_at-other}

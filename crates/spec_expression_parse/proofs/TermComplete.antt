@@ -3,10 +3,10 @@ use Rattle.std.proofs.Common.{◌≡◌, ℕ, zero, suc, ◌<◌, ◌≤◌, Boo
 use Rattle.std.specs.Prelude.{codes, is_some, option_and_then}
 use Rattle.std.specs.Option.{option_map}
 use Rattle.pv_base.specs.declared.span.Span.{Span}
-use Rattle.src_tree.specs.declared.token.Token.{Token}
-use Rattle.src_tree.specs.declared.token.TokenKind.TheVariants.{Punctuation}
-use Rattle.src_tree.specs.declared.token.Punctuation.{Punctuation as Sign}
-use Rattle.src_tree.specs.declared.token.Punctuation.TheVariants.{LeftParenthesis, RightParenthesis, LeftBrace, RightBrace, LeftBracket, RightBracket, Comma, Colon, ColonColon, Period, Exclaim, Less, AtSign}
+use Rattle.move_tokens.specs.declared.token.Token.{Token}
+use Rattle.move_tokens.specs.declared.token.TokenKind.TheVariants.{Punctuation}
+use Rattle.move_tokens.specs.declared.token.Punctuation.{Punctuation as Sign}
+use Rattle.move_tokens.specs.declared.token.Punctuation.TheVariants.{LeftParenthesis, RightParenthesis, LeftBrace, RightBrace, LeftBracket, RightBracket, Comma, Colon, ColonColon, Period, Exclaim, Less, AtSign}
 use Rattle.move_tree.specs.declared.lexeme.Identifier.{Identifier}
 use Rattle.move_tree.specs.declared.lexeme.Lexeme.{Lexeme}
 use Rattle.move_tree.specs.declared.literal.Literal.{Literal}
@@ -30,10 +30,10 @@ use Rattle.token_reading.proofs.Steps.{bind_some, map_some, map_or_none, map_or_
 use Rattle.token_reading.proofs.BeginLemmas.{Begins-split, Begins-first, Begins-same, length-Begins}
 use Rattle.token_reading.proofs.TokenLemmas.{after_sign-complete, after_sign-other, sign_place_at-complete, sign_place_at-other, sign_place_at-none, identifier_at-complete}
 use Rattle.token_reading.proofs.ListLemmas.{comma_list_at-complete}
-use Rattle.type_parse.specs.PathReading.{path_at}
-use Rattle.type_parse.specs.TypeReading.{arguments_at}
-use Rattle.type_parse.proofs.PathLemmas.{path_at-complete, path_no_sign}
-use Rattle.type_parse.proofs.TypeLemmas.{ReadsBackTypes, arguments_at-complete, arguments_spelled, inside_spelling}
+use Rattle.leaf_parse.specs.PathReading.{path_at}
+use Rattle.leaf_parse.specs.TypeReading.{arguments_at}
+use Rattle.leaf_parse.proofs.PathLemmas.{path_at-complete, path_no_sign}
+use Rattle.leaf_parse.proofs.TypeLemmas.{ReadsBackTypes, arguments_at-complete, arguments_spelled, inside_spelling}
 use Rattle.spec_expression_parse.specs.RepeatReading.{repeat_at}
 use Rattle.spec_expression_parse.specs.GluedReading.{after_glued}
 use Rattle.spec_expression_parse.specs.OperatorReading.{kind_operator, spec_operator_at}

@@ -1,8 +1,8 @@
 -- What is read as a term is spelled by the tokens, and proper.
 use Rattle.std.proofs.Common.{◌≡◌, ℕ, ◌≤◌, Bool, true, false, List, [], ◌∷◌, ◌++◌, Some, sym, subst, inl, inr, arith, append_assoc, append-nil}
 use Rattle.pv_base.specs.declared.span.Span.{Span}
-use Rattle.src_tree.specs.declared.token.Token.{Token}
-use Rattle.src_tree.specs.declared.token.Punctuation.TheVariants.{LeftParenthesis, RightParenthesis, LeftBrace, RightBrace, LeftBracket, RightBracket, Colon, Period, Less, AtSign}
+use Rattle.move_tokens.specs.declared.token.Token.{Token}
+use Rattle.move_tokens.specs.declared.token.Punctuation.TheVariants.{LeftParenthesis, RightParenthesis, LeftBrace, RightBrace, LeftBracket, RightBracket, Colon, Period, Less, AtSign}
 use Rattle.move_tree.specs.declared.path.Path.{Path}
 use Rattle.move_tree.specs.Lexemes.{sign, sign_at, identifier, comma_list}
 use Rattle.move_tree.specs.PathSpelling.{path_spelling}
@@ -20,10 +20,10 @@ use Rattle.token_reading.proofs.Steps.{step, last, some_one, either}
 use Rattle.token_reading.proofs.BeginLemmas.{Begins-append, Begins-same}
 use Rattle.token_reading.proofs.TokenLemmas.{after_sign-sound, sign_place_at-sound, identifier_at-sound}
 use Rattle.token_reading.proofs.ListLemmas.{comma_list_at-sound}
-use Rattle.type_parse.specs.PathReading.{path_at}
-use Rattle.type_parse.specs.TypeReading.{arguments_at}
-use Rattle.type_parse.proofs.PathLemmas.{path_at-sound}
-use Rattle.type_parse.proofs.TypeLemmas.{ReadsTypes, arguments_at-sound, arguments_spelled, inside_spelling}
+use Rattle.leaf_parse.specs.PathReading.{path_at}
+use Rattle.leaf_parse.specs.TypeReading.{arguments_at}
+use Rattle.leaf_parse.proofs.PathLemmas.{path_at-sound}
+use Rattle.leaf_parse.proofs.TypeLemmas.{ReadsTypes, arguments_at-sound, arguments_spelled, inside_spelling}
 use Rattle.spec_expression_parse.specs.GluedReading.{after_glued}
 use Rattle.spec_expression_parse.specs.LeafReading.{plain_literal_at, address_literal_at, pack_opened}
 use Rattle.spec_expression_parse.specs.SpecReading.{Reader, call_at, spec_field_at, pack_at, bare_path, applied_at, path_form, parenthesized_at, plain_term_at, term_at, index_at, postfix_at}

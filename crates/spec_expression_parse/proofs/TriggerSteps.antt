@@ -2,8 +2,8 @@
 use Rattle.std.proofs.Common.{◌≡◌, Bool, true, false, List, [], ◌∷◌, ◌++◌, Some, None, sym, ap, ◌∙◌}
 use Rattle.std.specs.Prelude.{is_some}
 use Rattle.std.specs.Option.{option_map}
-use Rattle.src_tree.specs.declared.token.Token.{Token}
-use Rattle.src_tree.specs.declared.token.Punctuation.TheVariants.{LeftBrace, RightBrace}
+use Rattle.move_tokens.specs.declared.token.Token.{Token}
+use Rattle.move_tokens.specs.declared.token.Punctuation.TheVariants.{LeftBrace, RightBrace}
 use Rattle.spec_tree.specs.SpecExpressionData.{SpecExpressionData, TriggerData, TriggerOf, spec_expressions_of}
 use Rattle.token_reading.specs.TokenReading.{after_sign}
 use Rattle.token_reading.specs.ListReading.{some_items_at}

@@ -1,12 +1,12 @@
 -- One turn less is left for what stands inside.
 use Rattle.std.proofs.Common.{◌≡◌, ℕ, zero, suc, ◌<◌, ◌-◌, Bool, true, false, cond, List, Some, None, ap, arith}
 use Rattle.std.specs.Prelude.{option_and_then}
-use Rattle.src_tree.specs.declared.token.Token.{Token}
+use Rattle.move_tokens.specs.declared.token.Token.{Token}
 use Rattle.spec_tree.specs.SpecExpressionData.{BindData}
 use Rattle.token_reading.specs.TokenReading.{Read}
 use Rattle.token_reading.specs.ListReading.{Items, some_items_at}
 use Rattle.move_tree.specs.TypeTreeData.{SourceTypeData}
-use Rattle.type_parse.specs.TypeReading.{type_at}
+use Rattle.leaf_parse.specs.TypeReading.{type_at}
 use Rattle.spec_expression_parse.specs.SpecReading.{Reader, bind_at, binds_end, binds_at, spec_form, spec_at}
 
 pub spec_at-turn : (n : ℕ) (packs : Bool) (minimum : ℕ) (ts : List Token) → 0 < n → spec_at n packs minimum ts ≡ spec_form (type_at (n - 1)) (spec_at (n - 1)) packs minimum ts

@@ -2,13 +2,13 @@
 use Rattle.std.specs.Prelude.{Bool, true, false, ◌&&◌, ◌||◌, if◌then◌else◌, List, [], ◌∷◌, Option, Some, None, is_some, option_and_then, codes}
 use Rattle.std.specs.Option.{option_map, option_map_or}
 use Rattle.pv_base.specs.declared.span.Span.{Span}
-use Rattle.src_tree.specs.declared.token.Token.{Token}
-use Rattle.src_tree.specs.declared.token.TokenKind.{TokenKind}
-use Rattle.src_tree.specs.declared.token.TokenKind.TheVariants.{Word, Number, ByteString, Punctuation}
-use Rattle.src_tree.specs.declared.token.NumberLiteral.{NumberLiteral}
-use Rattle.src_tree.specs.declared.token.NumberSuffix.{NumberSuffix}
-use Rattle.src_tree.specs.declared.token.NumberSuffix.TheVariants.{U256}
-use Rattle.src_tree.specs.declared.token.Punctuation.TheVariants.{LeftBrace, LeftBracket, Colon, ColonColon, Period}
+use Rattle.move_tokens.specs.declared.token.Token.{Token}
+use Rattle.move_tokens.specs.declared.token.TokenKind.{TokenKind}
+use Rattle.move_tokens.specs.declared.token.TokenKind.TheVariants.{Word, Number, ByteString, Punctuation}
+use Rattle.move_tokens.specs.declared.token.NumberLiteral.{NumberLiteral}
+use Rattle.move_tokens.specs.declared.token.NumberSuffix.{NumberSuffix}
+use Rattle.move_tokens.specs.declared.token.NumberSuffix.TheVariants.{U256}
+use Rattle.move_tokens.specs.declared.token.Punctuation.TheVariants.{LeftBrace, LeftBracket, Colon, ColonColon, Period}
 use Rattle.move_tree.specs.declared.lexeme.Numeral.{Numeral}
 use Rattle.move_tree.specs.declared.literal.Literal.{Literal}
 use Rattle.move_tree.specs.declared.literal.Literal.TheVariants.{Number as number_literal, Truth, Address}
@@ -17,7 +17,7 @@ use Rattle.move_tree.specs.ProperTypes.{last_name}
 use Rattle.spec_tree.specs.declared.spec_operator.Quantifier.{Quantifier}
 use Rattle.spec_tree.specs.declared.spec_operator.Quantifier.TheVariants.{ForAll, Exists}
 use Rattle.token_reading.specs.TokenReading.{Read, after_sign, after_word, word_place_at, identifier_at, begins_capital}
-use Rattle.type_parse.specs.PathReading.{address_at}
+use Rattle.leaf_parse.specs.PathReading.{address_at}
 
 -- ---- literals
 

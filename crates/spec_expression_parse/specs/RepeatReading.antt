@@ -1,6 +1,6 @@
 -- How a step is taken again and again while more of it stands in the tokens.
 use Rattle.std.specs.Prelude.{ℕ, zero, suc, Bool, if◌then◌else◌, List, Some, None, option_and_then, length}
-use Rattle.src_tree.specs.declared.token.Token.{Token}
+use Rattle.move_tokens.specs.declared.token.Token.{Token}
 use Rattle.token_reading.specs.TokenReading.{Read}
 
 -- what comes of a value by steps, over at most so many turns. `more` tells whether a step is to be taken.

@@ -4,8 +4,8 @@
 use Rattle.std.specs.Prelude.{ℕ, zero, suc, Bool, true, false, ◌==◌, ◌||◌, if◌then◌else◌, List, [], ◌∷◌, ◌++◌, Option, Some, None, is_some, option_and_then, codes}
 use Rattle.std.specs.Option.{option_map, option_map_or}
 use Rattle.pv_base.specs.declared.span.Span.{Span}
-use Rattle.src_tree.specs.declared.token.Token.{Token}
-use Rattle.src_tree.specs.declared.token.Punctuation.TheVariants.{LeftParenthesis, RightParenthesis, LeftBrace, RightBrace, LeftBracket, RightBracket, Colon, Period, Exclaim, Less, AtSign}
+use Rattle.move_tokens.specs.declared.token.Token.{Token}
+use Rattle.move_tokens.specs.declared.token.Punctuation.TheVariants.{LeftParenthesis, RightParenthesis, LeftBrace, RightBrace, LeftBracket, RightBracket, Colon, Period, Exclaim, Less, AtSign}
 use Rattle.move_tree.specs.declared.path.Path.{Path}
 use Rattle.expression_tree.specs.ProperExpressions.{unary_level}
 use Rattle.move_tree.specs.TypeTreeData.{SourceTypeData, MaybeArgumentsData, NoArguments, SomeArguments}
@@ -14,8 +14,8 @@ use Rattle.spec_tree.specs.SpecExpressionData.{SpecExpressionData, SpecQuantifie
 use Rattle.token_reading.specs.TokenReading.{Read, after_sign, sign_place_at, after_word, word_place_at, identifier_at}
 use Rattle.token_reading.specs.ListReading.{some_items_at, comma_list_at}
 use Rattle.token_reading.specs.ChainReading.{whole_chain_at}
-use Rattle.type_parse.specs.PathReading.{path_at}
-use Rattle.type_parse.specs.TypeReading.{arguments_at, type_at}
+use Rattle.leaf_parse.specs.PathReading.{path_at}
+use Rattle.leaf_parse.specs.TypeReading.{arguments_at, type_at}
 use Rattle.spec_expression_parse.specs.RepeatReading.{whole_repeat_at}
 use Rattle.spec_expression_parse.specs.GluedReading.{after_glued}
 use Rattle.spec_expression_parse.specs.OperatorReading.{spec_joints}

@@ -5,7 +5,7 @@ ghost use Rattle.move_tree.specs.TypeTreeData.{maybe_arguments_of};
 ghost use Rattle.token_reading.specs.ReadFault.{IfNoTree};
 ghost use Rattle.token_reading.specs.TokenReading.{after_sign};
 ghost use Rattle.token_reading.specs.ListReading.{comma_list_at, some_items_at};
-ghost use Rattle.type_parse.specs.TypeReading.{type_at};
+ghost use Rattle.leaf_parse.specs.TypeReading.{type_at};
 ghost use Rattle.spec_expression_parse.specs.RepeatReading.{whole_repeat_at};
 ghost use Rattle.spec_expression_parse.specs.LeafReading.{has_postfix};
 ghost use Rattle.spec_expression_parse.specs.SpecReading.{applied_at, bare_path, bind_at, binds_at, call_at, condition_at, has_trigger, if_at, operand_at, operated_at, pack_at, path_form, plain_term_at, postfix_at, quantified_at, spec_at, spec_field_at, spec_form, term_at, trigger_at};
@@ -19,18 +19,18 @@ use crate::operator::{next_operator, skip_glued};
 use move_tree::path::Path;
 use move_tree::types::TypeArguments;
 use pv_base::span::Span;
-use spec_level::level::right_level;
+use spec_tree::level::right_level;
 use spec_tree::spec_expression::{Bind, Domain, SpecExpression, SpecField, SpecNode, Trigger};
 use spec_tree::spec_operator::Quantifier;
-use src_tree::token::{Punctuation, Token};
+use move_tokens::token::{Punctuation, Token};
 use std::alloc::Global;
 use token_reading::fault::ReadFault;
 use token_reading::lists::{Separator, separator_behind};
 use token_reading::tokens::{
     expect_sign, expect_word, place_of_sign, place_of_word, read_identifier, skip_sign,
 };
-use type_parse::path::read_path_of_term;
-use type_parse::types::{read_arguments, read_type};
+use leaf_parse::path::read_path_of_term;
+use leaf_parse::types::{read_arguments, read_type};
 
 /// The level of what stands behind a `!`.
 const UNARY_LEVEL: usize = 13;

@@ -14,14 +14,14 @@ use move_tree::path::Path;
 use pv_base::memory::NoMemory;
 use pv_base::span::Span;
 use spec_tree::spec_operator::Quantifier;
-use src_tree::token::{NumberLiteral, NumberSuffix, Punctuation, Token, TokenKind};
+use move_tokens::token::{NumberLiteral, NumberSuffix, Punctuation, Token, TokenKind};
 use std::alloc::Global;
 use token_reading::fault::ReadFault;
 use token_reading::lists::Separator;
 use token_reading::tokens::{
     begins_capital, begins_with, expect_sign, is_keyword, place_of_word, skip_sign, skip_word,
 };
-use type_parse::path::{copy_number, read_address};
+use leaf_parse::path::{copy_number, read_address};
 
 /// The number that a token is, where its type is not wider than `u128`.
 fn number_of(kind: &TokenKind) -> Option<&NumberLiteral>

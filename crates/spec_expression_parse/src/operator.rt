@@ -8,11 +8,11 @@ ghost use Rattle.spec_expression_parse.specs.OperatorReading.{kind_operator, len
 
 use move_tree::operator::BinaryOperator;
 use pv_base::span::Span;
-use spec_level::level::spec_operator_level;
+use spec_tree::level::spec_operator_level;
 use spec_tree::spec_expression::SpecExpression;
 use spec_tree::spec_operator::SpecOperator;
 use spec_tree::spell_spec_expression::is_path_last;
-use src_tree::token::{Punctuation, Token, TokenKind};
+use move_tokens::token::{Punctuation, Token, TokenKind};
 use token_reading::tokens::is_sign;
 
 /// The operator that begins with a sign: of `>` the comparison.

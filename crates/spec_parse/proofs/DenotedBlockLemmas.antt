@@ -1,6 +1,6 @@
 -- Tokens denote the spec block that is read of them, and no other.
 use Rattle.std.proofs.Common.{◌≡◌, ℕ, suc, ◌+◌, List, Option, Some, None, length, sym, ap, subst, ◌∙◌, arith}
-use Rattle.src_tree.specs.declared.token.Token.{Token}
+use Rattle.move_tokens.specs.declared.token.Token.{Token}
 use Rattle.move_tree.specs.Lexemes.{AreTokens}
 use Rattle.clause_tree.specs.declared.slot.Slot.{Slot}
 use Rattle.clause_tree.specs.declared.clause.Spec.{Spec}
@@ -12,9 +12,9 @@ use Rattle.token_reading.specs.declared.fault.ReadFault.TheVariants.{NoTree, NoM
 use Rattle.token_reading.proofs.Steps.{some_one}
 use Rattle.token_reading.proofs.BeginLemmas.{are_tokens, begin_all}
 use Rattle.token_reading.proofs.SpelledTokens.{tokens_for, are_tokens_for}
-use Rattle.left_out.specs.declared.explain.ParseFault.{ParseFault}
-use Rattle.left_out.specs.declared.explain.ParseFault.TheVariants.{Grammar, LeftOut, NoMemory}
-use Rattle.left_out.specs.ParseFault.{Explains}
+use Rattle.token_reading.specs.declared.explain.ParseFault.{ParseFault}
+use Rattle.token_reading.specs.declared.explain.ParseFault.TheVariants.{Grammar, LeftOut, NoMemory}
+use Rattle.token_reading.specs.ParseFault.{Explains}
 use Rattle.spec_parse.specs.WholeBlockReading.{whole_at}
 use Rattle.spec_parse.specs.DenotedBlocks.{IsSpecBlockOf, AreOfNoSpecBlock, IsCause}
 use Rattle.spec_parse.proofs.WholeBlockLemmas.{whole_at-sound, whole_at-complete}

@@ -1,3 +1,12 @@
+pub mod ConditionLemmas
+pub mod UpdateLemmas
+pub mod PragmaLemmas
+pub mod IncludeLemmas
+pub mod WordLemmas
+pub mod ClauseLemmas
+pub mod BlockLemmas
+pub mod BlockSteps
+pub mod SpecBlockLemmas
 pub mod WholeLemmas
 pub mod DenotedLemmas
 pub mod WholeBlockLemmas

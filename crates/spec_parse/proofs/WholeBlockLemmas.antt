@@ -1,14 +1,14 @@
 -- A spec block that all of the tokens are is read exactly.
 use Rattle.std.proofs.Common.{◌≡◌, ℕ, suc, ◌≤◌, List, [], ◌∷◌, Some, length, refl, subst}
-use Rattle.src_tree.specs.declared.token.Token.{Token}
+use Rattle.move_tokens.specs.declared.token.Token.{Token}
 use Rattle.clause_tree.specs.declared.slot.Slot.{Slot}
 use Rattle.clause_tree.specs.declared.clause.Spec.{Spec}
 use Rattle.clause_tree.specs.ClauseSpelling.{spec_tree_spelling}
 use Rattle.clause_tree.specs.ProperClauses.{IsProperBlock}
 use Rattle.token_reading.specs.Beginnings.{Begins}
 use Rattle.token_reading.proofs.Steps.{step, bind_some}
-use Rattle.clause_parse.specs.SpecBlockReading.{spec_block_at}
-use Rattle.clause_parse.proofs.SpecBlockLemmas.{spec_block_at-sound, spec_block_at-complete}
+use Rattle.spec_parse.specs.SpecBlockReading.{spec_block_at}
+use Rattle.spec_parse.proofs.SpecBlockLemmas.{spec_block_at-sound, spec_block_at-complete}
 use Rattle.spec_parse.specs.WholeBlockReading.{at_end, whole_at}
 
 at_end-sound : (x : Spec) (ts : List Token) (y : Spec) → at_end x ts ≡ Some y → (x ≡ y) × (ts ≡ [])

@@ -1,6 +1,6 @@
 -- A spec expression that all of the tokens are is read exactly.
 use Rattle.std.proofs.Common.{◌≡◌, ℕ, suc, ◌≤◌, true, List, [], ◌∷◌, Some, length, refl, subst, arith}
-use Rattle.src_tree.specs.declared.token.Token.{Token}
+use Rattle.move_tokens.specs.declared.token.Token.{Token}
 use Rattle.spec_tree.specs.SpecExpressionData.{SpecExpressionData}
 use Rattle.spec_tree.specs.SpecExpressionSpelling.{spec_spelling}
 use Rattle.spec_tree.specs.ProperSpecExpressions.{IsProperSpec}

@@ -2,15 +2,15 @@
 -- Source: the Move Specification Language reference, "Expressions"; the trees and which of them are proper are those of
 -- the spec trees.
 use Rattle.std.specs.Prelude.{List}
-use Rattle.src_tree.specs.declared.token.Token.{Token}
+use Rattle.move_tokens.specs.declared.token.Token.{Token}
 use Rattle.move_tree.specs.Lexemes.{AreTokens}
 use Rattle.spec_tree.specs.SpecExpressionData.{SpecExpressionData}
 use Rattle.spec_tree.specs.SpecExpressionSpelling.{spec_spelling}
 use Rattle.spec_tree.specs.ProperSpecExpressions.{IsProperSpec}
-use Rattle.left_out.specs.declared.explain.ParseFault.{ParseFault}
-use Rattle.left_out.specs.declared.explain.ParseFault.TheVariants.{Grammar, LeftOut, NoMemory}
-use Rattle.left_out.specs.Markers.{HoldNone}
-use Rattle.left_out.specs.ParseFault.{HoldMarker}
+use Rattle.token_reading.specs.declared.explain.ParseFault.{ParseFault}
+use Rattle.token_reading.specs.declared.explain.ParseFault.TheVariants.{Grammar, LeftOut, NoMemory}
+use Rattle.token_reading.specs.Markers.{HoldNone}
+use Rattle.token_reading.specs.ParseFault.{HoldMarker}
 
 -- the tokens are those of this spec expression, and it is one that the grammar has
 pub record IsSpecExpressionOf (expression : SpecExpressionData) (tokens : List Token) : Type 0 where

@@ -2,16 +2,16 @@
 -- Source: the Move Specification Language reference; the trees and which of them are proper are those of the trees of
 -- clauses.
 use Rattle.std.specs.Prelude.{List}
-use Rattle.src_tree.specs.declared.token.Token.{Token}
+use Rattle.move_tokens.specs.declared.token.Token.{Token}
 use Rattle.move_tree.specs.Lexemes.{AreTokens}
 use Rattle.clause_tree.specs.declared.slot.Slot.{Slot}
 use Rattle.clause_tree.specs.declared.clause.Spec.{Spec}
 use Rattle.clause_tree.specs.ClauseSpelling.{spec_tree_spelling}
 use Rattle.clause_tree.specs.ProperClauses.{IsProperBlock}
-use Rattle.left_out.specs.declared.explain.ParseFault.{ParseFault}
-use Rattle.left_out.specs.declared.explain.ParseFault.TheVariants.{Grammar, LeftOut, NoMemory}
-use Rattle.left_out.specs.Markers.{HoldNone}
-use Rattle.left_out.specs.ParseFault.{HoldMarker}
+use Rattle.token_reading.specs.declared.explain.ParseFault.{ParseFault}
+use Rattle.token_reading.specs.declared.explain.ParseFault.TheVariants.{Grammar, LeftOut, NoMemory}
+use Rattle.token_reading.specs.Markers.{HoldNone}
+use Rattle.token_reading.specs.ParseFault.{HoldMarker}
 
 -- the tokens are those of this spec block, and it is one that the grammar has for this slot
 pub record IsSpecBlockOf (slot : Slot) (block : Spec) (tokens : List Token) : Type 0 where

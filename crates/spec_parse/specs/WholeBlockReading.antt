@@ -1,9 +1,9 @@
 -- How a spec block is read that all of the tokens are. The number says how deep types and expressions may be nested.
 use Rattle.std.specs.Prelude.{ℕ, List, [], ◌∷◌, Option, Some, None, option_and_then}
-use Rattle.src_tree.specs.declared.token.Token.{Token}
+use Rattle.move_tokens.specs.declared.token.Token.{Token}
 use Rattle.clause_tree.specs.declared.slot.Slot.{Slot}
 use Rattle.clause_tree.specs.declared.clause.Spec.{Spec}
-use Rattle.clause_parse.specs.SpecBlockReading.{spec_block_at}
+use Rattle.spec_parse.specs.SpecBlockReading.{spec_block_at}
 
 abbrev pub at_end : Spec → List Token → Option Spec
 at_end x [] = Some x

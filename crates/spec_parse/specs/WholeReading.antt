@@ -1,6 +1,6 @@
 -- How a spec expression is read that all of the tokens are. The number says how deep it may be nested.
 use Rattle.std.specs.Prelude.{ℕ, true, List, [], ◌∷◌, Option, Some, None, option_and_then}
-use Rattle.src_tree.specs.declared.token.Token.{Token}
+use Rattle.move_tokens.specs.declared.token.Token.{Token}
 use Rattle.spec_tree.specs.SpecExpressionData.{SpecExpressionData}
 use Rattle.spec_expression_parse.specs.SpecReading.{spec_at}
 

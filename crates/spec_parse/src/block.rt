@@ -1,73 +1,149 @@
-//! Which spec block of a slot tokens denote.
+//! Blocks of clauses.
 
-ghost use Rattle.std.specs.Prelude.{◌≡◌, ℕ, None, Some, List, IfOk, IfErr, MatchResult};
-ghost use Rattle.src_tree.specs.declared.token.Token.{Token};
-ghost use Rattle.clause_tree.specs.declared.slot.Slot.{Slot};
-ghost use Rattle.clause_tree.specs.declared.clause.Spec.{Spec};
-ghost use Rattle.clause_tree.specs.ClauseSpelling.{spec_tree_spelling};
-ghost use Rattle.clause_tree.specs.ProperClauses.{IsProperBlock};
+ghost use Rattle.std.specs.Prelude.{◌≡◌, None, Some, MatchResult};
 ghost use Rattle.token_reading.specs.ReadFault.{IfNoTree};
-ghost use Rattle.spec_parse.specs.DenotedBlocks.{IsSpecBlockOf, IsCause};
-ghost use Rattle.spec_parse.specs.WholeBlockReading.{whole_at};
+ghost use Rattle.spec_parse.specs.BlockReading.{block_at, clauses_at, in_function, in_loop, in_module, in_struct, may_hold, may_hold_all};
 
-use clause_parse::spec_block::read_spec_block;
-use clause_tree::clause::Spec as SpecBlock;
+use crate::clause::read_clause;
+use clause_tree::clause::{Clause, Clauses};
 use clause_tree::slot::Slot;
-use left_out::explain::{ParseFault, explain};
-use src_tree::token::{Token, Tokens};
+use move_tokens::token::{Punctuation, Token};
 use std::alloc::Global;
 use token_reading::fault::ReadFault;
+use token_reading::tokens::{begins_with, expect_sign};
 
-/// The spec block of this slot that the tokens denote: they spell it, and it is one that the grammar has
-/// for the slot. The word `spec` and the braces are among the tokens.
-///
-/// # Errors
-///
-/// `Grammar` comes exactly where the tokens are of no such block and hold no marker of a form that is left
-/// out, with the place at which reading ended; `LeftOut` exactly where they are of none and hold one, with
-/// the first marker and its place; `NoMemory` where memory ran out.
-pub fn spec_block(alloc: Global, tokens: &Tokens, slot: Slot) -> Result<SpecBlock, ParseFault>
-    ensures denoted { IfOk result (λ block. IsSpecBlockOf slot block tokens.now) }
-    ensures refused { IfErr result (λ fault. IsCause slot tokens.now fault) }
+/// Whether the block of a function may hold a clause.
+fn in_function(clause: &Clause) -> bool
+    ensures { result ≡ in_function clause.now }
 {
-    let slice = tokens.as_slice();
-    match read_whole(alloc, slot, slice, slice.len() + 1) {
-        Ok(block) => Ok(block),
-        Err(fault) => Err(explain(slice, fault)),
+    match clause {
+        Clause::Pragma { .. } => true,
+        Clause::Requires { .. } => true,
+        Clause::Ensures { .. } => true,
+        Clause::AbortsIf { .. } => true,
+        Clause::Modifies { .. } => true,
+        Clause::Let { .. } => true,
+        Clause::Include(_) => true,
+        Clause::Invariant { .. } => false,
+        Clause::Variable(_) => false,
     }
 }
 
-/// A spec block of this slot that all of these tokens are. `budget` bounds how deep the types and expressions in it are
-/// nested.
+/// Whether the block of a struct may hold a clause.
+fn in_struct(clause: &Clause) -> bool
+    ensures { result ≡ in_struct clause.now }
+{
+    match clause {
+        Clause::Pragma { .. } => true,
+        Clause::Invariant { is_update, .. } => !*is_update,
+        Clause::Let { .. } => true,
+        Clause::Include(_) => true,
+        _ => false,
+    }
+}
+
+/// Whether the block of a module may hold a clause.
+fn in_module(clause: &Clause) -> bool
+    ensures { result ≡ in_module clause.now }
+{
+    match clause {
+        Clause::Pragma { .. } => true,
+        Clause::Invariant { .. } => true,
+        Clause::Let { .. } => true,
+        Clause::Include(_) => true,
+        _ => false,
+    }
+}
+
+/// Whether the block of a loop may hold a clause.
+fn in_loop(clause: &Clause) -> bool
+    ensures { result ≡ in_loop clause.now }
+{
+    match clause {
+        Clause::Invariant { is_update, .. } => !*is_update,
+        _ => false,
+    }
+}
+
+/// Whether a block may hold a clause.
+fn may_hold(slot: Slot, clause: &Clause) -> bool
+    ensures { result ≡ may_hold slot clause.now }
+{
+    match slot {
+        Slot::Function => in_function(clause),
+        Slot::Struct => in_struct(clause),
+        Slot::Module => in_module(clause),
+        Slot::Schema => true,
+        Slot::SpecFunction => false,
+        Slot::Loop => in_loop(clause),
+    }
+}
+
+/// Whether a block may hold each of some clauses.
+fn may_hold_all(slot: Slot, clauses: &[Clause]) -> bool
+    ensures { result ≡ may_hold_all slot clauses.now }
+{
+    clauses.iter().all(|clause| may_hold(slot, clause))
+}
+
+/// The clauses of a block up to its brace, and the tokens from the brace on.
+fn read_clauses(
+    alloc: Global,
+    tokens: &[Token],
+    budget: usize,
+) -> Result<(Vec<Clause>, &[Token]), ReadFault>
+    ensures { MatchResult result (λ read. clauses_at budget tokens.now ≡ Some (read.0.items, read.1.now)) (λ fault. IfNoTree fault (clauses_at budget tokens.now ≡ None)) }
+{
+    let mut clauses = Vec::new(alloc);
+    let mut rest = tokens;
+    for _ in 0..tokens.len() {
+        if begins_with(rest, Punctuation::RightBrace) {
+            return Ok((clauses, rest));
+        }
+        let (clause, behind) = read_clause(alloc, rest, budget)?;
+        clauses.push(clause)?;
+        rest = behind;
+    }
+    Ok((clauses, rest))
+}
+
+/// The tokens from the first clause on that such a block can't hold, which is where the reading of it ends.
+fn from_first_refused(alloc: Global, slot: Slot, tokens: &[Token], budget: usize) -> &[Token] {
+    let mut rest = tokens;
+    for _ in 0..tokens.len() {
+        match read_clause(alloc, rest, budget) {
+            Ok((clause, behind)) if may_hold(slot, &clause) => rest = behind,
+            _ => return rest,
+        }
+    }
+    rest
+}
+
+/// The clauses of a block in its braces, and the tokens behind it. `budget` bounds how deep the types and
+/// expressions in it are nested.
 ///
 /// # Errors
 ///
-/// `NoTree` where the tokens are of no such block that is nested at most so deep, `NoMemory` where memory
-/// ran out.
-#[tactic(auto, unfolding(crate::specs::WholeBlockReading::whole_at))]
-fn read_whole(
+/// `NoTree` where the tokens begin with no block of this slot that is nested at most so deep, `NoMemory`
+/// where memory ran out.
+#[tactic(auto, unfolding(crate::specs::BlockReading::block_at))]
+pub fn read_block(
     alloc: Global,
     slot: Slot,
     tokens: &[Token],
     budget: usize,
-) -> Result<SpecBlock, ReadFault>
-    ensures { MatchResult result (λ block. whole_at slot budget tokens.now ≡ Some block) (λ fault. IfNoTree fault (whole_at slot budget tokens.now ≡ None)) }
+) -> Result<(Clauses, &[Token]), ReadFault>
+    ensures { MatchResult result (λ read. block_at slot budget tokens.now ≡ Some (read.0, read.1.now)) (λ fault. IfNoTree fault (block_at slot budget tokens.now ≡ None)) }
 {
-    let (block, rest) = read_spec_block(alloc, slot, tokens, budget)?;
-    match rest.split_first() {
-        None => Ok(block),
-        Some(_) => Err(ReadFault::NoTree { left: rest.len() }),
+    let inside = expect_sign(tokens, Punctuation::LeftBrace)?;
+    let (items, rest) = read_clauses(alloc, inside, budget)?;
+    if may_hold_all(slot, items.as_slice()) {
+        let rest = expect_sign(rest, Punctuation::RightBrace)?;
+        Ok((Clauses { items }, rest))
+    } else {
+        let refused = from_first_refused(alloc, slot, inside, budget);
+        Err(ReadFault::NoTree {
+            left: refused.len(),
+        })
     }
 }
-
-/// A law: tokens are those of one spec block of a slot at most.
-pub fn one_spec_block()
-    ensures { (slot : Slot) (tokens : List Token) (one other : Spec)
-        → IsSpecBlockOf slot one tokens → IsSpecBlockOf slot other tokens → one ≡ other }
-{}
-
-/// A law: two proper spec blocks of a slot that are spelled alike are equal.
-pub fn one_spelling()
-    ensures { (slot : Slot) (one other : Spec)
-        → IsProperBlock slot one → IsProperBlock slot other → spec_tree_spelling one ≡ spec_tree_spelling other → one ≡ other }
-{}

@@ -1,7 +1,7 @@
 //! Which spec expression tokens denote.
 
 ghost use Rattle.std.specs.Prelude.{◌≡◌, None, Some, List, IfOk, IfErr, MatchResult};
-ghost use Rattle.src_tree.specs.declared.token.Token.{Token};
+ghost use Rattle.move_tokens.specs.declared.token.Token.{Token};
 ghost use Rattle.spec_tree.specs.SpecExpressionData.{SpecExpressionData};
 ghost use Rattle.spec_tree.specs.SpecExpressionSpelling.{spec_spelling};
 ghost use Rattle.spec_tree.specs.ProperSpecExpressions.{IsProperSpec};
@@ -9,10 +9,10 @@ ghost use Rattle.token_reading.specs.ReadFault.{IfNoTree};
 ghost use Rattle.spec_parse.specs.Denoted.{IsSpecExpressionOf, IsCause};
 ghost use Rattle.spec_parse.specs.WholeReading.{whole_at};
 
-use left_out::explain::{ParseFault, explain};
+use token_reading::explain::{ParseFault, explain};
 use spec_expression_parse::expression::read_spec_expression;
 use spec_tree::spec_expression::SpecExpression;
-use src_tree::token::{Token, Tokens};
+use move_tokens::token::{Token, Tokens};
 use std::alloc::Global;
 use token_reading::fault::ReadFault;
 

@@ -3,9 +3,9 @@
 use crate::texts::scan;
 use clause_tree::clause::Spec;
 use clause_tree::slot::Slot;
-use left_out::explain::ParseFault;
-use left_out::marker::Marker;
-use spec_parse::block::spec_block;
+use token_reading::explain::ParseFault;
+use token_reading::marker::Marker;
+use spec_parse::denoted_block::spec_block;
 use spec_parse::denoted::spec_expression;
 use spec_tree::spec_expression::{SpecExpression, SpecNode};
 use std::alloc::Global;

@@ -7,7 +7,7 @@
 --            | Path [ TArgs ] "(" [ SExp, .. ] ")"
 --            | Path [ TArgs ] "{" [ Word [ ":" SExp ], .. ] "}" | "(" SExp ")"
 use Rattle.std.specs.Prelude.{Bool, true, false, List, [], ◌∷◌, ◌++◌, None, Some, codes}
-use Rattle.src_tree.specs.declared.token.Punctuation.TheVariants.{LeftParenthesis, RightParenthesis, LeftBrace, RightBrace, LeftBracket, RightBracket, Colon, Comma, Period, Exclaim}
+use Rattle.move_tokens.specs.declared.token.Punctuation.TheVariants.{LeftParenthesis, RightParenthesis, LeftBrace, RightBrace, LeftBracket, RightBracket, Colon, Comma, Period, Exclaim}
 use Rattle.move_tree.specs.declared.lexeme.Lexeme.{Lexeme}
 use Rattle.move_tree.specs.Lexemes.{word, identifier, sign, sign_at, comma_list}
 use Rattle.move_tree.specs.PathSpelling.{path_spelling}

@@ -2,7 +2,7 @@
 -- `==>` and `<==>` as well.
 use Rattle.std.specs.Prelude.{Bool, List, [], ◌∷◌, Some, codes}
 use Rattle.pv_base.specs.declared.span.Span.{Span}
-use Rattle.src_tree.specs.declared.token.Punctuation.TheVariants.{LessEqualEqualGreater, EqualEqualGreater, PeriodPeriod}
+use Rattle.move_tokens.specs.declared.token.Punctuation.TheVariants.{LessEqualEqualGreater, EqualEqualGreater, PeriodPeriod}
 use Rattle.move_tree.specs.declared.lexeme.Lexeme.{Lexeme}
 use Rattle.move_tree.specs.Lexemes.{word, sign_at}
 use Rattle.move_tree.specs.OperatorSpelling.{operator_spelling}

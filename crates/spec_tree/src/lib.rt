@@ -1,6 +1,7 @@
-//! Source trees of specifications, and the tokens that spell them.
+//! Source trees of specifications, and how tightly their operators bind.
 #![tactic(auto)]
 
+pub mod level;
 pub mod spec_expression;
 pub mod spec_operator;
 pub mod spell_spec_expression;

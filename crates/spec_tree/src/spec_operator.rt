@@ -7,7 +7,7 @@ use move_tree::lexeme::Lexemes;
 use move_tree::operator::{BinaryOperator, spell_operator};
 use pv_base::memory::NoMemory;
 use pv_base::span::Span;
-use src_tree::token::Punctuation;
+use move_tokens::token::Punctuation;
 use std::alloc::Global;
 
 /// An operator between two spec expressions.

@@ -2,7 +2,7 @@
 
 ghost use Rattle.std.specs.Prelude.{◌≡◌, [], ◌∷◌, ◌++◌, None, Some, OnOk};
 ghost use Rattle.std.specs.List.{flat_map};
-ghost use Rattle.src_tree.specs.declared.token.Punctuation.TheVariants.{LeftParenthesis, RightParenthesis};
+ghost use Rattle.move_tokens.specs.declared.token.Punctuation.TheVariants.{LeftParenthesis, RightParenthesis};
 ghost use Rattle.move_tree.specs.Lexemes.{sign, comma_list};
 ghost use Rattle.spec_tree.specs.SpecExpressionData.{spec_expressions_of, binds_of, triggers_of, spec_fields_of};
 ghost use Rattle.spec_tree.specs.SpecExpressionSpelling.{ends_in_path, spec_spelling, bind_spelling, trigger_spelling, spec_field_spelling, spec_spellings, bind_spellings, triggers_spelling, spec_field_spellings, spec_after_comma, bind_after_comma, spec_field_after_comma};
@@ -14,7 +14,7 @@ use move_tree::literal::spell_literal;
 use move_tree::path::{spell_identifier, spell_path};
 use move_tree::spell_type::{spell_maybe_arguments, spell_type};
 use pv_base::memory::NoMemory;
-use src_tree::token::Punctuation;
+use move_tokens::token::Punctuation;
 use std::alloc::Global;
 
 /// Whether the last token of a spec expression belongs to a path.

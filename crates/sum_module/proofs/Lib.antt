@@ -1,3 +1,6 @@
 mod FaultLemmas
 pub mod TableLemmas
 pub mod MemberLemmas
+pub mod NameLemmas
+pub mod ClauseTableLemmas
+pub mod BuiltLemmas

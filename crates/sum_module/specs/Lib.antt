@@ -7,3 +7,6 @@ pub mod Members
 pub mod Places
 pub mod Fault
 pub mod Built
+pub mod Joined
+pub mod ClauseTable
+pub mod Program

@@ -2,8 +2,8 @@
 -- it. Source: The Move Book, "Integers"; the Move Specification Language reference, "Expressions".
 use Rattle.std.specs.Prelude.{◌^◌, Bool, true, false, ◌&&◌, nat_lt, if◌then◌else◌, Option, Some, None, option_and_then}
 use Rattle.std.specs.Option.{option_map}
-use Rattle.src_tree.specs.declared.token.NumberSuffix.{NumberSuffix}
-use Rattle.src_tree.specs.declared.token.NumberSuffix.TheVariants.{Absent}
+use Rattle.move_tokens.specs.declared.token.NumberSuffix.{NumberSuffix}
+use Rattle.move_tokens.specs.declared.token.NumberSuffix.TheVariants.{Absent}
 use Rattle.move_tree.specs.declared.lexeme.Numeral.{Numeral}
 use Rattle.move_tree.specs.declared.literal.Literal.{Literal}
 use Rattle.move_tree.specs.declared.literal.Literal.TheVariants.{Number, Truth, Address}

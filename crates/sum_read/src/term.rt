@@ -12,7 +12,7 @@ use move_tree::operator::BinaryOperator;
 use move_tree::path::Path;
 use pv_base::memory::NoMemory;
 use spec_tree::spec_operator::SpecOperator;
-use src_tree::token::NumberSuffix;
+use move_tokens::token::NumberSuffix;
 use std::alloc::Global;
 use sum_tree::sum::{Operator, Sum, SumNode};
 

@@ -2,7 +2,7 @@
 
 ghost use Rattle.std.specs.Prelude.{◌<◌, ◌^◌, length, IfOk};
 
-use left_out::marker::Marker;
+use token_reading::marker::Marker;
 use program_read::fault::{FileFault, ProgramFault};
 use program_read::program::read_program;
 use pv_base::lists::Bytes;

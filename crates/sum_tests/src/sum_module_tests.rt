@@ -1,7 +1,7 @@
 //! Modules that are read from texts, and the members that are not built.
 
 use source_parse::denoted::source;
-use src_tree::scanner::tokens;
+use move_tokens::scanner::tokens;
 use std::alloc::Global;
 use std::process::Abort;
 use sum_module::fault::ModuleFault;

@@ -1,11 +1,11 @@
 //! Modules of sums that are read from texts.
 
 use source_parse::denoted::source;
-use src_tree::scanner::tokens;
+use move_tokens::scanner::tokens;
 use std::alloc::Global;
 use std::process::Abort;
 use sum_module::fault::ModuleFault;
-use sum_program::module::read_sum_module;
+use sum_module::sums::read_sum_module;
 
 /// How many functions the first module of a text has, and how many clauses the first of them; where it is not
 /// built, where that begins.

@@ -9,7 +9,7 @@ use move_tree::path::Path;
 use pv_base::name::Name;
 use pv_base::span::Span;
 use spec_tree::spec_expression::{SpecExpression, SpecNode};
-use src_tree::token::{NumberLiteral, NumberSuffix};
+use move_tokens::token::{NumberLiteral, NumberSuffix};
 use std::alloc::Global;
 use std::panic::Expect;
 use std::process::Abort;

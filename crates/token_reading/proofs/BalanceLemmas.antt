@@ -3,10 +3,10 @@ use Rattle.std.proofs.Common.{◌≡◌, Bool, true, false, cond, ◌&&◌, ◌=
 use Rattle.std.specs.Prelude.{option_and_then, map}
 use Rattle.std.proofs.lemmas.List.{reverse-append}
 use Rattle.std.proofs.Math.Dec.{eqb-suc-zero}
-use Rattle.src_tree.specs.declared.token.Token.{Token}
-use Rattle.src_tree.specs.declared.token.TokenKind.{TokenKind}
-use Rattle.src_tree.specs.declared.token.TokenKind.TheVariants.{Punctuation}
-use Rattle.src_tree.specs.declared.token.Punctuation.{Punctuation as Sign}
+use Rattle.move_tokens.specs.declared.token.Token.{Token}
+use Rattle.move_tokens.specs.declared.token.TokenKind.{TokenKind}
+use Rattle.move_tokens.specs.declared.token.TokenKind.TheVariants.{Punctuation}
+use Rattle.move_tokens.specs.declared.token.Punctuation.{Punctuation as Sign}
 use Rattle.move_tree.specs.Lexemes.{sign, IsToken}
 use Rattle.move_tree.specs.SpecTokenSpelling.{kept}
 use Rattle.move_tree.specs.Balance.{wanted_behind, wanted_after}

@@ -2,7 +2,7 @@
 use Rattle.std.proofs.Common.{◌≡◌, ℕ, suc, List, Some, None, ap, sym, ◌∙◌}
 use Rattle.std.specs.Prelude.{option_and_then}
 use Rattle.std.specs.Option.{option_map_or}
-use Rattle.src_tree.specs.declared.token.Token.{Token}
+use Rattle.move_tokens.specs.declared.token.Token.{Token}
 use Rattle.token_reading.specs.TokenReading.{Read}
 use Rattle.token_reading.specs.ChainReading.{Joints, next_operator, chain_at}
 

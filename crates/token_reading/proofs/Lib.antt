@@ -8,3 +8,4 @@ pub mod BalanceLemmas
 pub mod SpelledTokens
 pub mod ChainLemmas
 pub mod ChainSteps
+pub mod MarkerLemmas

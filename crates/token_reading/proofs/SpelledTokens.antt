@@ -1,6 +1,6 @@
 -- There are tokens for each list of what trees say of tokens.
 use Rattle.std.proofs.Common.{false, List, [], ◌∷◌, Option, Some, None, refl}
-use Rattle.src_tree.specs.declared.token.Token.{Token}
+use Rattle.move_tokens.specs.declared.token.Token.{Token}
 use Rattle.move_tree.specs.declared.lexeme.Lexeme.{Lexeme}
 use Rattle.move_tree.specs.Lexemes.{Says, AreTokens}
 

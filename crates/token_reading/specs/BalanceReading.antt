@@ -1,9 +1,9 @@
 -- How tokens with balanced brackets are read, up to the sign that closes them.
 use Rattle.std.specs.Prelude.{◌≡◌, Bool, true, false, if◌then◌else◌, List, [], ◌∷◌, ◌++◌, Option, Some, None, option_and_then}
 use Rattle.std.specs.Option.{option_map}
-use Rattle.src_tree.specs.declared.token.Token.{Token}
-use Rattle.src_tree.specs.declared.token.TokenKind.{TokenKind}
-use Rattle.src_tree.specs.declared.token.Punctuation.{Punctuation as Sign}
+use Rattle.move_tokens.specs.declared.token.Token.{Token}
+use Rattle.move_tokens.specs.declared.token.TokenKind.{TokenKind}
+use Rattle.move_tokens.specs.declared.token.Punctuation.{Punctuation as Sign}
 use Rattle.move_tree.specs.Balance.{wanted_behind}
 use Rattle.token_reading.specs.TokenReading.{Read, is_sign}
 

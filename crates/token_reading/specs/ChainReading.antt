@@ -1,7 +1,7 @@
 -- How operands with operators between them are read, from the loosest level that may stand here to the tightest.
 use Rattle.std.specs.Prelude.{ℕ, zero, suc, nat_le, if◌then◌else◌, List, Some, None, option_and_then, length}
 use Rattle.std.specs.Option.{option_map_or}
-use Rattle.src_tree.specs.declared.token.Token.{Token}
+use Rattle.move_tokens.specs.declared.token.Token.{Token}
 use Rattle.token_reading.specs.TokenReading.{Read}
 
 -- How operators join trees: the operator behind a tree, its level, the loosest level on its right, and the whole.

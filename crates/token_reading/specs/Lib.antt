@@ -4,3 +4,6 @@ pub mod TokenReading
 pub mod ListReading
 pub mod ChainReading
 pub mod BalanceReading
+pub mod Markers
+pub mod MarkerReading
+pub mod ParseFault

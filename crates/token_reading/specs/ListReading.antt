@@ -1,8 +1,8 @@
 -- How lists with commas between their items are read.
 use Rattle.std.specs.Prelude.{ℕ, zero, suc, Bool, true, false, List, [], ◌∷◌, ◌++◌, Option, Some, None, option_and_then, length}
 use Rattle.std.specs.Option.{option_map, option_map_or}
-use Rattle.src_tree.specs.declared.token.Token.{Token}
-use Rattle.src_tree.specs.declared.token.Punctuation.TheVariants.{Comma}
+use Rattle.move_tokens.specs.declared.token.Token.{Token}
+use Rattle.move_tokens.specs.declared.token.Punctuation.TheVariants.{Comma}
 use Rattle.token_reading.specs.declared.lists.Separator.{Separator}
 use Rattle.token_reading.specs.declared.lists.Separator.TheVariants.{Next, End, EndBehindComma}
 use Rattle.token_reading.specs.TokenReading.{Read, after_sign}

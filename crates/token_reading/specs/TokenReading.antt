@@ -5,11 +5,11 @@ use Rattle.std.specs.Option.{option_map}
 use Rattle.std.specs.List.{list_any}
 use Rattle.std.specs.Cmp.Lexicographic.{pointwise}
 use Rattle.pv_base.specs.declared.span.Span.{Span}
-use Rattle.src_tree.specs.declared.token.Token.{Token}
-use Rattle.src_tree.specs.declared.token.TokenKind.{TokenKind}
-use Rattle.src_tree.specs.declared.token.TokenKind.TheVariants.{Word, Number, ByteString, Punctuation}
-use Rattle.src_tree.specs.declared.token.Punctuation.{Punctuation as Sign}
-use Rattle.src_tree.specs.contracts.token.Punctuation.{the_type}
+use Rattle.move_tokens.specs.declared.token.Token.{Token}
+use Rattle.move_tokens.specs.declared.token.TokenKind.{TokenKind}
+use Rattle.move_tokens.specs.declared.token.TokenKind.TheVariants.{Word, Number, ByteString, Punctuation}
+use Rattle.move_tokens.specs.declared.token.Punctuation.{Punctuation as Sign}
+use Rattle.move_tokens.specs.contracts.token.Punctuation.{the_type}
 use denote.Enum.Bare.{sameb}
 use Rattle.move_tree.specs.declared.lexeme.Identifier.{Identifier}
 use Rattle.move_tree.specs.NameRules.{keywords}

@@ -9,7 +9,7 @@ use crate::fault::ReadFault;
 use crate::tokens::is_sign;
 use move_tree::spec_tokens::copy_kind;
 use pv_base::memory::NoMemory;
-use src_tree::token::{Punctuation, Token, TokenKind, Tokens};
+use move_tokens::token::{Punctuation, Token, TokenKind, Tokens};
 use std::alloc::Global;
 
 /// A second copy of a token.

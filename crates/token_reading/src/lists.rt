@@ -6,7 +6,7 @@ ghost use Rattle.token_reading.specs.ListReading.{separator_at};
 
 use crate::fault::ReadFault;
 use crate::tokens::{begins_with, expect_sign, skip_sign};
-use src_tree::token::{Punctuation, Token};
+use move_tokens::token::{Punctuation, Token};
 
 /// What stands behind an item of a list.
 #[derive(Clone, Copy, Debug, PartialEq, Eq)]

@@ -9,7 +9,7 @@ ghost use Rattle.token_reading.specs.TokenReading.{after_sign, after_word, begin
 use crate::fault::ReadFault;
 use move_tree::lexeme::Identifier;
 use pv_base::span::Span;
-use src_tree::token::{Punctuation, Token, TokenKind};
+use move_tokens::token::{Punctuation, Token, TokenKind};
 use std::alloc::Global;
 
 /// The keywords of Move, which are never names.

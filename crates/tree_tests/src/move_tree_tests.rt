@@ -14,7 +14,7 @@ use move_tree::spell_type::spell_type;
 use move_tree::types::{SourceType, SourceTypeNode, TypeArguments};
 use pv_base::name::Name;
 use pv_base::span::Span;
-use src_tree::token::{NumberLiteral, NumberSuffix, Punctuation, Token, TokenKind, Tokens};
+use move_tokens::token::{NumberLiteral, NumberSuffix, Punctuation, Token, TokenKind, Tokens};
 use std::alloc::Global;
 use std::panic::Expect;
 use std::process::Abort;

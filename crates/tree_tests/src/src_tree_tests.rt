@@ -1,8 +1,8 @@
 //! What the definitions say, on texts that were worked out by hand.
 
-use src_tree::scanner::tokens;
-use src_tree::token::{NumberSuffix, Punctuation, Token, TokenFault, TokenKind};
-use src_tree::weight::weight;
+use move_tokens::scanner::tokens;
+use move_tokens::token::{NumberSuffix, Punctuation, Token, TokenFault, TokenKind};
+use move_tokens::weight::weight;
 use std::alloc::Global;
 use std::process::Abort;
 use std::test::Fail;

@@ -1,9 +1,9 @@
 use Rattle.std.proofs.Common.{arith, rules, length, ◌-◌, ◌+◌}
-use Rattle.src_tree.specs.declared.token.Punctuation.TheVariants.{RightBrace}
+use Rattle.move_tokens.specs.declared.token.Punctuation.TheVariants.{RightBrace}
 use Rattle.token_reading.specs.TokenReading.{after_sign}
 use Rattle.token_reading.proofs.ListSteps.{loop_is_over, loop_lacks_item, loop_is_stuck, loop_ends, loop_ends_behind_comma, loop_goes_on, fault_hands_on, IfNoTree-weaker, IfNoTree-always, same_read}
 use Rattle.token_reading.proofs.ChainSteps.{chain_is_over, chain_ends, chain_is_stuck, chain_goes_on}
-use Rattle.expression_leaf.specs.OperatorReading.{joints}
+use Rattle.leaf_parse.specs.OperatorReading.{joints}
 use Rattle.expression_parse.specs.ExpressionReading.{any, readers, expression_at, field_value_at}
 use Rattle.expression_parse.proofs.Loops.{expression_at-turn, expression_at-none, block_is_over, block_is_stuck, block_ends, block_goes_on}
 use Rattle.expression_parse.proofs.+expression.Goals as goal

@@ -1,9 +1,9 @@
 use Rattle.std.proofs.Common.{◌≡◌, ◌+◌, ◌*◌, ◌-◌, length}
-use Rattle.src_tree.specs.declared.token.Punctuation.TheVariants.{RightBrace}
+use Rattle.move_tokens.specs.declared.token.Punctuation.TheVariants.{RightBrace}
 use Rattle.token_reading.specs.TokenReading.{after_sign}
 use Rattle.token_reading.specs.ListReading.{items_at, comma_list_at, put_before}
 use Rattle.token_reading.specs.ChainReading.{chain_at, whole_chain_at}
-use Rattle.expression_leaf.specs.OperatorReading.{joints}
+use Rattle.leaf_parse.specs.OperatorReading.{joints}
 use Rattle.expression_parse.specs.ExpressionReading.{any, readers, expression_at, field_value_at, contents_at, whole_contents_at, put_items}
 use Rattle.expression_parse.proofs.+expression.Given as goal
 

@@ -1,6 +1,6 @@
 use Rattle.std.proofs.Common.{◌≡◌, ◌<◌, ◌≤◌, ℕ, refl, subst, arith}
 use Rattle.std.specs.Prelude.{min}
-use Rattle.src_tree.specs.Weight.{greatest_weight}
+use Rattle.move_tokens.specs.Weight.{greatest_weight}
 use Rattle.program_read.specs.Texts.{IsLight}
 use Rattle.program_read.proofs.NumberedLemmas.{each_taken, first_at}
 use Rattle.program_read.proofs.texts.check_nesting.Goals as goal

@@ -1,8 +1,8 @@
 use Rattle.std.proofs.Common.{arith, rules, length, ◌-◌, ◌+◌, true, false, [], ◌∷◌, ◌++◌, ap, ◌∙◌}
-use Rattle.src_tree.specs.declared.token.Punctuation.TheVariants.{RightBrace}
+use Rattle.move_tokens.specs.declared.token.Punctuation.TheVariants.{RightBrace}
 use Rattle.token_reading.specs.TokenReading.{after_sign}
 use Rattle.token_reading.proofs.ListSteps.{loop_is_over, loop_lacks_item, loop_is_stuck, loop_ends, loop_ends_behind_comma, loop_goes_on, fault_hands_on, IfNoTree-weaker, IfNoTree-always, same_read}
-use Rattle.type_parse.specs.TypeReading.{type_at}
+use Rattle.leaf_parse.specs.TypeReading.{type_at}
 use Rattle.spec_expression_parse.specs.LeafReading.{has_postfix}
 use Rattle.spec_expression_parse.specs.SpecReading.{spec_at, postfix_at, has_trigger, trigger_at, spec_field_at, bind_at, binds_end}
 use Rattle.spec_expression_parse.proofs.Turns.{spec_at-turn, binds_none, binds_some, binds_comma}

@@ -1,9 +1,9 @@
 use Rattle.std.proofs.Common.{◌≡◌, ◌+◌, ◌*◌, ◌-◌, [], true, false, length}
-use Rattle.src_tree.specs.declared.token.Punctuation.TheVariants.{RightBrace}
+use Rattle.move_tokens.specs.declared.token.Punctuation.TheVariants.{RightBrace}
 use Rattle.token_reading.specs.TokenReading.{after_sign}
 use Rattle.token_reading.specs.ListReading.{items_at, put_before}
 use Rattle.token_reading.specs.ChainReading.{chain_at}
-use Rattle.type_parse.specs.TypeReading.{type_at}
+use Rattle.leaf_parse.specs.TypeReading.{type_at}
 use Rattle.spec_expression_parse.specs.RepeatReading.{repeat_at, whole_repeat_at}
 use Rattle.spec_expression_parse.specs.OperatorReading.{spec_joints}
 use Rattle.spec_expression_parse.specs.LeafReading.{has_postfix}

@@ -1,3 +1,0 @@
-pub mod ClauseReading
-pub mod BlockReading
-pub mod SpecBlockReading

@@ -1,9 +1,0 @@
-pub mod RepeatLemmas
-pub mod BeforeLists
-pub mod AttributeLemmas
-pub mod ImportLemmas
-pub mod AbilityLemmas
-pub mod ParameterLemmas
-pub mod TypedNameLemmas
-pub mod HeaderLemmas
-pub mod StructLemmas

@@ -1,8 +1,0 @@
-pub mod RepeatReading
-pub mod AttributeReading
-pub mod ImportReading
-pub mod AbilityReading
-pub mod ParameterReading
-pub mod TypedNameReading
-pub mod HeaderReading
-pub mod StructReading

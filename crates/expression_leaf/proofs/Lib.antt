@@ -1,6 +1,0 @@
-pub mod LeafLemmas
-pub mod OperatorLemmas
-pub mod OpenLemmas
-pub mod Operators
-pub mod EndLemmas
-pub mod SeveralLemmas

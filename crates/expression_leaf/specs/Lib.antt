@@ -1,3 +1,0 @@
-pub mod LeafReading
-pub mod OperatorReading
-pub mod ParenthesesReading

@@ -1,4 +1,0 @@
-pub mod HeadLemmas
-pub mod MemberLemmas
-pub mod FileLemmas
-pub mod FileSteps

@@ -1,2 +1,0 @@
-pub mod MemberReading
-pub mod FileReading

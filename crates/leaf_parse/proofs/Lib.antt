@@ -1,0 +1,10 @@
+pub mod Turns
+pub mod PathLemmas
+pub mod TypeLemmas
+pub mod PatternLemmas
+pub mod LeafLemmas
+pub mod OperatorLemmas
+pub mod OpenLemmas
+pub mod Operators
+pub mod EndLemmas
+pub mod SeveralLemmas

@@ -1,0 +1,15 @@
+-- One turn less is left for what stands inside.
+use Rattle.std.proofs.Common.{◌≡◌, ℕ, zero, suc, ◌<◌, ◌-◌, List, ap, arith}
+use Rattle.move_tokens.specs.declared.token.Token.{Token}
+use Rattle.leaf_parse.specs.TypeReading.{type_at, type_form}
+use Rattle.leaf_parse.specs.PatternReading.{pattern_at, pattern_form}
+
+pub type_at-turn : (n : ℕ) (ts : List Token) → 0 < n → type_at n ts ≡ type_form (type_at (n - 1)) ts
+unfolding type_at
+type_at-turn zero ts h = absurd (omega (arith, h))
+type_at-turn (suc n) ts h = ap (λ k. type_form (type_at k) ts) (omega arith)
+
+pub pattern_at-turn : (n : ℕ) (ts : List Token) → 0 < n → pattern_at n ts ≡ pattern_form (type_at (n - 1)) (pattern_at (n - 1)) ts
+unfolding pattern_at
+pattern_at-turn zero ts h = absurd (omega (arith, h))
+pattern_at-turn (suc n) ts h = ap (λ k. pattern_form (type_at k) (pattern_at k) ts) (omega arith)

@@ -1,0 +1,435 @@
+//! The tokens with which terms, control forms and blocks begin.
+
+ghost use Rattle.std.specs.Prelude.{◌≡◌, None, Some, codes, is_some, IfOk, MatchResult};
+ghost use Rattle.std.specs.Option.{option_map};
+ghost use Rattle.move_tree.specs.TypeTreeData.{maybe_arguments_of};
+ghost use Rattle.move_tree.specs.ProperTypes.{last_name};
+ghost use Rattle.token_reading.specs.ReadFault.{IfNoTree};
+ghost use Rattle.token_reading.specs.TokenReading.{after_word};
+ghost use Rattle.leaf_parse.specs.TypeReading.{type_at};
+ghost use Rattle.leaf_parse.specs.LeafReading.{after_glued, annotation_at, assert_place_at, behind_first_at, cast_target_at, glued_arguments_at, loop_spec_at, path_form_at, begins_by_keyword, begins_expression, begins_operand, borrow_behind, control_at, control_of, control_of_word, fitting_number_of, may_begin, number_at, plain_literal_at, prefix_at, spec_opening_at, truth_at, use_at, vector_place_at};
+
+use move_tree::lexeme::Numeral;
+use move_tree::literal::Literal;
+use move_tree::operator::{UnaryOperator, UseKind};
+use move_tree::path::Path;
+use move_tree::spec_tokens::LoopSpec;
+use move_tree::types::{SourceType, TypeArguments};
+use pv_base::memory::NoMemory;
+use pv_base::span::Span;
+use move_tokens::token::{NumberLiteral, NumberSuffix, Punctuation, Token, TokenKind};
+use std::alloc::Global;
+use token_reading::balanced::read_balanced;
+use token_reading::fault::ReadFault;
+use token_reading::tokens::{
+    begins_capital, begins_with, expect_sign, is_keyword, is_sign, place_of_sign, place_of_word,
+    skip_sign, skip_word,
+};
+use crate::path::{copy_number, is_single};
+use crate::types::{read_arguments, read_type};
+
+/// The control forms, by the words with which they begin.
+#[derive(Clone, Copy, Debug, PartialEq, Eq)]
+pub enum Control {
+    If,
+    While,
+    Loop,
+    Return,
+    Abort,
+    Break,
+    Continue,
+}
+
+/// The number that a token is, where the language has its type.
+fn fitting_number_of(kind: &TokenKind) -> Option<&NumberLiteral>
+    ensures { option_map (λ literal. literal.now) result ≡ fitting_number_of kind.now }
+{
+    match kind {
+        TokenKind::Number(literal) => match literal.suffix {
+            NumberSuffix::U256 => None,
+            _ => Some(literal),
+        },
+        _ => None,
+    }
+}
+
+/// A number that is no address of a path, where one stands here, and the tokens behind it.
+#[tactic(auto, unfolding(crate::specs::LeafReading::number_at))]
+fn read_number(alloc: Global, tokens: &[Token]) -> Result<Option<(Literal, &[Token])>, NoMemory>
+    ensures { IfOk result (λ read. option_map (λ r. (r.0, r.1.now)) read ≡ number_at tokens.now) }
+{
+    let Some((token, rest)) = tokens.split_first() else {
+        return Ok(None);
+    };
+    if begins_with(rest, Punctuation::ColonColon) {
+        return Ok(None);
+    }
+    match fitting_number_of(&token.kind) {
+        Some(literal) => {
+            let number = Numeral {
+                literal: copy_number(alloc, literal)?,
+                place: token.span,
+            };
+            Ok(Some((Literal::Number(number), rest)))
+        }
+        None => Ok(None),
+    }
+}
+
+/// A truth value, where one stands here, and the tokens behind it.
+#[tactic(auto, unfolding(crate::specs::LeafReading::truth_at))]
+fn read_truth(tokens: &[Token]) -> Option<(Literal, &[Token])>
+    ensures { option_map (λ r. (r.0, r.1.now)) result ≡ truth_at tokens.now }
+{
+    if let Some((place, rest)) = place_of_word(tokens, b"true") {
+        return Some((Literal::Truth { place, value: true }, rest));
+    }
+    let (place, rest) = place_of_word(tokens, b"false")?;
+    Some((
+        Literal::Truth {
+            place,
+            value: false,
+        },
+        rest,
+    ))
+}
+
+/// A number or a truth value, where one stands here, and the tokens behind it.
+#[tactic(auto, unfolding(crate::specs::LeafReading::plain_literal_at))]
+pub fn read_plain_literal(
+    alloc: Global,
+    tokens: &[Token],
+) -> Result<Option<(Literal, &[Token])>, NoMemory>
+    ensures { IfOk result (λ read. option_map (λ r. (r.0, r.1.now)) read ≡ plain_literal_at tokens.now) }
+{
+    match read_number(alloc, tokens)? {
+        Some(read) => Ok(Some(read)),
+        None => Ok(read_truth(tokens)),
+    }
+}
+
+/// The place of the word `vector`, where it is the sign of a vector, and the tokens behind it.
+#[tactic(auto, unfolding(crate::specs::LeafReading::vector_place_at))]
+pub fn place_of_vector(tokens: &[Token]) -> Option<(Span, &[Token])>
+    ensures { option_map (λ r. (r.0, r.1.now)) result ≡ vector_place_at tokens.now }
+{
+    let (place, rest) = place_of_word(tokens, b"vector")?;
+    if begins_with(rest, Punctuation::Less) || begins_with(rest, Punctuation::LeftBracket) {
+        Some((place, rest))
+    } else {
+        None
+    }
+}
+
+/// The place of the word `assert` with its `!`, where they stand here, and the tokens behind them.
+#[tactic(auto, unfolding(crate::specs::LeafReading::assert_place_at))]
+pub fn place_of_assert(tokens: &[Token]) -> Option<(Span, &[Token])>
+    ensures { option_map (λ r. (r.0, r.1.now)) result ≡ assert_place_at tokens.now }
+{
+    let (place, rest) = place_of_word(tokens, b"assert")?;
+    let rest = skip_sign(rest, Punctuation::Exclaim)?;
+    Some((place, rest))
+}
+
+/// The tokens behind this sign, where it stands here and is glued to the token before it.
+#[tactic(auto, unfolding(crate::specs::LeafReading::after_glued))]
+pub fn skip_glued(tokens: &[Token], sign: Punctuation) -> Option<&[Token]>
+    ensures { option_map (λ rest. rest.now) result ≡ after_glued sign tokens.now }
+{
+    let (token, rest) = tokens.split_first()?;
+    if is_sign(&token.kind, sign) && token.glued {
+        Some(rest)
+    } else {
+        None
+    }
+}
+
+/// The operator that a `&` at this place is, and the tokens behind it.
+#[tactic(auto, unfolding(crate::specs::LeafReading::borrow_behind))]
+fn borrow_behind(place: Span, tokens: &[Token]) -> (UnaryOperator, Span, &[Token])
+    ensures { Some ((result.0, result.1), result.2.now) ≡ borrow_behind place tokens.now }
+{
+    match skip_word(tokens, b"mut") {
+        Some(rest) => (UnaryOperator::BorrowMutable, place, rest),
+        None => (UnaryOperator::Borrow, place, tokens),
+    }
+}
+
+/// An operator that stands before its operand, its place, and the tokens behind it.
+#[tactic(auto, unfolding(crate::specs::LeafReading::prefix_at))]
+pub fn read_prefix(tokens: &[Token]) -> Option<(UnaryOperator, Span, &[Token])>
+    ensures { option_map (λ r. ((r.0, r.1), r.2.now)) result ≡ prefix_at tokens.now }
+{
+    if let Some((place, rest)) = place_of_sign(tokens, Punctuation::Exclaim) {
+        return Some((UnaryOperator::Not, place, rest));
+    }
+    if let Some((place, rest)) = place_of_sign(tokens, Punctuation::Star) {
+        return Some((UnaryOperator::Dereference, place, rest));
+    }
+    let (place, rest) = place_of_sign(tokens, Punctuation::Ampersand)?;
+    Some(borrow_behind(place, rest))
+}
+
+/// The word `move` or `copy`, its place, and the tokens behind it.
+#[tactic(auto, unfolding(crate::specs::LeafReading::use_at))]
+pub fn read_use(tokens: &[Token]) -> Option<(UseKind, Span, &[Token])>
+    ensures { option_map (λ r. ((r.0, r.1), r.2.now)) result ≡ use_at tokens.now }
+{
+    if let Some((place, rest)) = place_of_word(tokens, b"move") {
+        return Some((UseKind::Move, place, rest));
+    }
+    let (place, rest) = place_of_word(tokens, b"copy")?;
+    Some((UseKind::Copy, place, rest))
+}
+
+/// The control form that a word begins.
+fn control_of_word(word: &[u8]) -> Option<Control>
+    ensures { result ≡ control_of_word word.now }
+{
+    if word == b"if".as_slice() {
+        Some(Control::If)
+    } else if word == b"while".as_slice() {
+        Some(Control::While)
+    } else if word == b"loop".as_slice() {
+        Some(Control::Loop)
+    } else if word == b"return".as_slice() {
+        Some(Control::Return)
+    } else if word == b"abort".as_slice() {
+        Some(Control::Abort)
+    } else if word == b"break".as_slice() {
+        Some(Control::Break)
+    } else if word == b"continue".as_slice() {
+        Some(Control::Continue)
+    } else {
+        None
+    }
+}
+
+/// The control form that a token begins.
+fn control_of(kind: &TokenKind) -> Option<Control>
+    ensures { result ≡ control_of kind.now }
+{
+    match kind {
+        TokenKind::Word(word) => control_of_word(word.as_slice()),
+        _ => None,
+    }
+}
+
+/// The control form that begins here, the place of its word, and the tokens behind the word.
+#[tactic(auto, unfolding(crate::specs::LeafReading::control_at))]
+pub fn read_control_word(tokens: &[Token]) -> Option<(Control, Span, &[Token])>
+    ensures { option_map (λ r. ((r.0, r.1), r.2.now)) result ≡ control_at tokens.now }
+{
+    let (token, rest) = tokens.split_first()?;
+    let control = control_of(&token.kind)?;
+    Some((control, token.span, rest))
+}
+
+/// Whether an expression can begin with a sign.
+fn begins_operand(sign: Punctuation) -> bool
+    ensures { result ≡ begins_operand sign }
+{
+    matches!(
+        sign,
+        Punctuation::LeftParenthesis
+            | Punctuation::LeftBrace
+            | Punctuation::Exclaim
+            | Punctuation::Star
+            | Punctuation::Ampersand
+            | Punctuation::AtSign
+    )
+}
+
+/// Whether a word is a keyword with which an expression begins.
+fn begins_by_keyword(word: &[u8]) -> bool
+    ensures { result ≡ begins_by_keyword word.now }
+{
+    word == b"true".as_slice()
+        || word == b"false".as_slice()
+        || word == b"move".as_slice()
+        || word == b"copy".as_slice()
+        || control_of_word(word).is_some()
+}
+
+/// Whether an expression can begin with a token.
+fn begins_expression(kind: &TokenKind) -> bool
+    ensures { result ≡ begins_expression kind.now }
+{
+    match kind {
+        TokenKind::Word(word) => {
+            begins_by_keyword(word.as_slice()) || !is_keyword(word.as_slice())
+        }
+        TokenKind::Number(_) => true,
+        TokenKind::ByteString(_) => false,
+        TokenKind::Punctuation(sign) => begins_operand(*sign),
+    }
+}
+
+/// Whether an expression can begin here.
+#[tactic(auto, unfolding(crate::specs::LeafReading::may_begin))]
+pub fn may_begin(tokens: &[Token]) -> bool
+    ensures { result ≡ may_begin tokens.now }
+{
+    match tokens.first() {
+        Some(token) => begins_expression(&token.kind),
+        None => false,
+    }
+}
+
+/// The tokens behind `else`, where it stands here. It belongs to the innermost `if` before it that has none.
+pub fn skip_else(tokens: &[Token]) -> Option<&[Token]>
+    ensures { option_map (λ rest. rest.now) result ≡ after_word (codes "else") tokens.now }
+{
+    skip_word(tokens, b"else")
+}
+
+/// The places of the brace and of the word `spec` with which the spec block of a loop begins, where it
+/// does here, and the tokens behind them.
+#[tactic(auto, unfolding(crate::specs::LeafReading::spec_opening_at))]
+pub fn read_spec_opening(tokens: &[Token]) -> Option<(Span, Span, &[Token])>
+    ensures { option_map (λ r. ((r.0, r.1), r.2.now)) result ≡ spec_opening_at tokens.now }
+{
+    let (place, rest) = place_of_sign(tokens, Punctuation::LeftBrace)?;
+    let (spec_place, rest) = place_of_word(rest, b"spec")?;
+    Some((place, spec_place, rest))
+}
+
+/// What a term that begins with a path is.
+#[derive(Clone, Copy, Debug, PartialEq, Eq)]
+pub enum PathForm {
+    Call,
+    Pack,
+    /// The path alone.
+    Alone,
+}
+
+/// What a term is that begins with a path, and the tokens behind the bracket that says so.
+/// `has_arguments` says whether type arguments stand behind the path.
+#[tactic(auto, unfolding(crate::specs::LeafReading::path_form_at))]
+pub fn read_path_form<'a>(
+    has_arguments: bool,
+    path: &Path,
+    tokens: &'a [Token],
+) -> Result<(PathForm, &'a [Token]), ReadFault>
+    ensures { MatchResult result (λ read. path_form_at has_arguments path.now tokens.now ≡ Some (read.0, read.1.now)) (λ fault. path_form_at has_arguments path.now tokens.now ≡ None) }
+{
+    if let Some(rest) = skip_sign(tokens, Punctuation::LeftParenthesis) {
+        if has_arguments && is_single(path, b"vector") {
+            return Err(ReadFault::NoTree { left: tokens.len() });
+        }
+        return Ok((PathForm::Call, rest));
+    }
+    if begins_capital(last_name(path)) {
+        if let Some(rest) = skip_sign(tokens, Punctuation::LeftBrace) {
+            return Ok((PathForm::Pack, rest));
+        }
+    }
+    if has_arguments {
+        Err(ReadFault::NoTree { left: tokens.len() })
+    } else {
+        Ok((PathForm::Alone, tokens))
+    }
+}
+
+/// The last name of a path.
+fn last_name(path: &Path) -> &[u8]
+    ensures { result.now ≡ last_name path.now }
+{
+    match path {
+        Path::Name(name) | Path::Member(_, name) | Path::Full(_, name) => name.text.as_slice(),
+    }
+}
+
+/// Type arguments, where a glued `<` stands here, and the tokens behind them.
+#[tactic(auto, unfolding(crate::specs::LeafReading::glued_arguments_at))]
+pub fn read_glued_arguments(
+    alloc: Global,
+    tokens: &[Token],
+    budget: usize,
+) -> Result<(Option<TypeArguments>, &[Token]), ReadFault>
+    ensures { MatchResult result (λ read. glued_arguments_at (type_at budget) tokens.now ≡ Some (maybe_arguments_of read.0, read.1.now)) (λ fault. IfNoTree fault (glued_arguments_at (type_at budget) tokens.now ≡ None)) }
+{
+    match skip_glued(tokens, Punctuation::Less) {
+        Some(inside) => {
+            let (arguments, rest) = read_arguments(alloc, inside, budget)?;
+            Ok((Some(arguments), rest))
+        }
+        None => Ok((None, tokens)),
+    }
+}
+
+/// What stands behind the first expression in parentheses.
+#[derive(Clone, Copy, Debug, PartialEq, Eq)]
+pub enum BehindFirst {
+    /// The closing parenthesis.
+    Close,
+    /// The word `as`.
+    As,
+    Comma,
+}
+
+/// What stands behind the first expression in parentheses, and the tokens behind that.
+#[tactic(auto, unfolding(crate::specs::LeafReading::behind_first_at))]
+pub fn read_behind_first(tokens: &[Token]) -> Result<(BehindFirst, &[Token]), ReadFault>
+    ensures { MatchResult result (λ read. behind_first_at tokens.now ≡ Some (read.0, read.1.now)) (λ fault. behind_first_at tokens.now ≡ None) }
+{
+    if let Some(rest) = skip_sign(tokens, Punctuation::RightParenthesis) {
+        return Ok((BehindFirst::Close, rest));
+    }
+    if let Some(rest) = skip_word(tokens, b"as") {
+        return Ok((BehindFirst::As, rest));
+    }
+    let rest = expect_sign(tokens, Punctuation::Comma)?;
+    Ok((BehindFirst::Comma, rest))
+}
+
+/// The spec block of a loop behind `spec`, and the tokens behind its semicolon.
+#[tactic(auto, unfolding(crate::specs::LeafReading::loop_spec_at))]
+pub fn read_loop_spec(
+    alloc: Global,
+    place: Span,
+    tokens: &[Token],
+) -> Result<(LoopSpec, &[Token]), ReadFault>
+    ensures { MatchResult result (λ read. loop_spec_at place tokens.now ≡ Some (read.0, read.1.now)) (λ fault. IfNoTree fault (loop_spec_at place tokens.now ≡ None)) }
+{
+    let rest = expect_sign(tokens, Punctuation::LeftBrace)?;
+    let (kept, rest) = read_balanced(alloc, Punctuation::RightBrace, rest)?;
+    let rest = expect_sign(rest, Punctuation::Semicolon)?;
+    let spec = LoopSpec {
+        place,
+        tokens: kept,
+    };
+    Ok((spec, rest))
+}
+
+/// The type behind a colon, where one stands here, and the tokens behind it.
+#[tactic(auto, unfolding(crate::specs::LeafReading::annotation_at))]
+pub fn read_annotation(
+    alloc: Global,
+    tokens: &[Token],
+    budget: usize,
+) -> Result<(Option<SourceType>, &[Token]), ReadFault>
+    ensures { MatchResult result (λ read. annotation_at (type_at budget) tokens.now ≡ Some (read.0, read.1.now)) (λ fault. IfNoTree fault (annotation_at (type_at budget) tokens.now ≡ None)) }
+{
+    match skip_sign(tokens, Punctuation::Colon) {
+        Some(rest) => {
+            let (annotation, rest) = read_type(alloc, rest, budget)?;
+            Ok((Some(annotation), rest))
+        }
+        None => Ok((None, tokens)),
+    }
+}
+
+/// The type of a cast behind `as`, and the tokens behind the parenthesis that closes it.
+#[tactic(auto, unfolding(crate::specs::LeafReading::cast_target_at))]
+pub fn read_cast_target(
+    alloc: Global,
+    tokens: &[Token],
+    budget: usize,
+) -> Result<(SourceType, &[Token]), ReadFault>
+    ensures { MatchResult result (λ read. cast_target_at (type_at budget) tokens.now ≡ Some (read.0, read.1.now)) (λ fault. IfNoTree fault (cast_target_at (type_at budget) tokens.now ≡ None)) }
+{
+    let (target, rest) = read_type(alloc, tokens, budget)?;
+    let rest = expect_sign(rest, Punctuation::RightParenthesis)?;
+    Ok((target, rest))
+}

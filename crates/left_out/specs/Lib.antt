@@ -1,3 +1,0 @@
-pub mod Markers
-pub mod MarkerReading
-pub mod ParseFault

@@ -1,0 +1,82 @@
+//! Modules and files.
+
+ghost use Rattle.std.specs.Prelude.{◌≡◌, None, Some, MatchResult};
+ghost use Rattle.token_reading.specs.ReadFault.{IfNoTree};
+ghost use Rattle.pv_parse.specs.FileReading.{file_at, members_at, module_behind};
+
+use crate::member::read_member;
+use crate::attributes::read_attributes;
+use file_tree::member::{File, Member, Module};
+use move_tokens::token::{Punctuation, Token};
+use std::alloc::Global;
+use token_reading::fault::ReadFault;
+use token_reading::tokens::{begins_with, expect_sign, place_of_word};
+use leaf_parse::path::read_module_name;
+
+/// The members of a module up to its brace, and the tokens from the brace on.
+fn read_members(
+    alloc: Global,
+    tokens: &[Token],
+    budget: usize,
+) -> Result<(Vec<Member>, &[Token]), ReadFault>
+    ensures { MatchResult result (λ read. members_at budget tokens.now ≡ Some (read.0.items, read.1.now)) (λ fault. IfNoTree fault (members_at budget tokens.now ≡ None)) }
+{
+    let mut members = Vec::new(alloc);
+    let mut rest = tokens;
+    for _ in 0..tokens.len() {
+        if begins_with(rest, Punctuation::RightBrace) {
+            return Ok((members, rest));
+        }
+        let (member, behind) = read_member(alloc, rest, budget)?;
+        members.push(member)?;
+        rest = behind;
+    }
+    Ok((members, rest))
+}
+
+/// A module with its attributes, and the tokens behind it.
+#[tactic(auto, unfolding(crate::specs::FileReading::module_behind))]
+fn read_module(
+    alloc: Global,
+    tokens: &[Token],
+    budget: usize,
+) -> Result<(Module, &[Token]), ReadFault>
+    ensures { MatchResult result (λ read. module_behind budget tokens.now ≡ Some (read.0, read.1.now)) (λ fault. IfNoTree fault (module_behind budget tokens.now ≡ None)) }
+{
+    let (attributes, rest) = read_attributes(alloc, tokens)?;
+    let Some((place, rest)) = place_of_word(rest, b"module") else {
+        return Err(ReadFault::NoTree { left: rest.len() });
+    };
+    let (name, rest) = read_module_name(alloc, rest)?;
+    let rest = expect_sign(rest, Punctuation::LeftBrace)?;
+    let (members, rest) = read_members(alloc, rest, budget)?;
+    let rest = expect_sign(rest, Punctuation::RightBrace)?;
+    let module = Module {
+        attributes,
+        place,
+        name,
+        members,
+    };
+    Ok((module, rest))
+}
+
+/// The modules of a file, whose tokens are all that it has.
+pub fn read_file(alloc: Global, tokens: &[Token], budget: usize) -> Result<File, ReadFault>
+    ensures { MatchResult result (λ file. file_at budget tokens.now ≡ Some file) (λ fault. IfNoTree fault (file_at budget tokens.now ≡ None)) }
+{
+    let mut modules = Vec::new(alloc);
+    let mut rest = tokens;
+    for _ in 0..tokens.len() {
+        if rest.is_empty() {
+            return Ok(File { modules });
+        }
+        let (module, behind) = read_module(alloc, rest, budget)?;
+        modules.push(module)?;
+        rest = behind;
+    }
+    if rest.is_empty() {
+        Ok(File { modules })
+    } else {
+        Err(ReadFault::NoTree { left: rest.len() })
+    }
+}

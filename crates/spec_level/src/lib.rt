@@ -1,4 +1,0 @@
-//! How tightly the operators of spec expressions bind.
-#![tactic(auto)]
-
-pub mod level;

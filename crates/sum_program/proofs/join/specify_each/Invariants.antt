@@ -1,7 +1,0 @@
-use Rattle.std.specs.Vec.Iter.{into_iter_items}
-use Rattle.sum_program.specs.ClauseTable.{entry_at}
-use Rattle.sum_program.proofs.TableLemmas.{Serves}
-use Rattle.sum_program.proofs.join.specify_each.Given as goal
-
-abbrev pub invariant-loop-function : goal.invariant-loop-function
-invariant-loop-function l = Serves (entry_at l.fn.table) (entry_at l.left) l.fn.functions.items (into_iter_items l.function-iterator) l.made.items

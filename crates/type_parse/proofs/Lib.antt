@@ -1,4 +1,0 @@
-pub mod Turns
-pub mod PathLemmas
-pub mod TypeLemmas
-pub mod PatternLemmas

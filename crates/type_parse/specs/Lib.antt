@@ -1,3 +1,0 @@
-pub mod PathReading
-pub mod TypeReading
-pub mod PatternReading

@@ -1,6 +1,0 @@
-//! Paths, types and patterns are read from tokens.
-#![tactic(auto)]
-
-pub mod path;
-pub mod pattern;
-pub mod types;
