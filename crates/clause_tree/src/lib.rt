@@ -1,6 +1,5 @@
-//! Source trees of spec blocks and their clauses, and the tokens that spell them.
+//! Trees of spec blocks and their clauses.
 #![tactic(auto)]
 
 pub mod clause;
 pub mod slot;
-pub mod spell_clause;

@@ -32,7 +32,8 @@ use Rattle.token_reading.specs.TokenReading.{Read, is_sign, is_word, is_keyword,
 use Rattle.token_reading.specs.ListReading.{comma_list_at}
 use Rattle.token_reading.proofs.Steps.{bind_some, map_some, map_or_none, map_or_some, cond_true, cond_false}
 use Rattle.token_reading.proofs.BeginLemmas.{Begins-split, Begins-first, Begins-same, length-Begins}
-use Rattle.token_reading.proofs.TokenLemmas.{after_sign-complete, after_sign-other, sign_place_at-complete, sign_place_at-none, sign_place_at-other, after_word-complete, after_word-other, identifier_at-complete, begins_capital-complete, same_name-other, name_is_no_keyword}
+use Rattle.token_reading.proofs.TokenLemmas.{after_sign-complete, after_sign-other, sign_place_at-complete, sign_place_at-none, sign_place_at-other, after_word-complete, after_word-other, identifier_at-complete, begins_capital-complete, name_is_no_keyword}
+use Rattle.pv_base.proofs.NameLaws.{same_name-other}
 use Rattle.token_reading.proofs.FirstLemmas.{after_sign-first}
 use Rattle.token_reading.proofs.ListLemmas.{Filled, comma_list_at-complete}
 use Rattle.leaf_parse.specs.PathReading.{path_at, address_at, is_single}

@@ -8,10 +8,7 @@ ghost use Rattle.expression_parse.specs.ExpressionReading.{assert_at, operand_at
 use crate::block::read_contents;
 use crate::expression::read_boxed;
 use crate::lists::{read_expressions, read_field_values};
-use leaf_parse::leaf::{
-    BehindFirst, PathForm, place_of_assert, place_of_vector, read_behind_first, read_cast_target,
-    read_glued_arguments, read_path_form, read_plain_literal, read_prefix, read_use,
-};
+use leaf_parse::leaf::{BehindFirst, PathForm, place_of_assert, place_of_vector, read_behind_first, read_cast_target, read_glued_arguments, read_path_form, read_plain_literal, read_prefix, read_use};
 use leaf_parse::parentheses::several;
 use expression_tree::expression::{Block, Expression, ExpressionNode};
 use move_tree::literal::Literal;

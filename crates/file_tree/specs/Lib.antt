@@ -1,5 +1,4 @@
 pub mod MemberData
 pub mod FileData
 pub mod MemberSpelling
-pub mod MemberAfterCommas
 pub mod ProperMembers

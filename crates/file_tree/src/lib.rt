@@ -1,5 +1,4 @@
-//! Trees of source files, of their modules and members, and the tokens that spell them.
+//! Trees of source files, of their modules and members.
 #![tactic(auto)]
 
 pub mod member;
-pub mod spell_member;

@@ -25,7 +25,8 @@ use Rattle.move_tree.specs.LiteralSpelling.{literal_spelling}
 use Rattle.move_tree.specs.OperatorSpelling.{unary_spelling, use_spelling}
 use Rattle.expression_tree.specs.ProperExpressions.{IsProperLiteral}
 use Rattle.token_reading.specs.Beginnings.{Begins}
-use Rattle.token_reading.specs.TokenReading.{Read, same_name, is_sign, is_word, after_sign, sign_place_at, after_word, word_place_at}
+use Rattle.token_reading.specs.TokenReading.{Read, is_sign, is_word, after_sign, sign_place_at, after_word, word_place_at}
+use Rattle.pv_base.specs.Names.{same_name}
 use Rattle.token_reading.proofs.Steps.{step, last, some_one, either, not_read, if_some, bind_some, map_some, map_or_none, map_or_some}
 use Rattle.token_reading.proofs.BeginLemmas.{Begins-append, Begins-first}
 use Rattle.token_reading.proofs.TokenLemmas.{is_sign-sound, is_sign-same, after_sign-sound, after_sign-complete, sign_place_at-sound, sign_place_at-complete, sign_place_at-other, after_word-sound, after_word-complete, word_place_at-sound, word_place_at-complete, word_place_at-other}

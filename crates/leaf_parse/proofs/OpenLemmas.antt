@@ -26,7 +26,8 @@ use Rattle.expression_tree.specs.ExpressionData.{ExpressionData, BinaryExpressio
 use Rattle.expression_tree.specs.ExpressionSpelling.{expression_spelling, expression_spellings, field_value_spellings, ends_in_path}
 use Rattle.expression_tree.specs.ProperExpressions.{Role, takes_else, IsProperAs, IsProperExpression, level, term_level}
 use Rattle.token_reading.specs.Beginnings.{Begins}
-use Rattle.token_reading.specs.TokenReading.{is_sign, is_word, is_keyword, same_name, after_sign}
+use Rattle.token_reading.specs.TokenReading.{is_sign, is_word, is_keyword, after_sign}
+use Rattle.pv_base.specs.Names.{same_name}
 use Rattle.token_reading.proofs.TokenLemmas.{is_sign-sound, is_word-sound, is_keyword-complete}
 use Rattle.token_reading.proofs.FirstLemmas.{First, First-append, First-weaker, after_sign-first}
 use Rattle.leaf_parse.proofs.OperatorLemmas.{level_small}

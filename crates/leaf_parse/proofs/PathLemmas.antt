@@ -24,10 +24,12 @@ use Rattle.move_tree.specs.NameRules.{IsName}
 use Rattle.move_tree.specs.PathSpelling.{address_spelling, module_spelling, path_spelling}
 use Rattle.move_tree.specs.ProperTypes.{IsProperAddress, IsProperModuleName, IsProperPath, IsOther}
 use Rattle.token_reading.specs.Beginnings.{Begins}
-use Rattle.token_reading.specs.TokenReading.{after_sign, after_word, identifier_at, is_sign, is_word, is_keyword, same_name}
+use Rattle.token_reading.specs.TokenReading.{after_sign, after_word, identifier_at, is_sign, is_word, is_keyword}
+use Rattle.pv_base.specs.Names.{same_name}
 use Rattle.token_reading.proofs.Steps.{step, last, some_one, either, bind_some, map_some, map_or_none, map_or_some}
 use Rattle.token_reading.proofs.BeginLemmas.{Begins-append, Begins-split, Begins-first}
-use Rattle.token_reading.proofs.TokenLemmas.{after_sign-sound, after_sign-complete, after_sign-other, after_word-other, identifier_at-sound, identifier_at-complete, same_name-same, same_name-other, name_is_no_keyword}
+use Rattle.token_reading.proofs.TokenLemmas.{after_sign-sound, after_sign-complete, after_sign-other, after_word-other, identifier_at-sound, identifier_at-complete, name_is_no_keyword}
+use Rattle.pv_base.proofs.NameLaws.{same_name-same, same_name-other}
 use Rattle.leaf_parse.specs.PathReading.{unsuffixed, address_number_of, address_number_at, address_at, module_name_at, member_at, path_behind_number, path_behind_names, path_behind_name, path_at, is_single}
 
 -- ---- addresses

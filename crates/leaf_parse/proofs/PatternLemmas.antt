@@ -22,11 +22,13 @@ use Rattle.move_tree.specs.PatternData.{PatternData, BindPattern, IgnorePattern,
 use Rattle.move_tree.specs.PatternSpelling.{pattern_spelling, pattern_spellings, field_pattern_spelling, field_pattern_spellings}
 use Rattle.move_tree.specs.ProperPatterns.{IsProperPattern, IsProperFieldPattern, AreProperPatterns, AreProperFieldPatterns, AreSomePatterns, AreSomeFields}
 use Rattle.token_reading.specs.Beginnings.{Begins}
-use Rattle.token_reading.specs.TokenReading.{Read, is_sign, is_keyword, after_sign, sign_place_at, identifier_at, same_name, begins_small}
+use Rattle.token_reading.specs.TokenReading.{Read, is_sign, is_keyword, after_sign, sign_place_at, identifier_at, begins_small}
+use Rattle.pv_base.specs.Names.{same_name}
 use Rattle.token_reading.specs.ListReading.{some_items_at, comma_list_at}
 use Rattle.token_reading.proofs.Steps.{step, last, some_one, either, either_read, if_some, bind_some, map_some, map_or_none, map_or_some, cond_true, cond_false}
 use Rattle.token_reading.proofs.BeginLemmas.{Begins-append, Begins-split, Begins-first, Begins-same, length-Begins}
-use Rattle.token_reading.proofs.TokenLemmas.{after_sign-sound, after_sign-complete, after_sign-other, sign_place_at-sound, sign_place_at-complete, sign_place_at-none, identifier_at-sound, identifier_at-complete, same_name-other, begins_small-sound, begins_small-complete, is_keyword-sound}
+use Rattle.token_reading.proofs.TokenLemmas.{after_sign-sound, after_sign-complete, after_sign-other, sign_place_at-sound, sign_place_at-complete, sign_place_at-none, identifier_at-sound, identifier_at-complete, begins_small-sound, begins_small-complete, is_keyword-sound}
+use Rattle.pv_base.proofs.NameLaws.{same_name-other}
 use Rattle.token_reading.proofs.ListLemmas.{Filled, some_items_at-sound, comma_list_at-sound, some_items_at-complete, comma_list_at-complete}
 use Rattle.leaf_parse.specs.PathReading.{path_at}
 use Rattle.leaf_parse.specs.TypeReading.{maybe_arguments_at, type_at}

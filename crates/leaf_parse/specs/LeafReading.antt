@@ -16,7 +16,8 @@ use Rattle.move_tree.specs.declared.operator.UnaryOperator.{UnaryOperator}
 use Rattle.move_tree.specs.declared.operator.UnaryOperator.TheVariants.{Not, Dereference, Borrow, BorrowMutable}
 use Rattle.move_tree.specs.declared.operator.UseKind.{UseKind}
 use Rattle.move_tree.specs.declared.operator.UseKind.TheVariants.{Move, Copy}
-use Rattle.token_reading.specs.TokenReading.{Read, same_name, is_keyword, is_sign, after_sign, sign_place_at, after_word, word_place_at, begins_capital}
+use Rattle.token_reading.specs.TokenReading.{Read, is_keyword, is_sign, after_sign, sign_place_at, after_word, word_place_at, begins_capital}
+use Rattle.pv_base.specs.Names.{same_name}
 use Rattle.token_reading.specs.BalanceReading.{balanced_at}
 use Rattle.move_tree.specs.declared.path.Path.{Path}
 use Rattle.move_tree.specs.declared.spec_tokens.LoopSpec.{LoopSpec}

@@ -16,7 +16,8 @@ use Rattle.move_tree.specs.declared.path.Address.TheVariants.{Number as number_a
 use Rattle.move_tree.specs.declared.path.ModuleName.{ModuleName}
 use Rattle.move_tree.specs.declared.path.Path.{Path}
 use Rattle.move_tree.specs.declared.path.Path.TheVariants.{Name as name_path, Member as member_path, Full as full_path}
-use Rattle.token_reading.specs.TokenReading.{Read, after_sign, identifier_at, same_name}
+use Rattle.token_reading.specs.TokenReading.{Read, after_sign, identifier_at}
+use Rattle.pv_base.specs.Names.{same_name}
 
 -- a number without a suffix
 abbrev pub unsuffixed : NumberLiteral → NumberSuffix → Option NumberLiteral

@@ -9,7 +9,8 @@ use Rattle.move_tree.specs.declared.path.Path.{Path}
 use Rattle.move_tree.specs.declared.path.Path.TheVariants.{Name as name_path, Member as member_path, Full as full_path}
 use Rattle.move_tree.specs.TypeTreeData.{SourceTypeData}
 use Rattle.move_tree.specs.PatternData.{PatternData, BindPattern, IgnorePattern, UnpackPattern, TuplePattern, FieldPatternData, ShortFieldPattern, LongFieldPattern, patterns_of, field_patterns_of}
-use Rattle.token_reading.specs.TokenReading.{Read, after_sign, sign_place_at, identifier_at, same_name, begins_small}
+use Rattle.token_reading.specs.TokenReading.{Read, after_sign, sign_place_at, identifier_at, begins_small}
+use Rattle.pv_base.specs.Names.{same_name}
 use Rattle.token_reading.specs.ListReading.{some_items_at, comma_list_at}
 use Rattle.leaf_parse.specs.PathReading.{path_at}
 use Rattle.leaf_parse.specs.TypeReading.{maybe_arguments_at, type_at}

@@ -21,10 +21,7 @@ use move_tokens::token::{NumberLiteral, NumberSuffix, Punctuation, Token, TokenK
 use std::alloc::Global;
 use token_reading::balanced::read_balanced;
 use token_reading::fault::ReadFault;
-use token_reading::tokens::{
-    begins_capital, begins_with, expect_sign, is_keyword, is_sign, place_of_sign, place_of_word,
-    skip_sign, skip_word,
-};
+use token_reading::tokens::{begins_capital, begins_with, expect_sign, is_keyword, is_sign, place_of_sign, place_of_word, skip_sign, skip_word};
 use crate::path::{copy_number, is_single};
 use crate::types::{read_arguments, read_type};
 

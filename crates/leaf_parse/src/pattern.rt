@@ -18,9 +18,7 @@ use move_tokens::token::{Punctuation, Token};
 use std::alloc::Global;
 use token_reading::fault::ReadFault;
 use token_reading::lists::{Separator, separator_behind};
-use token_reading::tokens::{
-    begins_small, begins_with, expect_sign, place_of_sign, read_identifier, skip_sign,
-};
+use token_reading::tokens::{begins_small, begins_with, expect_sign, place_of_sign, read_identifier, skip_sign};
 
 /// A pattern that is nested at most `budget` deep, and the tokens behind it.
 #[cycle(read_pattern)]

@@ -1,4 +1,4 @@
-//! Paths, types and patterns of Move as source trees, and the tokens that spell them.
+//! Paths, types and patterns of Move as trees, and how the definitions spell them.
 #![tactic(auto)]
 
 pub mod lexeme;
@@ -7,6 +7,4 @@ pub mod operator;
 pub mod path;
 pub mod pattern;
 pub mod spec_tokens;
-pub mod spell_pattern;
-pub mod spell_type;
 pub mod types;

@@ -3,7 +3,7 @@ use Rattle.std.proofs.Common.{◌≡◌, ℕ, zero, suc, Bool, true, false, ◌=
 use Rattle.move_tokens.specs.declared.token.Token.{Token}
 use Rattle.move_tokens.specs.declared.token.TokenKind.{TokenKind}
 use Rattle.move_tokens.specs.declared.token.TokenKind.TheVariants.{Word, Number, ByteString, Punctuation}
-use Rattle.token_reading.specs.TokenReading.{same_name}
+use Rattle.pv_base.specs.Names.{same_name}
 use Rattle.token_reading.specs.declared.marker.Marker.{Marker}
 use Rattle.token_reading.specs.declared.marker.Marker.TheVariants.{Inline, Script, Enum, Match, Native, Assume, Axiom, Choose, Emits, Apply, AbortsWith, Trace, Where, Package, With, Assert, WideType, WideNumber, Bytes, HexBytes}
 use Rattle.token_reading.specs.Markers.{HoldNone, IsFirst, IsHex, IsMarker, marker_text, next_kind}

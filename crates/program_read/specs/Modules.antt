@@ -3,7 +3,7 @@
 use Rattle.std.specs.Prelude.{◌≡◌, ◌⊎◌, ℕ, ◌+◌, Bool, true, false, ◌&&◌, ◌==◌, List, [], ◌∷◌, ◌++◌, map}
 use Rattle.std.specs.List.{list_any}
 use Rattle.answers.specs.declared.rule.Rule.TheVariants.{NotBuilt}
-use Rattle.token_reading.specs.TokenReading.{same_name}
+use Rattle.pv_base.specs.Names.{same_name}
 use Rattle.source_parse.specs.SourceModuleData.{SourceModuleData}
 use Rattle.sum_tree.specs.SumModuleData.{SumModuleData}
 use Rattle.sum_module.specs.Built.{IsUnbuiltAt}

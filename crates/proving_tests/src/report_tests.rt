@@ -5,9 +5,7 @@ use linear_rows::rows::Fraction;
 use outside::memory_sink::VecSink;
 use pv_base::lists::{Bytes, Calls};
 use pv_base::name::Name;
-use report::report::{
-    ConditionRecord, ConditionVerdict, FunctionRecord, FunctionVerdict, ParameterValue, Report,
-};
+use report::report::{ConditionRecord, ConditionVerdict, FunctionRecord, FunctionVerdict, ParameterValue, Report};
 use report::report_text::report_lines;
 use report::status::{Device, LimitKind, Refusal, Rule, Status};
 use report::status_text::{files_limit_line, limit_line, refusal_line, source_fault_line};

@@ -1,1 +1,2 @@
 pub mod FinMapEntries
+pub mod NameLaws

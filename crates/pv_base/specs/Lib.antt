@@ -2,3 +2,4 @@ pub mod Codes
 pub mod TypeData
 pub mod TypeView
 pub mod TypeFalls
+pub mod Names

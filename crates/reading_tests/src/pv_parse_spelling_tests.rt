@@ -2,7 +2,7 @@
 
 use crate::texts::{compares, scan};
 use file_tree::member::{File, MemberForm};
-use file_tree::spell_member::spell;
+use spelling::spell_member::spell;
 use pv_parse::denoted::modules;
 use std::alloc::Global;
 use std::process::Abort;

@@ -3,9 +3,7 @@
 ghost use Rattle.std.specs.Prelude.{◌≡◌, ◌++◌, [], slice_index_or, IfOk, OnOk};
 ghost use Rattle.report.specs.ReportText.{check_text, condition_line, condition_lines, condition_verdict_text, denominator_text, value_line, count_line, function_line, function_lines, function_verdict_text, kind_text, lines_of_report};
 
-use crate::report::{
-    ConditionRecord, ConditionVerdict, FunctionRecord, FunctionVerdict, ParameterValue, Report,
-};
+use crate::report::{ConditionRecord, ConditionVerdict, FunctionRecord, FunctionVerdict, ParameterValue, Report};
 use crate::text::{Lines, push_decimal, push_hexadecimal, push_whole};
 use pv_base::lists::Bytes;
 use pv_base::memory::NoMemory;

@@ -13,9 +13,11 @@ use Rattle.file_tree.specs.FileData.{MemberData}
 use Rattle.file_tree.specs.declared.member.Function.{Function as FunctionTree}
 use Rattle.file_tree.specs.declared.member.MemberForm.{MemberForm}
 use Rattle.file_tree.specs.declared.member.MemberForm.TheVariants.{Use, Friend, Struct, Constant, Function, Spec}
-use Rattle.token_reading.specs.TokenReading.{same_name, begins_capital}
+use Rattle.token_reading.specs.TokenReading.{begins_capital}
+use Rattle.pv_base.specs.Names.{same_name}
 use Rattle.token_reading.proofs.Steps.{true_or_false}
-use Rattle.token_reading.proofs.TokenLemmas.{same_name-same, same_name-other, begins_capital-sound, begins_capital-complete}
+use Rattle.token_reading.proofs.TokenLemmas.{begins_capital-sound, begins_capital-complete}
+use Rattle.pv_base.proofs.NameLaws.{same_name-same, same_name-other}
 use Rattle.source_parse.specs.FunctionNames.{name_of_form, name_of_member, names_of, is_one_of, has, IsSetOf}
 use Rattle.source_parse.specs.Slots.{IsOfStruct}
 

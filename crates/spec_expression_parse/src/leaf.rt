@@ -18,9 +18,7 @@ use move_tokens::token::{NumberLiteral, NumberSuffix, Punctuation, Token, TokenK
 use std::alloc::Global;
 use token_reading::fault::ReadFault;
 use token_reading::lists::Separator;
-use token_reading::tokens::{
-    begins_capital, begins_with, expect_sign, is_keyword, place_of_word, skip_sign, skip_word,
-};
+use token_reading::tokens::{begins_capital, begins_with, expect_sign, is_keyword, place_of_word, skip_sign, skip_word};
 use leaf_parse::path::{copy_number, read_address};
 
 /// The number that a token is, where its type is not wider than `u128`.

@@ -11,7 +11,7 @@ use pv_base::span::Span;
 use spec_tree::level::spec_operator_level;
 use spec_tree::spec_expression::SpecExpression;
 use spec_tree::spec_operator::SpecOperator;
-use spec_tree::spell_spec_expression::is_path_last;
+use spec_tree::ending::is_path_last;
 use move_tokens::token::{Punctuation, Token, TokenKind};
 use token_reading::tokens::is_sign;
 

@@ -32,10 +32,12 @@ use Rattle.spec_tree.specs.ProperSpecExpressions.{IsProperSpec}
 use Rattle.clause_tree.specs.ClauseSpelling.{update_spelling, post_spelling}
 use Rattle.clause_tree.specs.ProperClauses.{IsWord, BeginsAsCall}
 use Rattle.token_reading.specs.Beginnings.{Begins}
-use Rattle.token_reading.specs.TokenReading.{is_keyword, same_name, after_sign, after_word}
+use Rattle.token_reading.specs.TokenReading.{is_keyword, after_sign, after_word}
+use Rattle.pv_base.specs.Names.{same_name}
 use Rattle.token_reading.proofs.Steps.{some_one, true_or_false}
 use Rattle.token_reading.proofs.BeginLemmas.{Begins-split, Begins-first, Begins-same}
-use Rattle.token_reading.proofs.TokenLemmas.{same_name-same, is_keyword-sound, is_keyword-complete, after_sign-complete, after_sign-other, after_word-sound, after_word-complete}
+use Rattle.token_reading.proofs.TokenLemmas.{is_keyword-sound, is_keyword-complete, after_sign-complete, after_sign-other, after_word-sound, after_word-complete}
+use Rattle.pv_base.proofs.NameLaws.{same_name-same}
 use Rattle.leaf_parse.proofs.TypeLemmas.{inside_spelling}
 use Rattle.spec_expression_parse.proofs.OperatorLemmas.{first_sign, first_lexeme, later_lexemes, operator_first}
 use Rattle.spec_expression_parse.proofs.ShapeLemmas.{three_behind, OpensSpec, spec_opens, spec_alone}

@@ -16,9 +16,7 @@ use spec_tree::spec_expression::SpecExpression;
 use move_tokens::token::{Punctuation, Token};
 use std::alloc::Global;
 use token_reading::fault::ReadFault;
-use token_reading::tokens::{
-    begins_capital, expect_sign, expect_word, place_of_word, read_identifier,
-};
+use token_reading::tokens::{begins_capital, expect_sign, expect_word, place_of_word, read_identifier};
 use leaf_parse::types::read_type;
 
 /// The block of a struct or a function, from its name on.

@@ -3,7 +3,7 @@
 use move_tree::lexeme::{Lexeme, Lexemes};
 use spec_expression_parse::expression::read_spec_expression;
 use spec_tree::spec_expression::{SpecExpression, SpecNode};
-use spec_tree::spell_spec_expression::spell_spec_expression;
+use spelling::spell_spec_expression::spell_spec_expression;
 use move_tokens::scanner::tokens;
 use move_tokens::token::{Token, TokenKind};
 use std::alloc::Global;

@@ -1,2 +1,1 @@
-pub mod CommaLists
 pub mod Smaller

@@ -6,7 +6,7 @@
 ghost use Rattle.std.specs.Prelude.{◌≡◌, ◌^◌, ◌≤◌, IfOk, length};
 ghost use Rattle.std.specs.List.{position};
 ghost use Rattle.fol.specs.FormulaData.{LeFormula, NotFormula};
-ghost use Rattle.token_reading.specs.TokenReading.{same_name};
+ghost use Rattle.pv_base.specs.Names.{same_name};
 ghost use Rattle.sum_formula.specs.Translation.{comparison_formula, condition_formula, free_term, greatest_term, operator_term, sum_term, word_term, zero_term};
 
 use fol::formula::{Formula, Term};

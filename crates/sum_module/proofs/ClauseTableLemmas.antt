@@ -5,7 +5,7 @@ use Rattle.std.specs.Ordering.{nat_cmp, is_eq}
 use Rattle.std.specs.Cmp.Lexicographic.{slice_cmp}
 use Rattle.std.proofs.lemmas.Bool.{cases_Bool}
 use Rattle.std.proofs.lemmas.List.{map-append}
-use Rattle.token_reading.specs.TokenReading.{same_name}
+use Rattle.pv_base.specs.Names.{same_name}
 use Rattle.source_parse.proofs.NameLemmas.{is_eq-same_name, is_one_of-push}
 use Rattle.sum_tree.specs.declared.clause.Clause.{Clause}
 use Rattle.sum_tree.specs.FunctionData.{FunctionData}

@@ -5,7 +5,7 @@ use Rattle.std.specs.Cmp.Lexicographic.{slice_cmp, same_text, nat_list_eq_equiv}
 use Rattle.std.specs.Option.{option_or}
 use Rattle.std.proofs.lemmas.List.{take_more}
 use Rattle.file_tree.specs.declared.member.Function.{Function as FunctionTree}
-use Rattle.token_reading.specs.TokenReading.{same_name}
+use Rattle.pv_base.specs.Names.{same_name}
 use Rattle.source_parse.proofs.NameLemmas.{is_eq-same_name}
 use Rattle.source_parse.specs.declared.source.SourceForm.{SourceForm}
 use Rattle.source_parse.specs.declared.source.SourceForm.TheVariants.{Use, Friend, Struct, Constant, Function, Spec}

@@ -2,7 +2,7 @@
 -- Source: the Move Specification Language reference, "Spec Blocks and Conditions": several blocks for one function add up.
 use Rattle.std.specs.Prelude.{ℕ, if◌then◌else◌, List, [], ◌∷◌, map}
 use Rattle.std.specs.List.{flat_map}
-use Rattle.token_reading.specs.TokenReading.{same_name}
+use Rattle.pv_base.specs.Names.{same_name}
 use Rattle.sum_tree.specs.declared.clause.Clause.{Clause}
 use Rattle.sum_tree.specs.FunctionData.{FunctionData}
 use Rattle.sum_tree.specs.SpecifiedData.{SpecifiedFunctionData}

@@ -7,7 +7,7 @@ use Rattle.std.specs.Ordering.{nat_cmp}
 use Rattle.std.specs.Cmp.Lexicographic.{slice_cmp}
 use Rattle.file_tree.specs.declared.member.TypedName.{TypedName}
 use Rattle.file_tree.specs.declared.member.Function.{Function as FunctionTree}
-use Rattle.token_reading.specs.TokenReading.{same_name}
+use Rattle.pv_base.specs.Names.{same_name}
 use Rattle.source_parse.specs.declared.source.SourceForm.{SourceForm}
 use Rattle.source_parse.specs.declared.source.SourceForm.TheVariants.{Use, Friend, Struct, Constant, Function, Spec}
 use Rattle.source_parse.specs.SourceData.{SourceMemberData}

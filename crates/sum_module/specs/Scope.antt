@@ -8,7 +8,7 @@ use Rattle.sum_tree.specs.declared.clause.ClauseKind.TheVariants.{Requires, Ensu
 use Rattle.sum_tree.specs.declared.clause.Clause.{Clause}
 use Rattle.sum_module.specs.declared.scope.Place.{Place}
 use Rattle.sum_module.specs.declared.scope.Place.TheVariants.{Body, InClause}
-use Rattle.token_reading.specs.TokenReading.{same_name}
+use Rattle.pv_base.specs.Names.{same_name}
 use Rattle.sum_tree.specs.SumData.{SumData, NumberSum, WordSum, JoinedSum}
 use Rattle.sum_tree.specs.FunctionData.{FunctionData}
 

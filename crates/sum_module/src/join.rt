@@ -2,7 +2,7 @@
 
 ghost use Rattle.std.specs.Prelude.{◌≡◌, ◌++◌, ℕ, List, [], None, true, map, if◌then◌else◌, IfOk, OnOk};
 ghost use Rattle.std.specs.List.{flat_map};
-ghost use Rattle.token_reading.specs.TokenReading.{same_name};
+ghost use Rattle.pv_base.specs.Names.{same_name};
 ghost use Rattle.sum_module.specs.Scope.{all_differ};
 ghost use Rattle.sum_module.specs.ClauseTable.{clauses_at, entry_at, names_among, with_clauses};
 ghost use Rattle.sum_module.specs.Joined.{clauses_among, clauses_of_spec, functions_in, module_of, specs_in};

@@ -10,7 +10,7 @@ use Rattle.file_tree.specs.declared.member.TypedName.{TypedName}
 use Rattle.file_tree.specs.declared.member.Visibility.{Visibility}
 use Rattle.file_tree.specs.declared.member.Visibility.TheVariants.{Module, Public, Friends}
 use Rattle.file_tree.specs.declared.member.Function.{Function}
-use Rattle.token_reading.specs.TokenReading.{same_name}
+use Rattle.pv_base.specs.Names.{same_name}
 use Rattle.sum_tree.specs.SumData.{SumData}
 use Rattle.sum_tree.specs.FunctionData.{FunctionData}
 use Rattle.sum_read.specs.Each.{each}

@@ -11,7 +11,8 @@ use Rattle.move_tokens.specs.declared.token.TokenKind.TheVariants.{Word, Number,
 use Rattle.move_tokens.specs.declared.token.NumberSuffix.{NumberSuffix}
 use Rattle.move_tokens.specs.declared.token.NumberSuffix.TheVariants.{Absent, U8, U16, U32, U64, U128, U256}
 use Rattle.move_tokens.specs.declared.token.Punctuation.TheVariants.{Exclaim}
-use Rattle.token_reading.specs.TokenReading.{after_sign, is_sign, same_name}
+use Rattle.token_reading.specs.TokenReading.{after_sign, is_sign}
+use Rattle.pv_base.specs.Names.{same_name}
 use Rattle.token_reading.proofs.Steps.{some_one, either_read, not_read}
 use Rattle.token_reading.proofs.TokenLemmas.{is_sign-sound}
 use Rattle.token_reading.specs.declared.marker.Marker.{Marker}

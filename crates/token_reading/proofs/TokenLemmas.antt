@@ -17,20 +17,12 @@ use Rattle.move_tree.specs.declared.lexeme.Lexeme.{Lexeme}
 use Rattle.move_tree.specs.Lexemes.{word, sign, sign_at, identifier}
 use Rattle.move_tree.specs.NameRules.{keywords, IsName, IsCapital, IsSmall}
 use Rattle.token_reading.specs.Beginnings.{Begins}
-use Rattle.token_reading.specs.TokenReading.{Read, same_name, is_sign, is_word, is_keyword, after_sign, sign_place_at, before_sign, after_word, word_place_at, name_of, identifier_at, begins_capital, begins_small}
+use Rattle.token_reading.specs.TokenReading.{Read, is_sign, is_word, is_keyword, after_sign, sign_place_at, before_sign, after_word, word_place_at, name_of, identifier_at, begins_capital, begins_small}
+use Rattle.pv_base.specs.Names.{same_name}
+use Rattle.pv_base.proofs.NameLaws.{same_name-same, same_name-other}
 use Rattle.token_reading.proofs.Steps.{last, if_some, if_not}
 
 -- ---- words that are names
-
-pub same_name-same : (w : List ℕ) → same_name w w ≡ true
-same_name-same w = nat_list_eq_equiv.refl w
-
-pub same_name-other : (w v : List ℕ) → w ≢ v → same_name w v ≡ false
-same_name-other w v h = go (same_name w v) refl
-  where
-    go : (b : Bool) → same_name w v ≡ b → same_name w v ≡ false
-    go true e = absurd (h (same_text w v (sym e)))
-    go false e = e
 
 different-sound : (w : List ℕ) (ks : List (List ℕ)) → list_any (same_name w) ks ≡ false → AllByRecursion (λ k. w ≢ k) ks
 different-sound w [] e = tt

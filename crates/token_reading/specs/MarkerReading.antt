@@ -8,7 +8,8 @@ use Rattle.move_tokens.specs.declared.token.TokenKind.TheVariants.{Word, Number,
 use Rattle.move_tokens.specs.declared.token.NumberSuffix.{NumberSuffix}
 use Rattle.move_tokens.specs.declared.token.NumberSuffix.TheVariants.{U256}
 use Rattle.move_tokens.specs.declared.token.Punctuation.TheVariants.{Exclaim}
-use Rattle.token_reading.specs.TokenReading.{after_sign, same_name}
+use Rattle.token_reading.specs.TokenReading.{after_sign}
+use Rattle.pv_base.specs.Names.{same_name}
 use Rattle.token_reading.specs.declared.marker.Marker.{Marker}
 use Rattle.token_reading.specs.declared.marker.Marker.TheVariants.{Inline, Script, Enum, Match, Native, Assume, Axiom, Choose, Emits, Apply, AbortsWith, Trace, Where, Package, With, Assert, WideType, WideNumber, Bytes, HexBytes}
 use Rattle.token_reading.specs.Markers.{marker_text}

@@ -1,5 +1,6 @@
 -- How single tokens are read, from left to right. These functions are the readers' own; what tokens mean is said by the
 -- spelling of the trees.
+use Rattle.pv_base.specs.Names.{same_name}
 use Rattle.std.specs.Prelude.{ℕ, Bool, false, ◌&&◌, ◌||◌, ◌==◌, nat_le, if◌then◌else◌, List, [], ◌∷◌, Option, Some, None, is_some, nat_eq}
 use Rattle.std.specs.Option.{option_map}
 use Rattle.std.specs.List.{list_any}
@@ -17,9 +18,6 @@ use Rattle.move_tree.specs.NameRules.{keywords}
 -- what was read, and the tokens behind it
 abbrev pub Read : Type 0 → Type 0
 Read X = Option (X × List Token)
-
-abbrev pub same_name : List ℕ → List ℕ → Bool
-same_name = pointwise nat_eq
 
 -- whether two signs are one, by their tags
 abbrev pub same_sign : Sign → Sign → Bool

@@ -4,7 +4,8 @@ ghost use Rattle.std.specs.Prelude.{◌≡◌, None, Some, is_some, MatchResult}
 ghost use Rattle.std.specs.Option.{option_map};
 ghost use Rattle.std.specs.List.{list_any};
 ghost use Rattle.token_reading.specs.ReadFault.{IfNoTree};
-ghost use Rattle.token_reading.specs.TokenReading.{after_sign, after_word, begins_capital, begins_small, identifier_at, is_keyword, is_sign, is_word, same_name, sign_place_at, word_place_at};
+ghost use Rattle.token_reading.specs.TokenReading.{after_sign, after_word, begins_capital, begins_small, identifier_at, is_keyword, is_sign, is_word, sign_place_at, word_place_at};
+ghost use Rattle.pv_base.specs.Names.{same_name};
 
 use crate::fault::ReadFault;
 use move_tree::lexeme::Identifier;

@@ -1,11 +1,8 @@
 //! Trees that are built by hand, against the tokens of the texts that they are trees of.
 
 use crate::texts::compares;
-use clause_tree::clause::{
-    AbortCode, Bindings, Clause, Clauses, Include, Pragma, PragmaValue, Pragmas, Schema, Spec,
-    SpecFunction, Targets,
-};
-use clause_tree::spell_clause::{spell, spell_clause};
+use clause_tree::clause::{AbortCode, Bindings, Clause, Clauses, Include, Pragma, PragmaValue, Pragmas, Schema, Spec, SpecFunction, Targets};
+use spelling::spell_clause::{spell, spell_clause};
 use file_tree::member::{TypeParameter, TypeParameters, TypedName, TypedNames};
 use move_tree::lexeme::{Identifier, Lexemes, Numeral};
 use move_tree::path::Path;

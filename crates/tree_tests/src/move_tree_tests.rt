@@ -1,7 +1,7 @@
 //! Trees that are built by hand, against the tokens of the texts that they are trees of.
 
 use crate::texts::compares;
-use expression_spelling::spell_expression::spell_expression;
+use spelling::spell_expression::spell_expression;
 use expression_tree::expression::{Block, Expression, ExpressionNode, FieldValue, Item, ItemNode};
 use move_tree::lexeme::{Identifier, Lexemes, Numeral};
 use move_tree::literal::Literal;
@@ -9,8 +9,8 @@ use move_tree::operator::{BinaryOperator, UnaryOperator, UseKind};
 use move_tree::path::{Address, ModuleName, Path};
 use move_tree::pattern::{FieldPattern, Pattern, PatternNode};
 use move_tree::spec_tokens::LoopSpec;
-use move_tree::spell_pattern::spell_pattern;
-use move_tree::spell_type::spell_type;
+use spelling::spell_pattern::spell_pattern;
+use spelling::spell_type::spell_type;
 use move_tree::types::{SourceType, SourceTypeNode, TypeArguments};
 use pv_base::name::Name;
 use pv_base::span::Span;

@@ -16,7 +16,7 @@ use Rattle.sum_tree.specs.declared.clause.ClauseKind.{ClauseKind}
 use Rattle.sum_tree.specs.declared.clause.ClauseKind.TheVariants.{Requires, Ensures, AbortsIf}
 use Rattle.sum_tree.specs.declared.clause.Clause.{Clause}
 use Rattle.sum_tree.specs.FunctionData.{FunctionData}
-use Rattle.token_reading.specs.TokenReading.{same_name}
+use Rattle.pv_base.specs.Names.{same_name}
 use Rattle.ref_sem.specs.Semantics.{Arguments, Names, AreU64, names_of, Holds, AllHold, SomeHolds, HasKind, MeetsClauses, Keeps, run_sum}
 use Rattle.vc_gen.specs.declared.condition.VerificationCondition.{VerificationCondition}
 use Rattle.sum_formula.specs.Translation.{zero_term, term_at, word_term}

@@ -9,7 +9,7 @@ use Rattle.sum_tree.specs.declared.sum.Operator.{Operator}
 use Rattle.sum_tree.specs.declared.sum.Operator.TheVariants.{Plus, Minus}
 use Rattle.sum_tree.specs.SumData.{SumData, NumberSum, WordSum, JoinedSum}
 use Rattle.sum_tree.specs.FunctionData.{FunctionData}
-use Rattle.token_reading.specs.TokenReading.{same_name}
+use Rattle.pv_base.specs.Names.{same_name}
 use Rattle.ref_sem.specs.Semantics.{Arguments, Names, names_of, operator_number, sum_number}
 use Rattle.sum_formula.specs.Translation.{zero_term, greatest_term, term_at, word_term, operator_term, sum_term}
 use Rattle.vc_gen.proofs.Words.{position_none}

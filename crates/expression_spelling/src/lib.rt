@@ -1,4 +1,0 @@
-//! The tokens that spell expressions, blocks and their items.
-#![tactic(auto)]
-
-pub mod spell_expression;

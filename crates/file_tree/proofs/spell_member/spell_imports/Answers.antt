@@ -1,7 +1,0 @@
-use Rattle.file_tree.specs.MemberSpelling.{import_spelling}
-use Rattle.file_tree.proofs.CommaLists.{mapped_comma_list, three_parts}
-use Rattle.file_tree.proofs.spell_member.spell_imports.Goals as goal
-
-pub returns : goal.returns
-returns c =
-    three_parts _ _ _ _ c.in_ok-spell_import.ensures c.in_ok-spell_more_imports.ensures c.in_ok-push_last_comma.ensures (mapped_comma_list import_spelling c.args.imports.now c.in-Some.first.now c.in-Some.rest.now c.args.last_comma c.in-Some.ensures.cases.0)

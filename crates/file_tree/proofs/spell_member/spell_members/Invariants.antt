@@ -1,7 +1,0 @@
-use Rattle.std.proofs.Common.{◌≡◌, ◌++◌, take}
-use Rattle.std.specs.List.{flat_map}
-use Rattle.file_tree.specs.MemberSpelling.{member_spelling}
-use Rattle.file_tree.proofs.spell_member.spell_members.Given as goal
-
-abbrev pub invariant-loop-one : goal.invariant-loop-one
-invariant-loop-one l = l.into ≡ l.initial.into ++ flat_map member_spelling (take l.one-index l.members)

@@ -1,7 +1,0 @@
-use Rattle.std.proofs.Common.{◌≡◌, ◌++◌, take}
-use Rattle.std.specs.List.{flat_map}
-use Rattle.file_tree.specs.MemberAfterCommas.{typed_name_after_comma}
-use Rattle.file_tree.proofs.spell_member.spell_more_typed_name_list.Given as goal
-
-abbrev pub invariant-loop-one : goal.invariant-loop-one
-invariant-loop-one l = l.into ≡ l.initial.into ++ flat_map typed_name_after_comma (take l.one-index l.names)

@@ -1,0 +1,4 @@
+pub mod PatternCommas
+pub mod ExpressionCommas
+pub mod MemberCommas
+pub mod SpecCommas

@@ -1,0 +1,7 @@
+use Rattle.std.proofs.Common.{◌≡◌, ◌++◌, take}
+use Rattle.std.specs.List.{flat_map}
+use Rattle.file_tree.specs.MemberSpelling.{more_ability_spelling}
+use Rattle.spelling.proofs.spell_member.spell_added_abilities.Given as goal
+
+abbrev pub invariant-loop-one : goal.invariant-loop-one
+invariant-loop-one l = l.into ≡ l.initial.into ++ flat_map more_ability_spelling (take l.one-index l.abilities)

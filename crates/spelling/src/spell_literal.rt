@@ -1,0 +1,31 @@
+//! The tokens of literals.
+
+ghost use Rattle.std.specs.Prelude.{◌≡◌, ◌++◌, OnOk};
+ghost use Rattle.move_tree.specs.LiteralSpelling.{literal_spelling};
+
+use crate::spell_path::{spell_address, spell_numeral};
+use move_tokens::token::Punctuation;
+use move_tree::lexeme::Lexemes;
+use move_tree::literal::Literal;
+use pv_base::memory::NoMemory;
+use std::alloc::Global;
+
+/// The tokens of a literal.
+pub fn spell_literal(alloc: Global, literal: &Literal, into: &mut Lexemes) -> Result<(), NoMemory>
+    ensures { OnOk result (into.new ≡ into.old ++ literal_spelling literal.now) }
+{
+    match literal {
+        Literal::Number(number) => spell_numeral(alloc, number, into),
+        Literal::Truth { place, value } => {
+            if *value {
+                into.push_word(alloc, b"true", Some(*place))
+            } else {
+                into.push_word(alloc, b"false", Some(*place))
+            }
+        }
+        Literal::Address { place, address } => {
+            into.push_sign_at(*place, Punctuation::AtSign)?;
+            spell_address(alloc, address, into)
+        }
+    }
+}

@@ -1,0 +1,41 @@
+//! The tokens that trees keep as they are.
+
+ghost use Rattle.std.specs.Prelude.{◌≡◌, [], ◌∷◌, ◌++◌, Some, OnOk, map};
+ghost use Rattle.move_tree.specs.SpecTokenSpelling.{kept, loop_spec_spelling};
+
+use move_tokens::token::{Punctuation, Token};
+use move_tree::lexeme::{Lexeme, Lexemes};
+use move_tree::spec_tokens::{LoopSpec, copy_kind};
+use pv_base::memory::NoMemory;
+use std::alloc::Global;
+
+fn spell_kept(alloc: Global, token: &Token, into: &mut Lexemes) -> Result<(), NoMemory>
+    ensures { OnOk result (into.new ≡ into.old ++ kept token.now ∷ []) }
+{
+    let kind = copy_kind(alloc, &token.kind)?;
+    into.push(Lexeme {
+        kind,
+        place: Some(token.span),
+        glued: Some(token.glued),
+    })
+}
+
+/// Tokens that a tree keeps as they are.
+pub fn spell_tokens(alloc: Global, tokens: &[Token], into: &mut Lexemes) -> Result<(), NoMemory>
+    ensures { OnOk result (into.new ≡ into.old ++ map kept tokens.now) }
+{
+    for token in tokens {
+        spell_kept(alloc, token, into)?;
+    }
+    Ok(())
+}
+
+/// The tokens of a loop's spec block.
+pub fn spell_loop_spec(alloc: Global, spec: &LoopSpec, into: &mut Lexemes) -> Result<(), NoMemory>
+    ensures { OnOk result (into.new ≡ into.old ++ loop_spec_spelling spec.now) }
+{
+    into.push_word(alloc, b"spec", Some(spec.place))?;
+    into.push_sign(Punctuation::LeftBrace)?;
+    spell_tokens(alloc, spec.tokens.as_slice(), into)?;
+    into.push_sign(Punctuation::RightBrace)
+}
