@@ -26,13 +26,13 @@ PROGRAM = r"""//! Times the readers on the texts that stand on the standard inpu
 
 use clause_tree::slot::Slot;
 use file_tree::member::File;
-use file_tree::spell_member::spell;
-use left_out::explain::ParseFault;
+use spelling::spell_member::spell;
+use token_reading::explain::ParseFault;
 use pv_parse::denoted::modules;
-use spec_parse::block::spec_block;
-use src_tree::scanner::tokens;
-use src_tree::token::Tokens;
-use src_tree::weight::weight;
+use spec_parse::denoted_block::spec_block;
+use move_tokens::scanner::tokens;
+use move_tokens::token::Tokens;
+use move_tokens::weight::weight;
 use std::io::{BufRead, BufReader};
 use std::time::Instant;
 
@@ -239,7 +239,7 @@ def main() -> int:
         target = os.path.join(folder, "crates", name)
         shutil.copytree(os.path.join(ROOT, "crates", name), target, dirs_exist_ok=True, ignore=shutil.ignore_patterns("out", "must-fail"))
     with open(os.path.join(folder, "crates.txt"), "w", encoding="utf-8") as file:
-        file.write("\n".join(lines) + "\ntimes: src_tree file_tree clause_tree left_out pv_parse spec_parse anyhow\n")
+        file.write("\n".join(lines) + "\ntimes: move_tokens file_tree clause_tree token_reading pv_parse spec_parse spelling anyhow\n")
     target = os.path.join(folder, "crates", "times")
     os.makedirs(os.path.join(target, "src"), exist_ok=True)
     with open(os.path.join(target, "src", "main.rt"), "w", encoding="utf-8") as file:

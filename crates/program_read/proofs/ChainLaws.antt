@@ -7,8 +7,6 @@ use Rattle.program_read.specs.declared.fault.FileFault.{FileFault}
 use Rattle.program_read.proofs.NumberedLaws.{none_first, once, one_list}
 use Rattle.program_read.proofs.NumberedLemmas.{each_of_pairs}
 
-infixl 20 ◌▷◌
-
 pub record Laws {A B : Type 0} (s : Stage A B) : Type 0 where
   pub one : (given : A) (made other : B) → s.Gives given made → s.Gives given other → made ≡ other
   pub either : (given : A) (made : B) (file : ℕ) (fault : FileFault) → s.Gives given made → s.Stops given file fault → ⊥

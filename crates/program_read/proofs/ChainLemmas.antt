@@ -6,8 +6,6 @@ use Rattle.program_read.specs.Numbered.{Each, EachPair, IsFirst}
 use Rattle.program_read.specs.declared.fault.FileFault.{FileFault}
 use Rattle.program_read.proofs.NumberedLemmas.{each_of_pairs, first_at, pairs_length}
 
-infixl 20 ◌▷◌
-
 -- a file of which nothing is made stops the stage, where something was read of each before it
 pub stops_at : {A B C : Type 0} (Reads : ℕ → A → C → Type 0) (IsOf : ℕ → A → B → Type 0) (IsWrong : ℕ → A → FileFault → Type 0) (items : List A) (i : ℕ) (d : A) (read : List C) (file : ℕ) (fault : FileFault)
     → ((n : ℕ) (item : A) (c : C) → Reads n item c → (made : B) × IsOf n item made) → i < length items → EachPair Reads 0 (take i items) read → IsIn i (IsWrong i (get_or items i d)) file fault → (makes IsOf IsWrong).Stops items file fault

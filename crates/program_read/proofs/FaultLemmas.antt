@@ -1,11 +1,7 @@
--- A fault of a part is one of the whole, and what two faults tell.
-use Rattle.std.proofs.Common.{ℕ, Bool, true, false, if◌then◌else◌, sym, ap, subst, refl, ◌∙◌}
-use Rattle.std.specs.Prelude.{◌≡◌, Option, Result, Ok, Err, IsErrAnd, MatchResult}
-use Rattle.answers.specs.Rules.{tells_place}
-use Rattle.answers.specs.declared.rule.Rule.{Rule}
-use Rattle.token_reading.specs.declared.marker.Marker.{Marker}
+-- A fault of a part is one of the whole.
+use Rattle.std.proofs.Common.{ℕ, sym, subst}
+use Rattle.std.specs.Prelude.{◌≡◌, Result, Ok, Err, IsErrAnd, MatchResult}
 use Rattle.program_read.specs.declared.fault.FileFault.{FileFault}
-use Rattle.program_read.specs.declared.fault.FileFault.TheVariants.{Breaks, Passes}
 use Rattle.program_read.specs.declared.fault.ProgramFault.{ProgramFault}
 use Rattle.program_read.specs.declared.fault.ProgramFault.TheVariants.{InFile, NoMemory}
 use Rattle.program_read.specs.FileFault.{IfInFile}
@@ -17,3 +13,8 @@ weaker NoMemory P Q w h = tt
 pub hands_on : {X : Type 0} (r : Result X ProgramFault) (fault : ProgramFault) (P : X → Type 0) (Q R : ℕ → FileFault → Type 0) → IsErrAnd r (λ f. f ≡ fault) → ((file : ℕ) (f : FileFault) → Q file f → R file f) → IfInFile fault Q → MatchResult r P (λ f. IfInFile f R)
 hands_on (Ok x) fault P Q R e g h = absurd e
 hands_on (Err f) fault P Q R e g h = subst (λ other. IfInFile other R) (sym e) (weaker fault Q R g h)
+
+-- what the last part gives, or why it stopped, is of the whole
+pub hands_all : {X : Type 0} (r : Result X ProgramFault) (P R : X → Type 0) (Q S : ℕ → FileFault → Type 0) → ((x : X) → P x → R x) → ((file : ℕ) (f : FileFault) → Q file f → S file f) → MatchResult r P (λ f. IfInFile f Q) → MatchResult r R (λ f. IfInFile f S)
+hands_all (Ok x) P R Q S f g h = f x h
+hands_all (Err fault) P R Q S f g h = weaker fault Q S g h

@@ -102,6 +102,17 @@ taken_twice modules found taken file m f place a i t e = record {
   };
 }
 
+-- a key that was not added was there before
+taken_there : (added there : Bool) → added ≡ not there → added ≡ false → there ≡ true
+taken_there true there e t = absurd (cc)
+taken_there false true e t = refl
+taken_there false false e t = absurd (cc)
+
+pub taken_again : (modules : List (ℕ × SourceModuleData)) (found : List SumModuleData) (old : BTreeSet (ℕ × List ℕ)) (file : ℕ) (m : SourceModuleData) (f : SumModuleData) (place : ℕ) (key : ℕ × List ℕ) (added : Bool)
+    → AreRead modules found old → IsSumModule file m f → key ≡ (f.address, f.name) → added ≡ not (set.contains key_cmp old key) → added ≡ false → place ≡ (module_place m).start → HasUnbuilt (modules ++ (file, m) ∷ []) file (breaks NotBuilt place)
+taken_again modules found old file m f place key added a i k n t e =
+    taken_twice modules found old file m f place a i (taken_there added (is_in old f.address f.name) (n ∙ ap (λ (other : ℕ × List ℕ). not (set.contains key_cmp old other)) k) t) e
+
 -- others behind it change nothing
 pub stopped_before : (modules more : List (ℕ × SourceModuleData)) (file : ℕ) (fault : FileFault) → HasUnbuilt modules file fault → HasUnbuilt (modules ++ more) file fault
 stopped_before modules more file fault u = record {

@@ -21,8 +21,6 @@ use Rattle.program_read.proofs.ChainLemmas.{KeepsCount, behind_keeps, checks_kee
 use Rattle.program_read.proofs.MarkerLaws.{marker_once, marker_or_none}
 use Rattle.program_read.proofs.ModuleLaws.{all_or_first, first_once, one_program}
 
-infixl 20 ◌▷◌
-
 -- ---- tokens
 
 -- what is known of tokens and of sources

@@ -12,8 +12,6 @@ use Rattle.program_read.specs.declared.texts.Text.{Text}
 use Rattle.program_read.specs.declared.texts.Text.TheVariants.{Short, Long}
 use Rattle.program_read.proofs.NumberedLemmas.{first_across, pairs_length}
 
-infixl 20 ◌▷◌
-
 -- each text has tokens
 pub text_tokens : (n : ℕ) (bytes : List ℕ) (text : Text) → IsText n bytes text → (tokens : List Token) × AreTokensOf n bytes tokens
 text_tokens n bytes (Short tokens) t = (tokens, t.0)
@@ -83,6 +81,7 @@ same_count : {a b : ℕ} → Long a ≡ Long b → a ≡ b
 same_count e = cc
 
 text_agrees : (n : ℕ) (bytes : List ℕ) (text : Text) (t : IsText n bytes text) → Agrees n text (text_tokens n bytes text t).0
+unfolding text_tokens
 text_agrees n bytes (Short tokens) t = ((λ _. t.1), λ fault l. absurd (short_is_no_long tokens l.count l.long))
 text_agrees n bytes (Long long) t = (
   λ h. absurd h,

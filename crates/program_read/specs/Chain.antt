@@ -22,7 +22,6 @@ pub data StopsBehind {A B C : Type 0} (one : Stage A B) (other : Stage B C) (giv
   at_second : (between : B) → one.Gives given between → other.Stops between file fault → StopsBehind one other given file fault
 
 infixl 20 ◌▷◌
-
 abbrev pub ◌▷◌ : {A B C : Type 0} → Stage A B → Stage B C → Stage A C
 one ▷ other = record { Gives = GivesBehind one other; Stops = StopsBehind one other }
 

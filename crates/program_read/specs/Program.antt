@@ -9,8 +9,6 @@ use Rattle.program_read.specs.LocalCounts.{locals_stage}
 use Rattle.program_read.specs.Modules.{modules_stage}
 use Rattle.program_read.specs.declared.fault.FileFault.{FileFault}
 
-infixl 20 ◌▷◌
-
 -- the stages up to the sources
 abbrev pub source_stages : Stage (List (List ℕ)) (List (List SourceModuleData))
 source_stages = text_stages ▷ source_stage ▷ locals_stage

@@ -11,8 +11,6 @@ use Rattle.program_read.specs.declared.fault.FileFault.{FileFault}
 use Rattle.program_read.specs.declared.fault.FileFault.TheVariants.{Passes}
 use Rattle.program_read.specs.declared.fault.FileLimit.TheVariants.{Tokens, Nesting}
 
-infixl 20 ◌▷◌
-
 -- ---- tokens
 
 -- the tokens spell the file

@@ -4,9 +4,9 @@ ghost use Rattle.std.specs.Prelude.{◌≡◌};
 ghost use Rattle.program_read.specs.FileFault.{breaks};
 
 use answers::rule::Rule;
-use token_reading::marker::Marker;
 use pv_base::memory::NoMemory;
 use std::alloc::AllocFailed;
+use token_reading::marker::Marker;
 
 /// A limit that a file can pass.
 #[derive(Clone, Copy, Debug, PartialEq, Eq)]

@@ -6,10 +6,10 @@ ghost use Rattle.program_read.specs.Numbered.{Each};
 ghost use Rattle.program_read.specs.LocalCounts.{HasFewLocals, excess_of, excess_of_form, excess_of_module, local_count, locals_stage, over_limit};
 
 use crate::fault::{FileFault, FileLimit, ProgramFault};
-use source_tree::locals::locals_of;
 use file_tree::member::Function;
 use pv_base::memory::NoMemory;
 use source_parse::source::{Source, SourceForm, SourceModule};
+use source_tree::locals::locals_of;
 use std::alloc::Global;
 
 /// The most parameters and locals that a function may have.

@@ -12,9 +12,9 @@ use crate::locals::check_locals;
 use crate::modules::read_modules;
 use crate::sources::read_sources;
 use crate::texts::read_texts;
+use move_tokens::scanner::{one_spelling, spelled_or_bad};
 use pv_base::lists::Bytes;
 use source_parse::denoted::one_source;
-use move_tokens::scanner::{one_spelling, spelled_or_bad};
 use std::alloc::Global;
 use sum_tree::function::SumModule;
 

@@ -9,11 +9,11 @@ ghost use Rattle.program_read.specs.Sources.{DenoteNone, source_stage};
 
 use crate::fault::{FileFault, ProgramFault};
 use answers::rule::Rule;
-use token_reading::explain::ParseFault;
+use move_tokens::token::Tokens;
 use source_parse::denoted::source;
 use source_parse::source::Source;
-use move_tokens::token::Tokens;
 use std::alloc::Global;
+use token_reading::explain::ParseFault;
 
 /// The source of a file of this number.
 fn read_source(alloc: Global, number: u32, text: &Tokens) -> Result<Source, ProgramFault>

@@ -11,10 +11,10 @@ ghost use Rattle.program_read.specs.declared.texts.Text.TheVariants.{Short};
 
 use crate::fault::{FileFault, FileLimit, ProgramFault};
 use answers::rule::Rule;
-use pv_base::lists::Bytes;
 use move_tokens::scanner::tokens;
 use move_tokens::token::{TokenFault, Tokens};
 use move_tokens::weight::{WEIGHT_LIMIT, weight};
+use pv_base::lists::Bytes;
 use std::alloc::Global;
 
 /// The tokens of a file, or how many there are where they are too many.

@@ -1,6 +1,6 @@
 -- Laws of the comparison of names.
-use Rattle.std.proofs.Common.{◌≡◌, ◌≢◌, ℕ, Bool, true, false, List, refl, sym, ap, absurd, ◌∙◌}
-use Rattle.std.specs.Cmp.Lexicographic.{nat_list_eq_equiv}
+use Rattle.std.proofs.Common.{◌≡◌, ◌≢◌, ℕ, Bool, true, false, List, refl, sym}
+use Rattle.std.specs.Cmp.Lexicographic.{same_text, nat_list_eq_equiv}
 use Rattle.pv_base.specs.Names.{same_name}
 
 pub same_name-same : (w : List ℕ) → same_name w w ≡ true

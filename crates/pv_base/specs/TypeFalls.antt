@@ -1,5 +1,5 @@
 -- Each part of a type is smaller than the type.
-use Rattle.std.specs.Prelude.{ℕ, ◌+◌, ◌≤◌, max, List, [], ◌∷◌}
+use Rattle.std.specs.Prelude.{◌+◌, ◌≤◌, max, List, [], ◌∷◌}
 use Rattle.std.proofs.Common.{arith}
 use denote.Param.Weighed.{most}
 use Rattle.pv_base.specs.TypeData.{TypeData, type_size, types_size, types_of}

@@ -1,5 +1,5 @@
 -- One level of a type, with its children as pure data.
-use Rattle.pv_base.specs.TypeData.{TypeData, TypesData, BoolType, IntType, NumType, AddressType, SignerType, VectorType, StructType, ParamType, SharedType, MutableType, TupleType}
+use Rattle.pv_base.specs.TypeData.{TypeData, BoolType, IntType, NumType, AddressType, SignerType, VectorType, StructType, ParamType, SharedType, MutableType, TupleType}
 use Rattle.pv_base.specs.declared.types.TypeNode.{TypeNode}
 use Rattle.pv_base.specs.declared.types.TypeNode.TheVariants.{Bool, Int, Num, Address, Signer, Vector, Struct, Param, Shared, Mutable, Tuple}
 

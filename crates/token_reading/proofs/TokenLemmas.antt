@@ -4,7 +4,7 @@ use Rattle.std.specs.Prelude.{is_some, nat_le}
 use Rattle.std.proofs.lemmas.Bool.{leb-true, le-leb, eqb-true}
 use Rattle.std.specs.Option.{option_map}
 use Rattle.std.specs.List.{list_any, AllByRecursion}
-use Rattle.std.specs.Cmp.Lexicographic.{same_text, nat_list_eq_equiv}
+use Rattle.std.specs.Cmp.Lexicographic.{same_text}
 use denote.Enum.Bare.{same_true, true_same}
 use Rattle.pv_base.specs.declared.span.Span.{Span}
 use Rattle.move_tokens.specs.contracts.token.Punctuation.{the_type}

@@ -1,10 +1,9 @@
 -- How single tokens are read, from left to right. These functions are the readers' own; what tokens mean is said by the
 -- spelling of the trees.
-use Rattle.pv_base.specs.Names.{same_name}
-use Rattle.std.specs.Prelude.{ℕ, Bool, false, ◌&&◌, ◌||◌, ◌==◌, nat_le, if◌then◌else◌, List, [], ◌∷◌, Option, Some, None, is_some, nat_eq}
+use Rattle.std.specs.Prelude.{ℕ, Bool, false, ◌&&◌, ◌||◌, ◌==◌, nat_le, if◌then◌else◌, List, [], ◌∷◌, Option, Some, None, is_some}
 use Rattle.std.specs.Option.{option_map}
 use Rattle.std.specs.List.{list_any}
-use Rattle.std.specs.Cmp.Lexicographic.{pointwise}
+use Rattle.pv_base.specs.Names.{same_name}
 use Rattle.pv_base.specs.declared.span.Span.{Span}
 use Rattle.move_tokens.specs.declared.token.Token.{Token}
 use Rattle.move_tokens.specs.declared.token.TokenKind.{TokenKind}

@@ -1,7 +1,9 @@
-use Rattle.std.proofs.Common.{◌≡◌, ◌<◌, ◌≤◌, ℕ, refl, subst, arith}
+use Rattle.std.proofs.Common.{◌≡◌, ◌<◌, ◌≤◌, ℕ, ap, subst, arith}
 use Rattle.std.specs.Prelude.{min}
 use Rattle.move_tokens.specs.Weight.{greatest_weight}
 use Rattle.program_read.specs.Texts.{IsLight}
+use Rattle.program_read.specs.declared.fault.FileFault.TheVariants.{Passes}
+use Rattle.program_read.specs.declared.fault.FileLimit.TheVariants.{Nesting}
 use Rattle.program_read.proofs.NumberedLemmas.{each_taken, first_at}
 use Rattle.program_read.proofs.texts.check_nesting.Goals as goal
 
@@ -14,7 +16,7 @@ light w g e h = omega (arith, e, h)
 pub returns-then-weight-ge-WEIGHT_LIMIT : goal.returns-then-weight-ge-WEIGHT_LIMIT
 returns-then-weight-ge-WEIGHT_LIMIT c =
     first_at c.args.texts.now c.loop-number.number c.index-texts-number.result c.loop-number-test.true c.loop-number.invariant
-    (record { fault_is = refl; heavy = subst (λ tokens. 200 < greatest_weight tokens) c.index-texts-number.is (heavy c.weight.result _ c.weight.ensures c.if-weight-ge-WEIGHT_LIMIT.true) })
+    (record { fault_is = ap (Passes Nesting) c.from.ensures; heavy = subst (λ tokens. 200 < greatest_weight tokens) c.index-texts-number.is (heavy c.weight.result _ c.weight.ensures c.if-weight-ge-WEIGHT_LIMIT.true) })
 
 pub loop-number-preserved : goal.loop-number-preserved
 loop-number-preserved c =

@@ -1,7 +1,14 @@
-use Rattle.std.proofs.Common.{rules}
+use Rattle.std.proofs.Common.{◌≡◌, ap, rules, sym, subst, ◌∙◌}
 use Rattle.std.specs.Vec.Iter.{into_iter_items}
+use Rattle.program_read.specs.TextReading.{IsFirstLong}
+use Rattle.program_read.specs.declared.fault.FileFault.TheVariants.{Passes}
+use Rattle.program_read.specs.declared.fault.FileLimit.TheVariants.{Tokens}
 use Rattle.program_read.proofs.TextLemmas.{taking_stop}
 use Rattle.program_read.proofs.texts.take_short.Goals as goal
 
 pub returns-in-Long : goal.returns-in-Long
-returns-in-Long c = ?
+returns-in-Long c =
+    let number : c.loop-number.number-iterator.count ≡ c.in-Some.number = search rules in
+    subst (λ k. IsFirstLong c.args.texts.items c.in-Some.number (Passes Tokens k)) (sym c.from.ensures)
+    (subst (λ n. IsFirstLong c.args.texts.items n (Passes Tokens c.in-Long.count)) number
+    (taking_stop c.in-Long.count (into_iter_items c.next.new.self.iter) c.loop-number.invariant (search rules)))

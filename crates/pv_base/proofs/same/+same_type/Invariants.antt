@@ -1,4 +1,4 @@
-use Rattle.std.proofs.Common.{ℕ, ◌+◌, ◌*◌}
+use Rattle.std.proofs.Common.{◌+◌, ◌*◌}
 use Rattle.pv_base.specs.TypeData.{type_size, types_size, types_of}
 use Rattle.pv_base.proofs.same.+same_type.Given as goal
 
