@@ -3,6 +3,7 @@ use Rattle.std.proofs.Common.{◌≡◌, ℕ, ◌-◌, ◌^◌, ◌<◌, ℤ, po
 use Rattle.std.specs.Prelude.{int_le, nat_lt, nat_le}
 use Rattle.std.proofs.lemmas.Int.{ints}
 use Rattle.std.proofs.lemmas.Bool.Decides.{nat_tests}
+use Rattle.pv_base.proofs.TruthValues.{or_true}
 use Rattle.pv_base.specs.TypeData.{TypeData, BoolType, IntType, NumType, AddressType, SignerType, VectorType, StructType, ParamType, SharedType, MutableType, TupleType}
 use Rattle.pv_base.specs.declared.types.Width.{Width}
 use Rattle.pv_base.specs.declared.types.Width.TheVariants.{U8, U16, U32, U64, U128}
@@ -109,15 +110,7 @@ module _ (m : Interpretation) (s : Assignment) where
 
 three_ways : (a b : ℤ) (l g : Bool) → int_le a (b -ℤ pos 1) ≡ l → int_le b (a -ℤ pos 1) ≡ g → same_value (NumberValue a) (NumberValue b) || (l || (g || false)) ≡ true
 three_ways a b true g e f = or_true (same_value (NumberValue a) (NumberValue b))
-  where
-    or_true : (c : Bool) → c || true ≡ true
-    or_true true = refl
-    or_true false = refl
 three_ways a b false true e f = or_true (same_value (NumberValue a) (NumberValue b))
-  where
-    or_true : (c : Bool) → c || true ≡ true
-    or_true true = refl
-    or_true false = refl
 three_ways a b false false e f =
     let same : a ≡ b = grind (arith, ints) in
     let equal : same_value (NumberValue a) (NumberValue b) ≡ true =

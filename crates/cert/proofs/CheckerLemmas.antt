@@ -4,27 +4,16 @@ use Rattle.std.proofs.lemmas.List.{append-nil}
 use Rattle.std.specs.Prelude.{IsTrue}
 use Rattle.std.proofs.lemmas.List.{take_more}
 use Rattle.std.proofs.Math.ListN.{drop_of_length-le}
+use Rattle.pv_base.proofs.TruthValues.{true_is, not_true, fails}
 use Rattle.fol.specs.FormulaData.{FormulaData, AllOfFormula, AnyOfFormula, formulas_of}
 use Rattle.cert.specs.CertData.{StepData, CertData, CertTree, EndData, SplitEnd, LinearEnd, ClashEnd, FalseEnd, as_cases, first_of}
 use Rattle.cert.specs.Parts.{cases_of}
 use Rattle.cert.specs.Closes.{most_entries, IsEntry, IsFalseForm, IsFalseNegated, added, IsAllowed, AreAllowed, after_steps, formulas_in, Closes, EndCloses, EachCloses}
 use Rattle.cert.specs.Branch.{entries_added}
 
-is_true : (b : Bool) → b ≡ true → IsTrue b
-is_true b e = search rules
-
-never : IsTrue false → ⊥
-never h = search rules
-
-not_true : (b : Bool) → b ≡ false → IsTrue b → ⊥
-not_true b e h = never (subst IsTrue e h)
-
--- a test that can't hold, of what can't be
-pub neither : (P : Type 0) → (P → ⊥) → IsTrue false ↔ P
-neither P none = (λ h. absurd (never h), λ p. absurd (none p))
-
-fails : (a : Bool) → a ≡ false → (P : Type 0) → (P → ⊥) → IsTrue a ↔ P
-fails a e P none = (λ h. absurd (not_true a e h), λ p. absurd (none p))
+-- a test that failed, of what can't be
+failed : (a : Bool) → a ≡ false → (P : Type 0) → (P → ⊥) → IsTrue a ↔ P
+failed a e P none = (λ h. absurd (not_true a e h), λ p. absurd (none p))
 
 -- ---- straight steps
 
@@ -70,7 +59,7 @@ pub allowed_turn : (entries : List FormulaData) (steps : List StepData) (i : ℕ
 allowed_turn entries steps i step b h e test t from =
     record {
       rest = (
-        λ later. from.rest.0 (subst (AreAllowed (entries ++ entries_added (take i steps))) (sym (at_step entries steps i step h e)) (test.0 (is_true b t), subst (λ es. AreAllowed es (drop (i + 1) steps)) (sym (grown entries steps i step h e)) later)),
+        λ later. from.rest.0 (subst (AreAllowed (entries ++ entries_added (take i steps))) (sym (at_step entries steps i step h e)) (test.0 (true_is b t), subst (λ es. AreAllowed es (drop (i + 1) steps)) (sym (grown entries steps i step h e)) later)),
         λ whole. let both = subst (AreAllowed (entries ++ entries_added (take i steps))) (at_step entries steps i step h e) (from.rest.1 whole) in
             subst (λ es. AreAllowed es (drop (i + 1) steps)) (grown entries steps i step h e) both.1,
       );
@@ -78,13 +67,13 @@ allowed_turn entries steps i step b h e test t from =
 
 pub allowed_fails : (entries : List FormulaData) (steps : List StepData) (i : ℕ) (step : StepData) (b : Bool) → i < length steps → step ≡ get_or steps i step → IsTrue b ↔ IsAllowed (entries ++ entries_added (take i steps)) step → b ≡ false → AllowedFrom entries steps i → IsTrue false ↔ AreAllowed entries steps
 allowed_fails entries steps i step b h e test t from =
-    neither (AreAllowed entries steps) (λ whole. let both = subst (AreAllowed (entries ++ entries_added (take i steps))) (at_step entries steps i step h e) (from.rest.1 whole) in
+    fails (AreAllowed entries steps) (λ whole. let both = subst (AreAllowed (entries ++ entries_added (take i steps))) (at_step entries steps i step h e) (from.rest.1 whole) in
     not_true b t (test.1 both.0))
 
 pub allowed_end : (entries : List FormulaData) (steps : List StepData) (i : ℕ) → length steps ≤ i → AllowedFrom entries steps i → IsTrue true ↔ AreAllowed entries steps
 allowed_end entries steps i h from = (
   λ t. from.rest.0 (subst (AreAllowed (entries ++ entries_added (take i steps))) (sym (drop_of_length-le steps h)) tt),
-  λ a. is_true true refl,
+  λ a. true_is true refl,
 )
 
 -- ---- ends
@@ -100,17 +89,17 @@ pub tree_closes : (entries : List FormulaData) (c : CertData) (steps : List Step
 tree_closes entries c steps end a b stored allowed e ends =
     let after = after_steps-append entries steps in
     subst (λ (t : CertData). IsTrue b ↔ Closes entries t) stored (
-      λ h. (allowed.0 (is_true a e), subst (λ es. EndCloses es end) (sym after) (ends.0 h)),
+      λ h. (allowed.0 (true_is a e), subst (λ es. EndCloses es end) (sym after) (ends.0 h)),
       λ h. ends.1 (subst (λ es. EndCloses es end) after h.1),
     )
 
 pub not_allowed_closes : (entries : List FormulaData) (c : CertData) (steps : List StepData) (end : EndData) (a : Bool) → CertTree steps end ≡ c → IsTrue a ↔ AreAllowed entries steps → a ≡ false → IsTrue false ↔ Closes entries c
 not_allowed_closes entries c steps end a stored allowed e =
-    subst (λ (t : CertData). IsTrue false ↔ Closes entries t) stored (neither (Closes entries (CertTree steps end)) (λ h. not_true a e (allowed.1 h.0)))
+    subst (λ (t : CertData). IsTrue false ↔ Closes entries t) stored (fails (Closes entries (CertTree steps end)) (λ h. not_true a e (allowed.1 h.0)))
 
 pub too_long : (entries : List FormulaData) (c : CertData) (steps : List StepData) (end : EndData) (count : ℕ) → CertTree steps end ≡ c → count ≡ length entries → most_entries < count + length (entries_added steps) → IsTrue false ↔ Closes entries c
 too_long entries c steps end count stored counted long =
-    subst (λ (t : CertData). IsTrue false ↔ Closes entries t) stored (neither (Closes entries (CertTree steps end)) (λ h. let short = subst (λ es. length es ≤ most_entries) (after_steps-append entries steps) (within end (after_steps entries steps) h.1) in
+    subst (λ (t : CertData). IsTrue false ↔ Closes entries t) stored (fails (Closes entries (CertTree steps end)) (λ h. let short = subst (λ es. length es ≤ most_entries) (after_steps-append entries steps) (within end (after_steps entries steps) h.1) in
     absurd (omega (arith, short, length-append entries (entries_added steps)))))
 
 -- ---- splits
@@ -122,7 +111,7 @@ formulas_in-as_cases (c ∷ cs) = ap (λ x. c.0 ∷ x) (formulas_in-as_cases cs)
 pub split_closes : (entries : List FormulaData) (end : EndData) (i : ℕ) (cs : List (FormulaData × CertData)) (a b : Bool) → SplitEnd i (as_cases cs) ≡ end → length entries ≤ most_entries → IsTrue a ↔ ((p : FormulaData) × IsEntry entries i p × (cases_of p ≡ Some (map first_of cs))) → a ≡ true → IsTrue b ↔ EachCloses entries (as_cases cs) → IsTrue b ↔ EndCloses entries end
 split_closes entries end i cs a b stored short split e each =
     subst (λ (t : EndData). IsTrue b ↔ EndCloses entries t) stored (
-      λ h. let found = split.0 (is_true a e) in
+      λ h. let found = split.0 (true_is a e) in
           (short, (found.0, found.1, found.2 ∙ ap Some (sym (formulas_in-as_cases cs))), each.0 h),
       λ h. each.1 h.2,
     )
@@ -132,7 +121,7 @@ same_cases entries cs ds b e test = subst (λ xs. IsTrue b ↔ EachCloses entrie
 
 pub no_split_closes : (entries : List FormulaData) (end : EndData) (i : ℕ) (cs : List (FormulaData × CertData)) (a : Bool) → SplitEnd i (as_cases cs) ≡ end → IsTrue a ↔ ((p : FormulaData) × IsEntry entries i p × (cases_of p ≡ Some (map first_of cs))) → a ≡ false → IsTrue a ↔ EndCloses entries end
 no_split_closes entries end i cs a stored split e =
-    subst (λ (t : EndData). IsTrue a ↔ EndCloses entries t) stored (fails a e (EndCloses entries (SplitEnd i (as_cases cs))) (λ h. not_true a e (split.1 (h.1.0, h.1.1, h.1.2 ∙ ap Some (formulas_in-as_cases cs)))))
+    subst (λ (t : EndData). IsTrue a ↔ EndCloses entries t) stored (failed a e (EndCloses entries (SplitEnd i (as_cases cs))) (λ h. not_true a e (split.1 (h.1.0, h.1.1, h.1.2 ∙ ap Some (formulas_in-as_cases cs)))))
 
 -- ---- forms that can't be true
 

@@ -5,7 +5,7 @@ use Rattle.fol.specs.FormulaData.{TermData, FormulaData}
 use Rattle.cert.specs.declared.certificate.Multiple.{Multiple}
 use Rattle.cert.specs.Linear.{kept_of, Row, row_of_entry, row_weight, combined, total}
 use Rattle.cert.specs.Unknowns.{EachUnknown}
-use Rattle.cert.proofs.Ring.{mul-add_ℤ, add-mul_ℤ, mul_assoc_ℤ}
+use Rattle.pv_base.proofs.WholeNumbers.{mul_add, add_mul, mul_assoc}
 use Rattle.cert.proofs.Sums.{kept_of_exact, Values, sum_of, without, splits, constant, without_all, without_all-kept, without_all-gone, IsKeptWithout, zeros_kept}
 
 -- the row as a number: the lesser less the greater, and the gap
@@ -32,7 +32,7 @@ row_splits x w (Some row) c e =
     let g : sum_of w row.greater ≡ sum_of (without x w) row.greater +ℤ part.right *ℤ w x = splits x w row.greater part.right part.is_right in
     let no_gap : pos 0 ≡ whole.right = cc in
     let d : part.left *ℤ w x ≡ whole.left *ℤ w x +ℤ part.right *ℤ w x =
-    ap (λ z. z *ℤ w x) (omega (arith, ints, part.exact)) ∙ add-mul_ℤ whole.left part.right (w x) in
+    ap (λ z. z *ℤ w x) (omega (arith, ints, part.exact)) ∙ add_mul whole.left part.right (w x) in
     let s : c *ℤ w x ≡ whole.left *ℤ w x = ap (λ z. z *ℤ w x) (omega (arith, ints, whole.exact, no_gap)) in
     omega (arith, ints, l, g, d, s)
 
@@ -60,10 +60,10 @@ combination_splits x w entries (m ∷ ms) a c e =
         let exact : m.multiplier *ℤ product.right ≡ added.right = ap (λ z. z *ℤ product.right) is_m ∙ product.exact in
         let times : m.multiplier *ℤ row_sum w (row_at entries m) ≡ m.multiplier *ℤ row_sum (without x w) (row_at entries m) +ℤ added.right *ℤ w x =
         ap (λ z. m.multiplier *ℤ z) row
-        ∙ mul-add_ℤ m.multiplier (row_sum (without x w) (row_at entries m)) (product.right *ℤ w x)
-        ∙ ap (λ z. m.multiplier *ℤ row_sum (without x w) (row_at entries m) +ℤ z) (sym (mul_assoc_ℤ m.multiplier product.right (w x)) ∙ ap (λ z. z *ℤ w x) exact) in
+        ∙ mul_add m.multiplier (row_sum (without x w) (row_at entries m)) (product.right *ℤ w x)
+        ∙ ap (λ z. m.multiplier *ℤ row_sum (without x w) (row_at entries m) +ℤ z) (sym (mul_assoc m.multiplier product.right (w x)) ∙ ap (λ z. z *ℤ w x) exact) in
         let sum : b *ℤ w x ≡ a *ℤ w x +ℤ added.right *ℤ w x =
-        ap (λ z. z *ℤ w x) (sym added.exact ∙ ap (λ z. z +ℤ added.right) (sym is_a)) ∙ add-mul_ℤ a added.right (w x) in
+        ap (λ z. z *ℤ w x) (sym added.exact ∙ ap (λ z. z +ℤ added.right) (sym is_a)) ∙ add_mul a added.right (w x) in
         let rest : rows_sum w entries ms +ℤ b *ℤ w x ≡ rows_sum (without x w) entries ms +ℤ c *ℤ w x =
         later b (ap (λ s. combined (Some x) entries s ms) (sym h) ∙ e) in
         omega (arith, ints, times, sum, rest)

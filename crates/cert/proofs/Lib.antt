@@ -1,5 +1,4 @@
 pub mod Entries
-pub mod Ring
 pub mod Sums
 pub mod Contradiction
 pub mod RowTruth

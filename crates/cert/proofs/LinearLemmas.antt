@@ -5,6 +5,7 @@ use Rattle.std.proofs.lemmas.Int.{ints}
 use Rattle.std.proofs.lemmas.List.Elements.{All-nil, All-cons, All-head, All-tail, All-get_or, All-more}
 use lib.IntN.{*ℤ-zero}
 use Rattle.std.proofs.lemmas.List.{take_all}
+use Rattle.pv_base.proofs.TruthValues.{true_is, not_true}
 use Rattle.fol.specs.FormulaData.{TermData, NumTerm, AddTerm, SubTerm, MulTerm, FormulaData}
 use Rattle.cert.specs.declared.certificate.Multiple.{Multiple}
 use Rattle.cert.specs.Linear.{kept, kept_of, same_term, numeral_of, Part, unknown_weight, product_weight, weight, Row, row_of_entry, row_weight, combined, total, MayMultiply, MayCount, IsContradiction}
@@ -34,22 +35,15 @@ other_terms : (t u : TermData) → (t ≡ u → ⊥) → (b : Bool) → same_ter
 other_terms t u differ true e = absurd (differ (same_term-equal t u e))
 other_terms t u differ false e = e
 
-is_true : (b : Bool) → b ≡ true → IsTrue b
-is_true b e = search rules
-
-is_not : (b : Bool) → b ≡ false → IsTrue b → ⊥
-is_not true e h = absurd (cc)
-is_not false e h = search rules
-
 pub weight_same : (part : Part) (t u : TermData) (b : Bool) → part ≡ Some u → IsTrue b ↔ (t ≡ u) → b ≡ true → Some (pos 1) ≡ unknown_weight part t
 weight_same part t u b e test h =
-    let same : t ≡ u = test.0 (is_true b h) in
+    let same : t ≡ u = test.0 (true_is b h) in
     let equal : same_term t u ≡ true = subst (λ v. same_term t v ≡ true) same (same_term_itself t) in
     subst (λ p. Some (pos 1) ≡ unknown_weight p t) (sym e) (by_same (same_term t u) (Some (pos 1)) (Some (pos 1)) (Some (pos 0)) equal refl)
 
 pub weight_other : (part : Part) (t u : TermData) (b : Bool) → part ≡ Some u → IsTrue b ↔ (t ≡ u) → b ≡ false → Some (pos 0) ≡ unknown_weight part t
 weight_other part t u b e test h =
-    let other : same_term t u ≡ false = other_terms t u (λ same. is_not b h (test.1 same)) (same_term t u) refl in
+    let other : same_term t u ≡ false = other_terms t u (λ same. not_true b h (test.1 same)) (same_term t u) refl in
     subst (λ p. Some (pos 0) ≡ unknown_weight p t) (sym e) (by_other (same_term t u) (Some (pos 0)) (Some (pos 1)) (Some (pos 0)) other refl)
 
 -- ---- a sum, one more entry at a time
@@ -163,20 +157,20 @@ all_upto P xs i h all = subst (All P) (take_all i xs h) all
 -- a test of each entry that failed at one
 pub one_fails : {A : Type 0} (P : A → Type 0) (xs : List A) (i : ℕ) (x : A) (b : Bool) → i < length xs → IsTrue b ↔ P (get_or xs i x) → b ≡ false → IsTrue false ↔ All P xs
 one_fails P xs i x b h test e =
-    (λ f. absurd (is_not false refl f), λ all. absurd (is_not b e (test.1 (All-get_or P xs i x h all))))
+    (λ f. absurd (not_true false refl f), λ all. absurd (not_true b e (test.1 (All-get_or P xs i x h all))))
 
 pub one_more : {A : Type 0} (P : A → Type 0) (xs : List A) (i : ℕ) (x : A) (b : Bool) → i < length xs → IsTrue b ↔ P (get_or xs i x) → b ≡ true → All P (take i xs) → All P (take (i + 1) xs)
-one_more P xs i x b h test e all = All-more P xs i x h all (test.0 (is_true b e))
+one_more P xs i x b h test e all = All-more P xs i x h all (test.0 (true_is b e))
 
 pub all_pass : {A : Type 0} (P : A → Type 0) (xs : List A) (i : ℕ) → length xs ≤ i → All P (take i xs) → IsTrue true ↔ All P xs
-all_pass P xs i h all = (λ t. all_upto P xs i h all, λ t. is_true true refl)
+all_pass P xs i h all = (λ t. all_upto P xs i h all, λ t. true_is true refl)
 
 pub fails : (P Q : Type 0) (b : Bool) → IsTrue b ↔ P → b ≡ false → (Q → P) → IsTrue false ↔ Q
-fails P Q b test e part = (λ f. absurd (is_not false refl f), λ q. absurd (is_not b e (test.1 (part q))))
+fails P Q b test e part = (λ f. absurd (not_true false refl f), λ q. absurd (not_true b e (test.1 (part q))))
 
 pub last_test : (entries : List FormulaData) (ms : List Multiple) (a b c : Bool) → IsTrue a ↔ All (MayCount entries) ms → a ≡ true → IsTrue b ↔ ((n : ℕ) × (total None entries ms ≡ Some (pos (suc n)))) → b ≡ true → IsTrue c ↔ All (Cancels entries ms) ms → IsTrue c ↔ IsContradiction entries ms
 last_test entries ms a b c first e second f third = (
-  λ t. tests_are entries ms (first.0 (is_true a e)) (second.0 (is_true b f)) (third.0 t),
+  λ t. tests_are entries ms (first.0 (true_is a e)) (second.0 (true_is b f)) (third.0 t),
   λ h. third.1 (all_cancel entries ms h.cancelled ms h.rows),
 )
 

@@ -2,12 +2,7 @@
 use Rattle.std.proofs.Common.{◌≡◌, ◌↔◌, ℕ, ◌+◌, ◌<◌, ◌≤◌, List, ◌∷◌, length, get_or, drop, map, sym, ap, ◌∙◌, add-one, drop-cons}
 use Rattle.std.proofs.Math.ListN.{drop_of_length-le}
 use Rattle.std.proofs.lemmas.List.{length-map}
-
-tails : {A : Type 0} {x y : A} {xs ys : List A} → x ∷ xs ≡ y ∷ ys → xs ≡ ys
-tails p = cc
-
-heads : {A : Type 0} {x y : A} {xs ys : List A} → x ∷ xs ≡ y ∷ ys → x ≡ y
-heads p = cc
+use Rattle.pv_base.proofs.ListEnds.{head_is, tail_is}
 
 module _ {A B C : Type 0} (f : A → C) (g : B → C) where
   -- what is left of the lists is alike exactly where the lists are
@@ -29,14 +24,14 @@ module _ {A B C : Type 0} (f : A → C) (g : B → C) where
       record {
         rest = (
           λ p. alike.rest.0 (both.0 ∙ (λ j. same j ∷ p j) ∙ sym both.1),
-          λ p. tails (sym both.0 ∙ alike.rest.1 p ∙ both.1),
+          λ p. tail_is (sym both.0 ∙ alike.rest.1 p ∙ both.1),
         );
       }
 
   pub alike_differ : (xs : List A) (ys : List B) (i : ℕ) (x : A) (y : B) → i < length xs → i < length ys → x ≡ get_or xs i x → y ≡ get_or ys i y → (f x ≡ g y → ⊥) → AlikeFrom i xs ys → map f xs ≡ map g ys → ⊥
   alike_differ xs ys i x y h k e d differ alike p =
       let both = here xs ys i x y h k e d in
-      differ (heads (sym both.0 ∙ alike.rest.1 p ∙ both.1))
+      differ (head_is (sym both.0 ∙ alike.rest.1 p ∙ both.1))
 
   pub alike_end : (xs : List A) (ys : List B) (i : ℕ) → length xs ≤ i → length ys ≤ i → AlikeFrom i xs ys → map f xs ≡ map g ys
   alike_end xs ys i e d alike =

@@ -9,33 +9,9 @@ use Rattle.fol.specs.Truth.{Interpretation, Assignment, value_of, truth_of, all_
 use Rattle.cert.specs.CertData.{StepData, PartsStep, AxiomStep, CertData, CertTree, EndData, SplitEnd, LinearEnd, ClashEnd, FalseEnd, CasesData, NoCases, MoreCases}
 use Rattle.cert.specs.Parts.{parts_of, parts_of_negated, cases_of, cases_of_negated, both_of}
 use Rattle.cert.specs.Closes.{AreAllowed, after_steps, IsFalseForm, formulas_in, Closes, EndCloses, EachCloses, Certifies}
+use Rattle.pv_base.proofs.TruthValues.{both_true, not_either, not_not, true_is, never_both, either_false}
 use Rattle.cert.proofs.RowTruth.{AreTrue, contradiction_false}
 use Rattle.cert.proofs.AxiomTruth.{instance_true}
-
--- ---- truth values
-
-both_true : (a b : Bool) → a && b ≡ true → (a ≡ true) × (b ≡ true)
-both_true true b e = (refl, e)
-both_true false b e = absurd (cc)
-
-not_either : (a b : Bool) → not (a || b) ≡ true → (not a ≡ true) × (not b ≡ true)
-not_either true b e = absurd (cc)
-not_either false b e = (refl, e)
-
-not_not : (a : Bool) → not (not a) ≡ true → a ≡ true
-not_not true e = refl
-not_not false e = absurd (cc)
-
-true_is : (a : Bool) → a ≡ true → IsTrue a
-true_is a e = search rules
-
-never_both : (a : Bool) → a ≡ true → not a ≡ true → ⊥
-never_both true e f = absurd (cc)
-never_both false e f = absurd (cc)
-
-either_false : (a b : Bool) → a || b ≡ true → (a ≡ true → ⊥) → (b ≡ true → ⊥) → ⊥
-either_false true b e f g = f refl
-either_false false b e f g = g e
 
 module _ (m : Interpretation) (s : Assignment) where
   -- each formula of a list is true

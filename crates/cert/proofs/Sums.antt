@@ -7,7 +7,7 @@ use Rattle.fol.specs.FormulaCodes.{term_code, term_back, term_back-code}
 use Rattle.fol.specs.TreeOrder.{same_tree-equal, same_tree_itself}
 use Rattle.cert.specs.Linear.{kept, kept_of, same_term, numeral_of, unknown_weight, product_weight, weight}
 use Rattle.cert.specs.Unknowns.{EachUnknown, EachOfProduct}
-use Rattle.cert.proofs.Ring.{mul-add_ℤ, mul_assoc_ℤ, add-mul_ℤ, sub-mul_ℤ, one-mul_ℤ}
+use Rattle.pv_base.proofs.WholeNumbers.{mul_add, mul_assoc, add_mul, sub_mul, one_mul}
 
 -- ---- terms that are one
 
@@ -70,7 +70,7 @@ leaf_case : (x t : TermData) (w : Values) (c : ℤ) (b : Bool) → same_term t x
 leaf_case x t w c true e k =
     let is_one : pos 1 ≡ c = cc in
     let same : w t ≡ w x = ap w (same_term-equal t x e) in
-    let once : c *ℤ w x ≡ w x = ap (λ z. z *ℤ w x) (sym is_one) ∙ one-mul_ℤ (w x) in
+    let once : c *ℤ w x ≡ w x = ap (λ z. z *ℤ w x) (sym is_one) ∙ one_mul (w x) in
     omega (arith, ints)
 leaf_case x t w c false e k =
     let is_none : pos 0 ≡ c = cc in
@@ -96,7 +96,7 @@ sums x y v a a' b b' c left right e =
     let k = kept_of_exact ◌+ℤ◌ x y c e in
     let l : a ≡ a' +ℤ k.left *ℤ v = left k.left k.is_left in
     let r : b ≡ b' +ℤ k.right *ℤ v = right k.right k.is_right in
-    let both : c *ℤ v ≡ k.left *ℤ v +ℤ k.right *ℤ v = ap (λ z. z *ℤ v) (sym k.exact) ∙ add-mul_ℤ k.left k.right v in
+    let both : c *ℤ v ≡ k.left *ℤ v +ℤ k.right *ℤ v = ap (λ z. z *ℤ v) (sym k.exact) ∙ add_mul k.left k.right v in
     omega (arith, ints, l, r, both)
 
 differences : (x y : Option ℤ) (v a a' b b' c : ℤ) → Splits x v a a' → Splits y v b b' → kept_of ◌-ℤ◌ x y ≡ Some c → a -ℤ b ≡ (a' -ℤ b') +ℤ c *ℤ v
@@ -104,7 +104,7 @@ differences x y v a a' b b' c left right e =
     let k = kept_of_exact ◌-ℤ◌ x y c e in
     let l : a ≡ a' +ℤ k.left *ℤ v = left k.left k.is_left in
     let r : b ≡ b' +ℤ k.right *ℤ v = right k.right k.is_right in
-    let both : c *ℤ v ≡ k.left *ℤ v -ℤ k.right *ℤ v = ap (λ z. z *ℤ v) (sym k.exact) ∙ sub-mul_ℤ k.left k.right v in
+    let both : c *ℤ v ≡ k.left *ℤ v -ℤ k.right *ℤ v = ap (λ z. z *ℤ v) (sym k.exact) ∙ sub_mul k.left k.right v in
     omega (arith, ints, l, r, both)
 
 multiples : (m : ℤ) (x : Option ℤ) (v a a' c : ℤ) → Splits x v a a' → kept_of ◌*ℤ◌ (Some m) x ≡ Some c → m *ℤ a ≡ m *ℤ a' +ℤ c *ℤ v
@@ -113,7 +113,7 @@ multiples m x v a a' c part e =
     let is_m : m ≡ k.left = cc in
     let r : a ≡ a' +ℤ k.right *ℤ v = part k.right k.is_right in
     let exact : m *ℤ k.right ≡ c = ap (λ z. z *ℤ k.right) is_m ∙ k.exact in
-    ap (λ z. m *ℤ z) r ∙ mul-add_ℤ m a' (k.right *ℤ v) ∙ ap (λ z. m *ℤ a' +ℤ z) (sym (mul_assoc_ℤ m k.right v) ∙ ap (λ z. z *ℤ v) exact)
+    ap (λ z. m *ℤ z) r ∙ mul_add m a' (k.right *ℤ v) ∙ ap (λ z. m *ℤ a' +ℤ z) (sym (mul_assoc m k.right v) ∙ ap (λ z. z *ℤ v) exact)
 
 products : (l r x y : Option ℤ) (z : Option ℤ) (v a a' b b' d d' c : ℤ) → Splits x v a a' → Splits y v b b' → Splits z v d d' → product_weight l r x y z ≡ Some c → sum_product l r a b d ≡ sum_product l r a' b' d' +ℤ c *ℤ v
 products (Some m) r x y z v a a' b b' d d' c left right whole e = multiples m y v b b' c right e

@@ -8,7 +8,7 @@ use Rattle.move_tokens.specs.declared.token.Punctuation.TheVariants.{LeftParenth
 use Rattle.move_tree.specs.declared.lexeme.Identifier.{Identifier}
 use Rattle.move_tree.specs.declared.lexeme.Lexeme.{Lexeme}
 use Rattle.move_tree.specs.declared.operator.BinaryOperator.{BinaryOperator}
-use Rattle.move_tree.specs.declared.spec_tokens.LoopSpec.{LoopSpec}
+use Rattle.move_tree.specs.declared.spec_tokens.KeptSpec.{KeptSpec}
 use Rattle.move_tree.specs.Lexemes.{word, sign, sign_at, identifier}
 use Rattle.move_tree.specs.SpecTokenSpelling.{kept}
 use Rattle.move_tree.specs.NameRules.{IsName}
@@ -141,7 +141,7 @@ module _ (bound : ℕ) (inner : Readers) (types_complete : ReadsBackTypes bound 
 
   -- ---- the bodies and conditions of loops
 
-  loop_spec-complete : (spec : LoopSpec) (ts rest : List Token) → Begins ((sign LeftBrace ∷ map kept spec.tokens ++ sign RightBrace ∷ []) ++ sign Semicolon ∷ []) ts rest → IsBalanced spec.tokens → loop_spec_at spec.place ts ≡ Some (spec, rest)
+  loop_spec-complete : (spec : KeptSpec) (ts rest : List Token) → Begins ((sign LeftBrace ∷ map kept spec.tokens ++ sign RightBrace ∷ []) ++ sign Semicolon ∷ []) ts rest → IsBalanced spec.tokens → loop_spec_at spec.place ts ≡ Some (spec, rest)
   unfolding loop_spec_at
   loop_spec-complete spec ts rest b p =
       let o = Begins-first (sign LeftBrace) ((map kept spec.tokens ++ sign RightBrace ∷ []) ++ sign Semicolon ∷ []) ts rest b in
@@ -150,7 +150,7 @@ module _ (bound : ℕ) (inner : Readers) (types_complete : ReadsBackTypes bound 
       ∙ bind_some (balanced_at RightBrace [] o.mid) _ (spec.tokens, k.mid) (balanced_at-complete RightBrace [] spec.tokens o.mid k.mid refl k.front p)
       ∙ map_some (after_sign Semicolon k.mid) (λ rest. (record { place = spec.place; tokens = spec.tokens }, rest)) rest (after_sign-complete Semicolon k.mid rest k.back)
 
-  spec_body-complete : (valued : Bool) (place : Span) (spec : LoopSpec) (items : ItemsData) (v : MaybeExpressionData) (ts rest : List Token) → length ts ≤ bound → Begins (expression_spelling (BlockExpression (BlockOf place (Some spec) items v))) ts rest
+  spec_body-complete : (valued : Bool) (place : Span) (spec : KeptSpec) (items : ItemsData) (v : MaybeExpressionData) (ts rest : List Token) → length ts ≤ bound → Begins (expression_spelling (BlockExpression (BlockOf place (Some spec) items v))) ts rest
       → IsProperAs (role_of valued) (BlockExpression (BlockOf place (Some spec) items v)) → body_at inner valued ts ≡ Some (BlockExpression (BlockOf place (Some spec) items v), rest)
   unfolding body_at spec_body_at
   spec_body-complete valued place spec items v ts rest h b p =

@@ -16,7 +16,7 @@ use Rattle.move_tree.specs.declared.operator.UnaryOperator.{UnaryOperator}
 use Rattle.move_tree.specs.declared.operator.UnaryOperator.TheVariants.{Not, Dereference, Borrow, BorrowMutable}
 use Rattle.move_tree.specs.declared.operator.UseKind.{UseKind}
 use Rattle.move_tree.specs.declared.operator.UseKind.TheVariants.{Move, Copy}
-use Rattle.move_tree.specs.declared.spec_tokens.LoopSpec.{LoopSpec}
+use Rattle.move_tree.specs.declared.spec_tokens.KeptSpec.{KeptSpec}
 use Rattle.move_tree.specs.Lexemes.{word, sign, sign_at, identifier, comma_list}
 use Rattle.move_tree.specs.Balance.{IsBalanced}
 use Rattle.move_tree.specs.PathSpelling.{path_spelling}
@@ -316,7 +316,7 @@ operand_first (BlockExpression x) h p = First-weaker BeginsTerm NoControl term_n
 
 pub record SpecBlock (e : ExpressionData) : Type 0 where
   pub place : Span
-  pub spec : LoopSpec
+  pub spec : KeptSpec
   pub items : ItemsData
   pub value : MaybeExpressionData
   pub is : e ≡ BlockExpression (BlockOf place (Some spec) items value)
@@ -326,7 +326,7 @@ kind_of_body role (BlockExpression (BlockOf place None items value)) p = inl p
 kind_of_body role (BlockExpression (BlockOf place (Some spec) items value)) p = inr (record { place = place; spec = spec; items = items; value = value; is = refl })
 kind_of_body role _ p = inl p
 
-pub held_spec : (valued : Bool) (spec : LoopSpec) (v : MaybeExpressionData) → MayHoldSpec (role_of valued) (Some spec) v → IsBalanced spec.tokens × ((valued && cond (is_some (option_of v)) false true) ≡ false)
+pub held_spec : (valued : Bool) (spec : KeptSpec) (v : MaybeExpressionData) → MayHoldSpec (role_of valued) (Some spec) v → IsBalanced spec.tokens × ((valued && cond (is_some (option_of v)) false true) ≡ false)
 held_spec true spec NoExpression m = absurd m.1
 held_spec true spec (SomeExpression e) m = (m.0, refl)
 held_spec false spec v m = (m, refl)

@@ -12,7 +12,7 @@ use Rattle.move_tree.specs.declared.lexeme.Lexeme.{Lexeme}
 use Rattle.move_tree.specs.declared.literal.Literal.TheVariants.{Address as address_literal}
 use Rattle.move_tree.specs.declared.path.Path.{Path}
 use Rattle.move_tree.specs.declared.operator.BinaryOperator.{BinaryOperator}
-use Rattle.move_tree.specs.declared.spec_tokens.LoopSpec.{LoopSpec}
+use Rattle.move_tree.specs.declared.spec_tokens.KeptSpec.{KeptSpec}
 use Rattle.move_tree.specs.Lexemes.{lexeme, word, sign, sign_at, identifier, after_commas, last_comma, comma_list}
 use Rattle.move_tree.specs.NameRules.{IsCapital}
 use Rattle.move_tree.specs.PathSpelling.{address_spelling, path_spelling}
@@ -493,7 +493,7 @@ module _ (inner : Readers) (types_sound : ReadsTypes inner.types) (patterns_soun
         high = omega arith;
       })
 
-  loop_spec-sound : (place : Span) (whole ts : List Token) (r : LoopSpec × List Token) → Begins (word (codes "spec") (Some place) ∷ []) whole ts → loop_spec_at place ts ≡ Some r → Begins (loop_spec_spelling r.0 ++ sign Semicolon ∷ []) whole r.1 × IsBalanced r.0.tokens
+  loop_spec-sound : (place : Span) (whole ts : List Token) (r : KeptSpec × List Token) → Begins (word (codes "spec") (Some place) ∷ []) whole ts → loop_spec_at place ts ≡ Some r → Begins (loop_spec_spelling r.0 ++ sign Semicolon ∷ []) whole r.1 × IsBalanced r.0.tokens
   unfolding loop_spec_at
   loop_spec-sound place whole ts r front e =
       let o = step (after_sign LeftBrace ts) _ r e in
@@ -507,7 +507,7 @@ module _ (inner : Readers) (types_sound : ReadsTypes inner.types) (patterns_soun
         inside.balanced,
       )
 
-  may_hold : (valued : Bool) (spec : LoopSpec) (value : Option ExpressionData) → IsBalanced spec.tokens → (valued && cond (is_some value) false true) ≡ false → MayHoldSpec (role_of valued) (Some spec) (maybe_expression_of value)
+  may_hold : (valued : Bool) (spec : KeptSpec) (value : Option ExpressionData) → IsBalanced spec.tokens → (valued && cond (is_some value) false true) ≡ false → MayHoldSpec (role_of valued) (Some spec) (maybe_expression_of value)
   may_hold true spec None b h = absurd (cc)
   may_hold true spec (Some value) b h = (b, tt)
   may_hold false spec value b h = b

@@ -7,7 +7,7 @@ use Rattle.pv_base.specs.Codes.{pick}
 use Rattle.move_tree.specs.LeafCodes.{bool_back, bool_back-code, bool_code, identifier_back, identifier_back-code, identifier_code, path_back, path_back-code, path_code, span_back, span_back-code, span_code}
 use Rattle.move_tree.specs.OperatorCodes.{binary_operator_back, binary_operator_back-code, binary_operator_code, literal_back, literal_back-code, literal_code, unary_operator_back, unary_operator_back-code, unary_operator_code, use_kind_back, use_kind_back-code, use_kind_code}
 use Rattle.move_tree.specs.PatternCodes.{pattern_back, pattern_back-code, pattern_code}
-use Rattle.move_tree.specs.SpecTokenCodes.{maybe_loop_spec_back, maybe_loop_spec_back-code, maybe_loop_spec_code, maybe_source_type_back, maybe_source_type_back-code, maybe_source_type_code}
+use Rattle.move_tree.specs.SpecTokenCodes.{maybe_kept_spec_back, maybe_kept_spec_back-code, maybe_kept_spec_code, maybe_source_type_back, maybe_source_type_back-code, maybe_source_type_code}
 use Rattle.move_tree.specs.TypeTreeCodes.{maybe_arguments_back, maybe_arguments_back-code, maybe_arguments_code, source_type_back, source_type_back-code, source_type_code}
 use Rattle.expression_tree.specs.ExpressionData.{ExpressionData, BinaryExpression, AssignExpression, IfExpression, WhileExpression, LoopExpression, ReturnExpression, AbortExpression, BreakExpression, ContinueExpression, UnaryExpression, UseExpression, FieldExpression, LiteralExpression, PathExpression, CallExpression, PackExpression, VectorExpression, AssertExpression, TupleExpression, CastExpression, BlockExpression, MaybeExpressionData, NoExpression, SomeExpression, BlockData, BlockOf, ItemData, ExpressionItem, LetItem, FieldValueData, ShortFieldValue, LongFieldValue, ExpressionsData, NoExpressions, MoreExpressions, ItemsData, NoItems, MoreItems, FieldValuesData, NoFieldValues, MoreFieldValues}
 
@@ -40,7 +40,7 @@ abbrev mutual
   maybe_expression_code (SomeExpression a) = gcons (gnum 1) (expression_code a)
 
   pub block_code : BlockData → Gv
-  block_code (BlockOf a b c d) = gcons (gnum 0) (gcons (span_code a) (gcons (maybe_loop_spec_code b) (gcons (items_code c) (maybe_expression_code d))))
+  block_code (BlockOf a b c d) = gcons (gnum 0) (gcons (span_code a) (gcons (maybe_kept_spec_code b) (gcons (items_code c) (maybe_expression_code d))))
 
   pub item_code : ItemData → Gv
   item_code (ExpressionItem a) = gcons (gnum 0) (gcons (expression_code a) (gcons gnil (gcons gnil gnil)))
@@ -75,7 +75,7 @@ abbrev mutual
 
   pub block_back : Gv → BlockData
   block_back (gcons (gnum n) (gcons a (gcons b (gcons c d)))) =
-      pick n (BlockOf (span_back gnil) None NoItems NoExpression) (BlockOf (span_back a) (maybe_loop_spec_back b) (items_back c) (maybe_expression_back d) ∷ [])
+      pick n (BlockOf (span_back gnil) None NoItems NoExpression) (BlockOf (span_back a) (maybe_kept_spec_back b) (items_back c) (maybe_expression_back d) ∷ [])
   block_back _ = BlockOf (span_back gnil) None NoItems NoExpression
 
   pub item_back : Gv → ItemData
@@ -132,7 +132,7 @@ mutual
   maybe_expression_back-code (SomeExpression a) = λ i. SomeExpression (expression_back-code a i)
 
   pub block_back-code : (x : BlockData) → block_back (block_code x) ≡ x
-  block_back-code (BlockOf a b c d) = λ i. BlockOf (span_back-code a i) (maybe_loop_spec_back-code b i) (items_back-code c i) (maybe_expression_back-code d i)
+  block_back-code (BlockOf a b c d) = λ i. BlockOf (span_back-code a i) (maybe_kept_spec_back-code b i) (items_back-code c i) (maybe_expression_back-code d i)
 
   pub item_back-code : (x : ItemData) → item_back (item_code x) ≡ x
   item_back-code (ExpressionItem a) = λ i. ExpressionItem (expression_back-code a i)

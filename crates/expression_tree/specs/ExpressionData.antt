@@ -2,7 +2,7 @@
 -- expressions, "Variables", "Conditionals", "Loops", "Structs" and "References".
 use Rattle.std.specs.Prelude.{◌≡◌, ℕ, ◌+◌, Bool, List, [], ◌∷◌, refl, Option, Some, None}
 use Rattle.std.proofs.Common.{ap, sym, ◌∙◌}
-use Rattle.move_tree.specs.declared.spec_tokens.LoopSpec.{LoopSpec}
+use Rattle.move_tree.specs.declared.spec_tokens.KeptSpec.{KeptSpec}
 use Rattle.move_tree.specs.TypeTreeData.{SourceTypeData}
 use Rattle.move_tree.specs.declared.operator.BinaryOperator.{BinaryOperator}
 use Rattle.move_tree.specs.declared.lexeme.Identifier.{Identifier}
@@ -44,7 +44,7 @@ mutual
 
   -- the items between the braces and the value behind them; in a loop, its invariants stand before the items
   pub data BlockData : Type 0 where
-    BlockOf : Span → (Option LoopSpec) → ItemsData → MaybeExpressionData → BlockData
+    BlockOf : Span → (Option KeptSpec) → ItemsData → MaybeExpressionData → BlockData
 
   pub data ItemData : Type 0 where
     ExpressionItem : ExpressionData → ItemData

@@ -12,7 +12,7 @@ use Rattle.expression_tree.specs.declared.expression.ItemNode.TheVariants.{Expre
 use Rattle.std.specs.Prelude.{Vec}
 use Rattle.std.specs.Global.{Global}
 use Rattle.pv_base.specs.declared.span.Span.{Span}
-use Rattle.move_tree.specs.declared.spec_tokens.LoopSpec.{LoopSpec}
+use Rattle.move_tree.specs.declared.spec_tokens.KeptSpec.{KeptSpec}
 use Rattle.expression_tree.specs.declared.expression.Block.TheDeep.{deep-ExpressionNode, deep-ItemNode, deep-FieldValue, deep-Block}
 
 -- no expression is larger than all of them together
@@ -62,6 +62,6 @@ pub field_value_falls : (name : Identifier) (value : Option ExpressionData) → 
 field_value_falls name None = omega arith
 field_value_falls name (Some value) = omega arith
 
-pub block_falls : (place : Span) (spec : Option LoopSpec) (items : Vec ItemData Global) (value : Option ExpressionData) → deep-Block (record { place = place; spec = spec; items = items; value = value }) ≤ block_size (BlockOf place spec (items_of items.items) (maybe_expression_of value))
+pub block_falls : (place : Span) (spec : Option KeptSpec) (items : Vec ItemData Global) (value : Option ExpressionData) → deep-Block (record { place = place; spec = spec; items = items; value = value }) ≤ block_size (BlockOf place spec (items_of items.items) (maybe_expression_of value))
 block_falls place spec items None = omega (arith, items_fall items.items)
 block_falls place spec items (Some value) = omega (arith, items_fall items.items)

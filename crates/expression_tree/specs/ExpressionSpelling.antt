@@ -18,7 +18,7 @@
 use Rattle.std.specs.Prelude.{Bool, true, false, List, [], ◌∷◌, ◌++◌, Option, None, Some, codes}
 use Rattle.move_tokens.specs.declared.token.Punctuation.TheVariants.{LeftParenthesis, RightParenthesis, LeftBrace, RightBrace, LeftBracket, RightBracket, Colon, Comma, Semicolon, Period, Exclaim, Equal}
 use Rattle.move_tree.specs.declared.lexeme.Lexeme.{Lexeme}
-use Rattle.move_tree.specs.declared.spec_tokens.LoopSpec.{LoopSpec}
+use Rattle.move_tree.specs.declared.spec_tokens.KeptSpec.{KeptSpec}
 use Rattle.move_tree.specs.Lexemes.{word, identifier, sign, sign_at, comma_list}
 use Rattle.move_tree.specs.PathSpelling.{path_spelling}
 use Rattle.move_tree.specs.TypeTreeData.{SourceTypeData}
@@ -26,7 +26,7 @@ use Rattle.move_tree.specs.TypeSpelling.{type_spelling, maybe_arguments_spelling
 use Rattle.move_tree.specs.PatternSpelling.{pattern_spelling}
 use Rattle.move_tree.specs.LiteralSpelling.{literal_spelling}
 use Rattle.move_tree.specs.OperatorSpelling.{operator_spelling, unary_spelling, use_spelling}
-use Rattle.move_tree.specs.SpecTokenSpelling.{loop_spec_spelling}
+use Rattle.move_tree.specs.SpecTokenSpelling.{kept_spelling}
 use Rattle.expression_tree.specs.ExpressionData.{ExpressionData, BinaryExpression, AssignExpression, IfExpression, WhileExpression, LoopExpression, ReturnExpression, AbortExpression, BreakExpression, ContinueExpression, UnaryExpression, UseExpression, FieldExpression, LiteralExpression, PathExpression, CallExpression, PackExpression, VectorExpression, AssertExpression, TupleExpression, CastExpression, BlockExpression, MaybeExpressionData, NoExpression, SomeExpression, BlockData, BlockOf, ItemData, ExpressionItem, LetItem, FieldValueData, ShortFieldValue, LongFieldValue, ExpressionsData, NoExpressions, MoreExpressions, ItemsData, NoItems, MoreItems, FieldValuesData, NoFieldValues, MoreFieldValues}
 
 -- whether the last token belongs to a path, so that a glued `<` behind it would open type arguments
@@ -42,9 +42,9 @@ annotation_spelling None = []
 annotation_spelling (Some t) = sign Colon ∷ type_spelling t
 
 -- the spec block of a loop and its semicolon, where there is one
-abbrev pub maybe_loop_spec_spelling : Option LoopSpec → List Lexeme
+abbrev pub maybe_loop_spec_spelling : Option KeptSpec → List Lexeme
 maybe_loop_spec_spelling None = []
-maybe_loop_spec_spelling (Some spec) = loop_spec_spelling spec ++ sign Semicolon ∷ []
+maybe_loop_spec_spelling (Some spec) = kept_spelling spec ++ sign Semicolon ∷ []
 
 abbrev mutual
   pub expression_spelling : ExpressionData → List Lexeme

@@ -5,11 +5,11 @@ use Rattle.std.specs.Prelude.{◌≡◌, ◌≤◌, ℕ, suc, Bool, true, false,
 use Rattle.move_tree.specs.declared.path.Path.{Path}
 use Rattle.move_tree.specs.declared.literal.Literal.{Literal}
 use Rattle.move_tree.specs.declared.literal.Literal.TheVariants.{Number, Truth, Address}
-use Rattle.move_tree.specs.declared.spec_tokens.LoopSpec.{LoopSpec}
+use Rattle.move_tree.specs.declared.spec_tokens.KeptSpec.{KeptSpec}
 use Rattle.move_tree.specs.declared.operator.BinaryOperator.{BinaryOperator}
 use Rattle.move_tree.specs.declared.operator.BinaryOperator.TheVariants.{Or, And, Equal, NotEqual, Less, LessEqual, Greater, GreaterEqual, BitOr, BitXor, BitAnd, ShiftLeft, ShiftRight, Add, Subtract, Multiply, Divide, Remainder}
 use Rattle.move_tree.specs.NameRules.{IsName, IsCapital}
-use Rattle.move_tree.specs.Balance.{IsBalanced}
+use Rattle.move_tree.specs.KeptSpecs.{IsLoopSpec}
 use Rattle.move_tree.specs.ProperTypes.{IsProperNumeral, IsProperAddress, IsProperPath, last_name, IsOther, IsProperType, AreProperMaybeArguments}
 use Rattle.move_tree.specs.ProperPatterns.{IsProperPattern}
 use Rattle.move_tree.specs.TypeTreeData.{SourceTypeData, MaybeArgumentsData, NoArguments, SomeArguments}
@@ -140,11 +140,11 @@ HasValue NoExpression = ⊥
 HasValue (SomeExpression value) = Unit {0}
 
 -- a block may begin with a spec block where it is the condition of a `while`, which has a value, or the body of a `loop`
-abbrev pub MayHoldSpec : Role → Option LoopSpec → MaybeExpressionData → Type 0
+abbrev pub MayHoldSpec : Role → Option KeptSpec → MaybeExpressionData → Type 0
 MayHoldSpec role None value = Unit {0}
 MayHoldSpec elsewhere (Some spec) value = ⊥
-MayHoldSpec condition_of_while (Some spec) value = IsBalanced spec.tokens × HasValue value
-MayHoldSpec body_of_loop (Some spec) value = IsBalanced spec.tokens
+MayHoldSpec condition_of_while (Some spec) value = IsLoopSpec spec × HasValue value
+MayHoldSpec body_of_loop (Some spec) value = IsLoopSpec spec
 
 -- ---- the trees
 

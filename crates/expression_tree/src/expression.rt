@@ -5,7 +5,7 @@ use move_tree::literal::Literal;
 use move_tree::operator::{BinaryOperator, UnaryOperator, UseKind};
 use move_tree::path::Path;
 use move_tree::pattern::Pattern;
-use move_tree::spec_tokens::LoopSpec;
+use move_tree::spec_tokens::KeptSpec;
 use move_tree::types::{SourceType, TypeArguments};
 use pv_base::span::Span;
 use std::marker::Model;
@@ -128,7 +128,7 @@ pub enum ExpressionNode {
 pub struct Block {
     pub place: Span,
     /// The spec block of the loop whose body or condition this is.
-    pub spec: Option<LoopSpec>,
+    pub spec: Option<KeptSpec>,
     pub items: Vec<Item>,
     pub value: Option<Expression>,
 }

@@ -16,7 +16,7 @@
 --     TParams = "<" TParam, .. ">"      TParam = Word [ ":" Ability { "+" Ability } ]
 --     SParams = "<" [ "phantom" ] TParam, .. ">"  (phantom may stand before each)
 --     Ability = "copy" | "drop" | "store" | "key"
---     Spec    = "spec" tokens with balanced brackets "{" tokens with balanced brackets "}"
+--     Spec    = "spec" tokens with balanced brackets "{" tokens with balanced brackets "}"     (kept as tokens)
 use Rattle.std.specs.Prelude.{Bool, true, false, List, [], ◌∷◌, ◌++◌, Option, None, Some, codes, map}
 use Rattle.std.specs.List.{flat_map}
 use Rattle.pv_base.specs.declared.span.Span.{Span}
@@ -37,13 +37,12 @@ use Rattle.file_tree.specs.declared.member.Constant.{Constant}
 use Rattle.file_tree.specs.declared.member.Visibility.{Visibility}
 use Rattle.file_tree.specs.declared.member.Visibility.TheVariants.{Module as in_module, Public, Friends}
 use Rattle.file_tree.specs.declared.member.Function.{Function}
-use Rattle.file_tree.specs.declared.member.SpecBlock.{SpecBlock}
 use Rattle.file_tree.specs.declared.member.MemberForm.{MemberForm}
 use Rattle.file_tree.specs.declared.member.MemberForm.TheVariants.{Use as use_form, Friend as friend_form, Struct as struct_form, Constant as constant_form, Function as function_form, Spec as spec_form}
 use Rattle.move_tree.specs.Lexemes.{word, identifier, sign, sign_at, comma_list}
 use Rattle.move_tree.specs.PathSpelling.{module_spelling, path_spelling}
 use Rattle.move_tree.specs.TypeSpelling.{type_spelling}
-use Rattle.move_tree.specs.SpecTokenSpelling.{kept}
+use Rattle.move_tree.specs.SpecTokenSpelling.{kept, kept_spelling}
 use Rattle.expression_tree.specs.ExpressionSpelling.{annotation_spelling, expression_spelling, block_spelling}
 use Rattle.file_tree.specs.MemberData.{AbilitiesData, TypeParameterData, TypeParametersData, TypedNamesData, PathsData}
 use Rattle.file_tree.specs.FileData.{MemberData, ModuleData}
@@ -154,17 +153,13 @@ function_spelling f =
 
 -- ---- members, modules and files
 
-abbrev pub spec_block_spelling : SpecBlock → List Lexeme
-spec_block_spelling s =
-    word (codes "spec") (Some s.place) ∷ map kept s.head ++ sign LeftBrace ∷ map kept s.body ++ sign RightBrace ∷ []
-
 abbrev pub form_spelling : MemberForm → List Lexeme
 form_spelling (use_form u) = use_member_spelling u
 form_spelling (friend_form f) = friend_spelling f
 form_spelling (struct_form s) = struct_spelling s
 form_spelling (constant_form c) = constant_spelling c
 form_spelling (function_form f) = function_spelling f
-form_spelling (spec_form s) = spec_block_spelling s
+form_spelling (spec_form s) = kept_spelling s
 
 abbrev pub member_spelling : MemberData → List Lexeme
 member_spelling m = flat_map attribute_spelling m.attributes ++ form_spelling m.form

@@ -1,10 +1,7 @@
 -- Proper files, modules and members: those that the grammar has. What stands beside the grammar's text are its rules on
 -- names, on last commas and on brackets.
-use Rattle.std.specs.Prelude.{◌≡◌, ◌≢◌, Bool, true, false, List, [], ◌∷◌, Option, Some, None}
+use Rattle.std.specs.Prelude.{◌≡◌, Bool, true, false, List, [], ◌∷◌, Option, Some, None}
 use Rattle.std.specs.List.{AllByRecursion}
-use Rattle.move_tokens.specs.declared.token.Token.{Token}
-use Rattle.move_tokens.specs.declared.token.TokenKind.TheVariants.{Punctuation}
-use Rattle.move_tokens.specs.declared.token.Punctuation.TheVariants.{LeftBrace}
 use Rattle.move_tree.specs.declared.lexeme.Identifier.{Identifier}
 use Rattle.file_tree.specs.declared.member.Attribute.{Attribute}
 use Rattle.file_tree.specs.declared.member.Import.{Import}
@@ -15,11 +12,11 @@ use Rattle.file_tree.specs.declared.member.TypedName.{TypedName}
 use Rattle.file_tree.specs.declared.member.Struct.{Struct}
 use Rattle.file_tree.specs.declared.member.Constant.{Constant}
 use Rattle.file_tree.specs.declared.member.Function.{Function}
-use Rattle.file_tree.specs.declared.member.SpecBlock.{SpecBlock}
 use Rattle.file_tree.specs.declared.member.MemberForm.{MemberForm}
 use Rattle.file_tree.specs.declared.member.MemberForm.TheVariants.{Use as use_form, Friend as friend_form, Struct as struct_form, Constant as constant_form, Function as function_form, Spec as spec_form}
 use Rattle.move_tree.specs.NameRules.{IsName, IsCapital, IsSmall}
 use Rattle.move_tree.specs.Balance.{IsBalanced}
+use Rattle.move_tree.specs.KeptSpecs.{IsMemberSpec}
 use Rattle.move_tree.specs.ProperTypes.{IsProperModuleName, IsProperPath, IsProperType}
 use Rattle.expression_tree.specs.ProperExpressions.{IsProperExpression, IsProperAnnotation}
 use Rattle.expression_tree.specs.ExpressionData.{BlockExpression}
@@ -93,20 +90,13 @@ IsProperFunction f =
 
 -- ---- members, modules and files
 
--- the first brace behind `spec` opens the block
-abbrev pub IsNoBrace : Token → Type 0
-IsNoBrace t = t.kind ≢ Punctuation LeftBrace
-
-abbrev pub IsProperSpecBlock : SpecBlock → Type 0
-IsProperSpecBlock s = IsBalanced s.head × AllByRecursion IsNoBrace s.head × IsBalanced s.body
-
 abbrev pub IsProperForm : MemberForm → Type 0
 IsProperForm (use_form u) = IsProperUse u
 IsProperForm (friend_form f) = IsProperModuleName f.owner
 IsProperForm (struct_form s) = IsProperStruct s
 IsProperForm (constant_form c) = IsProperConstant c
 IsProperForm (function_form f) = IsProperFunction f
-IsProperForm (spec_form s) = IsProperSpecBlock s
+IsProperForm (spec_form s) = IsMemberSpec s
 
 abbrev pub IsProperMember : MemberData → Type 0
 IsProperMember m = AllByRecursion IsProperAttribute m.attributes × IsProperForm m.form

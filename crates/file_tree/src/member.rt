@@ -3,6 +3,7 @@
 use expression_tree::expression::{Block, Expression};
 use move_tree::lexeme::Identifier;
 use move_tree::path::{ModuleName, Path};
+use move_tree::spec_tokens::KeptSpec;
 use move_tree::types::SourceType;
 use pv_base::span::Span;
 use move_tokens::token::Tokens;
@@ -195,16 +196,6 @@ impl Drop for Function {
     }
 }
 
-/// A spec block, as a file tree keeps it.
-#[derive(Drop)]
-pub struct SpecBlock {
-    pub place: Span,
-    /// The tokens between `spec` and the brace.
-    pub head: Tokens,
-    /// The tokens between its braces.
-    pub body: Tokens,
-}
-
 /// The forms of a member.
 #[derive(Drop)]
 pub enum MemberForm {
@@ -213,7 +204,7 @@ pub enum MemberForm {
     Struct(Struct),
     Constant(Constant),
     Function(Function),
-    Spec(SpecBlock),
+    Spec(KeptSpec),
 }
 
 /// A member of a module.

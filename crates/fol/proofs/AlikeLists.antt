@@ -1,5 +1,6 @@
 -- A comparison of two lists, item by item from their fronts.
 use Rattle.std.proofs.Common.{◌≡◌, ◌↔◌, ◌⊎◌, inl, inr, ℕ, ◌≤◌, List, [], ◌∷◌, length, sym, ◌∙◌, ap, arith}
+use Rattle.pv_base.proofs.ListEnds.{head_is, tail_is}
 
 -- What a comparison of two lists knows that has xs and ys left of them: xs and ys are equal exactly where the whole
 -- lists are, are as long as each other, and are no larger than the whole
@@ -7,12 +8,6 @@ pub record Alike {A : Type 0} (size : List A → ℕ) (left right xs ys : List A
   pub same_rest : (xs ≡ ys) ↔ (left ≡ right)
   pub same_length : length xs ≡ length ys
   pub within : size xs ≤ size left
-
-same_tails : {A : Type 0} {x y : A} {xs ys : List A} → x ∷ xs ≡ y ∷ ys → xs ≡ ys
-same_tails p = cc
-
-same_heads : {A : Type 0} {x y : A} {xs ys : List A} → x ∷ xs ≡ y ∷ ys → x ≡ y
-same_heads p = cc
 
 both_empty : {A : Type 0} (xs ys : List A) → length xs ≡ length ys → (xs ≡ []) ⊎ (ys ≡ []) → xs ≡ ys
 both_empty [] [] e h = λ i. []
@@ -31,13 +26,13 @@ module _ {A : Type 0} {size : List A → ℕ} {left right : List A} where
 
   pub alike_turn : {x y : A} {xs ys : List A} → Alike size left right (x ∷ xs) (y ∷ ys) → x ≡ y → size xs ≤ size (x ∷ xs) → Alike size left right xs ys
   alike_turn h e less = record {
-    same_rest = (λ p. h.same_rest.0 (λ i. e i ∷ p i), λ p. same_tails (h.same_rest.1 p));
+    same_rest = (λ p. h.same_rest.0 (λ i. e i ∷ p i), λ p. tail_is (h.same_rest.1 p));
     same_length = omega (arith, h.same_length);
     within = omega (arith, h.within);
   }
 
   pub alike_differ : {x y : A} {xs ys : List A} → Alike size left right (x ∷ xs) (y ∷ ys) → (x ≡ y → ⊥) → left ≡ right → ⊥
-  alike_differ h differ p = differ (same_heads (h.same_rest.1 p))
+  alike_differ h differ p = differ (head_is (h.same_rest.1 p))
 
   pub alike_end : {xs ys : List A} → Alike size left right xs ys → (xs ≡ []) ⊎ (ys ≡ []) → left ≡ right
   alike_end {xs} {ys} h none = h.same_rest.0 (both_empty xs ys h.same_length none)

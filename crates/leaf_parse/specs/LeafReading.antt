@@ -20,7 +20,7 @@ use Rattle.token_reading.specs.TokenReading.{Read, is_keyword, is_sign, after_si
 use Rattle.pv_base.specs.Names.{same_name}
 use Rattle.token_reading.specs.BalanceReading.{balanced_at}
 use Rattle.move_tree.specs.declared.path.Path.{Path}
-use Rattle.move_tree.specs.declared.spec_tokens.LoopSpec.{LoopSpec}
+use Rattle.move_tree.specs.declared.spec_tokens.KeptSpec.{KeptSpec}
 use Rattle.move_tree.specs.TypeTreeData.{SourceTypeData, MaybeArgumentsData, NoArguments, SomeArguments}
 use Rattle.move_tree.specs.ProperTypes.{last_name}
 use Rattle.leaf_parse.specs.PathReading.{is_single}
@@ -172,7 +172,7 @@ behind_first_at ts =
     (option_map (λ rest. (Comma, rest)) (after_sign comma_sign ts)))
 
 -- the spec block of a loop behind `spec`, with its semicolon
-unfoldable pub loop_spec_at : Span → List Token → Read LoopSpec
+unfoldable pub loop_spec_at : Span → List Token → Read KeptSpec
 loop_spec_at place ts =
     option_and_then (λ inside.
     option_and_then (λ kept.

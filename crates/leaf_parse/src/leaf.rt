@@ -13,7 +13,7 @@ use move_tree::lexeme::Numeral;
 use move_tree::literal::Literal;
 use move_tree::operator::{UnaryOperator, UseKind};
 use move_tree::path::Path;
-use move_tree::spec_tokens::LoopSpec;
+use move_tree::spec_tokens::KeptSpec;
 use move_tree::types::{SourceType, TypeArguments};
 use pv_base::memory::NoMemory;
 use pv_base::span::Span;
@@ -386,13 +386,13 @@ pub fn read_loop_spec(
     alloc: Global,
     place: Span,
     tokens: &[Token],
-) -> Result<(LoopSpec, &[Token]), ReadFault>
+) -> Result<(KeptSpec, &[Token]), ReadFault>
     ensures { MatchResult result (λ read. loop_spec_at place tokens.now ≡ Some (read.0, read.1.now)) (λ fault. IfNoTree fault (loop_spec_at place tokens.now ≡ None)) }
 {
     let rest = expect_sign(tokens, Punctuation::LeftBrace)?;
     let (kept, rest) = read_balanced(alloc, Punctuation::RightBrace, rest)?;
     let rest = expect_sign(rest, Punctuation::Semicolon)?;
-    let spec = LoopSpec {
+    let spec = KeptSpec {
         place,
         tokens: kept,
     };

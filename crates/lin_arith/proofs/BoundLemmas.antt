@@ -8,7 +8,7 @@ use Rattle.linear_rows.specs.Floor.{IsFloor}
 use Rattle.lin_arith.specs.declared.bounds.Bound.{Bound}
 use Rattle.lin_arith.specs.declared.bounds.Side.{Side}
 use Rattle.lin_arith.specs.declared.bounds.Side.TheVariants.{Upper, Lower}
-use Rattle.linear_rows.proofs.IntegerLemmas.{mul_swap, mul_neg, mul_le, le_of_mul, one_mul}
+use Rattle.pv_base.proofs.WholeNumbers.{mul_swap, mul_neg, mul_le, le_of_mul, one_mul}
 
 -- products of numbers with sizes, by the sizes of both
 pub products_not_negative : (a b : ℤ) (m n : ℕ) → pos 0 ≤ℤ a → pos 0 ≤ℤ b → ((unsigned_abs a * m ≤ unsigned_abs b * n) ↔ ((a *ℤ pos m) ≤ℤ (b *ℤ pos n)))

@@ -17,7 +17,7 @@ use Rattle.lin_arith.specs.declared.bounds.Bound.{Bound}
 use Rattle.lin_arith.specs.declared.elimination.Stage.{Stage}
 use Rattle.linear_rows.specs.declared.rows.Fraction.{Fraction}
 use Rattle.linear_rows.proofs.ClosureLemmas.{size_positive, no_mix, without_in_sum, without_one_more}
-use Rattle.linear_rows.proofs.IntegerLemmas.{mul_assoc, mul_add, mul_neg, mul_sub, mul_swap, mul_positive, mul_negative, mul_not_negative, mul_le, le_of_mul, one_mul, positive_of_multiple, negative_of_multiple, sign_of_multiple, zero_of_multiple}
+use Rattle.pv_base.proofs.WholeNumbers.{mul_assoc, mul_add, mul_neg, mul_sub, mul_swap, mul_positive, mul_negative, mul_not_negative, mul_le, le_of_mul, one_mul, positive_of_multiple, negative_of_multiple, sign_of_multiple, zero_of_multiple}
 use Rattle.linear_rows.proofs.ListLemmas.{get_or-past, below_or_past}
 
 left_push : (values : List Fraction) (value : Fraction) (row : Inequality) → left_of (values ++ value ∷ []) row ≡ put_in (left_of values row) value

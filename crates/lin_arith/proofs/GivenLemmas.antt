@@ -15,7 +15,7 @@ use Rattle.lin_arith.specs.Substitution.{form_of}
 use Rattle.lin_arith.specs.declared.elimination.Derived.{Derived}
 use Rattle.std.proofs.lemmas.List.Elements.{All-nil}
 use Rattle.linear_rows.proofs.ClosureLemmas.{IsMultiple, multiple_of_itself}
-use Rattle.linear_rows.proofs.IntegerLemmas.{one_mul}
+use Rattle.pv_base.proofs.WholeNumbers.{one_mul}
 use Rattle.linear_rows.proofs.ListLemmas.{get_or-past, below_or_past}
 use Rattle.lin_arith.proofs.StageLemmas.{unit_multipliers, width_of_combination}
 

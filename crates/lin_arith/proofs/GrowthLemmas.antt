@@ -19,7 +19,7 @@ use Rattle.lin_arith.specs.declared.elimination.Stage.{Stage}
 use Rattle.lin_arith.specs.declared.elimination.Derived.{Derived}
 use Rattle.lin_arith.specs.declared.elimination.Elimination.{Elimination}
 use Rattle.linear_rows.proofs.ClosureLemmas.{size_positive, not_zero_above, not_zero_below, closed_stays, without_last, without_others}
-use Rattle.linear_rows.proofs.IntegerLemmas.{mul_positive, mul_negative, positive_of_multiple, negative_of_multiple}
+use Rattle.pv_base.proofs.WholeNumbers.{mul_positive, mul_negative, positive_of_multiple, negative_of_multiple}
 use Rattle.linear_rows.proofs.ListLemmas.{get_or-past, below_or_past}
 
 -- the same rows, the same unknowns

@@ -28,7 +28,7 @@ use Rattle.lin_arith.specs.declared.elimination.Elimination.{Elimination}
 use Rattle.linear_rows.specs.Closure.{IsWithout, IsSumOf, IsElimination, IsDue}
 use Rattle.linear_rows.specs.Closure.IsDue.{sum as due}
 use Rattle.linear_rows.proofs.ClosureLemmas.{IsMultiple, AreSummed, size_positive, multiple_of_reduced, combinations_summed, sum_of_multiples, without_in_sum, without_one_more}
-use Rattle.linear_rows.proofs.IntegerLemmas.{mul_not_negative, sign_of_multiple, zero_of_multiple}
+use Rattle.pv_base.proofs.WholeNumbers.{mul_not_negative, sign_of_multiple, zero_of_multiple}
 use Rattle.lin_arith.proofs.KeyLemmas.{no_other_with}
 use Rattle.linear_rows.proofs.ListLemmas.{get_or-any_default}
 

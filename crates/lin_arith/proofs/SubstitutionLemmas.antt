@@ -8,7 +8,7 @@ use Rattle.linear_rows.specs.Inequality.{Inequality, coefficient}
 use Rattle.linear_rows.specs.Reduction.{IsReduced}
 use Rattle.lin_arith.specs.Substitution.{LinearForm, form_of, put_in, IsRatio}
 use Rattle.linear_rows.specs.declared.rows.Fraction.{Fraction}
-use Rattle.linear_rows.proofs.IntegerLemmas.{mul_assoc, mul_sub, mul_positive, mul_swap, one_mul}
+use Rattle.pv_base.proofs.WholeNumbers.{mul_assoc, mul_sub, mul_positive, mul_swap, one_mul}
 
 zero_or_positive : (n : ℕ) → (n ≡ 0) ⊎ (0 < n)
 zero_or_positive zero = inl refl

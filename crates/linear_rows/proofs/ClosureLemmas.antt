@@ -11,7 +11,7 @@ use Rattle.linear_rows.specs.Reduction.{IsReduced, IsTimes}
 use Rattle.linear_rows.specs.Elimination.{Cancels, IsMix, as_row}
 use Rattle.linear_rows.specs.Closure.{IsWithout, IsSumOf, HasSum, HasSums, IsClosed}
 use Rattle.linear_rows.specs.Closure.IsClosed.{none, next}
-use Rattle.linear_rows.proofs.IntegerLemmas.{mul_assoc, mul_add, add_mul, one_mul, zero_of_multiple}
+use Rattle.pv_base.proofs.WholeNumbers.{mul_assoc, mul_add, add_mul, one_mul, zero_of_multiple}
 use Rattle.linear_rows.proofs.ListLemmas.{get_or-past, below_or_past}
 use Rattle.linear_rows.proofs.ProductLemmas.{positive_product}
 

@@ -10,7 +10,7 @@ use Rattle.linear_rows.specs.Combination.{number}
 use Rattle.linear_rows.specs.Elimination.{as_row}
 use Rattle.linear_rows.specs.Packed.{HasOne}
 use Rattle.linear_rows.specs.Reduction.{DividesRow, IsReduced}
-use Rattle.linear_rows.proofs.IntegerLemmas.{one_mul}
+use Rattle.pv_base.proofs.WholeNumbers.{one_mul}
 use Rattle.linear_rows.proofs.ListLemmas.{below_or_past, get_or-past}
 
 one_is_within : (ms : List ℤ) (k : ℕ) → number k ms ≡ pos 1 → k < length ms

@@ -1,7 +1,6 @@
 pub mod ClosureLemmas
 pub mod CombinationLemmas
 pub mod CombinedLemmas
-pub mod IntegerLemmas
 pub mod LeastLemmas
 pub mod ListLemmas
 pub mod NumberLemmas

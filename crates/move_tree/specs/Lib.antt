@@ -20,3 +20,4 @@ pub mod OperatorCodes
 pub mod SpecTokenSpelling
 pub mod SpecTokenCodes
 pub mod Balance
+pub mod KeptSpecs

@@ -7,7 +7,7 @@ use Rattle.move_tokens.specs.declared.token.TokenKind.{TokenKind}
 use Rattle.move_tokens.specs.declared.token.TokenKind.TheVariants.{Word, Number, ByteString, Punctuation}
 use Rattle.move_tokens.specs.declared.token.Punctuation.{Punctuation as Sign}
 use Rattle.move_tokens.specs.declared.token.Punctuation.TheVariants.{LeftParenthesis, RightParenthesis, LeftBrace, RightBrace, LeftBracket, RightBracket, Comma, Semicolon, Colon, ColonColon, Period, PeriodPeriod, Equal, EqualEqual, EqualEqualGreater, ExclaimEqual, Exclaim, Less, LessEqual, LessEqualEqualGreater, LessLess, Greater, GreaterEqual, Plus, Minus, Star, Slash, Percent, Ampersand, AmpersandAmpersand, Pipe, PipePipe, Caret, AtSign, NumberSign}
-use Rattle.move_tree.specs.declared.spec_tokens.LoopSpec.{LoopSpec}
+use Rattle.move_tree.specs.declared.spec_tokens.KeptSpec.{KeptSpec}
 use Rattle.move_tree.specs.LeafCodes.{head, tail, bool_code, bool_back, bool_back-code, span_code, span_back, number_literal_code, number_literal_back, number_literal_back-code}
 use Rattle.move_tree.specs.TypeTreeData.{SourceTypeData}
 use Rattle.move_tree.specs.TypeTreeCodes.{source_type_code, source_type_back, source_type_back-code}
@@ -127,26 +127,26 @@ pub tokens_back-code : (xs : List Token) → tokens_back (tokens_code xs) ≡ xs
 tokens_back-code [] = refl
 tokens_back-code (x ∷ xs) = λ i. token_back-code x i ∷ tokens_back-code xs i
 
-abbrev pub loop_spec_code : LoopSpec → Gv
-loop_spec_code s = gcons (span_code s.place) (tokens_code s.tokens)
+abbrev pub kept_spec_code : KeptSpec → Gv
+kept_spec_code s = tokens_code s.tokens
 
-abbrev pub loop_spec_back : Gv → LoopSpec
-loop_spec_back g = record { place = span_back (head g); tokens = tokens_back (tail g) }
+abbrev pub kept_spec_back : Gv → KeptSpec
+kept_spec_back g = record { tokens = tokens_back g }
 
-pub loop_spec_back-code : (x : LoopSpec) → loop_spec_back (loop_spec_code x) ≡ x
-loop_spec_back-code x = λ i. record { place = x.place; tokens = tokens_back-code x.tokens i }
+pub kept_spec_back-code : (x : KeptSpec) → kept_spec_back (kept_spec_code x) ≡ x
+kept_spec_back-code x = λ i. record { tokens = tokens_back-code x.tokens i }
 
-abbrev pub maybe_loop_spec_code : Option LoopSpec → Gv
-maybe_loop_spec_code None = gnil
-maybe_loop_spec_code (Some x) = gcons gnil (loop_spec_code x)
+abbrev pub maybe_kept_spec_code : Option KeptSpec → Gv
+maybe_kept_spec_code None = gnil
+maybe_kept_spec_code (Some x) = gcons gnil (kept_spec_code x)
 
-abbrev pub maybe_loop_spec_back : Gv → Option LoopSpec
-maybe_loop_spec_back (gcons a b) = Some (loop_spec_back b)
-maybe_loop_spec_back _ = None
+abbrev pub maybe_kept_spec_back : Gv → Option KeptSpec
+maybe_kept_spec_back (gcons a b) = Some (kept_spec_back b)
+maybe_kept_spec_back _ = None
 
-pub maybe_loop_spec_back-code : (x : Option LoopSpec) → maybe_loop_spec_back (maybe_loop_spec_code x) ≡ x
-maybe_loop_spec_back-code None = refl
-maybe_loop_spec_back-code (Some x) = λ i. Some (loop_spec_back-code x i)
+pub maybe_kept_spec_back-code : (x : Option KeptSpec) → maybe_kept_spec_back (maybe_kept_spec_code x) ≡ x
+maybe_kept_spec_back-code None = refl
+maybe_kept_spec_back-code (Some x) = λ i. Some (kept_spec_back-code x i)
 
 abbrev pub maybe_source_type_code : Option SourceTypeData → Gv
 maybe_source_type_code None = gnil

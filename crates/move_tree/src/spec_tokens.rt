@@ -4,14 +4,11 @@ ghost use Rattle.std.specs.Prelude.{◌≡◌, IfOk};
 
 use move_tokens::token::{NumberLiteral, TokenKind, Tokens};
 use pv_base::memory::NoMemory;
-use pv_base::span::Span;
 use std::alloc::Global;
 
-/// The spec block of a loop.
+/// A spec block, as a file tree keeps it: its tokens, from the word `spec` to the brace that closes it.
 #[derive(Drop)]
-pub struct LoopSpec {
-    pub place: Span,
-    /// The tokens between its braces.
+pub struct KeptSpec {
     pub tokens: Tokens,
 }
 

@@ -1,2 +1,5 @@
 pub mod FinMapEntries
+pub mod ListEnds
 pub mod NameLaws
+pub mod TruthValues
+pub mod WholeNumbers

@@ -3,6 +3,7 @@
 
 pub mod lists;
 pub mod memory;
+pub mod meter;
 pub mod name;
 pub mod same;
 pub mod span;

@@ -15,7 +15,7 @@ use Rattle.cert.specs.declared.certificate.Axiom.TheVariants.{Trichotomy}
 use Rattle.cert.proofs.AxiomLemmas.{trichotomy_cases}
 use Rattle.saturation.specs.Branch.{IsNumber}
 use Rattle.saturation.specs.Saturated.{Stands, HasOne, AllStand, SomeStands}
-use Rattle.saturation.proofs.Walks.{is_true, not_true, holds}
+use Rattle.pv_base.proofs.TruthValues.{true_is, not_true, holds}
 
 -- ---- lists of formulas
 
@@ -32,7 +32,7 @@ module _ (entries : List FormulaData) where
   -- two parts
   pub two_stand : (p q : FormulaData) (a b : Bool) → IsTrue a ↔ Stands entries p → a ≡ true → IsTrue b ↔ Stands entries q → IsTrue b ↔ All (Stands entries) (p ∷ q ∷ [])
   two_stand p q a b first t second = (
-    λ h. All-cons (Stands entries) p (q ∷ []) (first.0 (is_true a t)) (All-cons (Stands entries) q [] (second.0 h) (All-nil (Stands entries))),
+    λ h. All-cons (Stands entries) p (q ∷ []) (first.0 (true_is a t)) (All-cons (Stands entries) q [] (second.0 h) (All-nil (Stands entries))),
     λ all. second.1 (All-head (Stands entries) q [] (All-tail (Stands entries) p (q ∷ []) all)),
   )
 
@@ -46,7 +46,7 @@ module _ (entries : List FormulaData) where
       go (suc (suc i)) r e s = absurd (cc)
 
   pub first_stands : (p q : FormulaData) (a : Bool) → IsTrue a ↔ Stands entries p → a ≡ true → IsTrue a ↔ HasOne (Stands entries) (p ∷ q ∷ [])
-  first_stands p q a first t = (λ h. (0, p, refl, first.0 h), λ found. is_true a t)
+  first_stands p q a first t = (λ h. (0, p, refl, first.0 h), λ found. true_is a t)
 
   pub second_stands : (p q : FormulaData) (a b : Bool) → IsTrue a ↔ Stands entries p → a ≡ false → IsTrue b ↔ Stands entries q → IsTrue b ↔ HasOne (Stands entries) (p ∷ q ∷ [])
   second_stands p q a b first t second = (λ h. (1, q, refl, second.0 h), λ found. back (of_two p q found))
@@ -112,7 +112,7 @@ third_case p xs t u stored e =
 pub trichotomy_at : (p : FormulaData) (xs : List FormulaData) (t u : TermData) (a b : Bool) → AnyOfFormula (formulas_of xs) ≡ p → IsTrue a ↔ (slice_get xs 2 ≡ Some (EqFormula t u)) → a ≡ true → IsTrue b ↔ IsInstanceOf Trichotomy p → IsTrue b ↔ (p ≡ trichotomy_axiom t u)
 trichotomy_at p xs t u a b stored equal h test = (
   λ s. let found = test.0 s in
-      let same : Some (EqFormula found.0 found.1) ≡ Some (EqFormula t u) = sym (third_case p xs found.0 found.1 stored found.2) ∙ equal.0 (is_true a h) in
+      let same : Some (EqFormula found.0 found.1) ≡ Some (EqFormula t u) = sym (third_case p xs found.0 found.1 stored found.2) ∙ equal.0 (true_is a h) in
       found.2 ∙ (λ i. trichotomy_axiom (left_inside same i) (right_inside same i)),
   λ e. test.1 (t, u, e),
 )

@@ -12,7 +12,9 @@ use Rattle.cert.specs.Linear.{Row, row_of}
 use Rattle.linear_rows.specs.Inequality.{Inequality}
 use Rattle.saturation.specs.System.{IsKnown, turned, BeginsWith, BeginsWithEntry, AreRowsOf}
 use Rattle.saturation.specs.Rest.{IsAfterOne, IsAfterRow, IsAfterEntry}
-use Rattle.saturation.proofs.Walks.{is_true, not_true, holds, fails, One}
+use Rattle.pv_base.proofs.TruthValues.{true_is, not_true, holds, fails}
+use Rattle.saturation.proofs.Walks.{One}
+use Rattle.pv_base.proofs.ListEnds.{tail_is}
 
 -- ---- unknowns
 
@@ -35,7 +37,7 @@ different_turn xs k x b within e test t before =
 
 pub different_fails : (xs : List TermData) (k : ℕ) (x : TermData) (b : Bool) → k < length xs → x ≡ get_or xs k x → IsTrue b ↔ IsKnown (take k xs) x → b ≡ true → IsTrue false ↔ Different xs
 different_fails xs k x b within e test t =
-    let known = test.0 (is_true b t) in
+    let known = test.0 (true_is b t) in
     let short = slice_get_within (take k xs) known.0 x known.1 in
     let before : known.0 < k = omega (arith, length-take k xs, short) in
     let at : get_or (take k xs) known.0 x ≡ x = get_or_from_slice_get (take k xs) known.0 x x known.1 in
@@ -111,9 +113,6 @@ module _ (unknowns : List TermData) where
   no_first row false rows none rest after = none rest after
   no_first row true rows none rest after = none after.0 after.1
 
-  tails : {A : Type 0} {x y : A} {xs ys : List A} → x ∷ xs ≡ y ∷ ys → xs ≡ ys
-  tails p = cc
-
   module _ {A : Type 0} (view : A → List Inequality) where
     -- what is left of the rows, or that nothing is
     abbrev pub Left : Option A → (List Inequality → Type 0) → Type 0
@@ -125,5 +124,5 @@ module _ (unknowns : List TermData) where
     pub second_left : (row : Row) (b : Bool) (rows between : List Inequality) (o : Option A) → b ≡ true → IsAfterOne unknowns row rows between → Left o (IsAfterOne unknowns (turned row) between) → Left o (IsAfterRow unknowns row b rows)
     second_left row false rows between o e first left = absurd (cc)
     second_left row true rows between None e first left = λ rest after.
-        left rest (subst (λ rs. IsAfterOne unknowns (turned row) rs rest) (tails (sym after.1.1 ∙ first.1)) after.2)
+        left rest (subst (λ rs. IsAfterOne unknowns (turned row) rs rest) (tail_is (sym after.1.1 ∙ first.1)) after.2)
     second_left row true rows between (Some a) e first left = (between, first, left)

@@ -6,7 +6,7 @@ use Rattle.move_tokens.specs.declared.token.Token.{Token}
 use Rattle.move_tokens.specs.declared.token.TokenKind.{TokenKind}
 use Rattle.move_tokens.specs.declared.token.TokenKind.TheVariants.{Word, Punctuation}
 use Rattle.move_tokens.specs.declared.token.Punctuation.TheVariants.{LeftBrace, RightBrace}
-use Rattle.move_tree.specs.declared.spec_tokens.LoopSpec.{LoopSpec}
+use Rattle.move_tree.specs.declared.spec_tokens.KeptSpec.{KeptSpec}
 use Rattle.file_tree.specs.declared.member.SpecBlock.{SpecBlock}
 
 abbrev pub token_at : Span → TokenKind → Token
@@ -20,5 +20,5 @@ block_tokens place head body =
 abbrev pub tokens_of_block : SpecBlock → List Token
 tokens_of_block b = block_tokens b.place b.head b.body
 
-abbrev pub tokens_of_loop : LoopSpec → List Token
+abbrev pub tokens_of_loop : KeptSpec → List Token
 tokens_of_loop l = block_tokens l.place [] l.tokens

@@ -2,7 +2,7 @@
 -- Source: the Move Specification Language reference, "Invariants", on loops.
 use Rattle.std.specs.Prelude.{List, [], Option, Some, None}
 use Rattle.std.specs.List.{AllByRecursion}
-use Rattle.move_tree.specs.declared.spec_tokens.LoopSpec.{LoopSpec}
+use Rattle.move_tree.specs.declared.spec_tokens.KeptSpec.{KeptSpec}
 use Rattle.expression_tree.specs.ExpressionData.{BlockData, BlockOf}
 use Rattle.file_tree.specs.FileData.{MemberData, ModuleData}
 use Rattle.file_tree.specs.declared.member.MemberForm.{MemberForm}
@@ -23,7 +23,7 @@ blocks_of_form (Function f) = blocks_of_block f.body
 blocks_of_form (Spec s) = []
 
 -- the tokens of the spec block, where the block is that of a loop with one, are those of a tree
-abbrev pub HasTree : Option LoopSpec → Type 0
+abbrev pub HasTree : Option KeptSpec → Type 0
 HasTree None = Unit {0}
 HasTree (Some l) = (tree : SpecTree) × IsSpecBlockOf Loop tree (tokens_of_loop l)
 

@@ -4,7 +4,7 @@ ghost use Rattle.std.specs.Prelude.{◌≡◌, ◌∷◌, [], ◌++◌, OnOk, If
 ghost use Rattle.source_parse.specs.Kept.{block_tokens, token_at, tokens_of_block, tokens_of_loop};
 
 use file_tree::member::SpecBlock;
-use move_tree::spec_tokens::{LoopSpec, copy_kind};
+use move_tree::spec_tokens::{KeptSpec, copy_kind};
 use pv_base::memory::NoMemory;
 use pv_base::name::Name;
 use pv_base::span::Span;
@@ -66,7 +66,7 @@ pub fn tokens_of_block(alloc: Global, block: &SpecBlock) -> Result<Tokens, NoMem
 }
 
 /// The tokens of a loop's spec block.
-pub fn tokens_of_loop(alloc: Global, spec: &LoopSpec) -> Result<Tokens, NoMemory>
+pub fn tokens_of_loop(alloc: Global, spec: &KeptSpec) -> Result<Tokens, NoMemory>
     ensures { IfOk result (λ tokens. tokens ≡ tokens_of_loop spec.now) }
 {
     whole(alloc, spec.place, &[], spec.tokens.as_slice())

@@ -11,13 +11,13 @@ use source_tree::collect::{Blocks, collect_from_block, collect_from_expression};
 use clause_tree::slot::Slot;
 use expression_tree::expression::Block;
 use file_tree::member::{Member, MemberForm, Module};
-use move_tree::spec_tokens::LoopSpec;
+use move_tree::spec_tokens::KeptSpec;
 use pv_base::memory::NoMemory;
 use spec_parse::denoted_block::spec_block;
 use std::alloc::Global;
 
 /// Whether a loop's spec block has a tree.
-fn check_spec(alloc: Global, spec: &Option<LoopSpec>) -> Result<(), SpecFault>
+fn check_spec(alloc: Global, spec: &Option<KeptSpec>) -> Result<(), SpecFault>
     ensures { MatchResult result (λ _. HasTree spec.now) (λ fault. IfNoSpec fault (¬ HasTree spec.now)) }
 {
     let Some(spec) = spec else {

@@ -18,8 +18,8 @@ use crate::spell_literal::spell_literal;
 use crate::spell_operator::{spell_operator, spell_unary, spell_use};
 use move_tree::path::Path;
 use crate::spell_path::{spell_identifier, spell_path};
-use move_tree::spec_tokens::LoopSpec;
-use crate::spell_tokens::spell_loop_spec;
+use move_tree::spec_tokens::KeptSpec;
+use crate::spell_tokens::spell_kept_spec;
 use crate::spell_pattern::spell_pattern;
 use crate::spell_type::{spell_maybe_arguments, spell_type};
 use move_tree::types::{SourceType, TypeArguments};
@@ -47,7 +47,7 @@ pub fn spell_annotation(
 
 fn spell_maybe_loop_spec(
     alloc: Global,
-    spec: &Option<LoopSpec>,
+    spec: &Option<KeptSpec>,
     into: &mut Lexemes,
 ) -> Result<(), NoMemory>
     ensures { OnOk result (into.new ≡ into.old ++ maybe_loop_spec_spelling spec.now) }
@@ -55,7 +55,7 @@ fn spell_maybe_loop_spec(
     match spec {
         None => Ok(()),
         Some(spec) => {
-            spell_loop_spec(alloc, spec, into)?;
+            spell_kept_spec(alloc, spec, into)?;
             into.push_sign(Punctuation::Semicolon)
         }
     }

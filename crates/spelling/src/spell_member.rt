@@ -4,15 +4,15 @@ ghost use Rattle.std.specs.Prelude.{◌≡◌, [], ◌∷◌, ◌++◌, None, So
 ghost use Rattle.std.specs.List.{flat_map};
 ghost use Rattle.move_tree.specs.Lexemes.{comma_list};
 ghost use Rattle.move_tree.specs.PathSpelling.{path_spelling};
-ghost use Rattle.file_tree.specs.MemberSpelling.{attribute_spelling, alias_spelling, import_spelling, imported_spelling, use_member_spelling, friend_spelling, ability_spelling, abilities_spelling, more_ability_spelling, constraint_spelling, phantom_spelling, parameter_spelling, parameters_spelling, typed_name_spelling, typed_names_spelling, struct_spelling, constant_spelling, visibility_spelling, entry_spelling, of_friends, acquires_word, acquires_spelling, function_name_spelling, inputs_spelling, function_spelling, spec_block_spelling, form_spelling, member_spelling, module_tree_spelling, file_spelling};
+ghost use Rattle.file_tree.specs.MemberSpelling.{attribute_spelling, alias_spelling, import_spelling, imported_spelling, use_member_spelling, friend_spelling, ability_spelling, abilities_spelling, more_ability_spelling, constraint_spelling, phantom_spelling, parameter_spelling, parameters_spelling, typed_name_spelling, typed_names_spelling, struct_spelling, constant_spelling, visibility_spelling, entry_spelling, of_friends, acquires_word, acquires_spelling, function_name_spelling, inputs_spelling, function_spelling, form_spelling, member_spelling, module_tree_spelling, file_spelling};
 ghost use Rattle.spelling.specs.MemberAfterCommas.{import_after_comma, ability_after_comma, parameter_after_comma, typed_name_after_comma, path_after_comma};
 
-use file_tree::member::{Abilities, Ability, Attribute, Constant, File, Friend, Function, Import, Imported, Imports, Member, MemberForm, Module, Paths, SpecBlock, Struct, TypeParameter, TypeParameters, TypedName, TypedNames, Use, Visibility};
+use file_tree::member::{Abilities, Ability, Attribute, Constant, File, Friend, Function, Import, Imported, Imports, Member, MemberForm, Module, Paths, Struct, TypeParameter, TypeParameters, TypedName, TypedNames, Use, Visibility};
 use crate::spell_expression::{spell_annotation, spell_block, spell_expression};
 use move_tree::lexeme::{Identifier, Lexemes};
 use move_tree::path::Path;
 use crate::spell_path::{spell_identifier, spell_module_name, spell_path};
-use crate::spell_tokens::spell_tokens;
+use crate::spell_tokens::{spell_kept_spec, spell_tokens};
 use crate::spell_type::spell_type;
 use pv_base::memory::NoMemory;
 use pv_base::span::Span;
@@ -471,16 +471,6 @@ fn spell_function(alloc: Global, function: &Function, into: &mut Lexemes) -> Res
     spell_block(alloc, &function.body, into)
 }
 
-fn spell_spec_block(alloc: Global, spec: &SpecBlock, into: &mut Lexemes) -> Result<(), NoMemory>
-    ensures { OnOk result (into.new ≡ into.old ++ spec_block_spelling spec.now) }
-{
-    into.push_word(alloc, b"spec", Some(spec.place))?;
-    spell_tokens(alloc, spec.head.as_slice(), into)?;
-    into.push_sign(Punctuation::LeftBrace)?;
-    spell_tokens(alloc, spec.body.as_slice(), into)?;
-    into.push_sign(Punctuation::RightBrace)
-}
-
 fn spell_form(alloc: Global, form: &MemberForm, into: &mut Lexemes) -> Result<(), NoMemory>
     ensures { OnOk result (into.new ≡ into.old ++ form_spelling form.now) }
 {
@@ -490,7 +480,7 @@ fn spell_form(alloc: Global, form: &MemberForm, into: &mut Lexemes) -> Result<()
         MemberForm::Struct(declared) => spell_struct(alloc, declared, into),
         MemberForm::Constant(constant) => spell_constant(alloc, constant, into),
         MemberForm::Function(function) => spell_function(alloc, function, into),
-        MemberForm::Spec(spec) => spell_spec_block(alloc, spec, into),
+        MemberForm::Spec(spec) => spell_kept_spec(alloc, spec, into),
     }
 }
 

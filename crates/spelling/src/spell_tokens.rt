@@ -1,11 +1,11 @@
 //! The tokens that trees keep as they are.
 
 ghost use Rattle.std.specs.Prelude.{◌≡◌, [], ◌∷◌, ◌++◌, Some, OnOk, map};
-ghost use Rattle.move_tree.specs.SpecTokenSpelling.{kept, loop_spec_spelling};
+ghost use Rattle.move_tree.specs.SpecTokenSpelling.{kept, kept_spelling};
 
-use move_tokens::token::{Punctuation, Token};
+use move_tokens::token::Token;
 use move_tree::lexeme::{Lexeme, Lexemes};
-use move_tree::spec_tokens::{LoopSpec, copy_kind};
+use move_tree::spec_tokens::{KeptSpec, copy_kind};
 use pv_base::memory::NoMemory;
 use std::alloc::Global;
 
@@ -30,12 +30,9 @@ pub fn spell_tokens(alloc: Global, tokens: &[Token], into: &mut Lexemes) -> Resu
     Ok(())
 }
 
-/// The tokens of a loop's spec block.
-pub fn spell_loop_spec(alloc: Global, spec: &LoopSpec, into: &mut Lexemes) -> Result<(), NoMemory>
-    ensures { OnOk result (into.new ≡ into.old ++ loop_spec_spelling spec.now) }
+/// The tokens of a spec block that a tree keeps.
+pub fn spell_kept_spec(alloc: Global, spec: &KeptSpec, into: &mut Lexemes) -> Result<(), NoMemory>
+    ensures { OnOk result (into.new ≡ into.old ++ kept_spelling spec.now) }
 {
-    into.push_word(alloc, b"spec", Some(spec.place))?;
-    into.push_sign(Punctuation::LeftBrace)?;
-    spell_tokens(alloc, spec.tokens.as_slice(), into)?;
-    into.push_sign(Punctuation::RightBrace)
+    spell_tokens(alloc, spec.tokens.as_slice(), into)
 }

@@ -7,7 +7,7 @@ use crate::growing::grow;
 use crate::instances::instances;
 use cert::certificate::{Step, StepNode};
 use fol::formula::Formula;
-use meter::take_step;
+use pv_base::meter::take_step;
 use pv_base::memory::NoMemory;
 use pv_base::steps::Steps;
 use saturation::branch::{Branch, Origin};

@@ -9,7 +9,7 @@ use crate::growing::{grow, shorten};
 use crate::straight::{Straight, straighten};
 use cert::certificate::{Case, Cert, End};
 use fol::formula::Formula;
-use meter::take_step;
+use pv_base::meter::take_step;
 use pv_base::memory::NoMemory;
 use pv_base::steps::Steps;
 use saturation::branch::{Branch, Origin};

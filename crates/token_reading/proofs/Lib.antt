@@ -5,6 +5,7 @@ pub mod FirstLemmas
 pub mod ListLemmas
 pub mod ListSteps
 pub mod BalanceLemmas
+pub mod KeptLemmas
 pub mod SpelledTokens
 pub mod ChainLemmas
 pub mod ChainSteps

@@ -1,5 +1,5 @@
 -- How tokens with balanced brackets are read, up to the sign that closes them.
-use Rattle.std.specs.Prelude.{◌≡◌, Bool, true, false, if◌then◌else◌, List, [], ◌∷◌, ◌++◌, Option, Some, None, option_and_then}
+use Rattle.std.specs.Prelude.{◌≡◌, ◌-◌, Bool, true, false, if◌then◌else◌, List, [], ◌∷◌, Option, Some, None, option_and_then, length, take}
 use Rattle.std.specs.Option.{option_map}
 use Rattle.move_tokens.specs.declared.token.Token.{Token}
 use Rattle.move_tokens.specs.declared.token.TokenKind.{TokenKind}
@@ -12,15 +12,16 @@ abbrev pub ends_here : Sign → List Sign → TokenKind → Bool
 ends_here close [] kind = is_sign close kind
 ends_here close (w ∷ ws) kind = false
 
--- these tokens stand before those that were read
-abbrev pub keep_before : List Token → Read (List Token) → Read (List Token)
-keep_before kept read = option_map (λ r. (kept ++ r.0, r.1)) read
+-- the tokens behind the sign that closes these, where these brackets are open
+unfoldable pub balanced_end : Sign → List Sign → List Token → Option (List Token)
+balanced_end close wanted [] = None
+balanced_end close wanted (t ∷ ts) =
+    if ends_here close wanted t.kind then Some ts
+    else option_and_then (λ more. balanced_end close more ts) (wanted_behind (Some wanted) t.kind)
 
-unfoldable pub balanced_at : Sign → List Sign → List Token → Read (List Token)
-balanced_at close wanted [] = None
-balanced_at close wanted (t ∷ ts) =
-    if ends_here close wanted t.kind then Some ([], ts)
-    else option_and_then (λ more. keep_before (t ∷ []) (balanced_at close more ts)) (wanted_behind (Some wanted) t.kind)
+-- the tokens before the sign, and those behind it
+unfoldable pub balanced_at : Sign → List Token → Read (List Token)
+balanced_at close ts = option_map (λ rest. (take (length ts - length rest - 1) ts, rest)) (balanced_end close [] ts)
 
 -- the brackets that are wanted behind a token, or none where it does not fit
 abbrev pub Follows : Bool → Option (List Sign) → List Sign → Type 0

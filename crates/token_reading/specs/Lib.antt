@@ -4,6 +4,7 @@ pub mod TokenReading
 pub mod ListReading
 pub mod ChainReading
 pub mod BalanceReading
+pub mod KeptReading
 pub mod Markers
 pub mod MarkerReading
 pub mod ParseFault

@@ -4,6 +4,7 @@
 pub mod balanced;
 pub mod explain;
 pub mod fault;
+pub mod kept;
 pub mod lists;
 pub mod marker;
 pub mod tokens;

@@ -8,7 +8,7 @@ use move_tree::literal::Literal;
 use move_tree::operator::{BinaryOperator, UnaryOperator, UseKind};
 use move_tree::path::{Address, ModuleName, Path};
 use move_tree::pattern::{FieldPattern, Pattern, PatternNode};
-use move_tree::spec_tokens::LoopSpec;
+use move_tree::spec_tokens::KeptSpec;
 use spelling::spell_pattern::spell_pattern;
 use spelling::spell_type::spell_type;
 use move_tree::types::{SourceType, SourceTypeNode, TypeArguments};
@@ -465,7 +465,7 @@ fn block(rt: &impl Abort, alloc: Global) -> Box<Expression> {
 }
 
 // spec { invariant i; }, from the byte 9 on
-fn loop_spec(rt: &impl Abort, alloc: Global) -> Box<LoopSpec> {
+fn loop_spec(rt: &impl Abort, alloc: Global) -> Box<KeptSpec> {
     let mut tokens = Tokens::new(alloc);
     tokens
         .push(Token {
@@ -488,7 +488,7 @@ fn loop_spec(rt: &impl Abort, alloc: Global) -> Box<LoopSpec> {
             glued: true,
         })
         .expect(rt, "memory");
-    let spec = LoopSpec {
+    let spec = KeptSpec {
         place: at(9, 13),
         tokens,
     };

@@ -15,6 +15,7 @@ use Rattle.sum_tree.specs.declared.clause.ClauseKind.{ClauseKind}
 use Rattle.sum_tree.specs.declared.clause.ClauseKind.TheVariants.{Requires, Ensures, AbortsIf}
 use Rattle.sum_tree.specs.declared.clause.Clause.{Clause}
 use Rattle.sum_tree.specs.FunctionData.{FunctionData}
+use Rattle.pv_base.proofs.TruthValues.{both_true, true_both, either_true, true_either}
 use Rattle.ref_sem.specs.Semantics.{Arguments, Names, names_of, sum_number, ComparesBy, Holds, AllHold, SomeHolds, HasKind}
 use Rattle.sum_formula.specs.Translation.{sum_term, comparison_formula, condition_formula}
 use Rattle.sum_formula.specs.Premises.{is_kind, formula_if}
@@ -43,6 +44,66 @@ above_true : (v w : Val) (a b : ℤ) → v ≡ NumberValue a → w ≡ NumberVal
 above_true v w a b e g = subst (λ x. (not (at_most x w) ≡ true) ↔ (b <ℤ a)) (sym e) (subst (λ x. (not (at_most (NumberValue a) x) ≡ true) ↔ (b <ℤ a)) (sym g) (not_le_is a b))
 
 -- ---- conditions
+
+module _ (m : Interpretation) (s : Assignment) (f : FunctionData) (arguments : Arguments) (agrees : Agrees m s f.parameters arguments) (returned : TermData) (r : ℕ) (returns : value_of m returned s ≡ NumberValue (pos r)) where
+  abbrev names : Names
+  names = names_of f arguments r
+
+  comparison_true : (c : Comparison) (t u : TermData) (a b : ℤ) → value_of m t s ≡ NumberValue a → value_of m u s ≡ NumberValue b → (truth_of m (comparison_formula c t u) s ≡ true) ↔ ComparesBy c a b
+  comparison_true Equal t u a b e g = equal_true (value_of m t s) (value_of m u s) a b e g
+  comparison_true Less t u a b e g = above_true (value_of m u s) (value_of m t s) b a g e
+  comparison_true Greater t u a b e g = above_true (value_of m t s) (value_of m u s) a b e g
+  comparison_true LessEqual t u a b e g = at_most_true (value_of m t s) (value_of m u s) a b e g
+  comparison_true GreaterEqual t u a b e g = at_most_true (value_of m u s) (value_of m t s) b a g e
+
+  pub condition_true : (c : Condition) → (truth_of m (condition_formula f.parameters returned c) s ≡ true) ↔ Holds names c
+  condition_true True = (λ _. tt, λ _. refl)
+  condition_true False = (λ e. absurd (cc), λ h. absurd h)
+  condition_true (Compares left c right) =
+      comparison_true c (sum_term f.parameters returned left) (sum_term f.parameters returned right) (sum_number names left) (sum_number names right) (sum_is m s f arguments agrees returned r returns left) (sum_is m s f arguments agrees returned r returns right)
+
+-- ---- kinds
+
+pub is_kind-same : (a b : ClauseKind) → is_kind a b ≡ true → a ≡ b
+is_kind-same Requires Requires e = refl
+is_kind-same Ensures Ensures e = refl
+is_kind-same AbortsIf AbortsIf e = refl
+is_kind-same Requires Ensures e = absurd (cc)
+is_kind-same Requires AbortsIf e = absurd (cc)
+is_kind-same Ensures Requires e = absurd (cc)
+is_kind-same Ensures AbortsIf e = absurd (cc)
+is_kind-same AbortsIf Requires e = absurd (cc)
+is_kind-same AbortsIf Ensures e = absurd (cc)
+
+is_kind_itself : (a : ClauseKind) → is_kind a a ≡ true
+is_kind_itself Requires = refl
+is_kind_itself Ensures = refl
+is_kind_itself AbortsIf = refl
+
+pub same-is_kind : (a b : ClauseKind) → a ≡ b → is_kind a b ≡ true
+same-is_kind a b e = subst (λ x. is_kind a x ≡ true) e (is_kind_itself a)
+
+pub not_kind : (a b : ClauseKind) → is_kind a b ≡ false → a ≡ b → ⊥
+not_kind a b e h = let g = same-is_kind a b h in absurd (cc)
+
+pub has_kind-true : (kind : ClauseKind) (clauses : List Clause) → HasKind kind clauses → has_kind kind clauses ≡ true
+has_kind-true kind [] h = absurd h
+has_kind-true kind (c ∷ cs) (inl e) = (λ i. same-is_kind c.kind kind e i || has_kind kind cs)
+has_kind-true kind (c ∷ cs) (inr h) = either (is_kind c.kind kind) (has_kind-true kind cs h)
+  where
+    either : (b : Bool) → has_kind kind cs ≡ true → b || has_kind kind cs ≡ true
+    either true e = refl
+    either false e = e
+
+pub true-has_kind : (kind : ClauseKind) (clauses : List Clause) → has_kind kind clauses ≡ true → HasKind kind clauses
+true-has_kind kind [] e = absurd (cc)
+true-has_kind kind (c ∷ cs) e = go (true-has_kind kind cs) (is_kind c.kind kind) refl
+  where
+    go : (has_kind kind cs ≡ true → HasKind kind cs) → (b : Bool) → is_kind c.kind kind ≡ b → HasKind kind (c ∷ cs)
+    go rest true h = inl (is_kind-same c.kind kind h)
+    go rest false h = inr (rest ((λ i. sym h i || has_kind kind cs) ∙ e))
+
+-- ---- the formulas of the clauses of a kind
 
 module _ (m : Interpretation) (s : Assignment) (f : FunctionData) (arguments : Arguments) (agrees : Agrees m s f.parameters arguments) (returned : TermData) (r : ℕ) (returns : value_of m returned s ≡ NumberValue (pos r)) where
   abbrev names : Names

@@ -23,10 +23,11 @@ use Rattle.sum_formula.specs.Translation.{zero_term, term_at, word_term}
 use Rattle.ref_sem.specs.Bodies.{HasU64Body}
 use Rattle.sum_formula.specs.Premises.{argument_formula, arguments_formula, entry_formulas, requires_formula, returns_formula, returned_term, range_formulas, at_return, at_abort}
 use Rattle.vc_gen.specs.Conditions.{ensures_condition, aborts_if_condition, aborts_condition, condition_if, has_kind, conditions_under, conditions_of, AreValid, Decide}
+use Rattle.pv_base.proofs.TruthValues.{both_true, true_both, never_both, true_not}
 use Rattle.vc_gen.proofs.Words.{same_name-equal, position_some, name_at_position}
 use Rattle.vc_gen.proofs.NumberTruth.{Agrees}
 use Rattle.vc_gen.proofs.RunTruth.{RunAgrees, run_agrees}
-use Rattle.vc_gen.proofs.ClauseTruth.{both_true, true_both, condition_true, all_hold, some_holds, has_kind-true, true-has_kind, EachOfKind, each_of_kind, all_appended, all_parts}
+use Rattle.vc_gen.proofs.ClauseTruth.{condition_true, all_hold, some_holds, has_kind-true, true-has_kind, EachOfKind, each_of_kind, all_appended, all_parts}
 
 -- ---- truth values
 
@@ -37,14 +38,6 @@ implied false b e h = absurd (cc)
 implies : (a b : Bool) → (a ≡ true → b ≡ true) → not a || b ≡ true
 implies true b h = h refl
 implies false b h = refl
-
-not_true : (a : Bool) → not a ≡ true → a ≡ true → ⊥
-not_true true e h = absurd (cc)
-not_true false e h = absurd (cc)
-
-true_not : (a : Bool) → (a ≡ true → ⊥) → not a ≡ true
-true_not true h = absurd (h refl)
-true_not false h = refl
 
 three : (a b c : Bool) → a && (b && (c && true)) ≡ true → (a ≡ true) × (b ≡ true) × (c ≡ true)
 three true true true e = (refl, refl, refl)
@@ -244,7 +237,7 @@ module _ (f : FunctionData) (clauses : List Clause) where
     meets (Some r) run h met =
         let premise = all_three_true (truth_of m (arguments_formula f) s) (truth_of m (requires_formula f clauses) s) (truth_of m (returns_formula f) s) arguments_are (requires_is.1 met) run.0 in (
           all_from_each Ensures _ (names_of f arguments r) (λ c e. (condition_true m s f arguments agrees (returned_term f) r run.1 c.condition).0 (implied (truth_of m (at_return f clauses) s) _ e premise)) clauses h.ensures_conditions,
-          none_from_each AbortsIf _ (names_of f arguments 0) (λ c e k. not_true _ (implied (truth_of m (at_return f clauses) s) _ e premise) ((condition_true m s f arguments agrees zero_term 0 refl c.condition).1 k)) clauses h.aborts_if_conditions,
+          none_from_each AbortsIf _ (names_of f arguments 0) (λ c e k. never_both _ ((condition_true m s f arguments agrees zero_term 0 refl c.condition).1 k) (implied (truth_of m (at_return f clauses) s) _ e premise)) clauses h.aborts_if_conditions,
         )
     meets None run h met =
         let refused : not (truth_of m (returns_formula f) s) ≡ true = ap not run in
@@ -265,7 +258,7 @@ module _ (f : FunctionData) (clauses : List Clause) where
     aborts_if_true None h returns = absurd (let e = h.0 in cc)
 
     aborts_true : (o : Option ℕ) → Outcome o → not (truth_of m (returns_formula f) s) ≡ true → HasKind AbortsIf clauses → any_true m (formulas_of (entry_formulas AbortsIf f clauses)) s ≡ true
-    aborts_true (Some r) h refused has = absurd (not_true _ refused h.0.0)
+    aborts_true (Some r) h refused has = absurd (never_both _ h.0.0 refused)
     aborts_true None h refused has = aborts_is.1 (h.1 has)
 
   -- ---- all starts

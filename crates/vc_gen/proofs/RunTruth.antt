@@ -11,6 +11,7 @@ use Rattle.sum_tree.specs.declared.sum.Operator.{Operator}
 use Rattle.sum_tree.specs.declared.sum.Operator.TheVariants.{Plus, Minus}
 use Rattle.sum_tree.specs.FunctionData.{FunctionData}
 use Rattle.sum_tree.specs.SumData.{SumData, NumberSum, WordSum, JoinedSum}
+use Rattle.pv_base.proofs.TruthValues.{true_both}
 use Rattle.ref_sem.specs.Semantics.{Arguments, AreU64, operator_result, run_sum}
 use Rattle.sum_formula.specs.Translation.{zero_term, operator_term, sum_term}
 use Rattle.ref_sem.specs.Bodies.{IsU64Sum, HasU64Body}
@@ -72,9 +73,6 @@ first_fails a b e = ap (λ c. c && b) e
 second_fails : (a b : Bool) → a ≡ true → b ≡ false → (a && b) ≡ false
 second_fails a b e g = ap (λ c. c && b) e ∙ g
 
-both_true : (a b : Bool) → a ≡ true → b ≡ true → (a && b) ≡ true
-both_true a b e g = ap (λ c. c && b) e ∙ g
-
 module _ (m : Interpretation) (s : Assignment) (f : FunctionData) (arguments : Arguments) (agrees : Agrees m s f.parameters arguments) (u64s : AreU64 arguments) where
   step_agrees : (op : Operator) (t u : TermData) (a b : ℕ) → value_of m t s ≡ NumberValue (pos a) → value_of m u s ≡ NumberValue (pos b) → a < 2 ^ 64 → StepAgrees (operator_result op a b) (truth_of m (range_formula op (operator_term op t u)) s) (number_of (value_of m (operator_term op t u) s))
   step_agrees Plus t u a b e g h =
@@ -99,7 +97,7 @@ module _ (m : Interpretation) (s : Assignment) (f : FunctionData) (arguments : A
   last_step : (result : Option ℕ) (bound : Bool) (z : ℤ) (t : TermData) → value_of m t s ≡ NumberValue z → StepAgrees result bound z → (ls : List FormulaData) (rs : List FormulaData) (p : FormulaData) → truth_of m p s ≡ bound → all_true m (formulas_of ls) s ≡ true → all_true m (formulas_of rs) s ≡ true
       → RunAgrees m s result (ls ++ (rs ++ p ∷ [])) t
   last_step (Some r) bound z t e h ls rs p g lt rt = (
-    all_behind m s ls (rs ++ p ∷ []) ∙ both_true _ _ lt (all_behind m s rs (p ∷ []) ∙ both_true _ _ rt (both_true (truth_of m p s) true (g ∙ h.0) refl)),
+    all_behind m s ls (rs ++ p ∷ []) ∙ true_both _ _ lt (all_behind m s rs (p ∷ []) ∙ true_both _ _ rt (true_both (truth_of m p s) true (g ∙ h.0) refl)),
     e ∙ ap NumberValue h.1,
     h.2,
   )

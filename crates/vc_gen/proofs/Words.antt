@@ -4,11 +4,8 @@ use Rattle.std.specs.List.{list_any, position, position_from}
 use Rattle.std.proofs.lemmas.Bool.{eqb-true}
 use Rattle.std.proofs.lemmas.Iterator.Adapters.{position_from-zero}
 use Rattle.std.proofs.lemmas.List.Quantifiers.{position-Some}
+use Rattle.pv_base.proofs.TruthValues.{both_true}
 use Rattle.pv_base.specs.Names.{same_name}
-
-both_true : (a b : Bool) → a && b ≡ true → (a ≡ true) × (b ≡ true)
-both_true true b e = (refl, e)
-both_true false b e = absurd (cc)
 
 -- equal names are one name
 pub same_name-equal : (v w : List ℕ) → same_name v w ≡ true → v ≡ w

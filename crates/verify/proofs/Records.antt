@@ -1,5 +1,6 @@
 -- The record of a function is right where those of its conditions are.
 use Rattle.std.proofs.Common.{◌≡◌, ℕ, List, [], ◌∷◌, Bool, true, false, ◌&&◌, refl, sym, ap, ◌∙◌, subst}
+use Rattle.pv_base.proofs.TruthValues.{both_true}
 use Rattle.vc_gen.specs.declared.condition.VerificationCondition.{VerificationCondition}
 use Rattle.vc_gen.specs.Conditions.{AreValid, Decide, conditions_of}
 use Rattle.fol.specs.FormulaData.{FormulaData}
@@ -21,10 +22,6 @@ valid_of_shown p parameters Wide values s e = absurd (cc)
 valid_of_shown p parameters Rows values s e = absurd (cc)
 valid_of_shown p parameters (Budget steps) values s e = absurd (cc)
 valid_of_shown p parameters Size values s e = absurd (cc)
-
-both_true : (a b : Bool) → a && b ≡ true → (a ≡ true) × (b ≡ true)
-both_true true b e = (refl, e)
-both_true false b e = absurd (cc)
 
 valid_if_proved : (bytes : List ℕ) (file : ℕ) (parameters : List (List ℕ)) (conditions : List VerificationCondition) (found : List ConditionRecordData) → Paired (IsConditionRecord bytes file parameters) conditions found → are_proved found ≡ true → AreValid [] conditions
 valid_if_proved bytes file ps [] [] p e = tt

@@ -7,13 +7,8 @@ use Rattle.std.proofs.lemmas.List.Elements.{All-more}
 use Rattle.fol.specs.FormulaData.{TermData}
 use Rattle.linear_rows.specs.declared.rows.Fraction.{Fraction}
 use Rattle.report.specs.ReportData.{ParameterValueData}
+use Rattle.pv_base.proofs.TruthValues.{never, not_true}
 use Rattle.verify.specs.OpenValues.{IsOfVariable, IsValueOf, AreValuesOf}
-
-never : IsTrue false → ⊥
-never h = search rules
-
-not_true : (b : Bool) → b ≡ false → IsTrue b → ⊥
-not_true b e h = never (subst IsTrue e h)
 
 -- the fraction is not the value of the variable
 abbrev pub IsOfAnother : List TermData → ℕ → Fraction → Type 0

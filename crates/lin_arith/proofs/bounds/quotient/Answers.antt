@@ -3,7 +3,7 @@ use Rattle.std.specs.Prelude.{unsigned_abs}
 use Rattle.std.specs.Int.{w128}
 use Rattle.std.proofs.lemmas.Int.{to_z-of_z}
 use Rattle.linear_rows.proofs.NumberLemmas.{divisor_of_positive}
-use Rattle.linear_rows.proofs.IntegerLemmas.{mul_assoc, mul_swap}
+use Rattle.pv_base.proofs.WholeNumbers.{mul_assoc, mul_swap}
 use Rattle.lin_arith.proofs.bounds.quotient.Goals as goal
 
 pub exact_quotient-requires-clause-nonzero : goal.exact_quotient-requires-clause-nonzero

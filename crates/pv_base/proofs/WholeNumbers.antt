@@ -36,8 +36,14 @@ mul_neg a b =
     let e : up (a *ℤ neg_ℤ b) + down (neg_ℤ (a *ℤ b)) ≡ up (neg_ℤ (a *ℤ b)) + down (a *ℤ neg_ℤ b) = rw (l.0, l.1, n.0, n.1, m.0, m.1, x.0, x.1) (omega arith) in
     same_in _ _ e
 
+pub neg_mul : (a b : ℤ) → neg_ℤ a *ℤ b ≡ neg_ℤ (a *ℤ b)
+neg_mul a b = *ℤ_comm (neg_ℤ a) b ∙ mul_neg b a ∙ ap neg_ℤ (*ℤ_comm b a)
+
 pub mul_sub : (a b c : ℤ) → a *ℤ (b -ℤ c) ≡ (a *ℤ b) -ℤ (a *ℤ c)
 mul_sub a b c = mul_add a b (neg_ℤ c) ∙ ap (λ (z : ℤ). (a *ℤ b) +ℤ z) (mul_neg a c)
+
+pub sub_mul : (a b c : ℤ) → (a -ℤ b) *ℤ c ≡ (a *ℤ c) -ℤ (b *ℤ c)
+sub_mul a b c = rw (*ℤ_comm (a -ℤ b) c, mul_sub c a b, *ℤ_comm c a, *ℤ_comm c b) refl
 
 pub mul_swap : (a b c : ℤ) → a *ℤ (b *ℤ c) ≡ b *ℤ (a *ℤ c)
 mul_swap a b c = sym (mul_assoc a b c) ∙ ap (λ (z : ℤ). z *ℤ c) (*ℤ_comm a b) ∙ mul_assoc b a c

@@ -1,9 +1,8 @@
 //! Counts the steps of a search against its budget.
-#![tactic(auto)]
 
 ghost use Rattle.std.specs.Prelude.{◌≡◌, ◌+◌, true, false};
 
-use pv_base::steps::Steps;
+use crate::steps::Steps;
 use std::sync::ledger::Ledger;
 
 /// Takes a step, and counts it, if one is left; else says that none is.
