@@ -1,4 +1,5 @@
 //! The words in which the verifier answers.
 #![tactic(auto)]
 
+pub mod condition;
 pub mod rule;

@@ -1,20 +1,20 @@
 -- What is so of each stage is so of a chain of them: it gives one thing at most, or it stops in one way.
 use Rattle.std.proofs.Common.{◌≡◌, ℕ, List, refl, sym, ap, subst, ◌∙◌}
-use Rattle.program_read.specs.Chain.{Stage, GivesBehind, StopsBehind, at_first, at_second, makes, checks, ◌▷◌}
+use Rattle.program_read.specs.Chain.{FileStage, GivesBehind, StopsBehind, at_first, at_second, makes, checks, ◌▷◌}
 use Rattle.program_read.specs.FileFault.{IsSameStop, without_place}
 use Rattle.program_read.specs.Numbered.{Each, EachPair, IsFirst}
 use Rattle.program_read.specs.declared.fault.FileFault.{FileFault}
 use Rattle.program_read.proofs.NumberedLaws.{none_first, once, one_list}
 use Rattle.program_read.proofs.NumberedLemmas.{each_of_pairs}
 
-pub record Laws {A B : Type 0} (s : Stage A B) : Type 0 where
+pub record Laws {A B : Type 0} (s : FileStage A B) : Type 0 where
   pub one : (given : A) (made other : B) → s.Gives given made → s.Gives given other → made ≡ other
   pub either : (given : A) (made : B) (file : ℕ) (fault : FileFault) → s.Gives given made → s.Stops given file fault → ⊥
   pub stop : (given : A) (file other_file : ℕ) (fault other : FileFault) → s.Stops given file fault → s.Stops given other_file other → IsSameStop file other_file fault other
 
 -- ---- two stages, one after the other
 
-module _ {A B C : Type 0} (s : Stage A B) (t : Stage B C) (S : Laws s) (T : Laws t) where
+module _ {A B C : Type 0} (s : FileStage A B) (t : FileStage B C) (S : Laws s) (T : Laws t) where
   one_behind : (given : A) (made other : C) → GivesBehind s t given made → GivesBehind s t given other → made ≡ other
   one_behind given made other p q =
       T.one p.between made other p.second (subst (λ x. t.Gives x other) (S.one given q.between p.between q.first p.first) q.second)

@@ -1,6 +1,6 @@
 -- Files that are taken in order, by a stage that looks at each by itself.
 use Rattle.std.proofs.Common.{◌≡◌, ℕ, ◌+◌, ◌<◌, ◌≤◌, List, length, take, get_or, refl, sym, ap, subst, ◌∙◌}
-use Rattle.program_read.specs.Chain.{Stage, GivesBehind, makes, checks, ◌▷◌}
+use Rattle.program_read.specs.Chain.{FileStage, GivesBehind, makes, checks, ◌▷◌}
 use Rattle.program_read.specs.FileReading.{IsIn}
 use Rattle.program_read.specs.Numbered.{Each, EachPair, IsFirst}
 use Rattle.program_read.specs.declared.fault.FileFault.{FileFault}
@@ -15,10 +15,10 @@ stops_at {B = B} Reads IsOf IsWrong items i d read file fault some h e w =
 
 -- ---- a stage gives as many as it is given
 
-abbrev pub KeepsCount : {A B : Type 0} → Stage (List A) (List B) → Type 0
+abbrev pub KeepsCount : {A B : Type 0} → FileStage (List A) (List B) → Type 0
 KeepsCount {A = A} {B = B} s = (given : List A) (made : List B) → s.Gives given made → length made ≡ length given
 
-pub behind_keeps : {A B C : Type 0} (s : Stage (List A) (List B)) (t : Stage (List B) (List C)) → KeepsCount s → KeepsCount t → KeepsCount (s ▷ t)
+pub behind_keeps : {A B C : Type 0} (s : FileStage (List A) (List B)) (t : FileStage (List B) (List C)) → KeepsCount s → KeepsCount t → KeepsCount (s ▷ t)
 behind_keeps s t one other given made g = other g.between made g.second ∙ one given g.between g.first
 
 pub makes_keeps : {A B : Type 0} (IsOf : ℕ → A → B → Type 0) (IsWrong : ℕ → A → FileFault → Type 0) → KeepsCount (makes IsOf IsWrong)

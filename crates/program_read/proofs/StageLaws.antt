@@ -6,7 +6,7 @@ use Rattle.move_tokens.specs.declared.token.Token.{Token}
 use Rattle.source_parse.specs.Denoted.{IsSourceOf}
 use Rattle.source_parse.specs.SourceModuleData.{SourceModuleData}
 use Rattle.sum_tree.specs.SumModuleData.{SumModuleData}
-use Rattle.program_read.specs.Chain.{Stage, ◌▷◌}
+use Rattle.program_read.specs.Chain.{FileStage, ◌▷◌}
 use Rattle.program_read.specs.FileFault.{IsSameStop, breaks, without_place}
 use Rattle.program_read.specs.LocalCounts.{HasFewLocals, HasManyLocals, locals_stage}
 use Rattle.program_read.specs.Modules.{HasUnbuilt, modules_stage, numbered}

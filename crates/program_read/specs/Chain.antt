@@ -5,37 +5,37 @@ use Rattle.program_read.specs.Numbered.{Each, EachPair, IsFirst}
 use Rattle.program_read.specs.declared.fault.FileFault.{FileFault}
 
 -- what a stage gives for what it is given, and at which file it stops, and why
-pub record Stage (A B : Type 0) : Type 1 where
+pub record FileStage (A B : Type 0) : Type 1 where
   pub Gives : A → B → Type 0
   pub Stops : A → ℕ → FileFault → Type 0
 
 -- ---- two stages, one after the other
 
-pub record GivesBehind {A B C : Type 0} (one : Stage A B) (other : Stage B C) (given : A) (made : C) : Type 0 where
+pub record GivesBehind {A B C : Type 0} (one : FileStage A B) (other : FileStage B C) (given : A) (made : C) : Type 0 where
   pub between : B
   pub first : one.Gives given between
   pub second : other.Gives between made
 
 -- The first stops; or it has an answer for every file, and the second stops.
-pub data StopsBehind {A B C : Type 0} (one : Stage A B) (other : Stage B C) (given : A) (file : ℕ) (fault : FileFault) : Type 0 where
+pub data StopsBehind {A B C : Type 0} (one : FileStage A B) (other : FileStage B C) (given : A) (file : ℕ) (fault : FileFault) : Type 0 where
   at_first : one.Stops given file fault → StopsBehind one other given file fault
   at_second : (between : B) → one.Gives given between → other.Stops between file fault → StopsBehind one other given file fault
 
 infixl 20 ◌▷◌
-abbrev pub ◌▷◌ : {A B C : Type 0} → Stage A B → Stage B C → Stage A C
+abbrev pub ◌▷◌ : {A B C : Type 0} → FileStage A B → FileStage B C → FileStage A C
 one ▷ other = record { Gives = GivesBehind one other; Stops = StopsBehind one other }
 
 -- ---- stages that look at each file by itself
 
 -- Of each file something is made; the stage stops at the first of which nothing is.
-abbrev pub makes : {A B : Type 0} → (ℕ → A → B → Type 0) → (ℕ → A → FileFault → Type 0) → Stage (List A) (List B)
+abbrev pub makes : {A B : Type 0} → (ℕ → A → B → Type 0) → (ℕ → A → FileFault → Type 0) → FileStage (List A) (List B)
 makes IsOf IsWrong = record {
   Gives = λ items made. EachPair IsOf 0 items made;
   Stops = λ items file fault. IsFirst (λ n item. (made : _) × IsOf n item made) (λ n item. IsWrong n item fault) items file;
 }
 
 -- Each file is as it should be, and is handed on; the stage stops at the first that is not.
-abbrev pub checks : {A : Type 0} → (ℕ → A → Type 0) → (ℕ → A → FileFault → Type 0) → Stage (List A) (List A)
+abbrev pub checks : {A : Type 0} → (ℕ → A → Type 0) → (ℕ → A → FileFault → Type 0) → FileStage (List A) (List A)
 checks IsRight IsWrong = record {
   Gives = λ items handed. (handed ≡ items) × Each IsRight 0 items;
   Stops = λ items file fault. IsFirst IsRight (λ n item. IsWrong n item fault) items file;

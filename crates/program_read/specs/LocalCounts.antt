@@ -8,7 +8,7 @@ use Rattle.source_parse.specs.declared.source.SourceForm.TheVariants.{Use, Frien
 use Rattle.source_parse.specs.SourceData.{SourceMemberData}
 use Rattle.source_parse.specs.SourceModuleData.{SourceModuleData}
 use Rattle.source_tree.specs.Locals.{locals_of}
-use Rattle.program_read.specs.Chain.{Stage, checks}
+use Rattle.program_read.specs.Chain.{FileStage, checks}
 use Rattle.program_read.specs.declared.fault.FileFault.{FileFault}
 use Rattle.program_read.specs.declared.fault.FileFault.TheVariants.{Passes}
 use Rattle.program_read.specs.declared.fault.FileLimit.TheVariants.{Locals}
@@ -53,5 +53,5 @@ pub record HasManyLocals (n : ℕ) (source : List SourceModuleData) (fault : Fil
   pub fault_is : fault ≡ Passes Locals count
   pub excess : excess_of source ≡ Some count
 
-abbrev pub locals_stage : Stage (List (List SourceModuleData)) (List (List SourceModuleData))
+abbrev pub locals_stage : FileStage (List (List SourceModuleData)) (List (List SourceModuleData))
 locals_stage = checks HasFewLocals HasManyLocals

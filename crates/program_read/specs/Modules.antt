@@ -9,7 +9,7 @@ use Rattle.sum_tree.specs.SumModuleData.{SumModuleData}
 use Rattle.sum_module.specs.Built.{IsUnbuiltAt}
 use Rattle.sum_module.specs.Places.{module_place}
 use Rattle.sum_module.specs.Program.{IsSumModule}
-use Rattle.program_read.specs.Chain.{Stage}
+use Rattle.program_read.specs.Chain.{FileStage}
 use Rattle.program_read.specs.FileFault.{breaks}
 use Rattle.program_read.specs.declared.fault.FileFault.{FileFault}
 
@@ -57,7 +57,7 @@ pub record HasUnbuilt (modules : List (ℕ × SourceModuleData)) (file : ℕ) (f
   pub fault_is : fault ≡ breaks NotBuilt place
   pub first : IsFirstUnbuilt modules file place
 
-abbrev pub modules_stage : Stage (List (List SourceModuleData)) (List SumModuleData)
+abbrev pub modules_stage : FileStage (List (List SourceModuleData)) (List SumModuleData)
 modules_stage = record {
   Gives = λ sources program. AreModules [] (numbered 0 sources) program;
   Stops = λ sources file fault. HasUnbuilt (numbered 0 sources) file fault;

@@ -2,7 +2,7 @@
 use Rattle.std.specs.Prelude.{ℕ, List}
 use Rattle.source_parse.specs.SourceModuleData.{SourceModuleData}
 use Rattle.sum_tree.specs.SumModuleData.{SumModuleData}
-use Rattle.program_read.specs.Chain.{Stage, ◌▷◌}
+use Rattle.program_read.specs.Chain.{FileStage, ◌▷◌}
 use Rattle.program_read.specs.Texts.{text_stages}
 use Rattle.program_read.specs.Sources.{source_stage}
 use Rattle.program_read.specs.LocalCounts.{locals_stage}
@@ -10,12 +10,12 @@ use Rattle.program_read.specs.Modules.{modules_stage}
 use Rattle.program_read.specs.declared.fault.FileFault.{FileFault}
 
 -- the stages up to the sources
-abbrev pub source_stages : Stage (List (List ℕ)) (List (List SourceModuleData))
+abbrev pub source_stages : FileStage (List (List ℕ)) (List (List SourceModuleData))
 source_stages = text_stages ▷ source_stage ▷ locals_stage
 
 -- All stages, in their order: the files have tokens; not too many; they do not nest too deep; they denote sources; no function
 -- of these has too many locals; and their modules are modules of sums. The next rule stands behind the others.
-abbrev pub program_stages : Stage (List (List ℕ)) (List SumModuleData)
+abbrev pub program_stages : FileStage (List (List ℕ)) (List SumModuleData)
 program_stages = source_stages ▷ modules_stage
 
 -- Each stage has an answer for every file, and the last one gives this program.

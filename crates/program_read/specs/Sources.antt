@@ -6,7 +6,7 @@ use Rattle.token_reading.specs.declared.explain.ParseFault.TheVariants.{Grammar 
 use Rattle.token_reading.specs.declared.marker.Marker.{Marker}
 use Rattle.source_parse.specs.Denoted.{IsSourceOf, IsCause}
 use Rattle.source_parse.specs.SourceModuleData.{SourceModuleData}
-use Rattle.program_read.specs.Chain.{Stage, makes}
+use Rattle.program_read.specs.Chain.{FileStage, makes}
 use Rattle.program_read.specs.FileFault.{breaks}
 use Rattle.program_read.specs.declared.fault.FileFault.{FileFault}
 use Rattle.program_read.specs.declared.fault.FileFault.TheVariants.{Breaks}
@@ -31,5 +31,5 @@ pub record HasMarker (tokens : List Token) (fault : FileFault) : Type 0 where
 abbrev pub DenoteNone : ℕ → List Token → FileFault → Type 0
 DenoteNone n tokens fault = HasNoTree tokens fault ⊎ HasMarker tokens fault
 
-abbrev pub source_stage : Stage (List (List Token)) (List (List SourceModuleData))
+abbrev pub source_stage : FileStage (List (List Token)) (List (List SourceModuleData))
 source_stage = makes Denote DenoteNone

@@ -5,7 +5,7 @@ use Rattle.answers.specs.declared.rule.Rule.TheVariants.{BadToken}
 use Rattle.move_tokens.specs.Spelling.{IsBadAt, IsUnspelled, Spells}
 use Rattle.move_tokens.specs.Weight.{greatest_weight}
 use Rattle.move_tokens.specs.declared.token.Token.{Token}
-use Rattle.program_read.specs.Chain.{Stage, checks, makes, ◌▷◌}
+use Rattle.program_read.specs.Chain.{FileStage, checks, makes, ◌▷◌}
 use Rattle.program_read.specs.FileFault.{breaks}
 use Rattle.program_read.specs.declared.fault.FileFault.{FileFault}
 use Rattle.program_read.specs.declared.fault.FileFault.TheVariants.{Passes}
@@ -24,7 +24,7 @@ pub record HasBadToken (n : ℕ) (bytes : List ℕ) (fault : FileFault) : Type 0
   pub at : IsBadAt place bytes
   pub unspelled : IsUnspelled n bytes
 
-abbrev pub tokens_stage : Stage (List (List ℕ)) (List (List Token))
+abbrev pub tokens_stage : FileStage (List (List ℕ)) (List (List Token))
 tokens_stage = makes AreTokensOf HasBadToken
 
 -- ---- how many there are
@@ -37,7 +37,7 @@ pub record IsLong (n : ℕ) (tokens : List Token) (fault : FileFault) : Type 0 w
   pub fault_is : fault ≡ Passes Tokens (length tokens)
   pub many : 200000 < length tokens
 
-abbrev pub length_stage : Stage (List (List Token)) (List (List Token))
+abbrev pub length_stage : FileStage (List (List Token)) (List (List Token))
 length_stage = checks IsShort IsLong
 
 -- ---- how deep they nest
@@ -50,10 +50,10 @@ pub record IsHeavy (n : ℕ) (tokens : List Token) (fault : FileFault) : Type 0 
   pub fault_is : fault ≡ Passes Nesting 201
   pub heavy : 200 < greatest_weight tokens
 
-abbrev pub nesting_stage : Stage (List (List Token)) (List (List Token))
+abbrev pub nesting_stage : FileStage (List (List Token)) (List (List Token))
 nesting_stage = checks IsLight IsHeavy
 
 -- ---- all three
 
-abbrev pub text_stages : Stage (List (List ℕ)) (List (List Token))
+abbrev pub text_stages : FileStage (List (List ℕ)) (List (List Token))
 text_stages = tokens_stage ▷ length_stage ▷ nesting_stage

@@ -3,54 +3,56 @@ use Rattle.std.proofs.Common.{◌≡◌, ℕ, ◌<◌, ◌≤◌, ◌↔◌, Boo
 use Rattle.std.specs.Prelude.{IfSome, IsSomeAnd}
 use Rattle.std.specs.List.{list_all, AllByRecursion}
 use Rattle.std.specs.FinMap as map
+use Rattle.answers.specs.Rules.{tells_place}
+use Rattle.answers.specs.declared.rule.Rule.{Rule}
+use Rattle.answers.specs.declared.rule.Rule.TheVariants.{BadToken}
 use Rattle.token_reading.specs.declared.marker.Marker.{Marker}
 use Rattle.outside.specs.Outside.{Files, HasFaulted, IsLongFile}
 use Rattle.program_read.specs.Numbered.{Each, IsFirst}
-use Rattle.program_read.specs.Program.{IsProgramOf, IsSameStop, ProgramStopped, without_place}
+use Rattle.program_read.specs.FileFault.{IsSameStop, without_place}
+use Rattle.program_read.specs.Program.{IsProgramOf, ProgramStopped}
 use Rattle.program_read.specs.declared.fault.FileFault.{FileFault}
-use Rattle.program_read.specs.declared.fault.FileFault.TheVariants.{BadToken, TooManyTokens, NestsTooDeep, Grammar, LeftOut, TooManyLocals, NotBuilt}
+use Rattle.program_read.specs.declared.fault.FileFault.TheVariants.{Breaks, Passes}
+use Rattle.program_read.specs.declared.fault.FileLimit.{FileLimit}
+use Rattle.program_read.specs.declared.fault.FileLimit.TheVariants.{Tokens as of_tokens, Nesting as of_nesting, Locals as of_locals}
 use Rattle.report.specs.ReportData.{ReportData}
 use Rattle.report.specs.ReportText.{is_proved}
 use Rattle.report.specs.declared.status.Device.TheVariants.{Source, Sink}
 use Rattle.report.specs.declared.status.LimitKind.{LimitKind}
 use Rattle.report.specs.declared.status.LimitKind.TheVariants.{Files as files_kind, Bytes, Tokens, Nesting, Locals}
-use Rattle.report.specs.declared.status.Rule.{Rule}
-use Rattle.report.specs.declared.status.Rule.TheVariants.{BadToken as bad_token, Grammar as no_grammar, LeftOut as left_out, NotBuilt as not_built}
 use Rattle.report.specs.declared.status.Status.{Status}
 use Rattle.report.specs.declared.status.Status.TheVariants.{AllProved, NotAllProved, Refused, Fault, BadWords, Limit, NoMemory}
 use Rattle.sum_tree.specs.SumModuleData.{SumModuleData}
 use Rattle.verify.specs.Pairs.{Paired}
-use Rattle.prove.specs.Causes.{AreTold, Causes, FileCauses, HasBadToken, HasLocals, HasNoTree, HasTokens, HaveProgram, IsGrammar, IsLeftOut, IsNotBuilt, IsReported, NestsDeep, SomeIsLong, TextCauses, UnlessFree, refused}
+use Rattle.prove.specs.Causes.{AreTold, BreaksRule, BreaksRuleOn, Causes, FileCauses, HaveProgram, IsRefused, IsReported, PassesLimit, SomeIsLong, TextCauses, UnlessFree, refused}
 use Rattle.prove.specs.Outcome.{status_of}
 use Rattle.prove.specs.Run.{Ends, IsOutput, IsVerified, RunStopped, report_status}
-use Rattle.prove.specs.Stages.{FetchStopped, HasBytes, HaveBytes, IsFetched, IsLong, IsProgramStop, NameFiles, ReadStopped, line_in, stop_of}
-use Rattle.prove.specs.declared.stages.Stop.{Stop}
-use Rattle.prove.specs.declared.stages.Stop.TheVariants.{TooManyFiles, SourceFault, Limit as limit_stop, Refused as refused_stop, NoMemory as memory_stop}
+use Rattle.prove.specs.Stages.{FetchStopped, HasBytes, HaveBytes, IsFetched, IsLong, IsProgramStop, NameFiles, ReadStopped, limit_kind, line_in, stop_of}
+use Rattle.prove.specs.declared.stages.RunStop.{RunStop}
+use Rattle.prove.specs.declared.stages.RunStop.TheVariants.{TooManyFiles, SourceFault, Limit as limit_stop, Refused as refused_stop, NoMemory as memory_stop}
 
 -- ---- statuses
 
 -- a number for each kind of status, by which two statuses are seen to differ
-abbrev rule_kind : Rule → ℕ
-rule_kind bad_token = 1
-rule_kind no_grammar = 2
-rule_kind left_out = 10
-rule_kind not_built = 11
-
-abbrev limit_kind : LimitKind → ℕ
-limit_kind files_kind = 12
-limit_kind Bytes = 3
-limit_kind Tokens = 4
-limit_kind Nesting = 5
-limit_kind Locals = 13
+abbrev kind_of_limit : LimitKind → ℕ
+kind_of_limit files_kind = 12
+kind_of_limit Bytes = 3
+kind_of_limit Tokens = 4
+kind_of_limit Nesting = 4
+kind_of_limit Locals = 4
 
 abbrev kind_of : Status → ℕ
-kind_of (Refused refusal) = rule_kind refusal.rule
-kind_of (Limit kind count) = limit_kind kind
+kind_of (Refused refusal) = 1
+kind_of (Limit kind count) = kind_of_limit kind
 kind_of AllProved = 6
 kind_of NotAllProved = 6
 kind_of (Fault device) = 7
 kind_of BadWords = 8
 kind_of NoMemory = 9
+
+abbrev rule_of_status : Status → Rule
+rule_of_status (Refused refusal) = refusal.rule
+rule_of_status _ = BadToken
 
 abbrev line_of_status : Status → ℕ
 line_of_status (Refused refusal) = refusal.line
@@ -67,6 +69,28 @@ marker_of_status _ = None
 abbrev count_of_status : Status → ℕ
 count_of_status (Limit kind count) = count
 count_of_status _ = 0
+
+-- the limit of files that a limit of a run is, where it is one
+abbrev limit_of_kind : LimitKind → FileLimit
+limit_of_kind files_kind = of_tokens
+limit_of_kind Bytes = of_tokens
+limit_of_kind Tokens = of_tokens
+limit_of_kind Nesting = of_nesting
+limit_of_kind Locals = of_locals
+
+abbrev limit_of_status : Status → FileLimit
+limit_of_status (Limit kind count) = limit_of_kind kind
+limit_of_status _ = of_tokens
+
+limit_is : (limit : FileLimit) → limit_of_kind (limit_kind limit) ≡ limit
+limit_is of_tokens = refl
+limit_is of_nesting = refl
+limit_is of_locals = refl
+
+four : (limit : FileLimit) → kind_of_limit (limit_kind limit) ≡ 4
+four of_tokens = refl
+four of_nesting = refl
+four of_locals = refl
 
 six : (s : Status) → IsReported s → kind_of s ≡ 6
 six s (inl e) = ap kind_of e
@@ -97,124 +121,90 @@ report_is_reported report = is_report_status (list_all (λ f. is_proved f.verdic
 
 -- ---- faults of files
 
-abbrev fault_kind : FileFault → ℕ
-fault_kind (BadToken place) = 1
-fault_kind (TooManyTokens count) = 4
-fault_kind NestsTooDeep = 5
-fault_kind (Grammar place) = 2
-fault_kind (LeftOut marker place) = 10
-fault_kind (TooManyLocals count) = 13
-fault_kind (NotBuilt place) = 11
-
 -- the status of a run that stops at this fault of this file
 abbrev stopped_status : List (List ℕ) → ℕ → FileFault → Status
 stopped_status files file fault = status_of (stop_of files file fault)
 
-status_kind : (files : List (List ℕ)) (file : ℕ) (fault : FileFault) → kind_of (stopped_status files file fault) ≡ fault_kind fault
-status_kind files file (BadToken place) = refl
-status_kind files file (TooManyTokens count) = refl
-status_kind files file NestsTooDeep = refl
-status_kind files file (Grammar place) = refl
-status_kind files file (LeftOut marker place) = refl
-status_kind files file (TooManyLocals count) = refl
-status_kind files file (NotBuilt place) = refl
+-- it is a refusal or a limit of a file
+status_kind : (files : List (List ℕ)) (file : ℕ) (fault : FileFault) → (kind_of (stopped_status files file fault) ≡ 1) ⊎ (kind_of (stopped_status files file fault) ≡ 4)
+status_kind files file (Breaks rule place marker) = inl refl
+status_kind files file (Passes limit count) = inr (four limit)
 
--- no status of a stop in a file is one of the other kinds
-other_kinds : (fault : FileFault) → (fault_kind fault ≡ 6 → ⊥) × (fault_kind fault ≡ 3 → ⊥) × (fault_kind fault ≡ 7 → ⊥) × (fault_kind fault ≡ 8 → ⊥) × (fault_kind fault ≡ 12 → ⊥)
-other_kinds (BadToken place) = (λ e. omega (arith, e), λ e. omega (arith, e), λ e. omega (arith, e), λ e. omega (arith, e), λ e. omega (arith, e))
-other_kinds (TooManyTokens count) = (λ e. omega (arith, e), λ e. omega (arith, e), λ e. omega (arith, e), λ e. omega (arith, e), λ e. omega (arith, e))
-other_kinds NestsTooDeep = (λ e. omega (arith, e), λ e. omega (arith, e), λ e. omega (arith, e), λ e. omega (arith, e), λ e. omega (arith, e))
-other_kinds (Grammar place) = (λ e. omega (arith, e), λ e. omega (arith, e), λ e. omega (arith, e), λ e. omega (arith, e), λ e. omega (arith, e))
-other_kinds (LeftOut marker place) = (λ e. omega (arith, e), λ e. omega (arith, e), λ e. omega (arith, e), λ e. omega (arith, e), λ e. omega (arith, e))
-other_kinds (TooManyLocals count) = (λ e. omega (arith, e), λ e. omega (arith, e), λ e. omega (arith, e), λ e. omega (arith, e), λ e. omega (arith, e))
-other_kinds (NotBuilt place) = (λ e. omega (arith, e), λ e. omega (arith, e), λ e. omega (arith, e), λ e. omega (arith, e), λ e. omega (arith, e))
+-- and so it is of no other kind
+record IsOther (kind : ℕ) : Type 0 where
+  no_limit_of_bytes : kind ≡ 3 → ⊥
+  no_report : kind ≡ 6 → ⊥
+  no_fault : kind ≡ 7 → ⊥
+  no_words : kind ≡ 8 → ⊥
+  no_limit_of_files : kind ≡ 12 → ⊥
 
-is_bad_token : (fault : FileFault) → fault_kind fault ≡ 1 → (place : ℕ) × (fault ≡ BadToken place)
-is_bad_token (BadToken place) e = (place, refl)
-is_bad_token (TooManyTokens count) e = absurd (omega (arith, e))
-is_bad_token NestsTooDeep e = absurd (omega (arith, e))
-is_bad_token (Grammar place) e = absurd (omega (arith, e))
-is_bad_token (LeftOut marker place) e = absurd (omega (arith, e))
-is_bad_token (TooManyLocals count) e = absurd (omega (arith, e))
-is_bad_token (NotBuilt place) e = absurd (omega (arith, e))
+one_or_four : (kind : ℕ) → (kind ≡ 1) ⊎ (kind ≡ 4) → IsOther kind
+one_or_four kind (inl k) = record { no_limit_of_bytes = λ e. omega (arith, k, e); no_report = λ e. omega (arith, k, e); no_fault = λ e. omega (arith, k, e); no_words = λ e. omega (arith, k, e); no_limit_of_files = λ e. omega (arith, k, e) }
+one_or_four kind (inr k) = record { no_limit_of_bytes = λ e. omega (arith, k, e); no_report = λ e. omega (arith, k, e); no_fault = λ e. omega (arith, k, e); no_words = λ e. omega (arith, k, e); no_limit_of_files = λ e. omega (arith, k, e) }
 
-is_grammar : (fault : FileFault) → fault_kind fault ≡ 2 → (place : ℕ) × (fault ≡ Grammar place)
-is_grammar (BadToken place) e = absurd (omega (arith, e))
-is_grammar (TooManyTokens count) e = absurd (omega (arith, e))
-is_grammar NestsTooDeep e = absurd (omega (arith, e))
-is_grammar (Grammar place) e = (place, refl)
-is_grammar (LeftOut marker place) e = absurd (omega (arith, e))
-is_grammar (TooManyLocals count) e = absurd (omega (arith, e))
-is_grammar (NotBuilt place) e = absurd (omega (arith, e))
+other_kinds : (files : List (List ℕ)) (file : ℕ) (fault : FileFault) → IsOther (kind_of (stopped_status files file fault))
+other_kinds files file fault = one_or_four (kind_of (stopped_status files file fault)) (status_kind files file fault)
 
-is_left_out : (fault : FileFault) → fault_kind fault ≡ 10 → (marker : Marker) × (place : ℕ) × (fault ≡ LeftOut marker place)
-is_left_out (BadToken place) e = absurd (omega (arith, e))
-is_left_out (TooManyTokens count) e = absurd (omega (arith, e))
-is_left_out NestsTooDeep e = absurd (omega (arith, e))
-is_left_out (Grammar place) e = absurd (omega (arith, e))
-is_left_out (LeftOut marker place) e = (marker, place, refl)
-is_left_out (TooManyLocals count) e = absurd (omega (arith, e))
-is_left_out (NotBuilt place) e = absurd (omega (arith, e))
+-- a fault with its place
+abbrev place_of : FileFault → ℕ
+place_of (Breaks rule place marker) = place
+place_of (Passes limit count) = 0
 
-is_not_built : (fault : FileFault) → fault_kind fault ≡ 11 → (place : ℕ) × (fault ≡ NotBuilt place)
-is_not_built (BadToken place) e = absurd (omega (arith, e))
-is_not_built (TooManyTokens count) e = absurd (omega (arith, e))
-is_not_built NestsTooDeep e = absurd (omega (arith, e))
-is_not_built (Grammar place) e = absurd (omega (arith, e))
-is_not_built (LeftOut marker place) e = absurd (omega (arith, e))
-is_not_built (TooManyLocals count) e = absurd (omega (arith, e))
-is_not_built (NotBuilt place) e = (place, refl)
+-- what a fault tells but for its place
+abbrev rule_of : FileFault → Rule
+rule_of (Breaks rule place marker) = rule
+rule_of (Passes limit count) = BadToken
 
-is_tokens : (fault : FileFault) → fault_kind fault ≡ 4 → (count : ℕ) × (fault ≡ TooManyTokens count)
-is_tokens (BadToken place) e = absurd (omega (arith, e))
-is_tokens (TooManyTokens count) e = (count, refl)
-is_tokens NestsTooDeep e = absurd (omega (arith, e))
-is_tokens (Grammar place) e = absurd (omega (arith, e))
-is_tokens (LeftOut marker place) e = absurd (omega (arith, e))
-is_tokens (TooManyLocals count) e = absurd (omega (arith, e))
-is_tokens (NotBuilt place) e = absurd (omega (arith, e))
+abbrev marker_of : FileFault → Option Marker
+marker_of (Breaks rule place marker) = marker
+marker_of (Passes limit count) = None
 
-is_nesting : (fault : FileFault) → fault_kind fault ≡ 5 → fault ≡ NestsTooDeep
-is_nesting (BadToken place) e = absurd (omega (arith, e))
-is_nesting (TooManyTokens count) e = absurd (omega (arith, e))
-is_nesting NestsTooDeep e = refl
-is_nesting (Grammar place) e = absurd (omega (arith, e))
-is_nesting (LeftOut marker place) e = absurd (omega (arith, e))
-is_nesting (TooManyLocals count) e = absurd (omega (arith, e))
-is_nesting (NotBuilt place) e = absurd (omega (arith, e))
+abbrev breaks_one : FileFault → Bool
+breaks_one (Breaks rule place marker) = true
+breaks_one (Passes limit count) = false
 
-is_locals : (fault : FileFault) → fault_kind fault ≡ 13 → (count : ℕ) × (fault ≡ TooManyLocals count)
-is_locals (BadToken place) e = absurd (omega (arith, e))
-is_locals (TooManyTokens count) e = absurd (omega (arith, e))
-is_locals NestsTooDeep e = absurd (omega (arith, e))
-is_locals (Grammar place) e = absurd (omega (arith, e))
-is_locals (LeftOut marker place) e = absurd (omega (arith, e))
-is_locals (TooManyLocals count) e = (count, refl)
-is_locals (NotBuilt place) e = absurd (omega (arith, e))
+-- the same rule broken with the same marker, at some place
+same_rule : (fault : FileFault) (rule : Rule) (place : ℕ) (marker : Option Marker) → without_place fault ≡ without_place (Breaks rule place marker) → fault ≡ Breaks rule (place_of fault) marker
+same_rule (Breaks other at mark) rule place marker e = ap (λ r. Breaks r at mark) (ap rule_of e) ∙ ap (Breaks rule at) (ap marker_of e)
+same_rule (Passes limit count) rule place marker e = absurd (apart (ap breaks_one e))
+  where
+    apart : false ≡ true → ⊥
+    apart k = absurd (cc)
 
-kept_kind : (fault : FileFault) → fault_kind (without_place fault) ≡ fault_kind fault
-kept_kind (BadToken place) = refl
-kept_kind (TooManyTokens count) = refl
-kept_kind NestsTooDeep = refl
-kept_kind (Grammar place) = refl
-kept_kind (LeftOut marker place) = refl
-kept_kind (TooManyLocals count) = refl
-kept_kind (NotBuilt place) = refl
+-- a rule that tells its place is broken at the same place
+same_place : (fault : FileFault) (rule : Rule) (place : ℕ) (marker : Option Marker) → tells_place rule ≡ true → without_place fault ≡ without_place (Breaks rule place marker) → fault ≡ Breaks rule place marker
+same_place fault rule place marker told e =
+    let f = same_rule fault rule place marker e in
+    f ∙ ap (λ at. Breaks rule at marker) (ap (λ t. if t then place_of fault else 0) (sym told) ∙ ap place_of (sym (ap without_place f) ∙ e) ∙ ap (λ t. if t then place else 0) told)
 
-kept : (fault : FileFault) → (fault_kind fault ≡ 2 → ⊥) → without_place fault ≡ fault
-kept (BadToken place) n = refl
-kept (TooManyTokens count) n = refl
-kept NestsTooDeep n = refl
-kept (Grammar place) n = absurd (n refl)
-kept (LeftOut marker place) n = refl
-kept (TooManyLocals count) n = refl
-kept (NotBuilt place) n = refl
+-- the same limit is passed
+same_limit : (fault : FileFault) (limit : FileLimit) (count : ℕ) → without_place fault ≡ Passes limit count → fault ≡ Passes limit count
+same_limit (Breaks rule place marker) limit count e = absurd (apart (ap breaks_one e))
+  where
+    apart : true ≡ false → ⊥
+    apart k = absurd (cc)
+same_limit (Passes other n) limit count e = e
 
--- a fault that is no `Grammar` is told by what is left of it
-exact : (fault other : FileFault) → (fault_kind other ≡ 2 → ⊥) → without_place fault ≡ without_place other → fault ≡ other
-exact fault other n e =
-    let kind = sym (kept_kind fault) ∙ ap fault_kind e ∙ kept_kind other in
-    sym (kept fault (λ k. n (sym kind ∙ k))) ∙ e ∙ kept other n
+-- a refusal tells its fault
+record TellsRule (files : List (List ℕ)) (file : ℕ) (fault : FileFault) (rule : Rule) (f line : ℕ) (marker : Option Marker) : Type 0 where
+  place : ℕ
+  file_is : file ≡ f
+  fault_is : fault ≡ Breaks rule place marker
+  line_is : line ≡ line_in files f place
+
+tells_rule : (files : List (List ℕ)) (file : ℕ) (fault : FileFault) (rule : Rule) (f line : ℕ) (marker : Option Marker) → stopped_status files file fault ≡ refused rule f line marker → TellsRule files file fault rule f line marker
+tells_rule files file (Breaks other place mark) rule f line marker e = record {
+  place = place;
+  file_is = ap file_of_status e;
+  fault_is = ap (λ r. Breaks r place mark) (ap rule_of_status e) ∙ ap (Breaks rule place) (ap marker_of_status e);
+  line_is = sym (ap line_of_status e) ∙ ap (λ k. line_in files k place) (ap file_of_status e);
+}
+tells_rule files file (Passes limit count) rule f line marker e = absurd (omega (arith, sym (four limit) ∙ ap kind_of e))
+
+tells_limit : (files : List (List ℕ)) (file : ℕ) (fault : FileFault) (limit : FileLimit) (count : ℕ) → stopped_status files file fault ≡ Limit (limit_kind limit) count → fault ≡ Passes limit count
+tells_limit files file (Breaks rule place marker) limit count e = absurd (omega (arith, ap kind_of e ∙ four limit))
+tells_limit files file (Passes other n) limit count e =
+    ap (λ l. Passes l n) (sym (limit_is other) ∙ ap limit_of_status e ∙ limit_is limit) ∙ ap (Passes limit) (ap count_of_status e)
 
 module _ (either : (files : List (List ℕ)) (program : List SumModuleData) (file : ℕ) (fault : FileFault) → IsProgramOf files program → ProgramStopped files file fault → ⊥)
     (one_stop : (files : List (List ℕ)) (file other_file : ℕ) (fault other : FileFault) → ProgramStopped files file fault → ProgramStopped files other_file other → IsSameStop file other_file fault other) where
@@ -224,124 +214,49 @@ module _ (either : (files : List (List ℕ)) (program : List SumModuleData) (fil
     abbrev ends : Status
     ends = stopped_status files file fault
 
-    kind_is : (s : Status) (k : ℕ) → ends ≡ s → kind_of s ≡ k → fault_kind fault ≡ k
-    kind_is s k e kind = sym (status_kind files file fault) ∙ ap kind_of e ∙ kind
+    at : (f : ℕ) (other : FileFault) → file ≡ f → fault ≡ other → ProgramStopped files f other
+    at f other e h = subst (λ k. ProgramStopped files k other) e (subst (ProgramStopped files file) h stopped)
 
-    -- another stop is this one
-    same_status : (other_file : ℕ) (other : FileFault) → (fault_kind other ≡ 2 → ⊥) → ProgramStopped files other_file other → ends ≡ stopped_status files other_file other
-    same_status other_file other n p =
-        let same = one_stop files file other_file fault other stopped p in
-        ap (λ k. stopped_status files k fault) same.file_is ∙ ap (stopped_status files other_file) (exact fault other n same.fault_is)
-
-    bad_token_causes : (f l : ℕ) → (ends ≡ refused bad_token f l None) ↔ HasBadToken files f l
-    bad_token_causes f l = (there, back)
+    rule_causes : (rule : Rule) (f : ℕ) (marker : Option Marker) → IsRefused rule f marker ends ↔ BreaksRule files rule f marker
+    rule_causes rule f marker = (there, back)
       where
-        there : ends ≡ refused bad_token f l None → HasBadToken files f l
-        there e =
-            let b = is_bad_token fault (kind_is (refused bad_token f l None) 1 e refl) in
-            let s = ap (λ k. stopped_status files file k) (sym b.1) ∙ e in
-            record {
-              place = b.0;
-              stopped = subst (λ k. ProgramStopped files k (BadToken b.0)) (ap file_of_status s) (subst (ProgramStopped files file) b.1 stopped);
-              line_is = sym (ap line_of_status s) ∙ ap (λ k. line_in files k b.0) (ap file_of_status s);
-            }
+        there : IsRefused rule f marker ends → BreaksRule files rule f marker
+        there e = let t = tells_rule files file fault rule f e.0 marker e.1 in (t.place, at f (Breaks rule t.place marker) t.file_is t.fault_is)
 
-        back : HasBadToken files f l → ends ≡ refused bad_token f l None
-        back b = same_status f (BadToken b.place) (λ e. omega (arith, e)) b.stopped ∙ ap (λ k. refused bad_token f k None) (sym b.line_is)
+        back : BreaksRule files rule f marker → IsRefused rule f marker ends
+        back b =
+            let same = one_stop files file f fault (Breaks rule b.0 marker) stopped b.1 in
+            (line_in files f (place_of fault),
+            ap (λ k. stopped_status files k fault) same.file_is ∙ ap (stopped_status files f) (same_rule fault rule b.0 marker same.fault_is))
 
-    grammar_causes : (f : ℕ) → IsGrammar f ends ↔ HasNoTree files f
-    grammar_causes f = (there, back)
+    line_causes : (rule : Rule) → tells_place rule ≡ true → (f line : ℕ) (marker : Option Marker) → (ends ≡ refused rule f line marker) ↔ BreaksRuleOn files rule f line marker
+    line_causes rule told f line marker = (there, back)
       where
-        there : IsGrammar f ends → HasNoTree files f
+        there : ends ≡ refused rule f line marker → BreaksRuleOn files rule f line marker
         there e =
-            let g = is_grammar fault (kind_is (refused no_grammar f e.0 None) 2 e.1 refl) in
-            let s = ap (λ k. stopped_status files file k) (sym g.1) ∙ e.1 in
-            (g.0, subst (λ k. ProgramStopped files k (Grammar g.0)) (ap file_of_status s) (subst (ProgramStopped files file) g.1 stopped))
+            let t = tells_rule files file fault rule f line marker e in
+            record { place = t.place; stopped = at f (Breaks rule t.place marker) t.file_is t.fault_is; line_is = t.line_is }
 
-        back : HasNoTree files f → IsGrammar f ends
-        back n =
-            let same = one_stop files file f fault (Grammar n.0) stopped n.1 in
-            let g = is_grammar fault (sym (kept_kind fault) ∙ ap fault_kind same.fault_is) in
-            (line_in files f g.0, ap (λ k. stopped_status files k fault) same.file_is ∙ ap (stopped_status files f) g.1)
+        back : BreaksRuleOn files rule f line marker → ends ≡ refused rule f line marker
+        back b =
+            let same = one_stop files file f fault (Breaks rule b.place marker) stopped b.stopped in
+            ap (λ k. stopped_status files k fault) same.file_is ∙ ap (stopped_status files f) (same_place fault rule b.place marker told same.fault_is) ∙ ap (λ k. refused rule f k marker) (sym b.line_is)
 
-    left_out_causes : (f l : ℕ) (marker : Marker) → (ends ≡ refused left_out f l (Some marker)) ↔ IsLeftOut files f l marker
-    left_out_causes f l marker = (there, back)
+    limit_causes : (limit : FileLimit) (count : ℕ) → (ends ≡ Limit (limit_kind limit) count) ↔ PassesLimit files limit count
+    limit_causes limit count = (there, back)
       where
-        there : ends ≡ refused left_out f l (Some marker) → IsLeftOut files f l marker
-        there e =
-            let b = is_left_out fault (kind_is (refused left_out f l (Some marker)) 10 e refl) in
-            let s = ap (λ k. stopped_status files file k) (sym b.2) ∙ e in
-            let m : b.0 ≡ marker = some_is (ap marker_of_status s) in
-            record {
-              place = b.1;
-              stopped = subst (λ k. ProgramStopped files k (LeftOut marker b.1)) (ap file_of_status s) (subst (λ k. ProgramStopped files file (LeftOut k b.1)) m (subst (ProgramStopped files file) b.2 stopped));
-              line_is = sym (ap line_of_status s) ∙ ap (λ k. line_in files k b.1) (ap file_of_status s);
-            }
+        there : ends ≡ Limit (limit_kind limit) count → PassesLimit files limit count
+        there e = (file, at file (Passes limit count) refl (tells_limit files file fault limit count e))
 
-        back : IsLeftOut files f l marker → ends ≡ refused left_out f l (Some marker)
-        back b = same_status f (LeftOut marker b.place) (λ e. omega (arith, e)) b.stopped ∙ ap (λ k. refused left_out f k (Some marker)) (sym b.line_is)
-
-    not_built_causes : (f l : ℕ) → (ends ≡ refused not_built f l None) ↔ IsNotBuilt files f l
-    not_built_causes f l = (there, back)
-      where
-        there : ends ≡ refused not_built f l None → IsNotBuilt files f l
-        there e =
-            let b = is_not_built fault (kind_is (refused not_built f l None) 11 e refl) in
-            let s = ap (λ k. stopped_status files file k) (sym b.1) ∙ e in
-            record {
-              place = b.0;
-              stopped = subst (λ k. ProgramStopped files k (NotBuilt b.0)) (ap file_of_status s) (subst (ProgramStopped files file) b.1 stopped);
-              line_is = sym (ap line_of_status s) ∙ ap (λ k. line_in files k b.0) (ap file_of_status s);
-            }
-
-        back : IsNotBuilt files f l → ends ≡ refused not_built f l None
-        back b = same_status f (NotBuilt b.place) (λ e. omega (arith, e)) b.stopped ∙ ap (λ k. refused not_built f k None) (sym b.line_is)
-
-    token_causes : (count : ℕ) → (ends ≡ Limit Tokens count) ↔ HasTokens files count
-    token_causes count = (there, back)
-      where
-        there : ends ≡ Limit Tokens count → HasTokens files count
-        there e =
-            let b = is_tokens fault (kind_is (Limit Tokens count) 4 e refl) in
-            let c = ap count_of_status (ap (λ k. stopped_status files file k) (sym b.1) ∙ e) in
-            (file, subst (λ k. ProgramStopped files file (TooManyTokens k)) c (subst (ProgramStopped files file) b.1 stopped))
-
-        back : HasTokens files count → ends ≡ Limit Tokens count
-        back b = same_status b.0 (TooManyTokens count) (λ e. omega (arith, e)) b.1
-
-    nesting_causes : (count : ℕ) → (ends ≡ Limit Nesting count) ↔ ((count ≡ 201) × NestsDeep files)
-    nesting_causes count = (there, back)
-      where
-        there : ends ≡ Limit Nesting count → (count ≡ 201) × NestsDeep files
-        there e =
-            let b = is_nesting fault (kind_is (Limit Nesting count) 5 e refl) in
-            (sym (ap count_of_status (ap (λ k. stopped_status files file k) (sym b) ∙ e)), (file, subst (ProgramStopped files file) b stopped))
-
-        back : (count ≡ 201) × NestsDeep files → ends ≡ Limit Nesting count
-        back b = same_status b.1.0 NestsTooDeep (λ e. omega (arith, e)) b.1.1 ∙ ap (Limit Nesting) (sym b.0)
-
-    local_causes : (count : ℕ) → (ends ≡ Limit Locals count) ↔ HasLocals files count
-    local_causes count = (there, back)
-      where
-        there : ends ≡ Limit Locals count → HasLocals files count
-        there e =
-            let b = is_locals fault (kind_is (Limit Locals count) 13 e refl) in
-            let c = ap count_of_status (ap (λ k. stopped_status files file k) (sym b.1) ∙ e) in
-            (file, subst (λ k. ProgramStopped files file (TooManyLocals k)) c (subst (ProgramStopped files file) b.1 stopped))
-
-        back : HasLocals files count → ends ≡ Limit Locals count
-        back b = same_status b.0 (TooManyLocals count) (λ e. omega (arith, e)) b.1
+        back : PassesLimit files limit count → ends ≡ Limit (limit_kind limit) count
+        back b = ap (stopped_status files file) (same_limit fault limit count (one_stop files file b.0 fault (Passes limit count) stopped b.1).fault_is)
 
     stop_causes : TextCauses files ends
     stop_causes = record {
-      bad_token = bad_token_causes;
-      grammar = grammar_causes;
-      left_out = left_out_causes;
-      not_built = not_built_causes;
-      tokens = token_causes;
-      nesting = nesting_causes;
-      locals = local_causes;
-      reported = (λ e. absurd ((other_kinds fault).0 (sym (status_kind files file fault) ∙ six ends e)), λ p. absurd (either files p.0 file fault p.1 stopped));
+      rule = rule_causes;
+      line = line_causes;
+      limit = limit_causes;
+      reported = (λ e. absurd ((other_kinds files file fault).no_report (six ends e)), λ p. absurd (either files p.0 file fault p.1 stopped));
     }
 
   -- ---- files of a program
@@ -350,13 +265,9 @@ module _ (either : (files : List (List ℕ)) (program : List SumModuleData) (fil
   program_causes files program s is p =
       let is_six = six s is in
       record {
-        bad_token = λ f l. (λ e. absurd (omega (arith, sym is_six ∙ ap kind_of e)), λ b. absurd (either files program f (BadToken b.place) p b.stopped));
-        grammar = λ f. (λ e. absurd (omega (arith, sym is_six ∙ ap kind_of e.1)), λ b. absurd (either files program f (Grammar b.0) p b.1));
-        left_out = λ f l m. (λ e. absurd (omega (arith, sym is_six ∙ ap kind_of e)), λ b. absurd (either files program f (LeftOut m b.place) p b.stopped));
-        not_built = λ f l. (λ e. absurd (omega (arith, sym is_six ∙ ap kind_of e)), λ b. absurd (either files program f (NotBuilt b.place) p b.stopped));
-        tokens = λ c. (λ e. absurd (omega (arith, sym is_six ∙ ap kind_of e)), λ b. absurd (either files program b.0 (TooManyTokens c) p b.1));
-        nesting = λ c. (λ e. absurd (omega (arith, sym is_six ∙ ap kind_of e)), λ b. absurd (either files program b.1.0 NestsTooDeep p b.1.1));
-        locals = λ c. (λ e. absurd (omega (arith, sym is_six ∙ ap kind_of e)), λ b. absurd (either files program b.0 (TooManyLocals c) p b.1));
+        rule = λ rule f m. (λ e. absurd (omega (arith, sym is_six ∙ ap kind_of e.1)), λ b. absurd (either files program f (Breaks rule b.0 m) p b.1));
+        line = λ rule told f l m. (λ e. absurd (omega (arith, sym is_six ∙ ap kind_of e)), λ b. absurd (either files program f (Breaks rule b.place m) p b.stopped));
+        limit = λ limit c. (λ e. absurd (omega (arith, sym is_six ∙ ap kind_of e ∙ four limit)), λ b. absurd (either files program b.0 (Passes limit c) p b.1));
         reported = (λ _. (program, p), λ _. is);
       }
 
@@ -409,7 +320,7 @@ module _ (either : (files : List (List ℕ)) (program : List SumModuleData) (fil
       abbrev OfFiles : Status → Type 0
       OfFiles s = UnlessFree s (FileCauses told names s)
 
-      fetch_causes : (stop : Stop) → FetchStopped (Some told) names old new stop → OfFiles (status_of stop)
+      fetch_causes : (stop : RunStop) → FetchStopped (Some told) names old new stop → OfFiles (status_of stop)
       fetch_causes (TooManyFiles count) f = absurd f
       fetch_causes (SourceFault file) f = absurd (no_fault f.0)
       fetch_causes (limit_stop file files_kind count) f = absurd f
@@ -420,21 +331,21 @@ module _ (either : (files : List (List ℕ)) (program : List SumModuleData) (fil
       fetch_causes (refused_stop refusal) f = absurd f
       fetch_causes memory_stop f = tt
 
-      file_stop : (files : List (List ℕ)) (stop : Stop) → HaveBytes (Some told) names files → IsProgramStop files stop → OfFiles (status_of stop)
+      file_stop : (files : List (List ℕ)) (stop : RunStop) → HaveBytes (Some told) names files → IsProgramStop files stop → OfFiles (status_of stop)
       file_stop files stop h p =
           let s = stopped_status files p.file p.fault in
           subst (λ k. OfFiles (status_of k)) (sym p.stop_is)
           (unless_free s (FileCauses told names s)
-          (text_causes names files s h (λ e. (other_kinds p.fault).1 (sym (status_kind files p.file p.fault) ∙ e)) (stop_causes files p.file p.fault p.stopped)))
+          (text_causes names files s h (other_kinds files p.file p.fault).no_limit_of_bytes (stop_causes files p.file p.fault p.stopped)))
 
-      read_causes : (files : List (List ℕ)) (stop : Stop) → HaveBytes (Some told) names files → ReadStopped files stop → OfFiles (status_of stop)
+      read_causes : (files : List (List ℕ)) (stop : RunStop) → HaveBytes (Some told) names files → ReadStopped files stop → OfFiles (status_of stop)
       read_causes files (TooManyFiles count) h r = file_stop files (TooManyFiles count) h r
       read_causes files (SourceFault file) h r = file_stop files (SourceFault file) h r
       read_causes files (limit_stop file kind count) h r = file_stop files (limit_stop file kind count) h r
       read_causes files (refused_stop refusal) h r = file_stop files (refused_stop refusal) h r
       read_causes files memory_stop h r = tt
 
-      run_causes : (stop : Stop) → length names ≤ 64 → RunStopped (Some told) names old new stop → OfFiles (status_of stop)
+      run_causes : (stop : RunStop) → length names ≤ 64 → RunStopped (Some told) names old new stop → OfFiles (status_of stop)
       run_causes stop few (inl m) = absurd (omega (arith, few, m.many))
       run_causes stop few (inr (inl f)) = fetch_causes stop f.stopped
       run_causes stop few (inr (inr r)) = read_causes r.files stop r.have_bytes r.stopped
@@ -454,7 +365,7 @@ module _ (either : (files : List (List ℕ)) (program : List SumModuleData) (fil
 
   module _ (words : List (List ℕ)) (holds : Option Files) (old new : ℕ) where
     -- the kind of a stop: no want of words, and a limit of files where there are too many
-    stop_kind : (stop : Stop) → RunStopped holds words old new stop → (kind_of (status_of stop) ≡ 8 → ⊥) × (kind_of (status_of stop) ≡ 12 → 64 < length words)
+    stop_kind : (stop : RunStop) → RunStopped holds words old new stop → (kind_of (status_of stop) ≡ 8 → ⊥) × (kind_of (status_of stop) ≡ 12 → 64 < length words)
     stop_kind stop (inl m) = subst (λ k. (kind_of (status_of k) ≡ 8 → ⊥) × (kind_of (status_of k) ≡ 12 → 64 < length words)) (sym m.stop_is) (λ e. omega (arith, e), λ _. m.many)
     stop_kind (TooManyFiles count) (inr (inl f)) = absurd f.stopped
     stop_kind (SourceFault file) (inr (inl f)) = (λ e. omega (arith, e), λ e. absurd (omega (arith, e)))
@@ -467,12 +378,13 @@ module _ (either : (files : List (List ℕ)) (program : List SumModuleData) (fil
     stop_kind memory_stop (inr (inl f)) = (λ e. omega (arith, e), λ e. absurd (omega (arith, e)))
     stop_kind stop (inr (inr r)) = of_read stop r.stopped
       where
-        of_file : (k : Stop) → IsProgramStop r.files k → (kind_of (status_of k) ≡ 8 → ⊥) × (kind_of (status_of k) ≡ 12 → 64 < length words)
+        of_file : (k : RunStop) → IsProgramStop r.files k → (kind_of (status_of k) ≡ 8 → ⊥) × (kind_of (status_of k) ≡ 12 → 64 < length words)
         of_file k p =
-            let kind = ap (λ q. kind_of (status_of q)) p.stop_is ∙ status_kind r.files p.file p.fault in
-            (λ e. (other_kinds p.fault).3 (sym kind ∙ e), λ e. absurd ((other_kinds p.fault).4 (sym kind ∙ e)))
+            let kind = ap (λ q. kind_of (status_of q)) p.stop_is in
+            let other = other_kinds r.files p.file p.fault in
+            (λ e. other.no_words (sym kind ∙ e), λ e. absurd (other.no_limit_of_files (sym kind ∙ e)))
 
-        of_read : (k : Stop) → ReadStopped r.files k → (kind_of (status_of k) ≡ 8 → ⊥) × (kind_of (status_of k) ≡ 12 → 64 < length words)
+        of_read : (k : RunStop) → ReadStopped r.files k → (kind_of (status_of k) ≡ 8 → ⊥) × (kind_of (status_of k) ≡ 12 → 64 < length words)
         of_read (TooManyFiles count) p = of_file (TooManyFiles count) p
         of_read (SourceFault file) p = of_file (SourceFault file) p
         of_read (limit_stop file kind count) p = of_file (limit_stop file kind count) p
@@ -498,10 +410,10 @@ module _ (either : (files : List (List ℕ)) (program : List SumModuleData) (fil
     few_told : (s : Status) → length words ≤ 64 → (kind_of s ≡ 12 → ⊥) → UnlessFree s (TellsMany s)
     few_told s few other = unless_free s (TellsMany s) (λ count. (λ e. absurd (other (ap kind_of e)), λ p. absurd (omega (arith, few, p.1, p.2))))
 
-    few_stop : (stop : Stop) (r : RunStopped holds words old new stop) → length words ≤ 64 → UnlessFree (status_of stop) (TellsMany (status_of stop))
+    few_stop : (stop : RunStop) (r : RunStopped holds words old new stop) → length words ≤ 64 → UnlessFree (status_of stop) (TellsMany (status_of stop))
     few_stop stop r few = few_told (status_of stop) few (λ e. omega (arith, few, (stop_kind stop r).1 e))
 
-    count_of_stop : (stop : Stop) → NameFiles words → RunStopped holds words old new stop → UnlessFree (status_of stop) (TellsMany (status_of stop))
+    count_of_stop : (stop : RunStop) → NameFiles words → RunStopped holds words old new stop → UnlessFree (status_of stop) (TellsMany (status_of stop))
     count_of_stop stop named (inl m) =
         subst (λ k. UnlessFree (status_of k) (TellsMany (status_of k))) (sym m.stop_is)
         (λ count. (λ e. (named, sym (ap count_of_status e), subst (λ k. 64 < k) (ap count_of_status e) m.many), λ p. ap (Limit files_kind) (sym p.1)))
@@ -518,20 +430,20 @@ module _ (either : (files : List (List ℕ)) (program : List SumModuleData) (fil
 
     -- ---- faults of the source
 
-    read_fault : (files : List (List ℕ)) (stop : Stop) → ReadStopped files stop → kind_of (status_of stop) ≡ 7 → ⊥
+    read_fault : (files : List (List ℕ)) (stop : RunStop) → ReadStopped files stop → kind_of (status_of stop) ≡ 7 → ⊥
     read_fault files stop r e = go stop r e
       where
-        of_file : (k : Stop) → IsProgramStop files k → kind_of (status_of k) ≡ 7 → ⊥
-        of_file k p e = (other_kinds p.fault).2 (sym (ap (λ q. kind_of (status_of q)) p.stop_is ∙ status_kind files p.file p.fault) ∙ e)
+        of_file : (k : RunStop) → IsProgramStop files k → kind_of (status_of k) ≡ 7 → ⊥
+        of_file k p e = (other_kinds files p.file p.fault).no_fault (sym (ap (λ q. kind_of (status_of q)) p.stop_is) ∙ e)
 
-        go : (k : Stop) → ReadStopped files k → kind_of (status_of k) ≡ 7 → ⊥
+        go : (k : RunStop) → ReadStopped files k → kind_of (status_of k) ≡ 7 → ⊥
         go (TooManyFiles count) p e = of_file (TooManyFiles count) p e
         go (SourceFault file) p e = of_file (SourceFault file) p e
         go (limit_stop file kind count) p e = of_file (limit_stop file kind count) p e
         go (refused_stop refusal) p e = of_file (refused_stop refusal) p e
         go memory_stop p e = omega (arith, e)
 
-    fetch_fault : (stop : Stop) → FetchStopped holds words old new stop → kind_of (status_of stop) ≡ 7 → HasFaulted old new
+    fetch_fault : (stop : RunStop) → FetchStopped holds words old new stop → kind_of (status_of stop) ≡ 7 → HasFaulted old new
     fetch_fault (TooManyFiles count) f e = absurd f
     fetch_fault (SourceFault file) f e = f.0
     fetch_fault (limit_stop file files_kind count) f e = absurd f
@@ -542,7 +454,7 @@ module _ (either : (files : List (List ℕ)) (program : List SumModuleData) (fil
     fetch_fault (refused_stop refusal) f e = absurd f
     fetch_fault memory_stop f e = absurd (omega (arith, e))
 
-    stop_fault : (stop : Stop) → RunStopped holds words old new stop → kind_of (status_of stop) ≡ 7 → HasFaulted old new
+    stop_fault : (stop : RunStop) → RunStopped holds words old new stop → kind_of (status_of stop) ≡ 7 → HasFaulted old new
     stop_fault stop (inl m) e = absurd (omega (arith, sym (ap (λ k. kind_of (status_of k)) m.stop_is) ∙ e))
     stop_fault stop (inr (inl f)) e = fetch_fault stop f.stopped e
     stop_fault stop (inr (inr r)) e = absurd (read_fault r.files stop r.stopped e)

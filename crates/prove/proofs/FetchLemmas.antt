@@ -8,15 +8,15 @@ use Rattle.program_read.proofs.NumberedLemmas.{first_at}
 use Rattle.verify.specs.Pairs.{Paired}
 use Rattle.verify.proofs.PairLemmas.{paired_more}
 use Rattle.prove.specs.Stages.{FetchStopped, HasBytes, HaveBytes, IsFetched, IsFetchStop, IsLong}
-use Rattle.prove.specs.declared.stages.Stop.{Stop}
-use Rattle.prove.specs.declared.stages.Stop.TheVariants.{TooManyFiles, SourceFault, Limit, Refused, NoMemory}
+use Rattle.prove.specs.declared.stages.RunStop.{RunStop}
+use Rattle.prove.specs.declared.stages.RunStop.TheVariants.{TooManyFiles, SourceFault, Limit, Refused, NoMemory}
 
 fetched : (holds : Option Files) (n : ℕ) (names files : List (List ℕ)) → HaveBytes holds names files → Each (IsFetched holds) n names
 fetched holds n [] files h = tt
 fetched holds n (name ∷ names) [] h = absurd h
 fetched holds n (name ∷ names) (bytes ∷ files) h = ((bytes, h.0), fetched holds (1 + n) names files h.1)
 
-pub fetch_stops : (holds : Option Files) (names : List (List ℕ)) (i : ℕ) (d : List ℕ) (files : List (List ℕ)) (old new : ℕ) (stop : Stop) → i < length names → HaveBytes holds (take i names) files → IsFetchStop holds i (get_or names i d) old new stop → FetchStopped holds names old new stop
+pub fetch_stops : (holds : Option Files) (names : List (List ℕ)) (i : ℕ) (d : List ℕ) (files : List (List ℕ)) (old new : ℕ) (stop : RunStop) → i < length names → HaveBytes holds (take i names) files → IsFetchStop holds i (get_or names i d) old new stop → FetchStopped holds names old new stop
 fetch_stops holds names i d files old new (SourceFault file) within before s =
     (s.1, subst (λ k. IsFirst (IsFetched holds) (λ n name. Unit {0}) names k) (sym s.0) (first_at names i d within (fetched holds 0 (take i names) files before) tt))
 fetch_stops holds names i d files old new (Limit file Bytes count) within before s =
@@ -31,11 +31,11 @@ fetch_stops holds names i d files old new NoMemory within before s = tt
 
 -- ---- the turns of the loop over the names
 
-pub err_as : {X : Type 0} (r : Result X Stop) (stop : Stop) (P : Stop → Type 0) → IsErrAnd r (λ s. s ≡ stop) → P stop → IfErr r P
+pub err_as : {X : Type 0} (r : Result X RunStop) (stop : RunStop) (P : RunStop → Type 0) → IsErrAnd r (λ s. s ≡ stop) → P stop → IfErr r P
 err_as (Ok x) stop P e h = tt
 err_as (Err s) stop P e h = subst P (sym e) h
 
-pub stops_at : (holds told : Option Files) (names : List (List ℕ)) (i : ℕ) (name : List ℕ) (files : List (List ℕ)) (counted old new : ℕ) (stop : Stop) → told ≡ holds → counted ≡ old → i < length names → HaveBytes holds (take i names) files → name ≡ get_or names i name → IsFetchStop told i name counted new stop → FetchStopped holds names old new stop
+pub stops_at : (holds told : Option Files) (names : List (List ℕ)) (i : ℕ) (name : List ℕ) (files : List (List ℕ)) (counted old new : ℕ) (stop : RunStop) → told ≡ holds → counted ≡ old → i < length names → HaveBytes holds (take i names) files → name ≡ get_or names i name → IsFetchStop told i name counted new stop → FetchStopped holds names old new stop
 stops_at holds told names i name files counted old new stop t f within before at s =
     fetch_stops holds names i name files old new stop within before
     (subst (λ n. IsFetchStop holds i n old new stop) at

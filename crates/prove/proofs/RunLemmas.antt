@@ -1,8 +1,8 @@
 -- What was written of one part of a run, read as what the whole run writes.
 use Rattle.std.proofs.Common.{◌≡◌, ℕ, List, Option, Result, Ok, Err, inl, inr, Bool, true, false, if◌then◌else◌}
 use Rattle.std.specs.List.{list_all}
-use Rattle.prove.specs.declared.stages.Stop.{Stop}
-use Rattle.prove.specs.declared.stages.Stop.TheVariants.{TooManyFiles, SourceFault, Limit as limit_stop, Refused as refused_stop, NoMemory as memory_stop}
+use Rattle.prove.specs.declared.stages.RunStop.{RunStop}
+use Rattle.prove.specs.declared.stages.RunStop.TheVariants.{TooManyFiles, SourceFault, Limit as limit_stop, Refused as refused_stop, NoMemory as memory_stop}
 use Rattle.report.specs.declared.status.Status.{Status}
 use Rattle.report.specs.declared.status.Status.TheVariants.{AllProved, NotAllProved, Refused, Fault, BadWords, Limit, NoMemory}
 use Rattle.report.specs.declared.status.Device.TheVariants.{Source, Sink}
@@ -25,7 +25,7 @@ module _ (words : List (List ℕ)) (holds : Option Files) (old new : ℕ) where
   pub usage_output : ¬ NameFiles words → (status : Status) (text : List ℕ) → IsJust BadWords usage_line status text → IsOutput words holds old new status text
   usage_output h status text e = inl (record { refused = h; status_is = e.0; text_is = e.1 })
 
-  pub stop_output : (stop : Stop) → NameFiles words → RunStopped holds words old new stop → (status : Status) (text : List ℕ) → IsStopText words stop status text → IsOutput words holds old new status text
+  pub stop_output : (stop : RunStop) → NameFiles words → RunStopped holds words old new stop → (status : Status) (text : List ℕ) → IsStopText words stop status text → IsOutput words holds old new status text
   stop_output stop named stopped status text (inl e) = inr (inl (record { named = named; stop = stop; stopped = stopped; status_is = e.0; text_is = e.1 }))
   stop_output stop named stopped status text (inr e) = inr (inr (inr e))
 
@@ -34,7 +34,7 @@ module _ (words : List (List ℕ)) (holds : Option Files) (old new : ℕ) where
   report_output report named verified status text (inr e) = inr (inr (inr e))
 
   -- no text goes with a fault of the sink
-  not_of_stop : (stop : Stop) → Fault Sink ≡ status_of stop → ⊥
+  not_of_stop : (stop : RunStop) → Fault Sink ≡ status_of stop → ⊥
   not_of_stop (TooManyFiles count) e = cc
   not_of_stop (SourceFault file) e = cc
   not_of_stop (limit_stop file kind count) e = cc

@@ -1,20 +1,21 @@
 -- Where each status of a run comes, in both directions: the status is this one exactly where its cause holds.
-use Rattle.std.specs.Prelude.{◌≡◌, ℕ, ◌<◌, ◌≤◌, ◌⊎◌, ◌↔◌, List, length, Option, Some, None, IfSome}
+use Rattle.std.specs.Prelude.{◌≡◌, ℕ, true, ◌<◌, ◌≤◌, ◌⊎◌, ◌↔◌, List, length, Option, Some, IfSome}
 use Rattle.std.specs.List.{AllByRecursion}
 use Rattle.std.specs.FinMap as map
+use Rattle.answers.specs.Rules.{tells_place}
+use Rattle.answers.specs.declared.rule.Rule.{Rule}
 use Rattle.token_reading.specs.declared.marker.Marker.{Marker}
 use Rattle.outside.specs.Outside.{Files, HasFaulted, IsLongFile}
 use Rattle.program_read.specs.Program.{IsProgramOf, ProgramStopped}
-use Rattle.program_read.specs.declared.fault.FileFault.TheVariants.{BadToken, TooManyTokens, NestsTooDeep, Grammar, LeftOut, TooManyLocals, NotBuilt}
+use Rattle.program_read.specs.declared.fault.FileFault.TheVariants.{Breaks, Passes}
+use Rattle.program_read.specs.declared.fault.FileLimit.{FileLimit}
 use Rattle.report.specs.declared.status.Device.TheVariants.{Source, Sink}
-use Rattle.report.specs.declared.status.LimitKind.TheVariants.{Files as files_kind, Bytes, Tokens, Nesting, Locals}
-use Rattle.report.specs.declared.status.Rule.{Rule}
-use Rattle.report.specs.declared.status.Rule.TheVariants.{BadToken as bad_token, Grammar as no_grammar, LeftOut as left_out, NotBuilt as not_built}
+use Rattle.report.specs.declared.status.LimitKind.TheVariants.{Files as files_kind, Bytes}
 use Rattle.report.specs.declared.status.Status.{Status}
 use Rattle.report.specs.declared.status.Status.TheVariants.{AllProved, NotAllProved, Refused, Fault, BadWords, Limit, NoMemory}
 use Rattle.sum_tree.specs.SumModuleData.{SumModuleData}
 use Rattle.verify.specs.Pairs.{Paired}
-use Rattle.prove.specs.Stages.{NameFiles, line_in}
+use Rattle.prove.specs.Stages.{NameFiles, limit_kind, line_in}
 
 -- ---- statuses
 
@@ -28,9 +29,9 @@ UnlessFree _ P = P
 abbrev pub refused : Rule → ℕ → ℕ → Option Marker → Status
 refused rule file line marker = Refused (record { rule = rule; file = file; line = line; marker = marker })
 
--- the file of this number has no tree, and holds no marker
-abbrev pub IsGrammar : ℕ → Status → Type 0
-IsGrammar file status = (line : ℕ) × (status ≡ refused no_grammar file line None)
+-- it breaks this rule, on some line
+abbrev pub IsRefused : Rule → ℕ → Option Marker → Status → Type 0
+IsRefused rule file marker status = (line : ℕ) × (status ≡ refused rule file line marker)
 
 -- the run has a report
 abbrev pub IsReported : Status → Type 0
@@ -38,39 +39,19 @@ IsReported status = (status ≡ AllProved) ⊎ (status ≡ NotAllProved)
 
 -- ---- causes in files
 
--- the reading of the files stops at a bad token in this file, on this line
-pub record HasBadToken (files : List (List ℕ)) (file line : ℕ) : Type 0 where
+-- the chain of stages stops since this file breaks this rule, which this marker explains
+abbrev pub BreaksRule : List (List ℕ) → Rule → ℕ → Option Marker → Type 0
+BreaksRule files rule file marker = (place : ℕ) × ProgramStopped files file (Breaks rule place marker)
+
+-- it does so on this line
+pub record BreaksRuleOn (files : List (List ℕ)) (rule : Rule) (file line : ℕ) (marker : Option Marker) : Type 0 where
   pub place : ℕ
-  pub stopped : ProgramStopped files file (BadToken place)
+  pub stopped : ProgramStopped files file (Breaks rule place marker)
   pub line_is : line ≡ line_in files file place
 
--- it stops since this file has no tree, and no marker
-abbrev pub HasNoTree : List (List ℕ) → ℕ → Type 0
-HasNoTree files file = (place : ℕ) × ProgramStopped files file (Grammar place)
-
--- it stops since this file has no tree, and its first marker is this one, on this line
-pub record IsLeftOut (files : List (List ℕ)) (file line : ℕ) (marker : Marker) : Type 0 where
-  pub place : ℕ
-  pub stopped : ProgramStopped files file (LeftOut marker place)
-  pub line_is : line ≡ line_in files file place
-
--- it stops at what is not built in this file, on this line
-pub record IsNotBuilt (files : List (List ℕ)) (file line : ℕ) : Type 0 where
-  pub place : ℕ
-  pub stopped : ProgramStopped files file (NotBuilt place)
-  pub line_is : line ≡ line_in files file place
-
--- it stops at a file with so many tokens
-abbrev pub HasTokens : List (List ℕ) → ℕ → Type 0
-HasTokens files count = (file : ℕ) × ProgramStopped files file (TooManyTokens count)
-
--- it stops at a file that nests too deep
-abbrev pub NestsDeep : List (List ℕ) → Type 0
-NestsDeep files = (file : ℕ) × ProgramStopped files file NestsTooDeep
-
--- it stops at a function with so many parameters and locals
-abbrev pub HasLocals : List (List ℕ) → ℕ → Type 0
-HasLocals files count = (file : ℕ) × ProgramStopped files file (TooManyLocals count)
+-- the chain of stages stops since a file passes this limit, with this count
+abbrev pub PassesLimit : List (List ℕ) → FileLimit → ℕ → Type 0
+PassesLimit files limit count = (file : ℕ) × ProgramStopped files file (Passes limit count)
 
 -- the files are of a program
 abbrev pub HaveProgram : List (List ℕ) → Type 0
@@ -78,15 +59,13 @@ HaveProgram files = (program : List SumModuleData) × IsProgramOf files program
 
 -- ---- each status with its cause
 
--- Of files with these bytes, none of which is too long. The last part is completeness: a program has a report.
+-- Of files with these bytes, none of which is too long: for each rule and each limit, the status is this one exactly where the
+-- chain of stages stops so. Of a rule that tells no place no clause says which line is named. The last part is completeness: a
+-- program has a report.
 pub record TextCauses (files : List (List ℕ)) (status : Status) : Type 0 where
-  pub bad_token : (file line : ℕ) → (status ≡ refused bad_token file line None) ↔ HasBadToken files file line
-  pub grammar : (file : ℕ) → IsGrammar file status ↔ HasNoTree files file
-  pub left_out : (file line : ℕ) (marker : Marker) → (status ≡ refused left_out file line (Some marker)) ↔ IsLeftOut files file line marker
-  pub not_built : (file line : ℕ) → (status ≡ refused not_built file line None) ↔ IsNotBuilt files file line
-  pub tokens : (count : ℕ) → (status ≡ Limit Tokens count) ↔ HasTokens files count
-  pub nesting : (count : ℕ) → (status ≡ Limit Nesting count) ↔ ((count ≡ 201) × NestsDeep files)
-  pub locals : (count : ℕ) → (status ≡ Limit Locals count) ↔ HasLocals files count
+  pub rule : (rule : Rule) (file : ℕ) (marker : Option Marker) → IsRefused rule file marker status ↔ BreaksRule files rule file marker
+  pub line : (rule : Rule) → tells_place rule ≡ true → (file line : ℕ) (marker : Option Marker) → (status ≡ refused rule file line marker) ↔ BreaksRuleOn files rule file line marker
+  pub limit : (limit : FileLimit) (count : ℕ) → (status ≡ Limit (limit_kind limit) count) ↔ PassesLimit files limit count
   pub reported : IsReported status ↔ HaveProgram files
 
 -- the files of these names have these bytes

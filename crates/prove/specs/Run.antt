@@ -14,30 +14,30 @@ use Rattle.sum_tree.specs.SumModuleData.{SumModuleData}
 use Rattle.verify.specs.Verified.{IsReportOf}
 use Rattle.prove.specs.Outcome.{status_of, stop_line}
 use Rattle.prove.specs.Stages.{FetchStopped, HaveBytes, NameFiles, ReadStopped}
-use Rattle.prove.specs.declared.stages.Stop.{Stop}
-use Rattle.prove.specs.declared.stages.Stop.TheVariants.{TooManyFiles}
+use Rattle.prove.specs.declared.stages.RunStop.{RunStop}
+use Rattle.prove.specs.declared.stages.RunStop.TheVariants.{TooManyFiles}
 
 -- ---- runs without a report
 
 -- The files are more than a run may have.
-pub record IsTooMany (names : List (List ℕ)) (stop : Stop) : Type 0 where
+pub record IsTooMany (names : List (List ℕ)) (stop : RunStop) : Type 0 where
   pub many : 64 < length names
   pub stop_is : stop ≡ TooManyFiles (length names)
 
 -- The files were fetched, and are of no program.
-pub record StoppedAtProgram (holds : Option Files) (names : List (List ℕ)) (stop : Stop) : Type 0 where
+pub record StoppedAtProgram (holds : Option Files) (names : List (List ℕ)) (stop : RunStop) : Type 0 where
   pub few : length names ≤ 64
   pub files : List (List ℕ)
   pub have_bytes : HaveBytes holds names files
   pub stopped : ReadStopped files stop
 
 -- A file was not fetched.
-pub record StoppedAtFetch (holds : Option Files) (names : List (List ℕ)) (old new : ℕ) (stop : Stop) : Type 0 where
+pub record StoppedAtFetch (holds : Option Files) (names : List (List ℕ)) (old new : ℕ) (stop : RunStop) : Type 0 where
   pub few : length names ≤ 64
   pub stopped : FetchStopped holds names old new stop
 
 -- Why a run has no report; the numbers are the source's counts of faults before and after.
-abbrev pub RunStopped : Option Files → List (List ℕ) → ℕ → ℕ → Stop → Type 0
+abbrev pub RunStopped : Option Files → List (List ℕ) → ℕ → ℕ → RunStop → Type 0
 RunStopped holds names old new stop =
     IsTooMany names stop ⊎ (StoppedAtFetch holds names old new stop ⊎ StoppedAtProgram holds names stop)
 
@@ -66,7 +66,7 @@ pub record IsUsage (words : List (List ℕ)) (status : Status) (text : List ℕ)
 -- the line that tells why the run has no report
 pub record IsStopLine (words : List (List ℕ)) (holds : Option Files) (old new : ℕ) (status : Status) (text : List ℕ) : Type 0 where
   pub named : NameFiles words
-  pub stop : Stop
+  pub stop : RunStop
   pub stopped : RunStopped holds words old new stop
   pub status_is : status ≡ status_of stop
   pub text_is : text ≡ stop_line words stop
@@ -85,7 +85,7 @@ pub record IsWant (status : Status) (text : List ℕ) : Type 0 where
   pub text_is : text ≡ no_memory_line
 
 -- of one stop, or of one report
-abbrev pub IsStopText : List (List ℕ) → Stop → Status → List ℕ → Type 0
+abbrev pub IsStopText : List (List ℕ) → RunStop → Status → List ℕ → Type 0
 IsStopText names stop status text = ((status ≡ status_of stop) × (text ≡ stop_line names stop)) ⊎ IsWant status text
 
 abbrev pub IsReportText : ReportData → Status → List ℕ → Type 0

@@ -4,16 +4,18 @@ use Rattle.std.specs.List.{list_all}
 use Rattle.std.specs.FinMap as map
 use Rattle.outside.specs.Outside.{Files, HasFaulted, IsLongFile}
 use Rattle.report.specs.Lines.{line_of}
+use Rattle.report.specs.declared.status.LimitKind.{LimitKind}
 use Rattle.report.specs.declared.status.LimitKind.TheVariants.{Bytes, Tokens, Nesting, Locals}
 use Rattle.report.specs.declared.status.Refusal.{Refusal}
-use Rattle.report.specs.declared.status.Rule.TheVariants.{BadToken as bad_token, Grammar as no_grammar, LeftOut as left_out, NotBuilt as not_built}
 use Rattle.verify.specs.Pairs.{Paired}
 use Rattle.program_read.specs.Numbered.{IsFirst}
 use Rattle.program_read.specs.Program.{ProgramStopped}
 use Rattle.program_read.specs.declared.fault.FileFault.{FileFault}
-use Rattle.program_read.specs.declared.fault.FileFault.TheVariants.{BadToken, TooManyTokens, NestsTooDeep, Grammar, LeftOut, TooManyLocals, NotBuilt}
-use Rattle.prove.specs.declared.stages.Stop.{Stop}
-use Rattle.prove.specs.declared.stages.Stop.TheVariants.{TooManyFiles, SourceFault, Limit, Refused, NoMemory}
+use Rattle.program_read.specs.declared.fault.FileFault.TheVariants.{Breaks, Passes}
+use Rattle.program_read.specs.declared.fault.FileLimit.{FileLimit}
+use Rattle.program_read.specs.declared.fault.FileLimit.TheVariants.{Tokens as of_tokens, Nesting as of_nesting, Locals as of_locals}
+use Rattle.prove.specs.declared.stages.RunStop.{RunStop}
+use Rattle.prove.specs.declared.stages.RunStop.TheVariants.{TooManyFiles, SourceFault, Limit, Refused, NoMemory}
 
 -- ---- words
 
@@ -46,19 +48,19 @@ abbrev pub IsLong : Option Files → ℕ → List ℕ → Type 0
 IsLong holds n name = IfSome holds (λ files. IsLongFile files name 1048576)
 
 -- a fact for every answer but a fault of the source
-abbrev pub UnlessSourceFault : {T : Type 0} → Result T Stop → Type 0 → Type 0
+abbrev pub UnlessSourceFault : {T : Type 0} → Result T RunStop → Type 0 → Type 0
 UnlessSourceFault (Err (SourceFault file)) P = Unit {0}
 UnlessSourceFault _ P = P
 
 -- Why the fetch of the file of this number and name stopped.
-abbrev pub IsFetchStop : Option Files → ℕ → List ℕ → ℕ → ℕ → Stop → Type 0
+abbrev pub IsFetchStop : Option Files → ℕ → List ℕ → ℕ → ℕ → RunStop → Type 0
 IsFetchStop holds n name old new (SourceFault file) = (file ≡ n) × HasFaulted old new
 IsFetchStop holds n name old new (Limit file Bytes count) = (file ≡ n) × (count ≡ 1048577) × IsLong holds n name
 IsFetchStop holds n name old new NoMemory = Unit {0}
 IsFetchStop holds n name old new _ = ⊥
 
 -- Why the fetches stopped: each file before this one was fetched.
-abbrev pub FetchStopped : Option Files → List (List ℕ) → ℕ → ℕ → Stop → Type 0
+abbrev pub FetchStopped : Option Files → List (List ℕ) → ℕ → ℕ → RunStop → Type 0
 FetchStopped holds names old new (SourceFault file) = HasFaulted old new × IsFirst (IsFetched holds) (λ n name. Unit {0}) names file
 FetchStopped holds names old new (Limit file Bytes count) = (count ≡ 1048577) × IsFirst (IsFetched holds) (IsLong holds) names file
 FetchStopped holds names old new NoMemory = Unit {0}
@@ -70,24 +72,25 @@ FetchStopped holds names old new _ = ⊥
 abbrev pub line_in : List (List ℕ) → ℕ → ℕ → ℕ
 line_in files file place = line_of (slice_index_or files file []) place
 
--- what a fault of a file is called
-abbrev pub stop_of : List (List ℕ) → ℕ → FileFault → Stop
-stop_of files file (BadToken place) = Refused (record { rule = bad_token; file = file; line = line_in files file place; marker = None })
-stop_of files file (TooManyTokens count) = Limit file Tokens count
-stop_of files file NestsTooDeep = Limit file Nesting 201
-stop_of files file (Grammar place) = Refused (record { rule = no_grammar; file = file; line = line_in files file place; marker = None })
-stop_of files file (LeftOut marker place) = Refused (record { rule = left_out; file = file; line = line_in files file place; marker = Some marker })
-stop_of files file (TooManyLocals count) = Limit file Locals count
-stop_of files file (NotBuilt place) = Refused (record { rule = not_built; file = file; line = line_in files file place; marker = None })
+-- the limit of a run that a limit of a file is
+abbrev pub limit_kind : FileLimit → LimitKind
+limit_kind of_tokens = Tokens
+limit_kind of_nesting = Nesting
+limit_kind of_locals = Locals
+
+-- What a fault of a file is called, whatever the rule or the limit.
+abbrev pub stop_of : List (List ℕ) → ℕ → FileFault → RunStop
+stop_of files file (Breaks rule place marker) = Refused (record { rule = rule; file = file; line = line_in files file place; marker = marker })
+stop_of files file (Passes limit count) = Limit file (limit_kind limit) count
 
 -- the files are of no program
-pub record IsProgramStop (files : List (List ℕ)) (stop : Stop) : Type 0 where
+pub record IsProgramStop (files : List (List ℕ)) (stop : RunStop) : Type 0 where
   pub file : ℕ
   pub fault : FileFault
   pub stopped : ProgramStopped files file fault
   pub stop_is : stop ≡ stop_of files file fault
 
 -- Why the reading of the program stopped.
-abbrev pub ReadStopped : List (List ℕ) → Stop → Type 0
+abbrev pub ReadStopped : List (List ℕ) → RunStop → Type 0
 ReadStopped files NoMemory = Unit {0}
 ReadStopped files stop = IsProgramStop files stop

@@ -5,7 +5,7 @@ ghost use Rattle.prove.specs.Outcome.{name_of, status_of, stop_line};
 ghost use Rattle.prove.specs.Run.{IsStopText};
 ghost use Rattle.report.specs.Writes.{Writes};
 
-use crate::stages::Stop;
+use crate::stages::RunStop;
 use outside::outside::Sink;
 use outside::writing::SinkFault;
 use pv_base::lists::Bytes;
@@ -17,15 +17,15 @@ use report::writing::write_text;
 use std::alloc::Global;
 
 /// The status of a run that stopped.
-pub fn status_of(stop: Stop) -> Status
+pub fn status_of(stop: RunStop) -> Status
     ensures { result ≡ status_of stop }
 {
     match stop {
-        Stop::TooManyFiles(count) => Status::Limit(LimitKind::Files, count),
-        Stop::SourceFault(_) => Status::Fault(Device::Source),
-        Stop::Limit(_, kind, count) => Status::Limit(kind, count),
-        Stop::Refused(refusal) => Status::Refused(refusal),
-        Stop::NoMemory => Status::NoMemory,
+        RunStop::TooManyFiles(count) => Status::Limit(LimitKind::Files, count),
+        RunStop::SourceFault(_) => Status::Fault(Device::Source),
+        RunStop::Limit(_, kind, count) => Status::Limit(kind, count),
+        RunStop::Refused(refusal) => Status::Refused(refusal),
+        RunStop::NoMemory => Status::NoMemory,
     }
 }
 
@@ -40,17 +40,17 @@ fn name_of(alloc: Global, names: &[Name], file: u32) -> Result<Name, NoMemory>
 }
 
 /// The line that tells why the files have no report, where there is memory for it.
-fn stop_line(alloc: Global, names: &[Name], stop: Stop) -> Result<Bytes, NoMemory>
+fn stop_line(alloc: Global, names: &[Name], stop: RunStop) -> Result<Bytes, NoMemory>
     ensures { IfOk result (λ line. line ≡ stop_line names.now stop) }
 {
     match stop {
-        Stop::TooManyFiles(count) => files_limit_line(alloc, count),
-        Stop::SourceFault(file) => source_fault_line(alloc, &name_of(alloc, names, file)?),
-        Stop::Limit(file, kind, _) => limit_line(alloc, &name_of(alloc, names, file)?, kind),
-        Stop::Refused(refusal) => {
+        RunStop::TooManyFiles(count) => files_limit_line(alloc, count),
+        RunStop::SourceFault(file) => source_fault_line(alloc, &name_of(alloc, names, file)?),
+        RunStop::Limit(file, kind, _) => limit_line(alloc, &name_of(alloc, names, file)?, kind),
+        RunStop::Refused(refusal) => {
             refusal_line(alloc, &name_of(alloc, names, refusal.file)?, refusal)
         }
-        Stop::NoMemory => Err(NoMemory),
+        RunStop::NoMemory => Err(NoMemory),
     }
 }
 
@@ -60,7 +60,7 @@ pub fn write_stop<W: Sink>(
     alloc: Global,
     sink: &mut W,
     names: &[Name],
-    stop: Stop,
+    stop: RunStop,
 ) -> Result<Status, SinkFault>
     ensures { Writes (IsStopText names.now stop) (W.taken sink.old) (W.taken sink.new) (W.faults sink.old) (W.faults sink.new) result }
 {

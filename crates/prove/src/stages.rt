@@ -1,19 +1,18 @@
 //! The stages of a run before its functions are verified: the words, the fetches, the program.
 
-ghost use Rattle.std.specs.Prelude.{◌≡◌, ◌<◌, ◌≤◌, ℕ, length, IfOk, IfErr, MatchOption};
+ghost use Rattle.std.specs.Prelude.{◌≡◌, ◌≤◌, ℕ, [], length, slice_index_or, IfOk, IfErr, MatchOption};
 ghost use Rattle.std.specs.List.{AllByRecursion};
 ghost use Rattle.program_read.specs.Program.{IsProgramOf};
-ghost use Rattle.prove.specs.Stages.{FetchStopped, HasBytes, HaveBytes, IsFetchStop, NameFiles, ReadStopped, UnlessSourceFault, begins_with_dash, name_files, stop_of};
+ghost use Rattle.prove.specs.Stages.{FetchStopped, HasBytes, HaveBytes, IsFetchStop, NameFiles, ReadStopped, UnlessSourceFault, begins_with_dash, limit_kind, name_files, stop_of};
 
 use outside::outside::{FILE_LIMIT, Fetched, Sources};
-use program_read::fault::{FileFault, ProgramFault};
+use program_read::fault::{FileFault, FileLimit, ProgramFault};
 use program_read::program::read_program;
 use pv_base::lists::{Bytes, Words};
 use pv_base::memory::NoMemory;
 use pv_base::name::Name;
 use report::lines::LineFeeds;
-use report::status::{LimitKind, Refusal, Rule};
-use move_tokens::weight::WEIGHT_LIMIT;
+use report::status::{LimitKind, Refusal};
 use std::alloc::{AllocFailed, Global};
 use sum_tree::function::SumModule;
 
@@ -22,7 +21,7 @@ pub const FILES_LIMIT: usize = 64;
 
 /// Why a run has no report.
 #[derive(Clone, Copy, Debug, PartialEq, Eq)]
-pub enum Stop {
+pub enum RunStop {
     /// There are more than 64 files: this many.
     TooManyFiles(u64),
     /// The file of this number could not be fetched.
@@ -35,23 +34,23 @@ pub enum Stop {
     NoMemory,
 }
 
-impl From<NoMemory> for Stop {
-    ghost use Rattle.prove.specs.declared.stages.Stop.{Stop};
+impl From<NoMemory> for RunStop {
+    ghost use Rattle.prove.specs.declared.stages.RunStop.{RunStop};
 
-    ghost from_gives = { λ _ stop. stop ≡ Stop.NoMemory };
+    ghost from_gives = { λ _ stop. stop ≡ RunStop.NoMemory };
 
-    fn from(_error: NoMemory) -> Stop {
-        Stop::NoMemory
+    fn from(_error: NoMemory) -> RunStop {
+        RunStop::NoMemory
     }
 }
 
-impl<T: Drop> From<AllocFailed<T>> for Stop {
-    ghost use Rattle.prove.specs.declared.stages.Stop.{Stop};
+impl<T: Drop> From<AllocFailed<T>> for RunStop {
+    ghost use Rattle.prove.specs.declared.stages.RunStop.{RunStop};
 
-    ghost from_gives = { λ _ stop. stop ≡ Stop.NoMemory };
+    ghost from_gives = { λ _ stop. stop ≡ RunStop.NoMemory };
 
-    fn from(_error: AllocFailed<T>) -> Stop {
-        Stop::NoMemory
+    fn from(_error: AllocFailed<T>) -> RunStop {
+        RunStop::NoMemory
     }
 }
 
@@ -86,7 +85,7 @@ fn fetch<S: Sources>(
     number: u32,
     name: &Name,
     sources: &mut S,
-) -> Result<Bytes, Stop>
+) -> Result<Bytes, RunStop>
     ensures same_files { S.holds sources.new ≡ S.holds sources.old }
     ensures bytes { IfOk result (HasBytes (S.holds sources.old) name.now) }
     ensures no_fault { UnlessSourceFault result (S.faults sources.new ≡ S.faults sources.old) }
@@ -95,9 +94,9 @@ fn fetch<S: Sources>(
     let mut bytes = Bytes::new(alloc);
     match sources.fetch(name, &mut bytes) {
         Fetched::Whole => Ok(bytes),
-        Fetched::Failed => Err(Stop::SourceFault(number)),
-        Fetched::TooLong => Err(Stop::Limit(number, LimitKind::Bytes, FILE_LIMIT as u64 + 1)),
-        Fetched::NoMemory => Err(Stop::NoMemory),
+        Fetched::Failed => Err(RunStop::SourceFault(number)),
+        Fetched::TooLong => Err(RunStop::Limit(number, LimitKind::Bytes, FILE_LIMIT as u64 + 1)),
+        Fetched::NoMemory => Err(RunStop::NoMemory),
     }
 }
 
@@ -106,7 +105,7 @@ pub fn fetch_all<S: Sources>(
     alloc: Global,
     names: &[Name],
     sources: &mut S,
-) -> Result<Vec<Bytes>, Stop>
+) -> Result<Vec<Bytes>, RunStop>
     requires { length names.now ≤ FILES_LIMIT }
     ensures same_files { S.holds sources.new ≡ S.holds sources.old }
     ensures bytes { IfOk result (λ files. HaveBytes (S.holds sources.old) names.now files.items) }
@@ -120,43 +119,55 @@ pub fn fetch_all<S: Sources>(
     Ok(files)
 }
 
-/// That a file breaks a rule behind which no marker stands.
-fn refused(rule: Rule, file: u32, line: u32) -> Stop
-    ensures { result ≡ Stop.Refused (record { rule = rule; file = file; line = line; marker = None }) }
+/// The limit of a run that a limit of a file is.
+fn limit_kind(limit: FileLimit) -> LimitKind
+    ensures { result ≡ limit_kind limit }
 {
-    Stop::Refused(Refusal {
-        rule,
-        file,
-        line,
-        marker: None,
-    })
+    match limit {
+        FileLimit::Tokens => LimitKind::Tokens,
+        FileLimit::Nesting => LimitKind::Nesting,
+        FileLimit::Locals => LimitKind::Locals,
+    }
+}
+
+/// The bytes of the file of this number, and none where there is no such file.
+fn bytes_of(files: &[Bytes], file: u32) -> &[u8]
+    requires { AllByRecursion (λ bytes. length bytes ≤ FILE_LIMIT) files.now }
+    ensures bytes { result.now ≡ slice_index_or files.now file [] }
+    ensures short { length result.now ≤ FILE_LIMIT }
+{
+    match files.get(file as usize) {
+        Some(bytes) => bytes.as_slice(),
+        None => b"",
+    }
 }
 
 /// What a fault of a file is called.
-fn stop_of(alloc: Global, files: &[Bytes], file: u32, fault: FileFault) -> Result<Stop, NoMemory>
-    requires placed { file < length files.now }
-    requires short { AllByRecursion (λ bytes. length bytes ≤ FILE_LIMIT) files.now }
+fn stop_of(
+    alloc: Global,
+    files: &[Bytes],
+    file: u32,
+    fault: FileFault,
+) -> Result<RunStop, NoMemory>
+    requires { AllByRecursion (λ bytes. length bytes ≤ FILE_LIMIT) files.now }
     ensures { IfOk result (λ stop. stop ≡ stop_of files.now file fault) }
 {
-    let feeds = LineFeeds::new(alloc, files[file as usize].as_slice())?;
-    Ok(match fault {
-        FileFault::BadToken(place) => refused(Rule::BadToken, file, feeds.line(place)),
-        FileFault::TooManyTokens(count) => Stop::Limit(file, LimitKind::Tokens, u64::from(count)),
-        FileFault::NestsTooDeep => Stop::Limit(file, LimitKind::Nesting, u64::from(WEIGHT_LIMIT)),
-        FileFault::Grammar(place) => refused(Rule::Grammar, file, feeds.line(place)),
-        FileFault::LeftOut(marker, place) => Stop::Refused(Refusal {
-            rule: Rule::LeftOut,
-            file,
-            line: feeds.line(place),
-            marker: Some(marker),
-        }),
-        FileFault::TooManyLocals(count) => Stop::Limit(file, LimitKind::Locals, count as u64),
-        FileFault::NotBuilt(place) => refused(Rule::NotBuilt, file, feeds.line(place)),
-    })
+    match fault {
+        FileFault::Breaks(rule, place, marker) => {
+            let line = LineFeeds::new(alloc, bytes_of(files, file))?.line(place);
+            Ok(RunStop::Refused(Refusal {
+                rule,
+                file,
+                line,
+                marker,
+            }))
+        }
+        FileFault::Passes(limit, count) => Ok(RunStop::Limit(file, limit_kind(limit), count)),
+    }
 }
 
 /// The program of the files.
-pub fn program_of(alloc: Global, files: &[Bytes]) -> Result<Vec<SumModule>, Stop>
+pub fn program_of(alloc: Global, files: &[Bytes]) -> Result<Vec<SumModule>, RunStop>
     requires few { length files.now ≤ FILES_LIMIT }
     requires short { AllByRecursion (λ bytes. length bytes ≤ FILE_LIMIT) files.now }
     ensures ok { IfOk result (λ program. IsProgramOf files.now program.items) }
@@ -165,6 +176,6 @@ pub fn program_of(alloc: Global, files: &[Bytes]) -> Result<Vec<SumModule>, Stop
     match read_program(alloc, files) {
         Ok(program) => Ok(program),
         Err(ProgramFault::InFile(file, fault)) => Err(stop_of(alloc, files, file, fault)?),
-        Err(ProgramFault::NoMemory) => Err(Stop::NoMemory),
+        Err(ProgramFault::NoMemory) => Err(RunStop::NoMemory),
     }
 }

@@ -10,7 +10,7 @@ ghost use Rattle.prove.specs.Run.{Ends, IsOutput, IsReportText, IsVerified, RunS
 ghost use Rattle.report.specs.Writes.{Writes};
 
 use crate::outcome::write_stop;
-use crate::stages::{FILES_LIMIT, Stop, fetch_all, file_names, program_of};
+use crate::stages::{FILES_LIMIT, RunStop, fetch_all, file_names, program_of};
 use outside::outside::{Sink, Sources};
 use outside::writing::SinkFault;
 use program_read::program::one_outcome;
@@ -33,12 +33,12 @@ fn report_of<S: Sources, L: Ledger>(
     names: &[Name],
     sources: &mut S,
     steps: &mut Steps<L>,
-) -> Result<Report, Stop>
+) -> Result<Report, RunStop>
     ensures verified { IfOk result (IsVerified (S.holds sources.old) names.now) }
     ensures stopped { IfErr result (RunStopped (S.holds sources.old) names.now (S.faults sources.old) (S.faults sources.new)) }
 {
     if names.len() > FILES_LIMIT {
-        return Err(Stop::TooManyFiles(names.len() as u64));
+        return Err(RunStop::TooManyFiles(names.len() as u64));
     }
     let files = fetch_all(alloc, names, sources)?;
     let program = program_of(alloc, files.as_slice())?;

@@ -1,20 +1,20 @@
 //! The texts of reports and statuses, as a user sees them.
 
 use token_reading::marker::Marker;
-use linear_rows::rows::Fraction;
 use outside::memory_sink::VecSink;
 use pv_base::lists::{Bytes, Calls};
 use pv_base::name::Name;
 use report::report::{ConditionRecord, ConditionVerdict, FunctionRecord, FunctionVerdict, ParameterValue, Report};
 use report::report_text::report_lines;
-use report::status::{Device, LimitKind, Refusal, Rule, Status};
+use answers::condition::ConditionKind;
+use answers::rule::Rule;
+use report::status::{Device, LimitKind, Refusal, Status};
 use report::status_text::{files_limit_line, limit_line, refusal_line, source_fault_line};
 use report::text::{Lines, push_hexadecimal};
 use report::writing::write_lines;
 use std::alloc::Global;
 use std::panic::Expect;
 use std::process::Abort;
-use vc_gen::condition::ConditionKind;
 
 fn condition(
     kind: ConditionKind,
@@ -40,26 +40,22 @@ fn value(
     rt: &impl Abort,
     alloc: Global,
     name: &[u8],
-    unknown: usize,
     numerator: i128,
     denominator: i128,
 ) -> ParameterValue {
     ParameterValue {
         name: name_of(rt, alloc, name),
-        value: Fraction {
-            unknown,
-            numerator,
-            denominator,
-        },
+        numerator,
+        denominator,
     }
 }
 
 // Values of a parameter, one below 0 and one that is no whole number.
 fn values(rt: &impl Abort, alloc: Global) -> Vec<ParameterValue> {
     let mut made = Vec::new(alloc);
-    made.push(value(rt, alloc, b"x", 0, -3, 1))
+    made.push(value(rt, alloc, b"x", -3, 1))
         .expect(rt, "memory");
-    made.push(value(rt, alloc, b"y", 1, i128::MAX, 2))
+    made.push(value(rt, alloc, b"y", i128::MAX, 2))
         .expect(rt, "memory");
     made
 }

@@ -1,6 +1,6 @@
 -- The records of verdicts as contracts see them.
 use Rattle.std.specs.Prelude.{ℕ, ℤ, List, Option}
-use Rattle.vc_gen.specs.declared.condition.ConditionKind.{ConditionKind}
+use Rattle.answers.specs.declared.condition.ConditionKind.{ConditionKind}
 use Rattle.report.specs.declared.report.ConditionVerdict.{ConditionVerdict}
 use Rattle.report.specs.declared.report.FunctionVerdict.{FunctionVerdict}
 

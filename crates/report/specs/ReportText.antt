@@ -8,8 +8,8 @@ use Rattle.report.specs.declared.report.FunctionVerdict.{FunctionVerdict}
 use Rattle.report.specs.declared.report.FunctionVerdict.TheVariants.{Proved, Unknown}
 use Rattle.report.specs.declared.report.ConditionVerdict.{ConditionVerdict}
 use Rattle.report.specs.declared.report.ConditionVerdict.TheVariants.{Proved as condition_proved, Open, Wide, Rows, Budget, Size}
-use Rattle.vc_gen.specs.declared.condition.ConditionKind.{ConditionKind}
-use Rattle.vc_gen.specs.declared.condition.ConditionKind.TheVariants.{Ensures, AbortsIf, Aborts}
+use Rattle.answers.specs.declared.condition.ConditionKind.{ConditionKind}
+use Rattle.answers.specs.declared.condition.ConditionKind.TheVariants.{Ensures, AbortsIf, Aborts}
 
 abbrev pub line_feed : List ℕ
 line_feed = 10 ∷ []

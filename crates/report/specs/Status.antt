@@ -1,14 +1,13 @@
--- The numbers of the statuses and of the rules, and the line that tells of a run without a report.
+-- The numbers of the statuses, and the line that tells of a run without a report.
 use Rattle.std.specs.Prelude.{ℕ, List, [], ◌++◌, Option, Some, None, codes}
 use Rattle.std.specs.Fmt.{decimal}
 use Rattle.token_reading.specs.declared.marker.Marker.{Marker}
 use Rattle.token_reading.specs.Markers.{marker_text}
+use Rattle.answers.specs.Rules.{rule_name, rule_number}
 use Rattle.report.specs.ReportText.{line_feed}
 use Rattle.report.specs.declared.status.Refusal.{Refusal}
 use Rattle.report.specs.declared.status.Status.{Status}
 use Rattle.report.specs.declared.status.Status.TheVariants.{AllProved, NotAllProved, Refused, Fault, BadWords, Limit, NoMemory}
-use Rattle.report.specs.declared.status.Rule.{Rule}
-use Rattle.report.specs.declared.status.Rule.TheVariants.{BadToken, Grammar, LeftOut, NotBuilt}
 use Rattle.report.specs.declared.status.LimitKind.{LimitKind}
 use Rattle.report.specs.declared.status.LimitKind.TheVariants.{Files, Bytes, Tokens, Nesting, Locals}
 
@@ -21,18 +20,6 @@ code_of (Fault device) = 3
 code_of BadWords = 4
 code_of (Limit kind count) = 5
 code_of NoMemory = 6
-
-abbrev pub rule_number : Rule → ℕ
-rule_number BadToken = 1
-rule_number Grammar = 2
-rule_number LeftOut = 3
-rule_number NotBuilt = 18
-
-abbrev pub rule_name : Rule → List ℕ
-rule_name BadToken = codes "BadToken"
-rule_name Grammar = codes "Grammar"
-rule_name LeftOut = codes "LeftOut"
-rule_name NotBuilt = codes "NotBuilt"
 
 abbrev pub limit_text : LimitKind → List ℕ
 limit_text Files = codes "files"

@@ -3,13 +3,12 @@
 ghost use Rattle.std.specs.Prelude.{◌≡◌, IfOk};
 ghost use Rattle.report.specs.ReportText.{function_line, condition_line, count_line, lines_of_report};
 
-use linear_rows::rows::Fraction;
+use answers::condition::ConditionKind;
 use pv_base::lists::Bytes;
 use pv_base::memory::NoMemory;
 use pv_base::name::Name;
 use std::alloc::Global;
 use std::marker::Model;
-use vc_gen::condition::ConditionKind;
 
 /// What was found out of a condition.
 #[derive(Clone, Copy, Debug, PartialEq, Eq)]
@@ -38,11 +37,13 @@ pub enum FunctionVerdict {
     Unknown,
 }
 
-/// The value of a parameter on an open branch: a fraction, whose denominator is above 0.
+/// The value of a parameter on an open branch, as a fraction.
 #[derive(Drop)]
 pub struct ParameterValue {
     pub name: Name,
-    pub value: Fraction,
+    pub numerator: i128,
+    /// Above 0.
+    pub denominator: i128,
 }
 
 impl Model for ParameterValue {
@@ -50,7 +51,7 @@ impl Model for ParameterValue {
 
     ghost Value = { ParameterValueData };
 
-    ghost view = { λ v. record { name = v.name; numerator = v.value.numerator; denominator = v.value.denominator } };
+    ghost view = { λ v. record { name = v.name; numerator = v.numerator; denominator = v.denominator } };
 }
 
 /// A condition, by its kind and its place, and its verdict.

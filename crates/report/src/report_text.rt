@@ -5,11 +5,11 @@ ghost use Rattle.report.specs.ReportText.{check_text, condition_line, condition_
 
 use crate::report::{ConditionRecord, ConditionVerdict, FunctionRecord, FunctionVerdict, ParameterValue, Report};
 use crate::text::{Lines, push_decimal, push_hexadecimal, push_whole};
+use answers::condition::ConditionKind;
 use pv_base::lists::Bytes;
 use pv_base::memory::NoMemory;
 use pv_base::name::Name;
 use std::alloc::Global;
-use vc_gen::condition::ConditionKind;
 
 /// The word that a report has for a kind of condition.
 fn kind_text(kind: ConditionKind) -> &'static [u8]
@@ -130,8 +130,8 @@ fn value_line(alloc: Global, value: &ParameterValue) -> Result<Bytes, NoMemory>
     line.extend_from_slice(b"    ")?;
     line.extend_from_slice(value.name.as_slice())?;
     line.extend_from_slice(b" = ")?;
-    push_whole(alloc, &mut line, value.value.numerator)?;
-    push_denominator(alloc, &mut line, value.value.denominator)?;
+    push_whole(alloc, &mut line, value.numerator)?;
+    push_denominator(alloc, &mut line, value.denominator)?;
     line.extend_from_slice(b"\n")?;
     Ok(line)
 }

@@ -1,22 +1,10 @@
 //! How a run ends.
 
 ghost use Rattle.std.specs.Prelude.{◌≡◌};
-ghost use Rattle.report.specs.Status.{code_of, limit_text, rule_name, rule_number};
+ghost use Rattle.report.specs.Status.{code_of, limit_text};
 
+use answers::rule::Rule;
 use token_reading::marker::Marker;
-
-/// A rule of the language that a file can break.
-#[derive(Clone, Copy, Debug, PartialEq, Eq)]
-pub enum Rule {
-    /// No list of tokens spells the bytes.
-    BadToken,
-    /// The tokens are of no source, and hold no marker of a form that is left out.
-    Grammar,
-    /// The tokens are of no source, and hold a marker of a form that is left out.
-    LeftOut,
-    /// The file holds a form that is not built yet.
-    NotBuilt,
-}
 
 /// A file that breaks a rule.
 #[derive(Clone, Copy, Debug, PartialEq, Eq)]
@@ -69,32 +57,6 @@ pub enum Status {
     Limit(LimitKind, u64),
     /// Memory ran out.
     NoMemory,
-}
-
-impl Rule {
-    /// The number by which a refusal names the rule.
-    pub fn number(self) -> u32
-        ensures { result ≡ rule_number self }
-    {
-        match self {
-            Rule::BadToken => 1,
-            Rule::Grammar => 2,
-            Rule::LeftOut => 3,
-            Rule::NotBuilt => 18,
-        }
-    }
-
-    /// The name by which a refusal names the rule.
-    pub fn text(self) -> &'static [u8]
-        ensures { result.now ≡ rule_name self }
-    {
-        match self {
-            Rule::BadToken => b"BadToken",
-            Rule::Grammar => b"Grammar",
-            Rule::LeftOut => b"LeftOut",
-            Rule::NotBuilt => b"NotBuilt",
-        }
-    }
 }
 
 impl LimitKind {

@@ -3,7 +3,8 @@
 ghost use Rattle.std.specs.Prelude.{◌<◌, ◌^◌, length, IfOk};
 
 use token_reading::marker::Marker;
-use program_read::fault::{FileFault, ProgramFault};
+use answers::rule::Rule;
+use program_read::fault::{FileFault, FileLimit, ProgramFault};
 use program_read::program::read_program;
 use pv_base::lists::Bytes;
 use pv_base::memory::NoMemory;
@@ -61,27 +62,27 @@ fn files_of_no_program(rt: HostRuntime) -> Result<(), Fail> {
     let other = "module 0x1::o { fun f() { } }";
     for (texts, file, fault) in [
         // Each rule by itself.
-        ([module, comment], 1, FileFault::BadToken(18)),
-        ([module, open], 1, FileFault::Grammar(14)),
+        ([module, comment], 1, FileFault::breaks(Rule::BadToken, 18)),
+        ([module, open], 1, FileFault::breaks(Rule::Grammar, 14)),
         (
             [module, "module 0x1::n { inline fun f() { } }"],
             1,
-            FileFault::LeftOut(Marker::Inline, 16),
+            FileFault::Breaks(Rule::LeftOut, 16, Some(Marker::Inline)),
         ),
         (
             [module, "module 0x1::n { spec module { axiom true; } }"],
             1,
-            FileFault::LeftOut(Marker::Axiom, 30),
+            FileFault::Breaks(Rule::LeftOut, 30, Some(Marker::Axiom)),
         ),
-        ([module, other], 1, FileFault::NotBuilt(16)),
-        ([module, module], 1, FileFault::NotBuilt(0)),
+        ([module, other], 1, FileFault::breaks(Rule::NotBuilt, 16)),
+        ([module, module], 1, FileFault::breaks(Rule::NotBuilt, 0)),
         // An earlier rule of a later file comes first.
-        ([open, comment], 1, FileFault::BadToken(18)),
-        ([other, open], 1, FileFault::Grammar(14)),
+        ([open, comment], 1, FileFault::breaks(Rule::BadToken, 18)),
+        ([other, open], 1, FileFault::breaks(Rule::Grammar, 14)),
         // Of two files that break one rule, the first.
-        ([comment, comment], 0, FileFault::BadToken(18)),
-        ([open, open], 0, FileFault::Grammar(14)),
-        ([other, other], 0, FileFault::NotBuilt(16)),
+        ([comment, comment], 0, FileFault::breaks(Rule::BadToken, 18)),
+        ([open, open], 0, FileFault::breaks(Rule::Grammar, 14)),
+        ([other, other], 0, FileFault::breaks(Rule::NotBuilt, 16)),
     ] {
         stops(&rt, alloc, &texts, file, fault)?;
     }
@@ -123,13 +124,13 @@ fn stops_at(
 fn limits_of_files(rt: HostRuntime) -> Result<(), Fail> {
     let alloc = rt.alloc();
     for (piece, times, fault) in [
-        ("let b = 0; ", 255, FileFault::NotBuilt(16)),
-        ("let b = 0; ", 256, FileFault::TooManyLocals(257)),
-        ("let (b, c) = d; ", 150, FileFault::TooManyLocals(301)),
-        ("{ let b = 0; }; ", 256, FileFault::TooManyLocals(257)),
-        ("; ", 199_985, FileFault::Grammar(32)),
-        ("; ", 199_986, FileFault::TooManyTokens(200_001)),
-        ("(", 201, FileFault::NestsTooDeep),
+        ("let b = 0; ", 255, FileFault::breaks(Rule::NotBuilt, 16)),
+        ("let b = 0; ", 256, FileFault::Passes(FileLimit::Locals, 257)),
+        ("let (b, c) = d; ", 150, FileFault::Passes(FileLimit::Locals, 301)),
+        ("{ let b = 0; }; ", 256, FileFault::Passes(FileLimit::Locals, 257)),
+        ("; ", 199_985, FileFault::breaks(Rule::Grammar, 32)),
+        ("; ", 199_986, FileFault::Passes(FileLimit::Tokens, 200_001)),
+        ("(", 201, FileFault::Passes(FileLimit::Nesting, 201)),
     ] {
         stops_at(&rt, alloc, piece, times, fault)?;
     }

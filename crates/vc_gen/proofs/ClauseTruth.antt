@@ -19,7 +19,8 @@ use Rattle.pv_base.proofs.TruthValues.{both_true, true_both, either_true, true_e
 use Rattle.ref_sem.specs.Semantics.{Arguments, Names, names_of, sum_number, ComparesBy, Holds, AllHold, SomeHolds, HasKind}
 use Rattle.sum_formula.specs.Translation.{sum_term, comparison_formula, condition_formula}
 use Rattle.sum_formula.specs.Premises.{is_kind, formula_if}
-use Rattle.vc_gen.specs.Conditions.{has_kind, condition_if}
+use Rattle.vc_gen.specs.Conditions.{condition_if}
+use Rattle.vc_gen.specs.Keys.{has_kind}
 use Rattle.vc_gen.specs.declared.condition.VerificationCondition.{VerificationCondition}
 use Rattle.vc_gen.proofs.NumberTruth.{Agrees, sum_is}
 

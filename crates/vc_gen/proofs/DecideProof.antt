@@ -22,7 +22,9 @@ use Rattle.vc_gen.specs.declared.condition.VerificationCondition.{VerificationCo
 use Rattle.sum_formula.specs.Translation.{zero_term, term_at, word_term}
 use Rattle.ref_sem.specs.Bodies.{HasU64Body}
 use Rattle.sum_formula.specs.Premises.{argument_formula, arguments_formula, entry_formulas, requires_formula, returns_formula, returned_term, range_formulas, at_return, at_abort}
-use Rattle.vc_gen.specs.Conditions.{ensures_condition, aborts_if_condition, aborts_condition, condition_if, has_kind, conditions_under, conditions_of, AreValid, Decide}
+use Rattle.vc_gen.specs.Conditions.{ensures_condition, aborts_if_condition, aborts_condition, condition_if, conditions_under, conditions_of}
+use Rattle.vc_gen.specs.Decided.{AreValid, Decide}
+use Rattle.vc_gen.specs.Keys.{has_kind}
 use Rattle.pv_base.proofs.TruthValues.{both_true, true_both, never_both, true_not}
 use Rattle.vc_gen.proofs.Words.{same_name-equal, position_some, name_at_position}
 use Rattle.vc_gen.proofs.NumberTruth.{Agrees}

@@ -3,3 +3,4 @@ pub mod NumberTruth
 pub mod RunTruth
 pub mod ClauseTruth
 pub mod DecideProof
+mod KeyLemmas

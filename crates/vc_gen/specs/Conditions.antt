@@ -1,19 +1,17 @@
 -- The verification conditions of a function: formulas that are all valid exactly where the function keeps its contract.
 -- Source: D. Dill et al., Fast and Reliable Formal Verification of Smart Contracts with the Move Prover, TACAS 2022;
 -- E. W. Dijkstra, Guarded commands, nondeterminacy and formal derivation of programs.
-use Rattle.std.specs.Prelude.{List, [], ◌∷◌, ◌++◌, Bool, if◌then◌else◌}
-use Rattle.std.specs.List.{flat_map, list_any, AllByRecursion}
-use Rattle.fol.specs.declared.shapes.Shape.{Shape}
+use Rattle.std.specs.Prelude.{List, [], ◌∷◌, ◌++◌, if◌then◌else◌}
+use Rattle.std.specs.List.{flat_map}
 use Rattle.fol.specs.FormulaData.{TermData, FormulaData, NotFormula, AnyOfFormula, ImpliesFormula, formulas_of}
-use Rattle.fol.specs.Validity.{Valid}
 use Rattle.sum_tree.specs.declared.clause.ClauseKind.{ClauseKind}
 use Rattle.sum_tree.specs.declared.clause.ClauseKind.TheVariants.{Ensures, AbortsIf}
 use Rattle.sum_tree.specs.declared.clause.Clause.{Clause}
 use Rattle.sum_tree.specs.FunctionData.{FunctionData}
 use Rattle.sum_formula.specs.Translation.{zero_term, condition_formula}
 use Rattle.sum_formula.specs.Premises.{is_kind, entry_formulas, returned_term, at_return, at_abort}
-use Rattle.ref_sem.specs.Semantics.{Keeps}
-use Rattle.vc_gen.specs.declared.condition.ConditionKind.TheVariants.{Ensures as of_ensures, AbortsIf as of_aborts_if, Aborts as of_aborts}
+use Rattle.vc_gen.specs.Keys.{has_kind, key_at}
+use Rattle.answers.specs.declared.condition.ConditionKind.TheVariants.{Ensures as of_ensures, AbortsIf as of_aborts_if, Aborts as of_aborts}
 use Rattle.vc_gen.specs.declared.condition.VerificationCondition.{VerificationCondition}
 
 -- ---- what is claimed
@@ -21,16 +19,14 @@ use Rattle.vc_gen.specs.declared.condition.VerificationCondition.{VerificationCo
 -- the clause holds where the premise does, for a term that is returned
 abbrev pub at_each_return : FunctionData → FormulaData → TermData → Clause → VerificationCondition
 at_each_return f premise returned c = record {
-  kind = of_ensures;
-  start = c.start;
+  key = key_at of_ensures c.start;
   formula = ImpliesFormula premise (condition_formula f.parameters returned c.condition);
 }
 
 -- the clause, read at the entry, does not hold where the premise does
 abbrev pub at_no_return : FunctionData → FormulaData → Clause → VerificationCondition
 at_no_return f premise c = record {
-  kind = of_aborts_if;
-  start = c.start;
+  key = key_at of_aborts_if c.start;
   formula = ImpliesFormula premise (NotFormula (condition_formula f.parameters zero_term c.condition));
 }
 
@@ -45,17 +41,13 @@ aborts_if_condition f clauses = at_no_return f (at_return f clauses)
 -- where the run aborts, some `aborts_if` holds
 abbrev pub aborts_condition : FunctionData → List Clause → VerificationCondition
 aborts_condition f clauses = record {
-  kind = of_aborts;
-  start = f.start;
+  key = key_at of_aborts f.start;
   formula = ImpliesFormula (at_abort f clauses) (AnyOfFormula (formulas_of (entry_formulas AbortsIf f clauses)));
 }
 
 -- the condition of a clause of this kind, and none of another clause
 abbrev pub condition_if : ClauseKind → (Clause → VerificationCondition) → Clause → List VerificationCondition
 condition_if kind condition c = if is_kind c.kind kind then condition c ∷ [] else []
-
-abbrev pub has_kind : ClauseKind → List Clause → Bool
-has_kind kind clauses = list_any (λ c. is_kind c.kind kind) clauses
 
 -- of each `ensures`, then of each `aborts_if`, in the order of the clauses, under a premise and for what is returned
 abbrev pub conditions_under : FunctionData → List Clause → FormulaData → TermData → List VerificationCondition
@@ -68,13 +60,3 @@ conditions_at_return f clauses = conditions_under f clauses (at_return f clauses
 -- The conditions of a function: those at returns, and then, where there is an `aborts_if`, that there are no other aborts.
 abbrev pub conditions_of : FunctionData → List Clause → List VerificationCondition
 conditions_of f clauses = conditions_at_return f clauses ++ (if has_kind AbortsIf clauses then aborts_condition f clauses ∷ [] else [])
-
--- ---- what they decide
-
-abbrev pub AreValid : List Shape → List VerificationCondition → Type 0
-AreValid shapes conditions = AllByRecursion (λ c. Valid shapes c.formula) conditions
-
--- All conditions are valid, whatever structs there are, exactly where the function keeps its contract.
-pub record Decide (f : FunctionData) (clauses : List Clause) (conditions : List VerificationCondition) : Type 0 where
-  pub sound : (shapes : List Shape) → AreValid shapes conditions → Keeps f clauses
-  pub complete : Keeps f clauses → (shapes : List Shape) → AreValid shapes conditions

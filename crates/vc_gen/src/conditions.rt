@@ -1,13 +1,17 @@
 //! The verification conditions of a function.
 
-ghost use Rattle.std.specs.Prelude.{◌≡◌, ◌^◌, ◌≤◌, ◌++◌, IfOk, OnOk, length};
+ghost use Rattle.std.specs.Prelude.{◌≡◌, ◌^◌, ◌≤◌, ◌++◌, IfOk, OnOk, length, map};
 ghost use Rattle.std.specs.List.{flat_map};
 ghost use Rattle.fol.specs.FormulaData.{ImpliesFormula};
 ghost use Rattle.ref_sem.specs.Bodies.{HasU64Body};
 ghost use Rattle.sum_formula.specs.Premises.{returns_formula};
-ghost use Rattle.vc_gen.specs.Conditions.{Decide, aborts_condition, at_each_return, at_no_return, condition_if, conditions_at_return, conditions_of, conditions_under, has_kind};
+ghost use Rattle.vc_gen.specs.Decided.{Decide};
+ghost use Rattle.vc_gen.specs.Keys.{key_at, keys_of};
+ghost use Rattle.vc_gen.specs.declared.condition.VerificationCondition.{VerificationCondition};
+ghost use Rattle.vc_gen.specs.Conditions.{aborts_condition, at_each_return, at_no_return, condition_if, conditions_at_return, conditions_of, conditions_under, has_kind};
 
-use crate::condition::{ConditionKind, VerificationCondition};
+use crate::condition::VerificationCondition;
+use answers::condition::{ConditionKey, ConditionKind};
 use fol::formula::{Formula, Term};
 use pv_base::memory::NoMemory;
 use std::alloc::Global;
@@ -24,14 +28,12 @@ fn condition_that(
     premise: &Formula,
     claim: Formula,
 ) -> Result<VerificationCondition, NoMemory>
-    ensures { IfOk result (λ made. made ≡ record { kind = kind; start = start; formula = ImpliesFormula premise.now claim }) }
+    ensures { IfOk result (λ made. made ≡ record { key = key_at kind start; formula = ImpliesFormula premise.now claim }) }
 {
     let formula = implication(alloc, premise, claim)?;
-    Ok(VerificationCondition {
-        kind,
-        start,
-        formula,
-    })
+    let check = None;
+    let key = ConditionKey { kind, start, check };
+    Ok(VerificationCondition { key, formula })
 }
 
 /// The condition of an `ensures` clause; none of another clause.
@@ -204,15 +206,15 @@ fn generate(
     Ok(conditions)
 }
 
-/// The conditions of a function with the clauses of its spec. All of them are valid exactly where the
-/// function keeps its contract. A function has at most 2^32 parameters.
+/// The conditions of a function with the clauses of its spec, in the order of a report. All of them are valid
+/// exactly where the function keeps its contract. A function has at most 2^32 parameters.
 pub fn conditions(
     alloc: Global,
     function: &Function,
     clauses: &[Clause],
 ) -> Result<Vec<VerificationCondition>, NoMemory>
     requires { length function.now.parameters ≤ 2 ^ 32 }
-    ensures made { IfOk result (λ made. made.items ≡ conditions_of function.now clauses.now) }
+    ensures keys { IfOk result (λ made. map (λ (c : VerificationCondition). c.key) made.items ≡ keys_of function.now clauses.now) }
     ensures decide { HasU64Body function.now → IfOk result (λ made. Decide function.now clauses.now made.items) }
 {
     generate(alloc, function, clauses)

@@ -1,8 +1,9 @@
 -- The record of a function is right where those of its conditions are.
-use Rattle.std.proofs.Common.{◌≡◌, ℕ, List, [], ◌∷◌, Bool, true, false, ◌&&◌, refl, sym, ap, ◌∙◌, subst}
+use Rattle.std.proofs.Common.{◌≡◌, ℕ, List, [], ◌∷◌, Bool, true, false, ◌&&◌, map, refl, sym, ap, ◌∙◌, subst}
 use Rattle.pv_base.proofs.TruthValues.{both_true}
 use Rattle.vc_gen.specs.declared.condition.VerificationCondition.{VerificationCondition}
-use Rattle.vc_gen.specs.Conditions.{AreValid, Decide, conditions_of}
+use Rattle.vc_gen.specs.Decided.{AreValid, Decide}
+use Rattle.vc_gen.specs.Keys.{keys_of}
 use Rattle.fol.specs.FormulaData.{FormulaData}
 use Rattle.fol.specs.Validity.{Valid}
 use Rattle.report.specs.declared.report.ConditionVerdict.{ConditionVerdict}
@@ -31,7 +32,7 @@ valid_if_proved bytes file ps (c ∷ cs) (r ∷ rs) p e =
     let both = both_true (is_condition_proved r.verdict) (are_proved rs) e in
     (valid_of_shown c.formula ps r.verdict r.values p.0.shown both.0, valid_if_proved bytes file ps cs rs p.1 both.1)
 
-pub function_record : (bytes : List ℕ) (m : SumModuleData) (f : SpecifiedFunctionData) (made shown : List VerificationCondition) (judged : List ConditionRecordData) (found : FunctionRecordData) (ps : List (List ℕ)) → ps ≡ f.function.parameters → made ≡ conditions_of f.function f.clauses → Decide f.function f.clauses made → shown ≡ made → Paired (IsConditionRecord bytes m.file ps) shown found.conditions → judged ≡ found.conditions → is_proved found.verdict ≡ are_proved judged → found.address ≡ m.address → found.module_name ≡ m.name → found.name ≡ f.function.name → IsFunctionRecord bytes m f found
+pub function_record : (bytes : List ℕ) (m : SumModuleData) (f : SpecifiedFunctionData) (made shown : List VerificationCondition) (judged : List ConditionRecordData) (found : FunctionRecordData) (ps : List (List ℕ)) → ps ≡ f.function.parameters → map (λ (c : VerificationCondition). c.key) made ≡ keys_of f.function f.clauses → Decide f.function f.clauses made → shown ≡ made → Paired (IsConditionRecord bytes m.file ps) shown found.conditions → judged ≡ found.conditions → is_proved found.verdict ≡ are_proved judged → found.address ≡ m.address → found.module_name ≡ m.name → found.name ≡ f.function.name → IsFunctionRecord bytes m f found
 function_record bytes m f made shown judged found ps params e decide same paired same_found verdict a n k =
     let all = subst (λ names. Paired (IsConditionRecord bytes m.file names) made found.conditions) params (subst (λ conditions. Paired (IsConditionRecord bytes m.file ps) conditions found.conditions) same paired) in
     let judgement = verdict ∙ ap are_proved same_found in
@@ -39,7 +40,10 @@ function_record bytes m f made shown judged found ps params e decide same paired
       address_is = a;
       module_is = n;
       name_is = k;
-      conditions = subst (λ conditions. Paired (IsConditionRecord bytes m.file f.function.parameters) conditions found.conditions) e all;
+      conditions = made;
+      keys = e;
+      decide = decide;
+      records = all;
       verdict = judgement;
       keeps = λ h. decide.sound [] (valid_if_proved bytes m.file f.function.parameters made found.conditions all (sym judgement ∙ h));
     }

@@ -1,13 +1,15 @@
 -- What the records of a report say of the functions of a program.
-use Rattle.std.specs.Prelude.{◌≡◌, ℕ, ◌≤◌, Bool, true, false, List, [], length, map, slice_index_or, None, All}
+use Rattle.std.specs.Prelude.{◌≡◌, ℕ, ◌≤◌, Bool, true, false, List, [], length, map, slice_index_or, Option, All}
 use Rattle.fol.specs.FormulaData.{FormulaData}
 use Rattle.std.specs.List.{flat_map, list_all}
+use Rattle.std.specs.Option.{option_map}
 use Rattle.fol.specs.Validity.{Valid}
 use Rattle.sum_tree.specs.FunctionData.{FunctionData}
 use Rattle.ref_sem.specs.Semantics.{Keeps}
 use Rattle.ref_sem.specs.Bodies.{HasU64Body}
 use Rattle.vc_gen.specs.declared.condition.VerificationCondition.{VerificationCondition}
-use Rattle.vc_gen.specs.Conditions.{conditions_of}
+use Rattle.vc_gen.specs.Decided.{Decide}
+use Rattle.vc_gen.specs.Keys.{keys_of}
 use Rattle.report.specs.declared.report.ConditionVerdict.{ConditionVerdict}
 use Rattle.report.specs.declared.report.ConditionVerdict.TheVariants.{Proved, Open, Wide, Rows, Budget, Size}
 use Rattle.report.specs.Lines.{line_of}
@@ -40,25 +42,33 @@ IsShown p parameters Rows values = IsLargeCondition p × (values ≡ [])
 IsShown p parameters (Budget steps) values = (steps ≡ most_steps) × (values ≡ [])
 IsShown p parameters Size values = IsFullCondition p × (values ≡ [])
 
+-- the line of a check that stands apart from its clause
+abbrev pub check_line_of : List ℕ → Option ℕ → Option ℕ
+check_line_of bytes check = option_map (line_of bytes) check
+
 -- the record is that of this condition of a function with these parameters, in the file of this number with these bytes,
 -- and its verdict is shown
 pub record IsConditionRecord (bytes : List ℕ) (file : ℕ) (parameters : List (List ℕ)) (condition : VerificationCondition) (found : ConditionRecordData) : Type 0 where
-  pub kind : found.kind ≡ condition.kind
+  pub kind : found.kind ≡ condition.key.kind
   pub file_is : found.file ≡ file
-  pub line : found.line ≡ line_of bytes condition.start
-  pub check_line : found.check_line ≡ None
+  pub line : found.line ≡ line_of bytes condition.key.start
+  pub check_line : found.check_line ≡ check_line_of bytes condition.key.check
   pub shown : IsShown condition.formula parameters found.verdict found.values
 
 abbrev pub are_proved : List ConditionRecordData → Bool
 are_proved conditions = list_all (λ c. is_condition_proved c.verdict) conditions
 
--- The record is that of this function of a module: it has a record for each condition in their order, and says `proved`
--- exactly where all of these do. A function of which it says `proved` keeps its contract.
+-- The record is that of this function of a module: for some formulas that have the keys of its conditions, and are all valid
+-- exactly where it keeps its contract, there is a record of each in their order, and it says `proved` exactly where all of these
+-- do. A function of which it says `proved` keeps its contract.
 pub record IsFunctionRecord (bytes : List ℕ) (m : SumModuleData) (f : SpecifiedFunctionData) (found : FunctionRecordData) : Type 0 where
   pub address_is : found.address ≡ m.address
   pub module_is : found.module_name ≡ m.name
   pub name_is : found.name ≡ f.function.name
-  pub conditions : Paired (IsConditionRecord bytes m.file f.function.parameters) (conditions_of f.function f.clauses) found.conditions
+  pub conditions : List VerificationCondition
+  pub keys : map (λ (c : VerificationCondition). c.key) conditions ≡ keys_of f.function f.clauses
+  pub decide : Decide f.function f.clauses conditions
+  pub records : Paired (IsConditionRecord bytes m.file f.function.parameters) conditions found.conditions
   pub verdict : is_proved found.verdict ≡ are_proved found.conditions
   pub keeps : is_proved found.verdict ≡ true → Keeps f.function f.clauses
 

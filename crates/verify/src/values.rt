@@ -41,14 +41,15 @@ fn value_of(
 {
     let name = name.try_clone(alloc)?;
     match chosen(unknowns, fractions, number) {
-        Some(value) => Ok(ParameterValue { name, value }),
+        Some(value) => Ok(ParameterValue {
+            name,
+            numerator: value.numerator,
+            denominator: value.denominator,
+        }),
         None => Ok(ParameterValue {
             name,
-            value: Fraction {
-                unknown: number,
-                numerator: 0,
-                denominator: 1,
-            },
+            numerator: 0,
+            denominator: 1,
         }),
     }
 }

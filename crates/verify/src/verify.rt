@@ -7,7 +7,7 @@ ghost use Rattle.report.specs.Lines.{line_feeds};
 ghost use Rattle.report.specs.ReportText.{is_proved};
 ghost use Rattle.search.specs.Answer.{Shows};
 ghost use Rattle.verify.specs.Pairs.{ArePutBehind, Paired};
-ghost use Rattle.verify.specs.Verified.{AreVerifiable, IsConditionRecord, IsFunctionRecord, IsReportOf, IsShown, IsVerifiable, are_proved, functions_of, functions_of_module};
+ghost use Rattle.verify.specs.Verified.{AreVerifiable, IsConditionRecord, IsFunctionRecord, IsReportOf, IsShown, IsVerifiable, are_proved, check_line_of, functions_of, functions_of_module};
 
 use crate::values::values_of;
 use cert::certificate::Cert;
@@ -106,6 +106,16 @@ fn finding_of<L: Ledger>(
     finding_for(alloc, formula, parameters, &answer)
 }
 
+/// The line of a check that stands apart from its clause.
+fn check_line(feeds: &LineFeeds, check: Option<u32>) -> Option<u32>
+    ensures { (bytes : List ℕ) → feeds.now ≡ line_feeds bytes → result ≡ check_line_of bytes check }
+{
+    match check {
+        Some(place) => Some(feeds.line(place)),
+        None => None,
+    }
+}
+
 /// The record of a condition of a function with these parameters, in the file of this number.
 fn verify_condition<L: Ledger>(
     alloc: Global,
@@ -119,10 +129,10 @@ fn verify_condition<L: Ledger>(
 {
     let Finding { verdict, values } = finding_of(alloc, &condition.formula, parameters, steps)?;
     Ok(ConditionRecord {
-        kind: condition.kind,
+        kind: condition.key.kind,
         file,
-        line: feeds.line(condition.start),
-        check_line: None,
+        line: feeds.line(condition.key.start),
+        check_line: check_line(feeds, condition.key.check),
         verdict,
         values,
     })
