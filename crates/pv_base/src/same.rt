@@ -3,7 +3,7 @@
 ghost use Rattle.std.specs.Prelude.{◌≡◌, ◌↔◌, ◌++◌, IsTrue, IfOk, OnOk};
 
 use crate::memory::NoMemory;
-use crate::types::{StructId, TypeList, TypeNode, TypeTerm};
+use crate::types::{FunctionId, StructId, TypeList, TypeNode, TypeTerm};
 use std::alloc::Global;
 
 /// Whether two types are one.
@@ -51,6 +51,19 @@ pub fn same_struct(left: &StructId, right: &StructId) -> bool
     ensures { IsTrue result ↔ (left.now ≡ right.now) }
 {
     left.address == right.address && left.module == right.module && left.name == right.name
+}
+
+impl FunctionId {
+    /// A second copy of the name of a function.
+    pub fn try_clone(&self, alloc: Global) -> Result<FunctionId, NoMemory>
+        ensures { IfOk result (λ copy. copy ≡ self.now) }
+    {
+        Ok(FunctionId {
+            address: self.address,
+            module: self.module.try_clone(alloc)?,
+            name: self.name.try_clone(alloc)?,
+        })
+    }
 }
 
 impl StructId {

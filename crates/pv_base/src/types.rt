@@ -3,8 +3,16 @@
 use crate::name::Name;
 use std::marker::Model;
 
+/// A function by its address, below 2^128, its module and its name.
+#[derive(PartialEq, Eq, Hash, Drop)]
+pub struct FunctionId {
+    pub address: u128,
+    pub module: Name,
+    pub name: Name,
+}
+
 /// A struct by its address, below 2^128, its module and its name.
-#[derive(PartialEq, Eq, Drop)]
+#[derive(PartialEq, Eq, Hash, Drop)]
 pub struct StructId {
     pub address: u128,
     pub module: Name,

@@ -1,0 +1,122 @@
+//! Bodies: expressions and patterns of Move with their names resolved.
+
+use crate::arena::Arena;
+use crate::operator::{BinaryOperator, StorageOperation, VectorFunction};
+use crate::program::ConstantId;
+use crate::sequence::Sequence;
+use pv_base::name::Name;
+use pv_base::types::{FunctionId, StructId, TypeList, TypeTerm, Width};
+
+/// A number in a source, below 2^128, with its suffix.
+#[derive(Clone, Copy, Debug, PartialEq, Eq)]
+pub struct Number {
+    pub value: u128,
+    pub width: Option<Width>,
+}
+
+/// How the value of a local is taken: as its type says, or as `move` or `copy` says.
+#[derive(Clone, Copy, Debug, PartialEq, Eq)]
+pub enum LocalUse {
+    Plain,
+    Move,
+    Copy,
+}
+
+/// What has no parts.
+#[derive(Drop)]
+pub enum CodeLeaf {
+    Number(Number),
+    Truth(bool),
+    Address(u128),
+    /// A local by its number, also where it is a place that is borrowed or assigned.
+    Local(LocalUse, usize),
+    Constant(ConstantId),
+    /// `return` without a value
+    Return,
+    Break,
+    Continue,
+    /// A pattern that binds a local, by its number.
+    Bind(usize),
+    /// The pattern `_`.
+    Ignore,
+}
+
+/// What has one part.
+#[derive(Drop)]
+pub enum CodeUnary {
+    Not,
+    Dereference,
+    Borrow,
+    BorrowMutable,
+    /// A field, by its name.
+    Field(Name),
+    Cast(TypeTerm),
+    Return,
+    Abort,
+    Loop,
+    /// An item of a block whose value is not used.
+    Discard,
+    /// `let` with a pattern alone, and with the type that is written.
+    Declare(Option<TypeTerm>),
+}
+
+/// What has two parts.
+#[derive(Drop)]
+pub enum CodeBinary {
+    Operator(BinaryOperator),
+    /// A place, and its new value.
+    Assign,
+    /// `if` without `else`
+    If,
+    /// A condition, and a body.
+    While,
+    /// A condition, and the code of the abort where it is false.
+    Assert,
+    /// `let` with a pattern and its value, and with the type that is written.
+    Let(Option<TypeTerm>),
+}
+
+/// What is called.
+#[derive(Drop)]
+pub enum Callee {
+    Function(FunctionId),
+    Storage(StorageOperation),
+    Vector(VectorFunction),
+    /// `signer::address_of`
+    AddressOf,
+}
+
+/// What has a list of parts. Type arguments are those that are written: none where they are left out.
+#[derive(Drop)]
+pub enum CodeMany {
+    /// A call, whose parts are its arguments.
+    Call {
+        callee: Callee,
+        types: TypeList,
+    },
+    /// A vector of its parts.
+    Vector(TypeList),
+    /// A struct, whose parts are the values of the named fields.
+    Pack {
+        name: StructId,
+        types: TypeList,
+        fields: Sequence<Name>,
+    },
+    /// A pattern for a struct, whose parts are patterns for the named fields.
+    Unpack {
+        name: StructId,
+        types: TypeList,
+        fields: Sequence<Name>,
+    },
+    /// None or several expressions between parentheses.
+    Tuple,
+    /// Several patterns between parentheses.
+    TuplePattern,
+    /// A block, whose parts are its items, and last its value where it has one.
+    Block {
+        has_value: bool,
+    },
+}
+
+/// A body. Its nodes stand in the order of their last tokens, so the last one is the whole.
+pub type Body = Arena<CodeLeaf, CodeUnary, CodeBinary, CodeMany>;

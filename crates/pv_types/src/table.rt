@@ -1,0 +1,68 @@
+//! Tables of declarations.
+
+ghost use Rattle.std.specs.Prelude.{◌≡◌, ◌++◌, ◌∷◌, [], length, None, OnOk, OnErr, slice_get};
+ghost use Rattle.std.specs.Option.{option_copied, option_map};
+ghost use Rattle.std.specs.Map.{lookup};
+ghost use Rattle.std.specs.Map.Iter.{deref_pair};
+
+use indexmap::IndexMap;
+use pv_base::memory::NoMemory;
+use std::alloc::Global;
+use std::hash::Hash;
+use std::marker::Model;
+
+/// Declarations by their names, in the order in which they were put in.
+#[derive(Drop)]
+pub struct Table<K: Eq + Hash, T> {
+    map: IndexMap<K, T>,
+}
+
+impl<K: Eq + Hash, T> Model for Table<K, T> {
+    ghost use Rattle.std.specs.Prelude.{List};
+
+    ghost Value = { List (K × T) };
+
+    ghost view = { λ t. t.map.entries };
+}
+
+impl<K: Eq + Hash + Drop, T: Drop> Table<K, T> {
+    /// No declarations.
+    pub fn new(alloc: Global) -> Table<K, T>
+        ensures { result ≡ [] }
+    {
+        Table {
+            map: IndexMap::new(alloc),
+        }
+    }
+
+    /// How many declarations there are.
+    pub fn len(&self) -> usize
+        ensures { result ≡ length self.now }
+    {
+        self.map.len()
+    }
+
+    /// The declaration with this name.
+    pub fn get(&self, name: &K) -> Option<&T>
+        ensures { option_copied result ≡ lookup (K.eq name.now) self.now }
+    {
+        self.map.get(name)
+    }
+
+    /// The name and the declaration with this number.
+    pub fn entry(&self, number: usize) -> Option<(&K, &T)>
+        ensures { option_map deref_pair result ≡ slice_get self.now number }
+    {
+        self.map.get_index(number)
+    }
+
+    /// Puts a declaration behind the others, which have other names. After `NoMemory` the table is as it was.
+    pub fn push(&mut self, name: K, declaration: T) -> Result<(), NoMemory>
+        requires { lookup (K.eq name) self.old ≡ None }
+        ensures ok { OnOk result (self.new ≡ self.old ++ (name, declaration) ∷ []) }
+        ensures err { OnErr result (self.new ≡ self.old) }
+    {
+        self.map.insert(name, declaration)?;
+        Ok(())
+    }
+}
