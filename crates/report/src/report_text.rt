@@ -1,7 +1,9 @@
 //! The lines of a report.
 
 ghost use Rattle.std.specs.Prelude.{◌≡◌, ◌++◌, [], slice_index_or, IfOk, OnOk};
-ghost use Rattle.report.specs.ReportText.{check_text, condition_line, condition_lines, condition_verdict_text, denominator_text, value_line, count_line, function_line, function_lines, function_verdict_text, kind_text, lines_of_report};
+ghost use Rattle.report.specs.ReportText.{check_text, condition_line, condition_lines, condition_verdict_text, denominator_text, value_line, count_line, function_line, function_lines, function_verdict_text, kind_text, lines_of_report, report_text};
+ghost use Rattle.report.specs.ReportData.{ReportData};
+ghost use Rattle.report.specs.Told.{IsPrintedReport, told_of_report};
 
 use crate::report::{ConditionRecord, ConditionVerdict, FunctionRecord, FunctionVerdict, ParameterValue, Report};
 use crate::text::{Lines, push_decimal, push_hexadecimal, push_whole};
@@ -196,3 +198,12 @@ pub fn report_lines(alloc: Global, report: &Report) -> Result<Lines, NoMemory>
     lines.push(count_line(alloc, report.functions.as_slice())?)?;
     Ok(lines)
 }
+
+/// A law: what is printed tells what was found out. Two reports of one text have the same lines, and at each line
+/// the same verdict, where no name in them holds a line feed.
+pub fn one_reading()
+    ensures lines { (one other : ReportData) → IsPrintedReport one → IsPrintedReport other
+        → report_text one ≡ report_text other → lines_of_report one ≡ lines_of_report other }
+    ensures verdicts { (one other : ReportData) → IsPrintedReport one → IsPrintedReport other
+        → report_text one ≡ report_text other → told_of_report one ≡ told_of_report other }
+{}
