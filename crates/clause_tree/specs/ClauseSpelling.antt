@@ -79,7 +79,7 @@ pragmas_spelling p = comma_list (map pragma_spelling p.items) p.last_comma
 abbrev pub code_spelling : AbortCode → List Lexeme
 code_spelling Bare = []
 code_spelling Failure = word (codes "with") None ∷ failure_word ∷ []
-code_spelling (Code e) = word (codes "with") None ∷ spec_spelling e.value
+code_spelling (Code e) = word (codes "with") None ∷ spec_spelling e
 
 abbrev pub targets_spelling : TargetsData → List Lexeme
 targets_spelling t = comma_list (spec_spellings (spec_expressions_of t.items)) t.last_comma

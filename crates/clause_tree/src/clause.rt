@@ -29,6 +29,12 @@ pub struct Pragmas {
     pub last_comma: bool,
 }
 
+/// The expression of a code, which stands in a box: a contract sees the expression, and no box.
+#[derive(Drop)]
+pub struct CodeExpression {
+    pub expression: Box<SpecExpression>,
+}
+
 /// The code that an `aborts_if` speaks of.
 #[derive(Drop)]
 pub enum AbortCode {
@@ -36,7 +42,7 @@ pub enum AbortCode {
     Bare,
     /// That of an abort without a code.
     Failure,
-    Code(Box<SpecExpression>),
+    Code(CodeExpression),
 }
 
 /// The places of storage that a `modifies` names.
@@ -260,6 +266,18 @@ impl Model for Pragmas {
     ghost Value = { PragmasData };
 
     ghost view = { λ a. record { items = a.items.items; last_comma = a.last_comma } };
+}
+
+impl Model for CodeExpression {
+    ghost use Rattle.std.specs.Coded.{codes};
+    ghost use Rattle.spec_tree.specs.SpecExpressionCodes.{coded_spec_expression};
+    ghost use Rattle.spec_tree.specs.SpecExpressionData.{SpecExpressionData};
+
+    ghost Value = { SpecExpressionData };
+
+    ghost coded = { Prim.hlevel (codes, coded_spec_expression) };
+
+    ghost view = { λ c. c.expression.value };
 }
 
 impl Model for Targets {

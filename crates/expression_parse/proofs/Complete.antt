@@ -10,9 +10,8 @@ use Rattle.move_tree.specs.declared.lexeme.Lexeme.{Lexeme}
 use Rattle.move_tree.specs.declared.operator.BinaryOperator.{BinaryOperator}
 use Rattle.move_tree.specs.declared.spec_tokens.KeptSpec.{KeptSpec}
 use Rattle.move_tree.specs.Lexemes.{word, sign, sign_at, identifier}
-use Rattle.move_tree.specs.SpecTokenSpelling.{kept}
+use Rattle.move_tree.specs.SpecTokenSpelling.{kept_spelling}
 use Rattle.move_tree.specs.NameRules.{IsName}
-use Rattle.move_tree.specs.Balance.{IsBalanced}
 use Rattle.move_tree.specs.ProperPatterns.{IsProperPattern}
 use Rattle.move_tree.specs.TypeTreeData.{SourceTypeData}
 use Rattle.move_tree.specs.TypeSpelling.{type_spelling}
@@ -25,22 +24,20 @@ use Rattle.expression_tree.specs.ProperExpressions.{LeavesElse, elsewhere, right
 use Rattle.token_reading.specs.Beginnings.{Begins}
 use Rattle.token_reading.specs.TokenReading.{is_word, after_sign, sign_place_at, after_word, word_place_at, identifier_at}
 use Rattle.token_reading.specs.ChainReading.{next_operator, whole_chain_at}
-use Rattle.token_reading.specs.BalanceReading.{balanced_at}
 use Rattle.token_reading.proofs.Steps.{bind_some, map_some, map_or_none, map_or_some, cond_true, cond_false, true_or_false}
 use Rattle.token_reading.proofs.BeginLemmas.{Begins-split, Begins-first, Begins-same, length-Begins}
 use Rattle.token_reading.proofs.TokenLemmas.{after_sign-complete, after_sign-other, sign_place_at-complete, sign_place_at-none, sign_place_at-other, after_word-complete, word_place_at-complete, identifier_at-complete}
 use Rattle.token_reading.proofs.FirstLemmas.{First-weaker, First-some, word_place_at-first, after_word-first}
-use Rattle.token_reading.proofs.BalanceLemmas.{balanced_at-complete}
 use Rattle.token_reading.proofs.ChainLemmas.{Spine, operand, joined, first_of, Fits, walk, chain-complete}
 use Rattle.leaf_parse.proofs.TypeLemmas.{ReadsBackTypes, type_at-complete}
 use Rattle.leaf_parse.proofs.PatternLemmas.{ReadsBackPatterns, pattern_at-complete}
 use Rattle.leaf_parse.specs.declared.leaf.Control.{Control}
 use Rattle.leaf_parse.specs.declared.leaf.Control.TheVariants.{If, While, Loop, Return, Abort, Break, Continue}
 use Rattle.expression_parse.specs.declared.block.BlockStep.TheVariants.{End, One}
-use Rattle.leaf_parse.specs.LeafReading.{prefix_at, use_at, control_at, may_begin, spec_opening_at, loop_spec_at, annotation_at}
+use Rattle.leaf_parse.specs.LeafReading.{prefix_at, use_at, control_at, may_begin, spec_opening_at, spec_statement_at, annotation_at}
 use Rattle.leaf_parse.specs.OperatorReading.{joints}
 use Rattle.expression_parse.specs.ExpressionReading.{Readers, any, readers, initial_at, let_at, step_behind, step_at, put_items, contents_behind, contents_at, whole_contents_at, block_at, spec_body_at, body_at, else_at, if_at, while_at, return_at, control_form, term_at, fields_at, whole_fields_at, operand_at, behind_operand, any_form, expression_form, expression_at}
-use Rattle.leaf_parse.proofs.LeafLemmas.{prefix_at-complete, use_at-complete, control_word, control_at-complete, spec_opening_at-complete}
+use Rattle.leaf_parse.proofs.LeafLemmas.{prefix_at-complete, use_at-complete, control_word, control_at-complete, spec_opening_at-complete, spec_statement_at-complete, statement_word}
 use Rattle.leaf_parse.proofs.OpenLemmas.{BeginsExpression, BeginsTerm, expression_first, term_first, term_no_word, expression_no_sign, high_no_else}
 use Rattle.leaf_parse.proofs.OperatorLemmas.{none_as_tight, level_small, level_some}
 use Rattle.leaf_parse.proofs.Operators.{expression_rules}
@@ -141,31 +138,20 @@ module _ (bound : ℕ) (inner : Readers) (types_complete : ReadsBackTypes bound 
 
   -- ---- the bodies and conditions of loops
 
-  loop_spec-complete : (spec : KeptSpec) (ts rest : List Token) → Begins ((sign LeftBrace ∷ map kept spec.tokens ++ sign RightBrace ∷ []) ++ sign Semicolon ∷ []) ts rest → IsBalanced spec.tokens → loop_spec_at spec.place ts ≡ Some (spec, rest)
-  unfolding loop_spec_at
-  loop_spec-complete spec ts rest b p =
-      let o = Begins-first (sign LeftBrace) ((map kept spec.tokens ++ sign RightBrace ∷ []) ++ sign Semicolon ∷ []) ts rest b in
-      let k = Begins-split (map kept spec.tokens ++ sign RightBrace ∷ []) (sign Semicolon ∷ []) o.mid rest o.back in
-      bind_some (after_sign LeftBrace ts) _ o.mid (after_sign-complete LeftBrace ts o.mid o.front)
-      ∙ bind_some (balanced_at RightBrace [] o.mid) _ (spec.tokens, k.mid) (balanced_at-complete RightBrace [] spec.tokens o.mid k.mid refl k.front p)
-      ∙ map_some (after_sign Semicolon k.mid) (λ rest. (record { place = spec.place; tokens = spec.tokens }, rest)) rest (after_sign-complete Semicolon k.mid rest k.back)
-
   spec_body-complete : (valued : Bool) (place : Span) (spec : KeptSpec) (items : ItemsData) (v : MaybeExpressionData) (ts rest : List Token) → length ts ≤ bound → Begins (expression_spelling (BlockExpression (BlockOf place (Some spec) items v))) ts rest
       → IsProperAs (role_of valued) (BlockExpression (BlockOf place (Some spec) items v)) → body_at inner valued ts ≡ Some (BlockExpression (BlockOf place (Some spec) items v), rest)
   unfolding body_at spec_body_at
   spec_body-complete valued place spec items v ts rest h b p =
       let tail = items_spelling items ++ (maybe_expression_spelling v ++ sign RightBrace ∷ []) in
-      let head = (sign LeftBrace ∷ map kept spec.tokens ++ sign RightBrace ∷ []) ++ sign Semicolon ∷ [] in
-      let w = word (codes "spec") (Some spec.place) in
-      let s = Begins-first (sign_at place LeftBrace) ((w ∷ head) ++ tail) ts rest (Begins-same _ _ ts rest (spec_block_spelled (sign_at place LeftBrace) (w ∷ head) (items_spelling items) (maybe_expression_spelling v) (sign RightBrace ∷ [])) b) in
-      let u = Begins-first w (head ++ tail) s.mid rest s.back in
-      let k = Begins-split head tail u.mid rest u.back in
+      let head = kept_spelling spec ++ sign Semicolon ∷ [] in
+      let s = Begins-first (sign_at place LeftBrace) (head ++ tail) ts rest (Begins-same _ _ ts rest (spec_block_spelled (sign_at place LeftBrace) head (items_spelling items) (maybe_expression_spelling v) (sign RightBrace ∷ [])) b) in
+      let k = Begins-split head tail s.mid rest s.back in
       let held = held_spec valued spec v p.0 in
-      map_or_some (spec_opening_at ts) _ _ ((place, spec.place), u.mid) (spec_opening_at-complete place spec.place ts s.mid u.mid s.front u.front)
-      ∙ bind_some (loop_spec_at spec.place u.mid) _ (spec, k.mid) (loop_spec-complete spec u.mid k.mid k.front held.0)
+      map_or_some (spec_opening_at ts) _ _ (place, s.mid) (spec_opening_at-complete place ts s.mid s.front (statement_word spec s.mid k.mid k.front held.0))
+      ∙ bind_some (spec_statement_at s.mid) _ (spec, k.mid) (spec_statement_at-complete spec s.mid k.mid k.front held.0)
       ∙ bind_some (whole_contents_at inner k.mid) (λ c. cond (valued && cond (is_some c.0.1) false true) None (Some (BlockExpression (BlockOf place (Some spec) (items_of c.0.0) (maybe_expression_of c.0.1)), c.1))) ((list_of_items items, option_of v), rest)
       (contents-complete (length k.mid) items v k.mid rest (omega arith)
-      (omega (arith, h, length-Begins (sign_at place LeftBrace ∷ []) ts s.mid s.front, length-Begins (w ∷ []) s.mid u.mid u.front, length-Begins head u.mid k.mid k.front)) k.back p.1 p.2)
+      (omega (arith, h, length-Begins (sign_at place LeftBrace ∷ []) ts s.mid s.front, length-Begins head s.mid k.mid k.front)) k.back p.1 p.2)
       ∙ cond_false (valued && cond (is_some (option_of v)) false true) None _ held.1
       ∙ ap (λ xs. Some (BlockExpression (BlockOf place (Some spec) xs (maybe_expression_of (option_of v))), rest)) (listed_items items) ∙ ap (λ w. Some (BlockExpression (BlockOf place (Some spec) items w), rest)) (maybe_option v)
 

@@ -18,7 +18,7 @@ use Rattle.move_tree.specs.declared.operator.UseKind.{UseKind}
 use Rattle.move_tree.specs.declared.operator.UseKind.TheVariants.{Move, Copy}
 use Rattle.move_tree.specs.declared.spec_tokens.KeptSpec.{KeptSpec}
 use Rattle.move_tree.specs.Lexemes.{word, sign, sign_at, identifier, comma_list}
-use Rattle.move_tree.specs.Balance.{IsBalanced}
+use Rattle.move_tree.specs.KeptSpecs.{IsLoopSpec}
 use Rattle.move_tree.specs.PathSpelling.{path_spelling}
 use Rattle.move_tree.specs.ProperTypes.{IsProperPath}
 use Rattle.move_tree.specs.TypeTreeData.{SourceTypeData}
@@ -29,11 +29,11 @@ use Rattle.expression_tree.specs.ExpressionData.{ExpressionData, BinaryExpressio
 use Rattle.expression_tree.specs.ExpressionSpelling.{expression_spellings, field_value_spellings, expression_spelling, ends_in_path, annotation_spelling, maybe_expression_spelling, items_spelling, item_spelling, initial_spelling}
 use Rattle.expression_tree.specs.ProperExpressions.{Role, elsewhere, operator_level, right_level, level, unary_level, term_level, takes_else, MayHoldSpec, IsProperAs, IsProperExpression, IsProperMaybe, IsProperItem, AreProperItems}
 use Rattle.token_reading.specs.Beginnings.{Begins}
-use Rattle.token_reading.specs.TokenReading.{is_sign, is_word, is_keyword, after_sign, sign_place_at, word_place_at}
+use Rattle.token_reading.specs.TokenReading.{is_sign, is_word, is_keyword, after_sign, after_word, sign_place_at, word_place_at}
 use Rattle.token_reading.specs.ChainReading.{next_operator}
 use Rattle.token_reading.proofs.Steps.{map_or_none, true_or_false}
 use Rattle.token_reading.proofs.TokenLemmas.{after_sign-other}
-use Rattle.token_reading.proofs.FirstLemmas.{First, First-append, First-weaker, sign_place_at-first, word_place_at-first}
+use Rattle.token_reading.proofs.FirstLemmas.{First, First-append, First-weaker, sign_place_at-first, after_word-first, word_place_at-first}
 use Rattle.token_reading.proofs.ChainLemmas.{Spine, operand, joined, first_of, Behind, next_above, next_same}
 use Rattle.leaf_parse.specs.declared.leaf.Control.{Control}
 use Rattle.leaf_parse.specs.declared.leaf.Control.TheVariants.{If, While, Loop, Return, Abort, Break, Continue}
@@ -103,8 +103,8 @@ apart_no_spec (l ∷ ls) [] rest a b = absurd b
 apart_no_spec (l ∷ ls) (t ∷ ts) rest (inl a) b = spec_opening_at-other l ls (t ∷ ts) rest a b
 apart_no_spec (l ∷ ls) (t ∷ ts) rest (inr f) b = go (is_sign LeftBrace t.kind)
   where
-    go : (c : Bool) → option_and_then {T = Span × List Token} {U = (Span × Span) × List Token} (λ p. option_map (λ q. ((p.0, q.0), q.1)) (word_place_at (codes "spec") p.1)) (cond c (Some (t.span, ts)) None) ≡ None
-    go true = ap (option_map (λ q. ((t.span, q.0), q.1))) (word_place_at-first (codes "spec") ls ts rest f b.1)
+    go : (c : Bool) → option_and_then {T = Span × List Token} {U = Span × List Token} (λ p. cond (is_some (after_word (codes "spec") p.1)) (Some p) None) (cond c (Some (t.span, ts)) None) ≡ None
+    go true = ap (λ o. cond (is_some {T = List Token} o) (Some (t.span, ts)) None) (after_word-first (codes "spec") ls ts rest f b.1)
     go false = refl
 
 pub item_first : (i : ItemData) → IsProperItem i → First (λ k. is_word (codes "spec") k ≡ false) (item_spelling i)
@@ -326,7 +326,7 @@ kind_of_body role (BlockExpression (BlockOf place None items value)) p = inl p
 kind_of_body role (BlockExpression (BlockOf place (Some spec) items value)) p = inr (record { place = place; spec = spec; items = items; value = value; is = refl })
 kind_of_body role _ p = inl p
 
-pub held_spec : (valued : Bool) (spec : KeptSpec) (v : MaybeExpressionData) → MayHoldSpec (role_of valued) (Some spec) v → IsBalanced spec.tokens × ((valued && cond (is_some (option_of v)) false true) ≡ false)
+pub held_spec : (valued : Bool) (spec : KeptSpec) (v : MaybeExpressionData) → MayHoldSpec (role_of valued) (Some spec) v → IsLoopSpec spec × ((valued && cond (is_some (option_of v)) false true) ≡ false)
 held_spec true spec NoExpression m = absurd m.1
 held_spec true spec (SomeExpression e) m = (m.0, refl)
 held_spec false spec v m = (m, refl)

@@ -16,8 +16,8 @@ use Rattle.move_tree.specs.declared.spec_tokens.KeptSpec.{KeptSpec}
 use Rattle.move_tree.specs.Lexemes.{lexeme, word, sign, sign_at, identifier, after_commas, last_comma, comma_list}
 use Rattle.move_tree.specs.NameRules.{IsCapital}
 use Rattle.move_tree.specs.PathSpelling.{address_spelling, path_spelling}
-use Rattle.move_tree.specs.SpecTokenSpelling.{kept, loop_spec_spelling}
-use Rattle.move_tree.specs.Balance.{IsBalanced}
+use Rattle.move_tree.specs.SpecTokenSpelling.{kept_spelling}
+use Rattle.move_tree.specs.KeptSpecs.{IsLoopSpec}
 use Rattle.move_tree.specs.TypeTreeData.{SourceTypeData, MaybeArgumentsData, NoArguments, SomeArguments}
 use Rattle.move_tree.specs.TypeSpelling.{type_spelling, maybe_arguments_spelling}
 use Rattle.move_tree.specs.PatternSpelling.{pattern_spelling}
@@ -30,11 +30,9 @@ use Rattle.token_reading.specs.Beginnings.{Begins}
 use Rattle.token_reading.specs.TokenReading.{Read, after_sign, sign_place_at, after_word, word_place_at, identifier_at, begins_capital}
 use Rattle.token_reading.specs.ListReading.{Items, comma_list_at}
 use Rattle.token_reading.specs.ChainReading.{whole_chain_at}
-use Rattle.token_reading.specs.BalanceReading.{balanced_at}
 use Rattle.token_reading.proofs.Steps.{step, last, some_one, either, either_read, if_not, if_read, true_or_false}
 use Rattle.token_reading.proofs.BeginLemmas.{Begins-append, Begins-split, Begins-same}
 use Rattle.token_reading.proofs.TokenLemmas.{after_sign-sound, sign_place_at-sound, after_word-sound, word_place_at-sound, identifier_at-sound, begins_capital-sound}
-use Rattle.token_reading.proofs.BalanceLemmas.{balanced_at-sound}
 use Rattle.token_reading.proofs.ListLemmas.{Filled, comma_list_at-sound}
 use Rattle.token_reading.proofs.ChainLemmas.{Joined, chain_at-sound}
 use Rattle.leaf_parse.specs.PathReading.{path_at, address_at, is_single}
@@ -50,11 +48,11 @@ use Rattle.leaf_parse.specs.declared.leaf.BehindFirst.{BehindFirst}
 use Rattle.leaf_parse.specs.declared.leaf.BehindFirst.TheVariants.{Close, As, Comma}
 use Rattle.expression_parse.specs.declared.block.BlockStep.{BlockStep}
 use Rattle.expression_parse.specs.declared.block.BlockStep.TheVariants.{End, One}
-use Rattle.leaf_parse.specs.LeafReading.{plain_literal_at, vector_place_at, assert_place_at, prefix_at, use_at, control_at, may_begin, spec_opening_at, path_form_at, glued_arguments_at, has_arguments, behind_first_at, loop_spec_at, annotation_at, cast_target_at, after_glued}
+use Rattle.leaf_parse.specs.LeafReading.{plain_literal_at, vector_place_at, assert_place_at, prefix_at, use_at, control_at, may_begin, spec_opening_at, path_form_at, glued_arguments_at, has_arguments, behind_first_at, spec_statement_at, annotation_at, cast_target_at, after_glued}
 use Rattle.leaf_parse.specs.OperatorReading.{joints}
 use Rattle.leaf_parse.specs.ParenthesesReading.{several}
 use Rattle.expression_parse.specs.ExpressionReading.{Readers, any, readers, field_value_at, path_form, path_term_at, vector_at, assert_at, behind_first, parenthesized_at, initial_at, let_at, step_behind, step_at, Contents, contents_behind, contents_at, whole_contents_at, block_at, spec_body_at, body_at, else_at, if_at, while_at, return_at, control_form, term_at, fields_at, operand_at, behind_operand, any_form, expression_form, expression_at}
-use Rattle.leaf_parse.proofs.LeafLemmas.{plain_literal_at-sound, vector_place_at-sound, assert_place_at-sound, after_glued-sound, prefix_at-sound, use_at-sound, control_word, control_at-sound, spec_opening_at-sound}
+use Rattle.leaf_parse.proofs.LeafLemmas.{plain_literal_at-sound, vector_place_at-sound, assert_place_at-sound, after_glued-sound, prefix_at-sound, use_at-sound, control_word, control_at-sound, spec_opening_at-sound, spec_statement_at-sound}
 use Rattle.leaf_parse.proofs.OpenLemmas.{high_no_else}
 use Rattle.leaf_parse.proofs.OperatorLemmas.{level_small}
 use Rattle.leaf_parse.proofs.Operators.{expression_rules}
@@ -493,21 +491,7 @@ module _ (inner : Readers) (types_sound : ReadsTypes inner.types) (patterns_soun
         high = omega arith;
       })
 
-  loop_spec-sound : (place : Span) (whole ts : List Token) (r : KeptSpec × List Token) → Begins (word (codes "spec") (Some place) ∷ []) whole ts → loop_spec_at place ts ≡ Some r → Begins (loop_spec_spelling r.0 ++ sign Semicolon ∷ []) whole r.1 × IsBalanced r.0.tokens
-  unfolding loop_spec_at
-  loop_spec-sound place whole ts r front e =
-      let o = step (after_sign LeftBrace ts) _ r e in
-      let k = step (balanced_at RightBrace [] o.value) _ r o.then in
-      let l = last (after_sign Semicolon k.value.1) _ r k.then in
-      let inside = balanced_at-sound RightBrace [] o.value k.value k.first in
-      subst (λ q. Begins (loop_spec_spelling q.0 ++ sign Semicolon ∷ []) whole q.1 × IsBalanced q.0.tokens) l.then (
-        Begins-append (word (codes "spec") (Some place) ∷ []) (((sign LeftBrace ∷ map kept k.value.0) ++ sign RightBrace ∷ []) ++ sign Semicolon ∷ []) whole ts l.value front
-            (Begins-append (sign LeftBrace ∷ []) ((map kept k.value.0 ++ sign RightBrace ∷ []) ++ sign Semicolon ∷ []) ts o.value l.value (after_sign-sound LeftBrace ts o.value o.first)
-            (Begins-append (map kept k.value.0 ++ sign RightBrace ∷ []) (sign Semicolon ∷ []) o.value k.value.1 l.value inside.spelled (after_sign-sound Semicolon k.value.1 l.value l.first))),
-        inside.balanced,
-      )
-
-  may_hold : (valued : Bool) (spec : KeptSpec) (value : Option ExpressionData) → IsBalanced spec.tokens → (valued && cond (is_some value) false true) ≡ false → MayHoldSpec (role_of valued) (Some spec) (maybe_expression_of value)
+  may_hold : (valued : Bool) (spec : KeptSpec) (value : Option ExpressionData) → IsLoopSpec spec → (valued && cond (is_some value) false true) ≡ false → MayHoldSpec (role_of valued) (Some spec) (maybe_expression_of value)
   may_hold true spec None b h = absurd (cc)
   may_hold true spec (Some value) b h = (b, tt)
   may_hold false spec value b h = b
@@ -521,18 +505,18 @@ module _ (inner : Readers) (types_sound : ReadsTypes inner.types) (patterns_soun
   body-sound valued ts r e =
       elim (either (spec_opening_at ts) _ _ r e) [
         | inl o ↦
-            let s = step (loop_spec_at o.value.0.1 o.value.1) _ r o.then in
+            let s = step (spec_statement_at o.value.1) _ r o.then in
             let c = step (whole_contents_at inner s.value.1) _ r s.then in
-            let n = if_not (valued && cond (is_some c.value.0.1) false true) (BlockExpression (BlockOf o.value.0.0 (Some s.value.0) (items_of c.value.0.0) (maybe_expression_of c.value.0.1)), c.value.1) r c.then in
-            let opening = Begins-split (sign_at o.value.0.0 LeftBrace ∷ []) (word (codes "spec") (Some o.value.0.1) ∷ []) ts o.value.1 (spec_opening_at-sound ts o.value o.first) in
-            let spec = loop_spec-sound o.value.0.1 opening.mid o.value.1 s.value opening.back s.first in
+            let n = if_not (valued && cond (is_some c.value.0.1) false true) (BlockExpression (BlockOf o.value.0 (Some s.value.0) (items_of c.value.0.0) (maybe_expression_of c.value.0.1)), c.value.1) r c.then in
+            let opening = spec_opening_at-sound ts o.value o.first in
+            let spec = spec_statement_at-sound o.value.1 s.value s.first in
             let contents = contents-sound (length s.value.1) s.value.1 c.value c.first in
             let inside = items_spelling (items_of c.value.0.0) ++ (maybe_expression_spelling (maybe_expression_of c.value.0.1) ++ sign RightBrace ∷ []) in
             subst (BodyRead valued ts) n.1 (record {
               read = (
-                Begins-same _ _ ts c.value.1 (sym (spec_block_spelled (sign_at o.value.0.0 LeftBrace) (loop_spec_spelling s.value.0 ++ sign Semicolon ∷ []) (items_spelling (items_of c.value.0.0)) (maybe_expression_spelling (maybe_expression_of c.value.0.1)) (sign RightBrace ∷ [])))
-                    (Begins-append (sign_at o.value.0.0 LeftBrace ∷ []) ((loop_spec_spelling s.value.0 ++ sign Semicolon ∷ []) ++ inside) ts opening.mid c.value.1 opening.front
-                    (Begins-append (loop_spec_spelling s.value.0 ++ sign Semicolon ∷ []) inside opening.mid s.value.1 c.value.1 spec.0 contents.spelled)),
+                Begins-same _ _ ts c.value.1 (sym (spec_block_spelled (sign_at o.value.0 LeftBrace) (kept_spelling s.value.0 ++ sign Semicolon ∷ []) (items_spelling (items_of c.value.0.0)) (maybe_expression_spelling (maybe_expression_of c.value.0.1)) (sign RightBrace ∷ [])))
+                    (Begins-append (sign_at o.value.0 LeftBrace ∷ []) ((kept_spelling s.value.0 ++ sign Semicolon ∷ []) ++ inside) ts o.value.1 c.value.1 opening.spelled
+                    (Begins-append (kept_spelling s.value.0 ++ sign Semicolon ∷ []) inside o.value.1 s.value.1 c.value.1 spec.0 contents.spelled)),
                 (may_hold valued s.value.0 c.value.0.1 spec.1 n.0, contents.items_proper, contents.value_proper),
               );
               free = λ h. absurd (cc);

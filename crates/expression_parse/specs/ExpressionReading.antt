@@ -24,7 +24,7 @@ use Rattle.leaf_parse.specs.declared.leaf.PathForm.{PathForm}
 use Rattle.leaf_parse.specs.declared.leaf.PathForm.TheVariants.{Call, Pack, Alone}
 use Rattle.leaf_parse.specs.declared.leaf.BehindFirst.{BehindFirst}
 use Rattle.leaf_parse.specs.declared.leaf.BehindFirst.TheVariants.{Close, As, Comma}
-use Rattle.leaf_parse.specs.LeafReading.{plain_literal_at, vector_place_at, assert_place_at, prefix_at, use_at, control_at, may_begin, spec_opening_at, path_form_at, glued_arguments_at, has_arguments, behind_first_at, loop_spec_at, annotation_at, cast_target_at}
+use Rattle.leaf_parse.specs.LeafReading.{plain_literal_at, vector_place_at, assert_place_at, prefix_at, use_at, control_at, may_begin, spec_opening_at, path_form_at, glued_arguments_at, has_arguments, behind_first_at, spec_statement_at, annotation_at, cast_target_at}
 use Rattle.leaf_parse.specs.OperatorReading.{joints}
 use Rattle.leaf_parse.specs.ParenthesesReading.{several}
 
@@ -138,15 +138,15 @@ unfoldable pub block_at : Readers → Span → List Token → Read ExpressionDat
 block_at inner place ts = option_map (λ c. (BlockExpression (BlockOf place None (items_of c.0.0) (maybe_expression_of c.0.1)), c.1)) (whole_contents_at inner ts)
 
 -- a block with the spec block of its loop. `valued` says whether it has to have a value.
-unfoldable pub spec_body_at : Readers → Bool → Span → Span → List Token → Read ExpressionData
-spec_body_at inner valued place spec_place ts =
+unfoldable pub spec_body_at : Readers → Bool → Span → List Token → Read ExpressionData
+spec_body_at inner valued place ts =
     option_and_then (λ spec.
     option_and_then (λ c. if valued && (if is_some c.0.1 then false else true) then None else Some (BlockExpression (BlockOf place (Some spec.0) (items_of c.0.0) (maybe_expression_of c.0.1)), c.1))
-    (whole_contents_at inner spec.1)) (loop_spec_at spec_place ts)
+    (whole_contents_at inner spec.1)) (spec_statement_at ts)
 
 -- the condition of a `while` or the body of a `loop`
 unfoldable pub body_at : Readers → Bool → List Token → Read ExpressionData
-body_at inner valued ts = option_map_or (λ p. spec_body_at inner valued p.0.0 p.0.1 p.1) (spec_opening_at ts) (any inner ts)
+body_at inner valued ts = option_map_or (λ p. spec_body_at inner valued p.0 p.1) (spec_opening_at ts) (any inner ts)
 
 -- ---- control forms
 

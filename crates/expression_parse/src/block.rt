@@ -6,14 +6,14 @@ ghost use Rattle.token_reading.specs.ReadFault.{IfNoTree};
 ghost use Rattle.expression_parse.specs.ExpressionReading.{body_at, body_block_at, initial_at, let_at, readers, step_at, step_behind, whole_contents_at};
 
 use crate::expression::{read_boxed, read_expression};
-use leaf_parse::leaf::{read_annotation, read_loop_spec, read_spec_opening};
 use expression_tree::expression::{Block, Expression, ExpressionNode, Item, ItemNode};
-use pv_base::span::Span;
+use leaf_parse::leaf::{read_annotation, read_spec_opening, read_spec_statement};
+use leaf_parse::pattern::read_pattern;
 use move_tokens::token::{Punctuation, Token};
+use pv_base::span::Span;
 use std::alloc::Global;
 use token_reading::fault::ReadFault;
 use token_reading::tokens::{expect_sign, place_of_word, skip_sign};
-use leaf_parse::pattern::read_pattern;
 
 /// What stands next in a block.
 #[derive(Drop)]
@@ -141,10 +141,10 @@ pub fn read_body(
 ) -> Result<(Expression, &[Token]), ReadFault>
     ensures { MatchResult result (λ read. body_at (readers budget) valued tokens.now ≡ Some (read.0, read.1.now)) (λ fault. IfNoTree fault (body_at (readers budget) valued tokens.now ≡ None)) }
 {
-    let Some((place, spec_place, rest)) = read_spec_opening(tokens) else {
+    let Some((place, rest)) = read_spec_opening(tokens) else {
         return read_expression(alloc, 0, tokens, budget);
     };
-    let (spec, rest) = read_loop_spec(alloc, spec_place, rest)?;
+    let (spec, rest) = read_spec_statement(alloc, rest)?;
     let (items, value, rest) = read_contents(alloc, rest, budget)?;
     if valued && value.is_none() {
         return Err(ReadFault::NoTree { left: rest.len() });

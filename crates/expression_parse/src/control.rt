@@ -6,10 +6,10 @@ ghost use Rattle.expression_parse.specs.ExpressionReading.{control_form, if_at, 
 
 use crate::block::read_body;
 use crate::expression::read_boxed;
-use leaf_parse::leaf::{Control, may_begin, skip_else};
 use expression_tree::expression::{Expression, ExpressionNode};
-use pv_base::span::Span;
+use leaf_parse::leaf::{Control, may_begin, skip_else};
 use move_tokens::token::{Punctuation, Token};
+use pv_base::span::Span;
 use std::alloc::Global;
 use token_reading::fault::ReadFault;
 use token_reading::tokens::expect_sign;

@@ -8,9 +8,9 @@ ghost use Rattle.expression_parse.specs.ExpressionReading.{any_form, expression_
 
 use crate::control::read_control;
 use crate::term::read_operand;
+use expression_tree::expression::{Expression, ExpressionNode};
 use leaf_parse::leaf::read_control_word;
 use leaf_parse::operator::{next_operator, right_level};
-use expression_tree::expression::{Expression, ExpressionNode};
 use move_tokens::token::{Punctuation, Token};
 use std::alloc::Global;
 use token_reading::fault::ReadFault;

@@ -8,17 +8,20 @@ ghost use Rattle.expression_parse.specs.ExpressionReading.{assert_at, operand_at
 use crate::block::read_contents;
 use crate::expression::read_boxed;
 use crate::lists::{read_expressions, read_field_values};
-use leaf_parse::leaf::{BehindFirst, PathForm, place_of_assert, place_of_vector, read_behind_first, read_cast_target, read_glued_arguments, read_path_form, read_plain_literal, read_prefix, read_use};
-use leaf_parse::parentheses::several;
 use expression_tree::expression::{Block, Expression, ExpressionNode};
+use leaf_parse::leaf::{
+    BehindFirst, PathForm, place_of_assert, place_of_vector, read_behind_first, read_cast_target,
+    read_glued_arguments, read_path_form, read_plain_literal, read_prefix, read_use,
+};
+use leaf_parse::parentheses::several;
+use leaf_parse::path::{read_address, read_path_of_term};
+use leaf_parse::types::read_maybe_arguments;
+use move_tokens::token::{Punctuation, Token};
 use move_tree::literal::Literal;
 use pv_base::span::Span;
-use move_tokens::token::{Punctuation, Token};
 use std::alloc::Global;
 use token_reading::fault::ReadFault;
 use token_reading::tokens::{expect_sign, place_of_sign, read_identifier, skip_sign};
-use leaf_parse::path::{read_address, read_path_of_term};
-use leaf_parse::types::read_maybe_arguments;
 
 /// The level of operators before an operand.
 const UNARY_LEVEL: usize = 13;

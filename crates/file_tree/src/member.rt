@@ -1,12 +1,12 @@
 //! Files, modules and their members.
 
 use expression_tree::expression::{Block, Expression};
+use move_tokens::token::Tokens;
 use move_tree::lexeme::Identifier;
 use move_tree::path::{ModuleName, Path};
 use move_tree::spec_tokens::KeptSpec;
 use move_tree::types::SourceType;
 use pv_base::span::Span;
-use move_tokens::token::Tokens;
 use std::marker::Model;
 
 /// An attribute: a number sign, and brackets with what stands between them.

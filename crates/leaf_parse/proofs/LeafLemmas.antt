@@ -1,5 +1,5 @@
 -- The tokens with which terms, control forms and blocks begin are read exactly.
-use Rattle.std.proofs.Common.{◌≡◌, ◌≢◌, ℕ, Bool, true, false, cond, ◌&&◌, ◌||◌, List, [], ◌∷◌, Option, Some, None, refl, sym, ap, subst, ◌∙◌, inl, inr}
+use Rattle.std.proofs.Common.{◌≡◌, ◌≢◌, ℕ, Bool, true, false, cond, ◌&&◌, ◌||◌, List, [], ◌∷◌, ◌++◌, Option, Some, None, refl, sym, ap, subst, ◌∙◌, inl, inr}
 use Rattle.std.specs.Prelude.{codes, is_some, option_and_then}
 use Rattle.std.specs.Option.{option_map}
 use Rattle.std.specs.Cmp.Lexicographic.{same_text}
@@ -11,7 +11,7 @@ use Rattle.move_tokens.specs.declared.token.NumberLiteral.{NumberLiteral}
 use Rattle.move_tokens.specs.declared.token.NumberSuffix.{NumberSuffix}
 use Rattle.move_tokens.specs.declared.token.NumberSuffix.TheVariants.{Absent, U8, U16, U32, U64, U128, U256}
 use Rattle.move_tokens.specs.declared.token.Punctuation.{Punctuation as Sign}
-use Rattle.move_tokens.specs.declared.token.Punctuation.TheVariants.{LeftBrace, LeftBracket, Less, Exclaim, Star, Ampersand, ColonColon}
+use Rattle.move_tokens.specs.declared.token.Punctuation.TheVariants.{LeftBrace, LeftBracket, Semicolon, Less, Exclaim, Star, Ampersand, ColonColon}
 use Rattle.move_tree.specs.declared.lexeme.Numeral.{Numeral}
 use Rattle.move_tree.specs.declared.lexeme.Lexeme.{Lexeme}
 use Rattle.move_tree.specs.declared.literal.Literal.{Literal}
@@ -22,17 +22,22 @@ use Rattle.move_tree.specs.declared.operator.UseKind.{UseKind}
 use Rattle.move_tree.specs.declared.operator.UseKind.TheVariants.{Move, Copy}
 use Rattle.move_tree.specs.Lexemes.{Says, lexeme, word, sign, sign_at, numeral}
 use Rattle.move_tree.specs.LiteralSpelling.{literal_spelling}
+use Rattle.move_tree.specs.declared.spec_tokens.KeptSpec.{KeptSpec}
+use Rattle.move_tree.specs.SpecTokenSpelling.{kept_spelling}
+use Rattle.move_tree.specs.KeptSpecs.{IsLoopSpec}
 use Rattle.move_tree.specs.OperatorSpelling.{unary_spelling, use_spelling}
 use Rattle.expression_tree.specs.ProperExpressions.{IsProperLiteral}
 use Rattle.token_reading.specs.Beginnings.{Begins}
 use Rattle.token_reading.specs.TokenReading.{Read, is_sign, is_word, after_sign, sign_place_at, after_word, word_place_at}
 use Rattle.pv_base.specs.Names.{same_name}
-use Rattle.token_reading.proofs.Steps.{step, last, some_one, either, not_read, if_some, bind_some, map_some, map_or_none, map_or_some}
-use Rattle.token_reading.proofs.BeginLemmas.{Begins-append, Begins-first}
+use Rattle.token_reading.proofs.Steps.{step, last, some_one, either, not_read, if_some, bind_some, map_some, cond_true, map_or_none, map_or_some}
+use Rattle.token_reading.specs.KeptReading.{loop_spec_at}
+use Rattle.token_reading.proofs.BeginLemmas.{Begins-append, Begins-first, Begins-split}
+use Rattle.token_reading.proofs.KeptLemmas.{loop_spec_at-sound, loop_spec_at-complete, loop_spec_word}
 use Rattle.token_reading.proofs.TokenLemmas.{is_sign-sound, is_sign-same, after_sign-sound, after_sign-complete, sign_place_at-sound, sign_place_at-complete, sign_place_at-other, after_word-sound, after_word-complete, word_place_at-sound, word_place_at-complete, word_place_at-other}
 use Rattle.leaf_parse.specs.declared.leaf.Control.{Control}
 use Rattle.leaf_parse.specs.declared.leaf.Control.TheVariants.{If, While, Loop, Return, Abort, Break, Continue}
-use Rattle.leaf_parse.specs.LeafReading.{fitting, fitting_number_of, number_at, truth_at, plain_literal_at, vector_place_at, assert_place_at, after_glued, borrow_behind, prefix_at, use_at, control_of_word, control_of, control_at, spec_opening_at}
+use Rattle.leaf_parse.specs.LeafReading.{fitting, fitting_number_of, number_at, truth_at, plain_literal_at, vector_place_at, assert_place_at, after_glued, borrow_behind, prefix_at, use_at, control_of_word, control_of, control_at, spec_opening_at, spec_statement_at}
 
 -- ---- literals
 
@@ -45,7 +50,7 @@ fitting-sound literal U32 l e = (some_one literal l e, λ h. cc)
 fitting-sound literal U64 l e = (some_one literal l e, λ h. cc)
 fitting-sound literal U128 l e = (some_one literal l e, λ h. cc)
 
-fitting-complete : (literal : NumberLiteral) (suffix : NumberSuffix) → suffix ≢ U256 → fitting literal suffix ≡ Some literal
+pub fitting-complete : (literal : NumberLiteral) (suffix : NumberSuffix) → suffix ≢ U256 → fitting literal suffix ≡ Some literal
 fitting-complete literal U256 h = absurd (h refl)
 fitting-complete literal Absent h = refl
 fitting-complete literal U8 h = refl
@@ -54,7 +59,7 @@ fitting-complete literal U32 h = refl
 fitting-complete literal U64 h = refl
 fitting-complete literal U128 h = refl
 
-fitting_number_of-sound : (kind : TokenKind) (l : NumberLiteral) → fitting_number_of kind ≡ Some l → (kind ≡ Number l) × (l.suffix ≢ U256)
+pub fitting_number_of-sound : (kind : TokenKind) (l : NumberLiteral) → fitting_number_of kind ≡ Some l → (kind ≡ Number l) × (l.suffix ≢ U256)
 fitting_number_of-sound (Number literal) l e = let u = fitting-sound literal literal.suffix l e in (ap Number u.0, subst (λ m. m.suffix ≢ U256) u.0 u.1)
 fitting_number_of-sound (Word w) l e = absurd (cc)
 fitting_number_of-sound (ByteString text) l e = absurd (cc)
@@ -187,9 +192,13 @@ assert_place_at-path place ts rest b h =
 
 -- ---- glued signs
 
-both_true : (a b : Bool) → (a && b) ≡ true → (a ≡ true) × (b ≡ true)
+pub both_true : (a b : Bool) → (a && b) ≡ true → (a ≡ true) × (b ≡ true)
 both_true true b e = (refl, e)
 both_true false b e = absurd (cc)
+
+-- a sign that is glued to the token before it
+abbrev pub glued : Sign → Lexeme
+glued s = lexeme (Punctuation s) None (Some true)
 
 pub after_glued-sound : (s : Sign) (ts rest : List Token) → after_glued s ts ≡ Some rest → Begins (lexeme (Punctuation s) None (Some true) ∷ []) ts rest
 unfolding after_glued
@@ -363,26 +372,44 @@ control_at-other l ls (t ∷ ts) rest e b = ap (λ k. option_map (λ control. ((
 
 -- ---- the spec block of a loop
 
-pub spec_opening_at-sound : (ts : List Token) (r : (Span × Span) × List Token) → spec_opening_at ts ≡ Some r → Begins (sign_at r.0.0 LeftBrace ∷ word (codes "spec") (Some r.0.1) ∷ []) ts r.1
+pub record Opened (place : Span) (inside ts : List Token) : Type 0 where
+  pub spelled : Begins (sign_at place LeftBrace ∷ []) ts inside
+  pub is_spec : is_some (after_word (codes "spec") inside) ≡ true
+
+pub spec_opening_at-sound : (ts : List Token) (r : Span × List Token) → spec_opening_at ts ≡ Some r → Opened r.0 r.1 ts
 unfolding spec_opening_at
 spec_opening_at-sound ts r e =
     let p = step (sign_place_at LeftBrace ts) _ r e in
-    let l = last (word_place_at (codes "spec") p.value.1) _ r p.then in
-    subst (λ q. Begins (sign_at q.0.0 LeftBrace ∷ word (codes "spec") (Some q.0.1) ∷ []) ts q.1) l.then
-    (Begins-append (sign_at p.value.0 LeftBrace ∷ []) (word (codes "spec") (Some l.value.0) ∷ []) ts p.value.1 l.value.1 (sign_place_at-sound LeftBrace ts p.value p.first) (word_place_at-sound (codes "spec") p.value.1 l.value l.first))
+    let i = if_some (is_some (after_word (codes "spec") p.value.1)) p.value r p.then in
+    subst (λ q. Opened q.0 q.1 ts) i.1 (record { spelled = sign_place_at-sound LeftBrace ts p.value p.first; is_spec = i.0 })
 
-pub spec_opening_at-complete : (place spec_place : Span) (ts mid rest : List Token) → Begins (sign_at place LeftBrace ∷ []) ts mid → Begins (word (codes "spec") (Some spec_place) ∷ []) mid rest → spec_opening_at ts ≡ Some ((place, spec_place), rest)
+pub spec_opening_at-complete : (place : Span) (ts mid : List Token) → Begins (sign_at place LeftBrace ∷ []) ts mid → is_some (after_word (codes "spec") mid) ≡ true → spec_opening_at ts ≡ Some (place, mid)
 unfolding spec_opening_at
-spec_opening_at-complete place spec_place ts mid rest a b =
-    bind_some (sign_place_at LeftBrace ts) (λ p. option_map (λ q. ((p.0, q.0), q.1)) (word_place_at (codes "spec") p.1)) (place, mid) (sign_place_at-complete LeftBrace place ts mid a)
-    ∙ map_some (word_place_at (codes "spec") mid) (λ q. ((place, q.0), q.1)) (spec_place, rest) (word_place_at-complete (codes "spec") spec_place mid rest b)
+spec_opening_at-complete place ts mid a e =
+    bind_some (sign_place_at LeftBrace ts) (λ p. cond (is_some (after_word (codes "spec") p.1)) (Some p) None) (place, mid) (sign_place_at-complete LeftBrace place ts mid a)
+    ∙ cond_true (is_some (after_word (codes "spec") mid)) (Some (place, mid)) None e
 
 pub spec_opening_at-other : (l : Lexeme) (ls : List Lexeme) (ts rest : List Token) → is_sign LeftBrace l.kind ≡ false → Begins (l ∷ ls) ts rest → spec_opening_at ts ≡ None
 unfolding spec_opening_at
-spec_opening_at-other l ls ts rest e b = ap (option_and_then (λ p. option_map (λ q. ((p.0, q.0), q.1)) (word_place_at (codes "spec") p.1))) (sign_place_at-other LeftBrace l ls ts rest e b)
+spec_opening_at-other l ls ts rest e b = ap (option_and_then (λ p. cond (is_some (after_word (codes "spec") p.1)) (Some p) None)) (sign_place_at-other LeftBrace l ls ts rest e b)
 
-pub spec_opening_at-none : (place : Span) (ts mid : List Token) → Begins (sign_at place LeftBrace ∷ []) ts mid → word_place_at (codes "spec") mid ≡ None → spec_opening_at ts ≡ None
-unfolding spec_opening_at
-spec_opening_at-none place ts mid a e =
-    bind_some (sign_place_at LeftBrace ts) (λ p. option_map (λ q. ((p.0, q.0), q.1)) (word_place_at (codes "spec") p.1)) (place, mid) (sign_place_at-complete LeftBrace place ts mid a)
-    ∙ ap (option_map (λ q. ((place, q.0), q.1))) e
+-- with its semicolon
+pub spec_statement_at-sound : (ts : List Token) (r : KeptSpec × List Token) → spec_statement_at ts ≡ Some r → Begins (kept_spelling r.0 ++ sign Semicolon ∷ []) ts r.1 × IsLoopSpec r.0
+unfolding spec_statement_at
+spec_statement_at-sound ts r e =
+    let s = step (loop_spec_at ts) _ r e in
+    let l = last (after_sign Semicolon s.value.1) (λ rest. (s.value.0, rest)) r s.then in
+    let spec = loop_spec_at-sound ts s.value s.first in
+    subst (λ q. Begins (kept_spelling q.0 ++ sign Semicolon ∷ []) ts q.1 × IsLoopSpec q.0) l.then
+    (Begins-append (kept_spelling s.value.0) (sign Semicolon ∷ []) ts s.value.1 l.value spec.0 (after_sign-sound Semicolon s.value.1 l.value l.first), spec.1)
+
+pub spec_statement_at-complete : (spec : KeptSpec) (ts rest : List Token) → Begins (kept_spelling spec ++ sign Semicolon ∷ []) ts rest → IsLoopSpec spec → spec_statement_at ts ≡ Some (spec, rest)
+unfolding spec_statement_at
+spec_statement_at-complete spec ts rest b p =
+    let s = Begins-split (kept_spelling spec) (sign Semicolon ∷ []) ts rest b in
+    bind_some (loop_spec_at ts) _ (spec, s.mid) (loop_spec_at-complete spec ts s.mid s.front p)
+    ∙ map_some (after_sign Semicolon s.mid) (λ rest. (spec, rest)) rest (after_sign-complete Semicolon s.mid rest s.back)
+
+-- the tokens of a loop's spec block begin with its word
+pub statement_word : (spec : KeptSpec) (ts rest : List Token) → Begins (kept_spelling spec ++ sign Semicolon ∷ []) ts rest → IsLoopSpec spec → is_some (after_word (codes "spec") ts) ≡ true
+statement_word spec ts rest b p = let s = Begins-split (kept_spelling spec) (sign Semicolon ∷ []) ts rest b in loop_spec_word spec ts s.mid s.front p

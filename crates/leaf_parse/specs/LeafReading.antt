@@ -18,7 +18,7 @@ use Rattle.move_tree.specs.declared.operator.UseKind.{UseKind}
 use Rattle.move_tree.specs.declared.operator.UseKind.TheVariants.{Move, Copy}
 use Rattle.token_reading.specs.TokenReading.{Read, is_keyword, is_sign, after_sign, sign_place_at, after_word, word_place_at, begins_capital}
 use Rattle.pv_base.specs.Names.{same_name}
-use Rattle.token_reading.specs.BalanceReading.{balanced_at}
+use Rattle.token_reading.specs.KeptReading.{loop_spec_at}
 use Rattle.move_tree.specs.declared.path.Path.{Path}
 use Rattle.move_tree.specs.declared.spec_tokens.KeptSpec.{KeptSpec}
 use Rattle.move_tree.specs.TypeTreeData.{SourceTypeData, MaybeArgumentsData, NoArguments, SomeArguments}
@@ -141,9 +141,9 @@ unfoldable pub may_begin : List Token → Bool
 may_begin [] = false
 may_begin (t ∷ ts) = begins_expression t.kind
 
--- `{` and `spec`, with their places: the block of a loop's spec
-unfoldable pub spec_opening_at : List Token → Read (Span × Span)
-spec_opening_at ts = option_and_then (λ p. option_map (λ q. ((p.0, q.0), q.1)) (word_place_at (codes "spec") p.1)) (sign_place_at LeftBrace ts)
+-- `{` with its place, and the tokens behind it, of which the first is `spec`: the block of a loop's spec
+unfoldable pub spec_opening_at : List Token → Read Span
+spec_opening_at ts = option_and_then (λ p. if is_some (after_word (codes "spec") p.1) then Some p else None) (sign_place_at LeftBrace ts)
 
 -- ---- what stands behind the path of a term
 
@@ -171,13 +171,9 @@ behind_first_at ts =
     (option_map_or (λ rest. Some (As, rest)) (after_word (codes "as") ts)
     (option_map (λ rest. (Comma, rest)) (after_sign comma_sign ts)))
 
--- the spec block of a loop behind `spec`, with its semicolon
-unfoldable pub loop_spec_at : Span → List Token → Read KeptSpec
-loop_spec_at place ts =
-    option_and_then (λ inside.
-    option_and_then (λ kept.
-    option_map (λ rest. (record { place = place; tokens = kept.0 }, rest))
-    (after_sign Semicolon kept.1)) (balanced_at RightBrace [] inside)) (after_sign LeftBrace ts)
+-- the spec block of a loop, with its semicolon
+unfoldable pub spec_statement_at : List Token → Read KeptSpec
+spec_statement_at ts = option_and_then (λ spec. option_map (λ rest. (spec.0, rest)) (after_sign Semicolon spec.1)) (loop_spec_at ts)
 
 unfoldable pub annotation_at : (List Token → Read SourceTypeData) → List Token → Read (Option SourceTypeData)
 annotation_at types ts = option_map_or (λ rest. option_map (λ t. (Some t.0, t.1)) (types rest)) (after_sign Colon ts) (Some (None, ts))

@@ -3,12 +3,14 @@
 ghost use Rattle.std.specs.Prelude.{◌≡◌, None, Some, codes, is_some, IfOk, MatchResult};
 ghost use Rattle.std.specs.Option.{option_map};
 ghost use Rattle.move_tree.specs.TypeTreeData.{maybe_arguments_of};
-ghost use Rattle.move_tree.specs.ProperTypes.{last_name};
 ghost use Rattle.token_reading.specs.ReadFault.{IfNoTree};
 ghost use Rattle.token_reading.specs.TokenReading.{after_word};
 ghost use Rattle.leaf_parse.specs.TypeReading.{type_at};
-ghost use Rattle.leaf_parse.specs.LeafReading.{after_glued, annotation_at, assert_place_at, behind_first_at, cast_target_at, glued_arguments_at, loop_spec_at, path_form_at, begins_by_keyword, begins_expression, begins_operand, borrow_behind, control_at, control_of, control_of_word, fitting_number_of, may_begin, number_at, plain_literal_at, prefix_at, spec_opening_at, truth_at, use_at, vector_place_at};
+ghost use Rattle.leaf_parse.specs.LeafReading.{after_glued, annotation_at, assert_place_at, behind_first_at, cast_target_at, glued_arguments_at, spec_statement_at, path_form_at, begins_by_keyword, begins_expression, begins_operand, borrow_behind, control_at, control_of, control_of_word, fitting_number_of, may_begin, number_at, plain_literal_at, prefix_at, spec_opening_at, truth_at, use_at, vector_place_at};
 
+use crate::path::{copy_number, is_single, last_name};
+use crate::types::{read_arguments, read_type};
+use move_tokens::token::{NumberLiteral, NumberSuffix, Punctuation, Token, TokenKind};
 use move_tree::lexeme::Numeral;
 use move_tree::literal::Literal;
 use move_tree::operator::{UnaryOperator, UseKind};
@@ -17,13 +19,13 @@ use move_tree::spec_tokens::KeptSpec;
 use move_tree::types::{SourceType, TypeArguments};
 use pv_base::memory::NoMemory;
 use pv_base::span::Span;
-use move_tokens::token::{NumberLiteral, NumberSuffix, Punctuation, Token, TokenKind};
 use std::alloc::Global;
-use token_reading::balanced::read_balanced;
 use token_reading::fault::ReadFault;
-use token_reading::tokens::{begins_capital, begins_with, expect_sign, is_keyword, is_sign, place_of_sign, place_of_word, skip_sign, skip_word};
-use crate::path::{copy_number, is_single};
-use crate::types::{read_arguments, read_type};
+use token_reading::kept::read_loop_spec;
+use token_reading::tokens::{
+    begins_capital, begins_with, expect_sign, is_keyword, is_sign, place_of_sign, place_of_word,
+    skip_sign, skip_word,
+};
 
 /// The control forms, by the words with which they begin.
 #[derive(Clone, Copy, Debug, PartialEq, Eq)]
@@ -38,7 +40,7 @@ pub enum Control {
 }
 
 /// The number that a token is, where the language has its type.
-fn fitting_number_of(kind: &TokenKind) -> Option<&NumberLiteral>
+pub fn fitting_number_of(kind: &TokenKind) -> Option<&NumberLiteral>
     ensures { option_map (λ literal. literal.now) result ≡ fitting_number_of kind.now }
 {
     match kind {
@@ -280,15 +282,18 @@ pub fn skip_else(tokens: &[Token]) -> Option<&[Token]>
     skip_word(tokens, b"else")
 }
 
-/// The places of the brace and of the word `spec` with which the spec block of a loop begins, where it
-/// does here, and the tokens behind them.
+/// The place of the brace behind which the spec block of a loop begins, where one does here, and the tokens from
+/// its word on.
 #[tactic(auto, unfolding(crate::specs::LeafReading::spec_opening_at))]
-pub fn read_spec_opening(tokens: &[Token]) -> Option<(Span, Span, &[Token])>
-    ensures { option_map (λ r. ((r.0, r.1), r.2.now)) result ≡ spec_opening_at tokens.now }
+pub fn read_spec_opening(tokens: &[Token]) -> Option<(Span, &[Token])>
+    ensures { option_map (λ r. (r.0, r.1.now)) result ≡ spec_opening_at tokens.now }
 {
     let (place, rest) = place_of_sign(tokens, Punctuation::LeftBrace)?;
-    let (spec_place, rest) = place_of_word(rest, b"spec")?;
-    Some((place, spec_place, rest))
+    if skip_word(rest, b"spec").is_some() {
+        Some((place, rest))
+    } else {
+        None
+    }
 }
 
 /// What a term that begins with a path is.
@@ -325,15 +330,6 @@ pub fn read_path_form<'a>(
         Err(ReadFault::NoTree { left: tokens.len() })
     } else {
         Ok((PathForm::Alone, tokens))
-    }
-}
-
-/// The last name of a path.
-fn last_name(path: &Path) -> &[u8]
-    ensures { result.now ≡ last_name path.now }
-{
-    match path {
-        Path::Name(name) | Path::Member(_, name) | Path::Full(_, name) => name.text.as_slice(),
     }
 }
 
@@ -380,22 +376,16 @@ pub fn read_behind_first(tokens: &[Token]) -> Result<(BehindFirst, &[Token]), Re
     Ok((BehindFirst::Comma, rest))
 }
 
-/// The spec block of a loop behind `spec`, and the tokens behind its semicolon.
-#[tactic(auto, unfolding(crate::specs::LeafReading::loop_spec_at))]
-pub fn read_loop_spec(
+/// The spec block of a loop from its word on, and the tokens behind its semicolon.
+#[tactic(auto, unfolding(crate::specs::LeafReading::spec_statement_at))]
+pub fn read_spec_statement(
     alloc: Global,
-    place: Span,
     tokens: &[Token],
 ) -> Result<(KeptSpec, &[Token]), ReadFault>
-    ensures { MatchResult result (λ read. loop_spec_at place tokens.now ≡ Some (read.0, read.1.now)) (λ fault. IfNoTree fault (loop_spec_at place tokens.now ≡ None)) }
+    ensures { MatchResult result (λ read. spec_statement_at tokens.now ≡ Some (read.0, read.1.now)) (λ fault. IfNoTree fault (spec_statement_at tokens.now ≡ None)) }
 {
-    let rest = expect_sign(tokens, Punctuation::LeftBrace)?;
-    let (kept, rest) = read_balanced(alloc, Punctuation::RightBrace, rest)?;
+    let (spec, rest) = read_loop_spec(alloc, tokens)?;
     let rest = expect_sign(rest, Punctuation::Semicolon)?;
-    let spec = KeptSpec {
-        place,
-        tokens: kept,
-    };
     Ok((spec, rest))
 }
 

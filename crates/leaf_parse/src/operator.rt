@@ -4,16 +4,16 @@ ghost use Rattle.std.specs.Prelude.{◌≡◌, None, Some};
 ghost use Rattle.std.specs.Option.{option_map};
 ghost use Rattle.expression_tree.specs.ProperExpressions.{right_level};
 ghost use Rattle.token_reading.specs.ChainReading.{next_operator};
-ghost use Rattle.leaf_parse.specs.OperatorReading.{binary_of, ends_in_vector, joints, opens_arguments, operator_behind, whole_operator};
+ghost use Rattle.leaf_parse.specs.OperatorReading.{binary_of, binary_of_sign, ends_in_vector, joints, opens_arguments, operator_behind, whole_operator};
 
 use crate::leaf::skip_glued;
+use crate::path::is_single;
 use expression_tree::ending::is_path_last;
 use expression_tree::expression::{Expression, ExpressionNode};
 use expression_tree::level::operator_level;
+use move_tokens::token::{Punctuation, Token, TokenKind};
 use move_tree::operator::BinaryOperator;
 use pv_base::span::Span;
-use move_tokens::token::{Punctuation, Token, TokenKind};
-use crate::path::is_single;
 
 /// The loosest level of what stands on the right of an operator: all of them associate to the left.
 pub fn right_level(operator: BinaryOperator) -> usize
@@ -22,13 +22,10 @@ pub fn right_level(operator: BinaryOperator) -> usize
     operator_level(operator) + 1
 }
 
-/// The operator that a token is, or the first one where it is the first of two.
-fn binary_of(kind: &TokenKind) -> Option<BinaryOperator>
-    ensures { result ≡ binary_of kind.now }
+/// The operator that a sign is, or the first one where it is the first of two.
+pub fn binary_of_sign(sign: Punctuation) -> Option<BinaryOperator>
+    ensures { result ≡ binary_of_sign sign }
 {
-    let TokenKind::Punctuation(sign) = kind else {
-        return None;
-    };
     match sign {
         Punctuation::PipePipe => Some(BinaryOperator::Or),
         Punctuation::AmpersandAmpersand => Some(BinaryOperator::And),
@@ -47,6 +44,16 @@ fn binary_of(kind: &TokenKind) -> Option<BinaryOperator>
         Punctuation::Star => Some(BinaryOperator::Multiply),
         Punctuation::Slash => Some(BinaryOperator::Divide),
         Punctuation::Percent => Some(BinaryOperator::Remainder),
+        _ => None,
+    }
+}
+
+/// The operator that a token is, or the first one where it is the first of two.
+fn binary_of(kind: &TokenKind) -> Option<BinaryOperator>
+    ensures { result ≡ binary_of kind.now }
+{
+    match kind {
+        TokenKind::Punctuation(sign) => binary_of_sign(*sign),
         _ => None,
     }
 }

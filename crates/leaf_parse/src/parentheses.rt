@@ -5,8 +5,8 @@ ghost use Rattle.token_reading.specs.ReadFault.{IfNoTree};
 ghost use Rattle.leaf_parse.specs.ParenthesesReading.{several};
 
 use expression_tree::expression::{Expression, ExpressionNode};
-use pv_base::span::Span;
 use move_tokens::token::Token;
+use pv_base::span::Span;
 use token_reading::fault::ReadFault;
 
 /// Several expressions in parentheses, the first of which was read before the others.

@@ -3,13 +3,14 @@
 ghost use Rattle.std.specs.Prelude.{◌≡◌, None, Some, MatchResult, IfOk};
 ghost use Rattle.std.specs.Option.{option_map};
 ghost use Rattle.move_tree.specs.declared.path.Path.TheVariants.{Name as name_path};
+ghost use Rattle.move_tree.specs.ProperTypes.{last_name};
 ghost use Rattle.token_reading.specs.ReadFault.{IfNoTree};
 ghost use Rattle.leaf_parse.specs.PathReading.{address_at, address_number_at, address_number_of, is_single, member_at, module_name_at, path_at, path_behind_name, path_behind_names, path_behind_number};
 
+use move_tokens::token::{NumberLiteral, NumberSuffix, Punctuation, Token, TokenKind};
 use move_tree::lexeme::{Identifier, Numeral};
 use move_tree::path::{Address, ModuleName, Path};
 use pv_base::memory::NoMemory;
-use move_tokens::token::{NumberLiteral, NumberSuffix, Punctuation, Token, TokenKind};
 use std::alloc::Global;
 use token_reading::fault::ReadFault;
 use token_reading::tokens::{expect_sign, read_identifier, skip_sign};
@@ -196,5 +197,14 @@ pub fn is_single(path: &Path, word: &[u8]) -> bool
     match path {
         Path::Name(name) => name.text.as_slice() == word,
         _ => false,
+    }
+}
+
+/// The last name of a path.
+pub fn last_name(path: &Path) -> &[u8]
+    ensures { result.now ≡ last_name path.now }
+{
+    match path {
+        Path::Name(name) | Path::Member(_, name) | Path::Full(_, name) => name.text.as_slice(),
     }
 }

@@ -10,15 +10,17 @@ ghost use Rattle.leaf_parse.specs.PatternReading.{bound_by, field_pattern_at, op
 
 use crate::path::read_path;
 use crate::types::read_maybe_arguments;
+use move_tokens::token::{Punctuation, Token};
 use move_tree::lexeme::Identifier;
 use move_tree::path::Path;
 use move_tree::pattern::{FieldPattern, Pattern, PatternNode};
 use pv_base::span::Span;
-use move_tokens::token::{Punctuation, Token};
 use std::alloc::Global;
 use token_reading::fault::ReadFault;
 use token_reading::lists::{Separator, separator_behind};
-use token_reading::tokens::{begins_small, begins_with, expect_sign, place_of_sign, read_identifier, skip_sign};
+use token_reading::tokens::{
+    begins_small, begins_with, expect_sign, place_of_sign, read_identifier, skip_sign,
+};
 
 /// A pattern that is nested at most `budget` deep, and the tokens behind it.
 #[cycle(read_pattern)]

@@ -8,9 +8,9 @@ ghost use Rattle.token_reading.specs.ListReading.{comma_list_at, some_items_at};
 ghost use Rattle.leaf_parse.specs.TypeReading.{arguments_at, maybe_arguments_at, named_at, reference_at, tuple_at, type_at, type_form};
 
 use crate::path::{is_single, read_path};
+use move_tokens::token::{Punctuation, Token};
 use move_tree::types::{SourceType, SourceTypeNode, TypeArguments};
 use pv_base::span::Span;
-use move_tokens::token::{Punctuation, Token};
 use std::alloc::Global;
 use token_reading::fault::ReadFault;
 use token_reading::lists::{Separator, separator_behind};

@@ -3,10 +3,10 @@
 ghost use Rattle.std.specs.Prelude.{◌≡◌, [], ◌∷◌, ◌++◌, None, OnOk, IfOk};
 ghost use Rattle.move_tree.specs.Lexemes.{lexeme, word, sign, sign_at, last_comma};
 
+use move_tokens::token::{NumberLiteral, Punctuation, Token, TokenKind};
 use pv_base::memory::NoMemory;
 use pv_base::name::Name;
 use pv_base::span::Span;
-use move_tokens::token::{NumberLiteral, Punctuation, Token, TokenKind};
 use std::alloc::Global;
 use std::marker::Model;
 

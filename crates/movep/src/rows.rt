@@ -114,7 +114,7 @@ const SUM_REPORT: &[u8] =
 fn reports(rt: HostRuntime) {
     let alloc = rt.alloc();
     let words = words_of(&rt, alloc, &[b"a.move"]);
-    let rows: [(&[u8], &[u8], u8); 25] = [
+    let rows: [(&[u8], &[u8], u8); 26] = [
         (SUM, SUM_REPORT, 0),
         (b"", b"proved 0 of 0\n", 0),
         (b"/* a */ // b", b"proved 0 of 0\n", 0),
@@ -125,6 +125,11 @@ fn reports(rt: HostRuntime) {
         ),
         (
             b"module 0x1::m {\nfun f(a: u64, b: u64, c: u64): u64 { a - b - c }\nspec f { aborts_if a < b + c; ensures result + b + c == a; }\n}\n",
+            b"0x1::m::f: proved\n  ensures a.move:3: proved\n  aborts_if a.move:3: proved\n  aborts a.move:2: proved\nproved 1 of 1\n",
+            0,
+        ),
+        (
+            b"module 0x1::m {\nfun f(a: u64, b: u64, c: u64): u64 { a - b - c }\nspec f { aborts_if a < b + c; ensures result == a - (b + c); }\n}\n",
             b"0x1::m::f: proved\n  ensures a.move:3: proved\n  aborts_if a.move:3: proved\n  aborts a.move:2: proved\nproved 1 of 1\n",
             0,
         ),

@@ -1,16 +1,16 @@
 -- A module is one module of sums at most, or what is not built of it begins at one place.
 use Rattle.std.proofs.Common.{◌≡◌, ℕ, List, [], ◌∷◌, ◌++◌, Some, None, refl, sym, ap, subst, ◌∙◌, append-nil, append_assoc, inl, inr}
-use Rattle.source_parse.specs.declared.source.SourceForm.{SourceForm}
-use Rattle.source_parse.specs.declared.source.SourceForm.TheVariants.{Use, Friend, Struct, Constant, Function, Spec}
-use Rattle.source_parse.specs.SourceData.{SourceMemberData}
-use Rattle.source_parse.specs.SourceModuleData.{SourceModuleData}
+use Rattle.source_tree.specs.declared.source.SourceForm.{SourceForm}
+use Rattle.source_tree.specs.declared.source.SourceForm.TheVariants.{Use, Friend, Struct, Constant, Function, Spec}
+use Rattle.source_tree.specs.SourceData.{SourceMemberData}
+use Rattle.source_tree.specs.SourceModuleData.{SourceModuleData}
 use Rattle.sum_tree.specs.SumModuleData.{SumModuleData}
 use Rattle.sum_module.specs.declared.member.SumMember.{SumMember}
 use Rattle.sum_module.specs.declared.member.SumMember.TheVariants.{Function as function_member, Spec as spec_member}
 use Rattle.sum_module.specs.BuiltModuleData.{BuiltModuleData}
 use Rattle.sum_module.specs.Built.{IsBuilt, IsFirstUnbuilt as IsFirstUnbuiltMember, IsUnbuiltAt, address_of}
 use Rattle.sum_module.specs.Members.{AreMembers, IsMember, IsUnbuilt}
-use Rattle.sum_module.specs.Places.{form_place}
+use Rattle.source_tree.specs.Places.{form_place}
 use Rattle.sum_module.specs.Joined.{module_of}
 use Rattle.sum_module.specs.Program.{IsSumModule}
 

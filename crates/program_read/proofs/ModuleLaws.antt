@@ -1,6 +1,6 @@
 -- Modules of files are one program of sums at most, or what is not built of them begins at one place.
 use Rattle.std.proofs.Common.{◌≡◌, ℕ, Bool, true, false, List, [], ◌∷◌, ◌++◌, refl, sym, ap, subst, ◌∙◌, append-nil, append_assoc, inl, inr}
-use Rattle.source_parse.specs.SourceModuleData.{SourceModuleData}
+use Rattle.source_tree.specs.SourceModuleData.{SourceModuleData}
 use Rattle.sum_tree.specs.SumModuleData.{SumModuleData}
 use Rattle.sum_module.specs.Program.{IsSumModule}
 use Rattle.program_read.specs.Modules.{AreModules, IsFirstUnbuilt, IsUnbuiltBehind, is_taken}

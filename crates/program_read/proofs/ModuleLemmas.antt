@@ -9,10 +9,10 @@ use Rattle.std.proofs.lemmas.List.{map-append, take_more}
 use Rattle.std.proofs.lemmas.List.Folds.{list_any-append}
 use Rattle.answers.specs.declared.rule.Rule.TheVariants.{NotBuilt}
 use Rattle.pv_base.specs.Names.{same_name}
-use Rattle.source_parse.specs.SourceModuleData.{SourceModuleData}
+use Rattle.source_tree.specs.SourceModuleData.{SourceModuleData}
 use Rattle.sum_tree.specs.SumModuleData.{SumModuleData}
 use Rattle.sum_module.specs.Built.{IsUnbuiltAt}
-use Rattle.sum_module.specs.Places.{module_place}
+use Rattle.source_tree.specs.Places.{module_place}
 use Rattle.sum_module.specs.Program.{IsSumModule}
 use Rattle.program_read.specs.declared.fault.FileFault.{FileFault}
 use Rattle.program_read.specs.FileFault.{breaks}

@@ -3,8 +3,8 @@ use Rattle.std.proofs.Common.{◌≡◌, ℕ, List, [], Some, None, inl, inr, re
 use Rattle.answers.specs.declared.rule.Rule.TheVariants.{BadToken, LeftOut, NotBuilt}
 use Rattle.move_tokens.specs.Spelling.{IsBadAt, Spells}
 use Rattle.move_tokens.specs.declared.token.Token.{Token}
-use Rattle.source_parse.specs.Denoted.{IsSourceOf}
-use Rattle.source_parse.specs.SourceModuleData.{SourceModuleData}
+use Rattle.source_tree.specs.Denoted.{IsSourceOf}
+use Rattle.source_tree.specs.SourceModuleData.{SourceModuleData}
 use Rattle.sum_tree.specs.SumModuleData.{SumModuleData}
 use Rattle.program_read.specs.Chain.{FileStage, ◌▷◌}
 use Rattle.program_read.specs.FileFault.{IsSameStop, breaks, without_place}

@@ -1,6 +1,6 @@
 -- Which program files are of, and why files are of none.
 use Rattle.std.specs.Prelude.{ℕ, List}
-use Rattle.source_parse.specs.SourceModuleData.{SourceModuleData}
+use Rattle.source_tree.specs.SourceModuleData.{SourceModuleData}
 use Rattle.sum_tree.specs.SumModuleData.{SumModuleData}
 use Rattle.program_read.specs.Chain.{FileStage, ◌▷◌}
 use Rattle.program_read.specs.Texts.{text_stages}

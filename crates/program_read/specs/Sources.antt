@@ -4,8 +4,9 @@ use Rattle.answers.specs.declared.rule.Rule.TheVariants.{Grammar, LeftOut}
 use Rattle.move_tokens.specs.declared.token.Token.{Token}
 use Rattle.token_reading.specs.declared.explain.ParseFault.TheVariants.{Grammar as no_grammar, LeftOut as left_out}
 use Rattle.token_reading.specs.declared.marker.Marker.{Marker}
-use Rattle.source_parse.specs.Denoted.{IsSourceOf, IsCause}
-use Rattle.source_parse.specs.SourceModuleData.{SourceModuleData}
+use Rattle.source_parse.specs.Denoted.{IsCause}
+use Rattle.source_tree.specs.Denoted.{IsSourceOf}
+use Rattle.source_tree.specs.SourceModuleData.{SourceModuleData}
 use Rattle.program_read.specs.Chain.{FileStage, makes}
 use Rattle.program_read.specs.FileFault.{breaks}
 use Rattle.program_read.specs.declared.fault.FileFault.{FileFault}

@@ -8,7 +8,7 @@ ghost use Rattle.program_read.specs.LocalCounts.{HasFewLocals, excess_of, excess
 use crate::fault::{FileFault, FileLimit, ProgramFault};
 use file_tree::member::Function;
 use pv_base::memory::NoMemory;
-use source_parse::source::{Source, SourceForm, SourceModule};
+use source_tree::source::{Source, SourceForm, SourceModule};
 use source_tree::locals::locals_of;
 use std::alloc::Global;
 

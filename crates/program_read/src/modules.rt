@@ -1,7 +1,7 @@
 //! The modules of sums of files.
 
 ghost use Rattle.std.specs.Prelude.{◌≡◌, ◌≤◌, ◌^◌, ◌++◌, ◌∷◌, [], ℕ, List, length, map, IfOk, MatchResult};
-ghost use Rattle.source_parse.specs.SourceModuleData.{SourceModuleData};
+ghost use Rattle.source_tree.specs.SourceModuleData.{SourceModuleData};
 ghost use Rattle.program_read.specs.FileFault.{IfInFile};
 ghost use Rattle.program_read.specs.ModuleReading.{AreRead, IsSetOf, is_in};
 ghost use Rattle.program_read.specs.Modules.{HasUnbuilt, modules_stage};
@@ -10,11 +10,11 @@ use crate::fault::{FileFault, ProgramFault};
 use answers::rule::Rule;
 use pv_base::memory::NoMemory;
 use pv_base::name::Name;
-use source_parse::source::{Source, SourceModule};
+use source_tree::source::{Source, SourceModule};
 use std::alloc::Global;
 use std::collections::BTreeSet;
 use sum_module::fault::ModuleFault;
-use sum_module::places::module_place;
+use source_tree::places::module_place;
 use sum_module::sums::read_sum_module;
 use sum_tree::function::SumModule;
 

@@ -2,7 +2,7 @@
 
 ghost use Rattle.std.specs.Prelude.{◌≡◌, ◌≤◌, ◌^◌, length, MatchResult};
 ghost use Rattle.move_tokens.specs.declared.token.Token.{Token};
-ghost use Rattle.source_parse.specs.Denoted.{IsSourceOf};
+ghost use Rattle.source_tree.specs.Denoted.{IsSourceOf};
 ghost use Rattle.program_read.specs.FileFault.{IfInFile};
 ghost use Rattle.program_read.specs.FileReading.{IsIn};
 ghost use Rattle.program_read.specs.Sources.{DenoteNone, source_stage};
@@ -11,7 +11,7 @@ use crate::fault::{FileFault, ProgramFault};
 use answers::rule::Rule;
 use move_tokens::token::Tokens;
 use source_parse::denoted::source;
-use source_parse::source::Source;
+use source_tree::source::Source;
 use std::alloc::Global;
 use token_reading::explain::ParseFault;
 

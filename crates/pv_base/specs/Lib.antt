@@ -3,3 +3,4 @@ pub mod TypeData
 pub mod TypeView
 pub mod TypeFalls
 pub mod Names
+pub mod Pairs

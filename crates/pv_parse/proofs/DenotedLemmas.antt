@@ -15,7 +15,8 @@ use Rattle.token_reading.specs.declared.explain.ParseFault.{ParseFault}
 use Rattle.token_reading.specs.declared.explain.ParseFault.TheVariants.{Grammar, LeftOut, NoMemory}
 use Rattle.token_reading.specs.ParseFault.{Explains}
 use Rattle.pv_parse.specs.FileReading.{file_at}
-use Rattle.pv_parse.specs.Denoted.{IsFileOf, AreOfNoFile, IsCause}
+use Rattle.pv_parse.specs.Denoted.{IsCause}
+use Rattle.file_tree.specs.Denoted.{IsFileOf, AreOfNoFile}
 use Rattle.pv_parse.proofs.FileLemmas.{file_at-sound, file_at-complete}
 
 pub read_is_file : (n : ℕ) (ts : List Token) (xs : List ModuleData) → file_at n ts ≡ Some xs → IsFileOf xs ts

@@ -20,9 +20,9 @@ use Rattle.token_reading.proofs.TokenLemmas.{after_sign-sound, after_sign-comple
 use Rattle.leaf_parse.specs.PathReading.{module_name_at}
 use Rattle.leaf_parse.proofs.PathLemmas.{module_name_at-sound, module_name_at-complete}
 use Rattle.pv_parse.specs.AttributeReading.{attributes_at}
-use Rattle.pv_parse.specs.RepeatReading.{repeat_at}
+use Rattle.token_reading.specs.RepeatReading.{repeat_at}
 use Rattle.pv_parse.proofs.AttributeLemmas.{attributes_at-sound, attributes_at-complete}
-use Rattle.pv_parse.proofs.RepeatLemmas.{Opening, repeat_at-sound, repeat_at-complete}
+use Rattle.token_reading.proofs.RepeatLemmas.{Opening, repeat_at-sound, repeat_at-complete}
 use Rattle.pv_parse.specs.MemberReading.{member_at}
 use Rattle.pv_parse.specs.FileReading.{before_member, members_at, module_behind, before_module, at_end, file_at}
 use Rattle.pv_parse.proofs.MemberLemmas.{member_at-sound, member_at-complete, form_no_sign, form_some}
@@ -45,11 +45,11 @@ attributes_first [] ls ts rest b f = f ts b
 attributes_first (x ∷ xs) ls ts rest b f =
     after_sign-other RightBrace (sign_at x.place NumberSign) (((sign LeftBracket ∷ map kept x.tokens ++ sign RightBracket ∷ []) ++ flat_map attribute_spelling xs) ++ ls) ts rest refl b
 
-member_no_brace : (m : MemberData) (ts rest : List Token) → Begins (member_spelling m) ts rest → after_sign RightBrace ts ≡ None
-member_no_brace m ts rest b = attributes_first m.attributes (form_spelling m.form) ts rest b (λ us c. form_no_sign RightBrace m.form us rest c)
+member_no_brace : (m : MemberData) (ts rest : List Token) → Begins (member_spelling m) ts rest → IsProperMember m → after_sign RightBrace ts ≡ None
+member_no_brace m ts rest b p = attributes_first m.attributes (form_spelling m.form) ts rest b (λ us c. form_no_sign RightBrace m.form us rest p.1 c)
 
-member_some : (m : MemberData) → 0 < length (member_spelling m)
-member_some m = omega (arith, length-append (flat_map attribute_spelling m.attributes) (form_spelling m.form), form_some m.form)
+member_some : (m : MemberData) → IsProperMember m → 0 < length (member_spelling m)
+member_some m p = omega (arith, length-append (flat_map attribute_spelling m.attributes) (form_spelling m.form), form_some m.form p.1)
 
 members_at-complete : (n : ℕ) (xs : List MemberData) (ts rest inside : List Token) → length ts ≤ suc n → Begins (flat_map member_spelling xs) ts rest → AllByRecursion IsProperMember xs → after_sign RightBrace rest ≡ Some inside → members_at (suc n) ts ≡ Some (xs, rest)
 unfolding members_at before_member
@@ -57,7 +57,7 @@ members_at-complete n xs ts rest inside h b p e =
     repeat_at-complete before_member (member_at (suc n)) member_spelling IsProperMember (suc n)
     (λ m ts rest h b p. record {
       value = ts;
-      first = cond_false (is_some (after_sign RightBrace ts)) None (Some ts) (ap (λ o. is_some {T = List Token} o) (member_no_brace m ts rest b));
+      first = cond_false (is_some (after_sign RightBrace ts)) None (Some ts) (ap (λ o. is_some {T = List Token} o) (member_no_brace m ts rest b p));
       then = member_at-complete n m ts rest h b p;
     }) member_some (length ts) xs ts rest (omega arith) h b p (cond_true (is_some (after_sign RightBrace rest)) None (Some rest) (ap (λ o. is_some {T = List Token} o) e))
 
@@ -140,4 +140,4 @@ pub file_at-complete : (n : ℕ) (xs : List ModuleData) (ts : List Token) → le
 unfolding file_at
 file_at-complete n xs ts h b p =
     bind_some (repeat_at before_module (module_behind (suc n)) (length ts) ts) (λ modules. at_end modules.0 modules.1) (xs, [])
-    (repeat_at-complete before_module (module_behind (suc n)) module_tree_spelling IsProperModule (suc n) (module_opening n) module_some (length ts) xs ts [] (omega arith) h b p refl)
+    (repeat_at-complete before_module (module_behind (suc n)) module_tree_spelling IsProperModule (suc n) (module_opening n) (λ m p. module_some m) (length ts) xs ts [] (omega arith) h b p refl)

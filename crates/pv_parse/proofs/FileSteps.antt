@@ -6,7 +6,7 @@ use Rattle.move_tokens.specs.declared.token.Token.{Token}
 use Rattle.move_tokens.specs.declared.token.Punctuation.TheVariants.{RightBrace}
 use Rattle.file_tree.specs.FileData.{ModuleData}
 use Rattle.token_reading.specs.TokenReading.{after_sign}
-use Rattle.pv_parse.specs.RepeatReading.{repeat_at}
+use Rattle.token_reading.specs.RepeatReading.{repeat_at}
 use Rattle.pv_parse.specs.FileReading.{before_member, module_behind, before_module, at_end, file_at}
 
 pub no_member : (ts : List Token) → is_some (after_sign RightBrace ts) ≡ true → before_member ts ≡ None

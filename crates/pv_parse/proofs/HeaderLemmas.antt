@@ -29,8 +29,9 @@ use Rattle.leaf_parse.specs.PathReading.{path_at}
 use Rattle.leaf_parse.specs.TypeReading.{type_at}
 use Rattle.leaf_parse.proofs.PathLemmas.{path_at-sound, path_at-complete, path_no_sign}
 use Rattle.leaf_parse.proofs.TypeLemmas.{TypeEnds, type_at-sound, type_at-complete}
-use Rattle.pv_parse.specs.HeaderReading.{friends_at, public_at, visibility_at, entry_at, annotation_at, listed_paths_at, acquires_at}
-use Rattle.pv_parse.proofs.BeforeLists.{items_before-sound, items_before-complete}
+use Rattle.pv_parse.specs.HeaderReading.{friends_at, public_at, visibility_at, entry_at, listed_paths_at, acquires_at}
+use Rattle.leaf_parse.specs.LeafReading.{annotation_at}
+use Rattle.declaration_parse.proofs.BeforeLists.{items_before-sound, items_before-complete}
 
 -- ---- visibility
 

@@ -29,7 +29,7 @@ use Rattle.token_reading.proofs.ListLemmas.{some_items_at-sound, some_items_at-c
 use Rattle.leaf_parse.specs.PathReading.{module_name_at}
 use Rattle.leaf_parse.proofs.PathLemmas.{module_name_at-sound, module_name_at-complete}
 use Rattle.pv_parse.specs.ImportReading.{alias_at, import_at, imports_at, imported_names_at, imported_at, use_at, friend_at}
-use Rattle.pv_parse.proofs.BeforeLists.{filled_is_any}
+use Rattle.declaration_parse.proofs.BeforeLists.{filled_is_any}
 
 -- ---- names that are brought in
 

@@ -1,13 +1,7 @@
-pub mod RepeatLemmas
-pub mod BeforeLists
 pub mod AttributeLemmas
 pub mod ImportLemmas
-pub mod AbilityLemmas
-pub mod ParameterLemmas
-pub mod TypedNameLemmas
 pub mod HeaderLemmas
 pub mod StructLemmas
-pub mod HeadLemmas
 pub mod MemberLemmas
 pub mod FileLemmas
 pub mod FileSteps

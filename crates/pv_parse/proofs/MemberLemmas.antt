@@ -10,7 +10,7 @@ use Rattle.move_tokens.specs.declared.token.Punctuation.{Punctuation as Sign}
 use Rattle.move_tokens.specs.declared.token.Punctuation.TheVariants.{LeftParenthesis, RightParenthesis, LeftBrace, RightBrace, Semicolon, Colon, ColonColon, Equal, Less, NumberSign}
 use Rattle.move_tree.specs.declared.lexeme.Identifier.{Identifier}
 use Rattle.move_tree.specs.declared.lexeme.Lexeme.{Lexeme}
-use Rattle.move_tree.specs.Lexemes.{word, sign, sign_at, identifier, comma_list}
+use Rattle.move_tree.specs.Lexemes.{AreTokens, word, sign, sign_at, identifier, comma_list}
 use Rattle.move_tree.specs.NameRules.{IsName}
 use Rattle.move_tree.specs.PathSpelling.{path_spelling}
 use Rattle.move_tree.specs.SpecTokenSpelling.{kept}
@@ -21,21 +21,20 @@ use Rattle.file_tree.specs.declared.member.Constant.{Constant}
 use Rattle.file_tree.specs.declared.member.Function.{Function}
 use Rattle.file_tree.specs.declared.member.Visibility.{Visibility}
 use Rattle.file_tree.specs.declared.member.Visibility.TheVariants.{Module as in_module, Public, Friends}
-use Rattle.file_tree.specs.declared.member.SpecBlock.{SpecBlock}
 use Rattle.file_tree.specs.declared.member.MemberForm.{MemberForm}
 use Rattle.file_tree.specs.declared.member.MemberForm.TheVariants.{Use as use_form, Friend as friend_form, Struct as struct_form, Constant as constant_form, Function as function_form, Spec as spec_form}
 use Rattle.file_tree.specs.FileData.{MemberData}
 use Rattle.file_tree.specs.MemberData.{PathsData}
-use Rattle.file_tree.specs.MemberSpelling.{attribute_spelling, parameters_spelling, typed_names_spelling, constant_spelling, visibility_spelling, entry_spelling, acquires_word, acquires_spelling, inputs_spelling, function_spelling, spec_block_spelling, form_spelling, member_spelling}
-use Rattle.file_tree.specs.ProperMembers.{AreAny, AreProperParameters, IsProperInput, IsProperConstant, AreProperPaths, IsProperFunction, IsProperSpecBlock, IsProperForm, IsProperMember}
+use Rattle.file_tree.specs.MemberSpelling.{attribute_spelling, parameters_spelling, typed_names_spelling, constant_spelling, visibility_spelling, entry_spelling, acquires_word, acquires_spelling, inputs_spelling, function_spelling, form_spelling, member_spelling}
+use Rattle.file_tree.specs.ProperMembers.{AreAny, AreProperParameters, IsProperInput, IsProperConstant, AreProperPaths, IsProperFunction, IsProperForm, IsProperMember}
 use Rattle.token_reading.specs.Beginnings.{Begins}
 use Rattle.token_reading.specs.TokenReading.{is_sign, is_word, after_sign, sign_place_at, word_place_at, identifier_at, begins_capital}
-use Rattle.token_reading.specs.BalanceReading.{balanced_at}
 use Rattle.token_reading.proofs.Steps.{step, last, either, if_read, bind_some, map_some, map_or_none, map_or_some, cond_true}
 use Rattle.token_reading.proofs.BeginLemmas.{Begins-append, Begins-split, Begins-first, Begins-same, length-Begins}
 use Rattle.token_reading.proofs.TokenLemmas.{after_sign-sound, after_sign-complete, after_sign-begins, after_sign-other, sign_place_at-sound, sign_place_at-complete, word_place_at-sound, word_place_at-complete, word_place_at-other, identifier_at-sound, identifier_at-complete, begins_capital-sound, begins_capital-complete}
+use Rattle.token_reading.specs.KeptReading.{member_spec_at}
+use Rattle.token_reading.proofs.KeptLemmas.{member_spec_first, member_spec_at-sound, member_spec_at-complete}
 use Rattle.token_reading.proofs.FirstLemmas.{First, First-weaker, word_place_at-first, after_sign-first}
-use Rattle.token_reading.proofs.BalanceLemmas.{balanced_at-sound, balanced_at-complete}
 use Rattle.leaf_parse.specs.TypeReading.{type_at}
 use Rattle.leaf_parse.proofs.TypeLemmas.{type_at-sound, type_at-complete}
 use Rattle.expression_parse.specs.ExpressionReading.{readers, expression_at, body_block_at}
@@ -45,19 +44,19 @@ use Rattle.leaf_parse.proofs.EndLemmas.{follows_sign}
 use Rattle.expression_parse.proofs.BlockLemmas.{body_block-sound, block_place, block_inside, body_block_spelled, body_block-complete}
 use Rattle.pv_parse.specs.AttributeReading.{attributes_at}
 use Rattle.pv_parse.specs.ImportReading.{use_at, friend_at}
-use Rattle.pv_parse.specs.ParameterReading.{parameters_at}
-use Rattle.pv_parse.specs.TypedNameReading.{inputs_at}
-use Rattle.pv_parse.specs.HeaderReading.{visibility_at, entry_at, annotation_at, acquires_at}
+use Rattle.declaration_parse.specs.ParameterReading.{parameters_at}
+use Rattle.declaration_parse.specs.TypedNameReading.{inputs_at}
+use Rattle.pv_parse.specs.HeaderReading.{visibility_at, entry_at, acquires_at}
+use Rattle.leaf_parse.specs.LeafReading.{annotation_at}
 use Rattle.pv_parse.specs.StructReading.{struct_at}
 use Rattle.pv_parse.proofs.AttributeLemmas.{attributes_at-sound, attributes_at-complete}
 use Rattle.pv_parse.proofs.ImportLemmas.{use_at-sound, use_behind, use_at-complete, friend_at-sound, friend_behind, friend_at-complete}
-use Rattle.pv_parse.proofs.ParameterLemmas.{parameters_at-sound, parameters_at-complete}
-use Rattle.pv_parse.proofs.TypedNameLemmas.{inputs_at-sound, inputs_at-complete}
+use Rattle.declaration_parse.proofs.ParameterLemmas.{parameters_at-sound, parameters_at-complete}
+use Rattle.declaration_parse.proofs.TypedNameLemmas.{inputs_at-sound, inputs_at-complete}
 use Rattle.pv_parse.proofs.HeaderLemmas.{visibility_at-sound, visibility_at-complete, entry_at-sound, entry_at-complete, annotation_at-sound, annotation_at-complete, acquires_at-sound, acquires_at-complete}
 use Rattle.pv_parse.proofs.StructLemmas.{struct_at-sound, struct_behind, struct_at-complete}
 use Rattle.pv_parse.specs.declared.function.Signature.{Signature}
-use Rattle.pv_parse.specs.MemberReading.{constant_behind_name, constant_at, signature_at, function_behind, function_at, head_at, spec_at, form_at, member_at}
-use Rattle.pv_parse.proofs.HeadLemmas.{head_at-sound, head_at-complete}
+use Rattle.pv_parse.specs.MemberReading.{constant_behind_name, constant_at, signature_at, function_behind, function_at, form_at, member_at}
 
 -- ---- constants
 
@@ -250,32 +249,6 @@ function_at-complete n f ts rest h b p =
         (ap (word_place_at (codes "public")) b ∙ word_place_at-other (codes "public") (word (codes "fun") (Some place)) [] mid rest refl c, ap (after_sign LeftParenthesis) b ∙ after_sign-other LeftParenthesis (word (codes "fun") (Some place)) [] mid rest refl c)
     behind_visibility (Some p) place ts mid rest b c = (word_place_at-other (codes "public") (word (codes "entry") (Some p)) [] ts mid refl b, after_sign-other LeftParenthesis (word (codes "entry") (Some p)) [] ts mid refl b)
 
--- ---- spec blocks
-
-spec_spelled : (w : Lexeme) (h b : List Lexeme) → ((w ∷ h) ++ sign LeftBrace ∷ b) ++ sign RightBrace ∷ [] ≡ w ∷ ((h ++ sign LeftBrace ∷ []) ++ (b ++ sign RightBrace ∷ []))
-spec_spelled w h b = append_assoc (w ∷ h) (sign LeftBrace ∷ b) (sign RightBrace ∷ []) ∙ ap (λ l. w ∷ l) (sym (append_assoc h (sign LeftBrace ∷ []) (b ++ sign RightBrace ∷ [])))
-
-spec_at-sound : (place : Span) (whole ts : List Token) (r : SpecBlock × List Token) → Begins (word (codes "spec") (Some place) ∷ []) whole ts → spec_at place ts ≡ Some r → Begins (spec_block_spelling r.0) whole r.1 × IsProperSpecBlock r.0
-unfolding spec_at
-spec_at-sound place whole ts r front e =
-    let h = step (head_at [] ts) _ r e in
-    let l = last (balanced_at RightBrace [] h.value.1) _ r h.then in
-    let head = head_at-sound [] ts h.value h.first in
-    let body = balanced_at-sound RightBrace [] h.value.1 l.value l.first in
-    subst (λ q. Begins (spec_block_spelling q.0) whole q.1 × IsProperSpecBlock q.0) l.then (
-      Begins-same _ _ whole l.value.1 (sym (spec_spelled (word (codes "spec") (Some place)) (map kept h.value.0) (map kept l.value.0)))
-          (Begins-append (word (codes "spec") (Some place) ∷ []) ((map kept h.value.0 ++ sign LeftBrace ∷ []) ++ (map kept l.value.0 ++ sign RightBrace ∷ [])) whole ts l.value.1 front
-          (Begins-append (map kept h.value.0 ++ sign LeftBrace ∷ []) (map kept l.value.0 ++ sign RightBrace ∷ []) ts h.value.1 l.value.1 head.spelled body.spelled)),
-      (head.balanced, head.no_brace, body.balanced),
-    )
-
-spec_at-complete : (s : SpecBlock) (ts rest : List Token) → Begins ((map kept s.head ++ sign LeftBrace ∷ []) ++ (map kept s.body ++ sign RightBrace ∷ [])) ts rest → IsProperSpecBlock s → spec_at s.place ts ≡ Some (s, rest)
-unfolding spec_at
-spec_at-complete s ts rest b p =
-    let h = Begins-split (map kept s.head ++ sign LeftBrace ∷ []) (map kept s.body ++ sign RightBrace ∷ []) ts rest b in
-    bind_some (head_at [] ts) _ (s.head, h.mid) (head_at-complete [] s.head ts h.mid h.front p.0 p.1)
-    ∙ map_some (balanced_at RightBrace [] h.mid) _ (s.body, rest) (balanced_at-complete RightBrace [] s.body h.mid rest refl h.back p.2)
-
 -- ---- members
 
 form_at-sound : (n : ℕ) (ts : List Token) (r : MemberForm × List Token) → form_at n ts ≡ Some r → Begins (form_spelling r.0) ts r.1 × IsProperForm r.0
@@ -299,8 +272,8 @@ form_at-sound n ts r e =
                 subst (λ q. Begins (form_spelling q.0) ts q.1 × IsProperForm q.0) l.then (constant_at-sound n s.value.0 ts s.value.1 l.value (word_place_at-sound (codes "const") ts s.value s.first) l.first)
             | inr m ↦ elim (either (word_place_at (codes "spec") ts) _ _ r m.1) [
               | inl s ↦
-                  let l = last (spec_at s.value.0 s.value.1) (λ x. (spec_form x.0, x.1)) r s.then in
-                  subst (λ q. Begins (form_spelling q.0) ts q.1 × IsProperForm q.0) l.then (spec_at-sound s.value.0 ts s.value.1 l.value (word_place_at-sound (codes "spec") ts s.value s.first) l.first)
+                  let l = last (member_spec_at ts) (λ x. (spec_form x.0, x.1)) r s.then in
+                  subst (λ q. Begins (form_spelling q.0) ts q.1 × IsProperForm q.0) l.then (member_spec_at-sound ts l.value l.first)
               | inr m ↦
                   let l = last (function_at n ts) (λ x. (function_form x.0, x.1)) r m.1 in
                   subst (λ q. Begins (form_spelling q.0) ts q.1 × IsProperForm q.0) l.then (function_at-sound n ts l.value l.first)
@@ -351,13 +324,11 @@ form_at-complete n (constant_form c) ts rest h b p =
     ∙ map_or_some (word_place_at (codes "const") ts) _ _ (c.place, s.mid) (word_place_at-complete (codes "const") c.place ts s.mid s.front)
     ∙ map_some (constant_at (suc n) c.place s.mid) (λ x. (constant_form x.0, x.1)) (c, rest) (constant_at-complete n c s.mid rest (omega (arith, h, length-Begins (word (codes "const") (Some c.place) ∷ []) ts s.mid s.front)) s.back p)
 form_at-complete n (spec_form d) ts rest h b p =
-    let tail = (map kept d.head ++ sign LeftBrace ∷ []) ++ (map kept d.body ++ sign RightBrace ∷ []) in
-    let whole = Begins-same _ (word (codes "spec") (Some d.place) ∷ tail) ts rest (spec_spelled (word (codes "spec") (Some d.place)) (map kept d.head) (map kept d.body)) b in
-    let s = Begins-first (word (codes "spec") (Some d.place)) tail ts rest whole in
-    let no = headed (codes "spec") d.place tail ts rest whole in
+    let w = member_spec_first d ts rest b p in
+    let no = headed (codes "spec") w.place w.more ts rest w.whole in
     map_or_none (word_place_at (codes "use") ts) _ _ (no (codes "use") refl) ∙ map_or_none (word_place_at (codes "friend") ts) _ _ (no (codes "friend") refl) ∙ map_or_none (word_place_at (codes "struct") ts) _ _ (no (codes "struct") refl)
     ∙ map_or_none (word_place_at (codes "const") ts) _ _ (no (codes "const") refl)
-    ∙ map_or_some (word_place_at (codes "spec") ts) _ _ (d.place, s.mid) (word_place_at-complete (codes "spec") d.place ts s.mid s.front) ∙ map_some (spec_at d.place s.mid) (λ x. (spec_form x.0, x.1)) (d, rest) (spec_at-complete d s.mid rest s.back p)
+    ∙ map_or_some (word_place_at (codes "spec") ts) _ _ (w.place, w.behind) (word_place_at-complete (codes "spec") w.place ts w.behind w.first) ∙ map_some (member_spec_at ts) (λ x. (spec_form x.0, x.1)) (d, rest) (member_spec_at-complete d ts rest b p)
 form_at-complete n (function_form f) ts rest h b p =
     map_or_none (word_place_at (codes "use") ts) _ _ (function_no_word (codes "use") f ts rest refl refl refl b) ∙ map_or_none (word_place_at (codes "friend") ts) _ _ (function_no_word (codes "friend") f ts rest refl refl refl b)
     ∙ map_or_none (word_place_at (codes "struct") ts) _ _ (function_no_word (codes "struct") f ts rest refl refl refl b) ∙ map_or_none (word_place_at (codes "const") ts) _ _ (function_no_word (codes "const") f ts rest refl refl refl b)
@@ -377,13 +348,17 @@ abbrev IsSomeWord : TokenKind → Type 0
 IsSomeWord (Word w) = Unit {0}
 IsSomeWord _ = ⊥
 
-form_first : (f : MemberForm) → First IsSomeWord (form_spelling f)
-form_first (use_form u) = tt
-form_first (friend_form f) = tt
-form_first (struct_form d) = tt
-form_first (constant_form c) = tt
-form_first (spec_form d) = tt
-form_first (function_form f) = function_first IsSomeWord f tt tt tt
+kept_first : (tokens : List Token) (ls : List Lexeme) → AreTokens tokens (word (codes "spec") None ∷ ls) → First IsSomeWord (map kept tokens)
+kept_first [] ls a = absurd a
+kept_first (t ∷ ts) ls a = subst IsSomeWord (sym a.0.kind) tt
+
+form_first : (f : MemberForm) → IsProperForm f → First IsSomeWord (form_spelling f)
+form_first (use_form u) p = tt
+form_first (friend_form f) p = tt
+form_first (struct_form d) p = tt
+form_first (constant_form c) p = tt
+form_first (spec_form d) p = kept_first d.tokens ((map kept p.head ++ sign LeftBrace ∷ []) ++ (map kept p.body ++ sign RightBrace ∷ [])) p.tokens
+form_first (function_form f) p = function_first IsSomeWord f tt tt tt
 
 word_no_sign : (s : Sign) (k : TokenKind) → IsSomeWord k → is_sign s k ≡ false
 word_no_sign s (Word w) h = refl
@@ -393,15 +368,15 @@ first_some : (P : TokenKind → Type 0) (ls : List Lexeme) → First P ls → 0 
 first_some P [] f = absurd f
 first_some P (l ∷ ls) f = omega arith
 
-pub form_some : (f : MemberForm) → 0 < length (form_spelling f)
-form_some f = first_some IsSomeWord (form_spelling f) (form_first f)
+pub form_some : (f : MemberForm) → IsProperForm f → 0 < length (form_spelling f)
+form_some f p = first_some IsSomeWord (form_spelling f) (form_first f p)
 
-pub form_no_sign : (s : Sign) (f : MemberForm) (ts rest : List Token) → Begins (form_spelling f) ts rest → after_sign s ts ≡ None
-form_no_sign s f ts rest b = after_sign-first s (form_spelling f) ts rest (First-weaker IsSomeWord (λ k. is_sign s k ≡ false) (word_no_sign s) (form_spelling f) (form_first f)) b
+pub form_no_sign : (s : Sign) (f : MemberForm) (ts rest : List Token) → IsProperForm f → Begins (form_spelling f) ts rest → after_sign s ts ≡ None
+form_no_sign s f ts rest p b = after_sign-first s (form_spelling f) ts rest (First-weaker IsSomeWord (λ k. is_sign s k ≡ false) (word_no_sign s) (form_spelling f) (form_first f p)) b
 
 pub member_at-complete : (n : ℕ) (m : MemberData) (ts rest : List Token) → length ts ≤ suc n → Begins (member_spelling m) ts rest → IsProperMember m → member_at (suc n) ts ≡ Some (m, rest)
 unfolding member_at
 member_at-complete n m ts rest h b p =
     let a = Begins-split (flat_map attribute_spelling m.attributes) (form_spelling m.form) ts rest b in
-    bind_some (attributes_at ts) _ (m.attributes, a.mid) (attributes_at-complete m.attributes ts a.mid a.front p.0 (form_no_sign NumberSign m.form a.mid rest a.back))
+    bind_some (attributes_at ts) _ (m.attributes, a.mid) (attributes_at-complete m.attributes ts a.mid a.front p.0 (form_no_sign NumberSign m.form a.mid rest p.1 a.back))
     ∙ map_some (form_at (suc n) a.mid) _ (m.form, rest) (form_at-complete n m.form a.mid rest (omega (arith, h, length-Begins (flat_map attribute_spelling m.attributes) ts a.mid a.front)) a.back p.1)

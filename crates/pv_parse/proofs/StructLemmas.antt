@@ -18,13 +18,13 @@ use Rattle.token_reading.proofs.Steps.{step, last, if_read, bind_some, map_some,
 use Rattle.token_reading.proofs.BeginLemmas.{Begins-append, Begins-split, Begins-first, length-Begins}
 use Rattle.token_reading.proofs.TokenLemmas.{begins_capital-sound, begins_capital-complete, after_sign-sound, after_sign-complete, after_sign-other, identifier_at-sound, identifier_at-complete}
 use Rattle.leaf_parse.specs.TypeReading.{type_at}
-use Rattle.pv_parse.specs.AbilityReading.{abilities_at}
-use Rattle.pv_parse.specs.ParameterReading.{parameters_at}
-use Rattle.pv_parse.specs.TypedNameReading.{fields_at}
+use Rattle.declaration_parse.specs.AbilityReading.{abilities_at}
+use Rattle.declaration_parse.specs.ParameterReading.{parameters_at}
+use Rattle.declaration_parse.specs.TypedNameReading.{fields_at}
 use Rattle.pv_parse.specs.StructReading.{struct_behind_name, struct_at}
-use Rattle.pv_parse.proofs.AbilityLemmas.{abilities_at-sound, abilities_at-complete}
-use Rattle.pv_parse.proofs.ParameterLemmas.{parameters_at-sound, parameters_at-complete}
-use Rattle.pv_parse.proofs.TypedNameLemmas.{fields_at-sound, fields_at-complete}
+use Rattle.declaration_parse.proofs.AbilityLemmas.{abilities_at-sound, abilities_at-complete}
+use Rattle.declaration_parse.proofs.ParameterLemmas.{parameters_at-sound, parameters_at-complete}
+use Rattle.declaration_parse.proofs.TypedNameLemmas.{fields_at-sound, fields_at-complete}
 
 -- a struct behind its word
 abbrev pub struct_behind : Struct → List Lexeme

@@ -7,11 +7,11 @@ use Rattle.move_tokens.specs.declared.token.Punctuation.TheVariants.{NumberSign,
 use Rattle.file_tree.specs.declared.member.Attribute.{Attribute}
 use Rattle.token_reading.specs.TokenReading.{Read, after_sign, sign_place_at}
 use Rattle.token_reading.specs.BalanceReading.{balanced_at}
-use Rattle.pv_parse.specs.RepeatReading.{repeat_at}
+use Rattle.token_reading.specs.RepeatReading.{repeat_at}
 
 -- an attribute behind its number sign
 unfoldable pub attribute_at : Span → List Token → Read Attribute
-attribute_at place ts = option_and_then (λ inside. option_map (λ r. (record { place = place; tokens = r.0 }, r.1)) (balanced_at RightBracket [] inside)) (after_sign LeftBracket ts)
+attribute_at place ts = option_and_then (λ inside. option_map (λ r. (record { place = place; tokens = r.0 }, r.1)) (balanced_at RightBracket inside)) (after_sign LeftBracket ts)
 
 abbrev pub placed_attribute_at : Span × List Token → Read Attribute
 placed_attribute_at p = attribute_at p.0 p.1

@@ -7,7 +7,7 @@ use Rattle.file_tree.specs.FileData.{MemberData, ModuleData}
 use Rattle.token_reading.specs.TokenReading.{Read, after_sign, word_place_at}
 use Rattle.leaf_parse.specs.PathReading.{module_name_at}
 use Rattle.pv_parse.specs.AttributeReading.{attributes_at}
-use Rattle.pv_parse.specs.RepeatReading.{repeat_at}
+use Rattle.token_reading.specs.RepeatReading.{repeat_at}
 use Rattle.pv_parse.specs.MemberReading.{member_at}
 
 -- the same tokens, where another member begins: up to the brace of the module

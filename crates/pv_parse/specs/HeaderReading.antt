@@ -27,10 +27,6 @@ visibility_at ts = option_map_or (λ p. public_at p.0 p.1) (word_place_at (codes
 unfoldable pub entry_at : List Token → Option Span × List Token
 entry_at ts = option_map_or (λ p. (Some p.0, p.1)) (word_place_at (codes "entry") ts) (None, ts)
 
--- the type behind a colon, where one stands here
-unfoldable pub annotation_at : (List Token → Read SourceTypeData) → List Token → Read (Option SourceTypeData)
-annotation_at inner ts = option_map_or (λ rest. option_map (λ t. (Some t.0, t.1)) (inner rest)) (after_sign Colon ts) (Some (None, ts))
-
 -- paths up to the brace of a function
 unfoldable pub listed_paths_at : List Token → Read PathsData
 listed_paths_at ts = option_map (λ items. (record { items = items.0.0; last_comma = items.0.1 }, items.1)) (some_items_at (before_sign LeftBrace) path_at ts)

@@ -1,9 +1,5 @@
-pub mod RepeatReading
 pub mod AttributeReading
 pub mod ImportReading
-pub mod AbilityReading
-pub mod ParameterReading
-pub mod TypedNameReading
 pub mod HeaderReading
 pub mod StructReading
 pub mod MemberReading

@@ -3,26 +3,24 @@ use Rattle.std.specs.Prelude.{ℕ, Bool, true, false, if◌then◌else◌, List,
 use Rattle.std.specs.Option.{option_map, option_map_or}
 use Rattle.pv_base.specs.declared.span.Span.{Span}
 use Rattle.move_tokens.specs.declared.token.Token.{Token}
-use Rattle.move_tokens.specs.declared.token.Punctuation.{Punctuation as Sign}
-use Rattle.move_tokens.specs.declared.token.Punctuation.TheVariants.{LeftParenthesis, LeftBrace, RightBrace, Semicolon, Colon, Equal}
+use Rattle.move_tokens.specs.declared.token.Punctuation.TheVariants.{LeftParenthesis, LeftBrace, Semicolon, Colon, Equal}
 use Rattle.move_tree.specs.declared.lexeme.Identifier.{Identifier}
-use Rattle.move_tree.specs.Balance.{wanted_behind}
 use Rattle.file_tree.specs.declared.member.Constant.{Constant}
 use Rattle.file_tree.specs.declared.member.Function.{Function}
 use Rattle.file_tree.specs.declared.member.Visibility.{Visibility}
-use Rattle.file_tree.specs.declared.member.SpecBlock.{SpecBlock}
 use Rattle.file_tree.specs.declared.member.MemberForm.{MemberForm}
 use Rattle.file_tree.specs.declared.member.MemberForm.TheVariants.{Use as use_form, Friend as friend_form, Struct as struct_form, Constant as constant_form, Function as function_form, Spec as spec_form}
 use Rattle.file_tree.specs.FileData.{MemberData}
-use Rattle.token_reading.specs.TokenReading.{Read, is_sign, after_sign, sign_place_at, word_place_at, identifier_at, begins_capital}
-use Rattle.token_reading.specs.BalanceReading.{balanced_at, keep_before}
+use Rattle.token_reading.specs.TokenReading.{Read, after_sign, sign_place_at, word_place_at, identifier_at, begins_capital}
+use Rattle.token_reading.specs.KeptReading.{member_spec_at}
 use Rattle.leaf_parse.specs.TypeReading.{type_at}
 use Rattle.expression_parse.specs.ExpressionReading.{readers, expression_at, body_block_at}
 use Rattle.pv_parse.specs.AttributeReading.{attributes_at}
 use Rattle.pv_parse.specs.ImportReading.{use_at, friend_at}
-use Rattle.pv_parse.specs.ParameterReading.{parameters_at}
-use Rattle.pv_parse.specs.TypedNameReading.{inputs_at}
-use Rattle.pv_parse.specs.HeaderReading.{visibility_at, entry_at, annotation_at, acquires_at}
+use Rattle.declaration_parse.specs.ParameterReading.{parameters_at}
+use Rattle.declaration_parse.specs.TypedNameReading.{inputs_at}
+use Rattle.pv_parse.specs.HeaderReading.{visibility_at, entry_at, acquires_at}
+use Rattle.leaf_parse.specs.LeafReading.{annotation_at}
 use Rattle.pv_parse.specs.StructReading.{struct_at}
 use Rattle.pv_parse.specs.declared.function.Signature.{Signature}
 
@@ -69,24 +67,6 @@ function_at n ts =
     option_and_then (λ place. function_behind n visibility.0 (entry_at visibility.1).0 place.0 place.1)
     (word_place_at (codes "fun") (entry_at visibility.1).1)) (visibility_at ts)
 
--- ---- spec blocks
-
--- whether no bracket is open
-abbrev pub is_none_open : List Sign → Bool
-is_none_open [] = true
-is_none_open (w ∷ ws) = false
-
--- the tokens up to the first brace, with balanced brackets, and those behind it
-unfoldable pub head_at : List Sign → List Token → Read (List Token)
-head_at wanted [] = None
-head_at wanted (t ∷ ts) =
-    if is_sign LeftBrace t.kind then (if is_none_open wanted then Some ([], ts) else None)
-    else option_and_then (λ more. keep_before (t ∷ []) (head_at more ts)) (wanted_behind (Some wanted) t.kind)
-
--- behind `spec`
-unfoldable pub spec_at : Span → List Token → Read SpecBlock
-spec_at place ts = option_and_then (λ head. option_map (λ body. (record { place = place; head = head.0; body = body.0 }, body.1)) (balanced_at RightBrace [] head.1)) (head_at [] ts)
-
 -- ---- members
 
 unfoldable pub form_at : ℕ → List Token → Read MemberForm
@@ -95,7 +75,7 @@ form_at n ts =
     (option_map_or (λ p. option_map (λ x. (friend_form x.0, x.1)) (friend_at p.0 p.1)) (word_place_at (codes "friend") ts)
     (option_map_or (λ p. option_map (λ x. (struct_form x.0, x.1)) (struct_at (type_at n) p.0 p.1)) (word_place_at (codes "struct") ts)
     (option_map_or (λ p. option_map (λ x. (constant_form x.0, x.1)) (constant_at n p.0 p.1)) (word_place_at (codes "const") ts)
-    (option_map_or (λ p. option_map (λ x. (spec_form x.0, x.1)) (spec_at p.0 p.1)) (word_place_at (codes "spec") ts)
+    (option_map_or (λ p. option_map (λ x. (spec_form x.0, x.1)) (member_spec_at ts)) (word_place_at (codes "spec") ts)
     (option_map (λ x. (function_form x.0, x.1)) (function_at n ts))))))
 
 unfoldable pub member_at : ℕ → List Token → Read MemberData

@@ -8,9 +8,9 @@ use Rattle.move_tree.specs.declared.lexeme.Identifier.{Identifier}
 use Rattle.move_tree.specs.TypeTreeData.{SourceTypeData}
 use Rattle.file_tree.specs.declared.member.Struct.{Struct}
 use Rattle.token_reading.specs.TokenReading.{Read, after_sign, identifier_at, begins_capital}
-use Rattle.pv_parse.specs.AbilityReading.{abilities_at}
-use Rattle.pv_parse.specs.ParameterReading.{parameters_at}
-use Rattle.pv_parse.specs.TypedNameReading.{fields_at}
+use Rattle.declaration_parse.specs.AbilityReading.{abilities_at}
+use Rattle.declaration_parse.specs.ParameterReading.{parameters_at}
+use Rattle.declaration_parse.specs.TypedNameReading.{fields_at}
 
 -- a struct behind its name
 unfoldable pub struct_behind_name : (List Token → Read SourceTypeData) → Span → Identifier → List Token → Read Struct

@@ -5,8 +5,8 @@ ghost use Rattle.token_reading.specs.ReadFault.{IfNoTree};
 ghost use Rattle.pv_parse.specs.AttributeReading.{attribute_at, attributes_at};
 
 use file_tree::member::Attribute;
-use pv_base::span::Span;
 use move_tokens::token::{Punctuation, Token};
+use pv_base::span::Span;
 use std::alloc::Global;
 use token_reading::balanced::read_balanced;
 use token_reading::fault::ReadFault;

@@ -6,13 +6,13 @@ ghost use Rattle.pv_parse.specs.MemberReading.{constant_at, constant_behind_name
 
 use expression_parse::expression::read_expression;
 use file_tree::member::Constant;
+use leaf_parse::types::read_type;
+use move_tokens::token::{Punctuation, Token};
 use move_tree::lexeme::Identifier;
 use pv_base::span::Span;
-use move_tokens::token::{Punctuation, Token};
 use std::alloc::Global;
 use token_reading::fault::ReadFault;
 use token_reading::tokens::{begins_capital, expect_sign, read_identifier};
-use leaf_parse::types::read_type;
 
 /// A constant behind its name.
 #[tactic(auto, unfolding(crate::specs::MemberReading::constant_behind_name))]

@@ -5,13 +5,14 @@ ghost use Rattle.move_tokens.specs.declared.token.Token.{Token};
 ghost use Rattle.file_tree.specs.FileData.{ModuleData};
 ghost use Rattle.file_tree.specs.MemberSpelling.{file_spelling};
 ghost use Rattle.file_tree.specs.ProperMembers.{IsProperFile};
-ghost use Rattle.pv_parse.specs.Denoted.{IsFileOf, IsCause};
+ghost use Rattle.pv_parse.specs.Denoted.{IsCause};
+ghost use Rattle.file_tree.specs.Denoted.{IsFileOf};
 
 use crate::module::read_file;
 use file_tree::member::File;
-use token_reading::explain::{ParseFault, explain};
 use move_tokens::token::Tokens;
 use std::alloc::Global;
+use token_reading::explain::{ParseFault, explain};
 
 /// The file that the tokens denote: they spell it, and it is one that the grammar has. Spec blocks in it
 /// are kept as their tokens.

@@ -6,19 +6,19 @@ ghost use Rattle.token_reading.specs.TokenReading.{before_sign};
 ghost use Rattle.token_reading.specs.ListReading.{some_items_at};
 ghost use Rattle.leaf_parse.specs.PathReading.{path_at};
 ghost use Rattle.leaf_parse.specs.TypeReading.{type_at};
-ghost use Rattle.pv_parse.specs.HeaderReading.{acquires_at, annotation_at, entry_at, friends_at, listed_paths_at, public_at, visibility_at};
+ghost use Rattle.pv_parse.specs.HeaderReading.{acquires_at, entry_at, friends_at, listed_paths_at, public_at, visibility_at};
 
 use file_tree::member::{Paths, Visibility};
+use leaf_parse::path::read_path;
+use leaf_parse::types::read_type;
+use move_tokens::token::{Punctuation, Token};
 use move_tree::path::Path;
 use move_tree::types::SourceType;
 use pv_base::span::Span;
-use move_tokens::token::{Punctuation, Token};
 use std::alloc::Global;
 use token_reading::fault::ReadFault;
 use token_reading::lists::{Separator, separator_before};
 use token_reading::tokens::{expect_sign, expect_word, place_of_word, skip_sign, skip_word};
-use leaf_parse::path::read_path;
-use leaf_parse::types::read_type;
 
 /// `friend` behind its parenthesis, where `public` stands at `place`.
 #[tactic(auto, unfolding(crate::specs::HeaderReading::friends_at))]
@@ -61,22 +61,6 @@ pub fn read_entry(tokens: &[Token]) -> (Option<Span>, &[Token])
         Some((place, rest)) => (Some(place), rest),
         None => (None, tokens),
     }
-}
-
-/// The type behind a colon, where one stands here, and the tokens behind it.
-#[tactic(auto, unfolding(crate::specs::HeaderReading::annotation_at))]
-pub fn read_annotation(
-    alloc: Global,
-    tokens: &[Token],
-    budget: usize,
-) -> Result<(Option<SourceType>, &[Token]), ReadFault>
-    ensures { MatchResult result (λ read. annotation_at (type_at budget) tokens.now ≡ Some (read.0, read.1.now)) (λ fault. IfNoTree fault (annotation_at (type_at budget) tokens.now ≡ None)) }
-{
-    let Some(rest) = skip_sign(tokens, Punctuation::Colon) else {
-        return Ok((None, tokens));
-    };
-    let (annotation, rest) = read_type(alloc, rest, budget)?;
-    Ok((Some(annotation), rest))
 }
 
 /// Paths between commas up to the brace of a function: the paths, whether a comma follows the last, and

@@ -7,14 +7,14 @@ ghost use Rattle.token_reading.specs.ListReading.{some_items_at};
 ghost use Rattle.pv_parse.specs.ImportReading.{alias_at, friend_at, import_at, imported_at, imported_names_at, imports_at, use_at};
 
 use file_tree::member::{Friend, Import, Imported, Imports, Use};
+use leaf_parse::path::read_module_name;
+use move_tokens::token::{Punctuation, Token};
 use move_tree::lexeme::Identifier;
 use pv_base::span::Span;
-use move_tokens::token::{Punctuation, Token};
 use std::alloc::Global;
 use token_reading::fault::ReadFault;
 use token_reading::lists::{Separator, separator_behind};
 use token_reading::tokens::{expect_sign, read_identifier, skip_sign, skip_word};
-use leaf_parse::path::read_module_name;
 
 /// The other name behind `as`, where one stands here, and the tokens behind it.
 #[tactic(auto, unfolding(crate::specs::ImportReading::alias_at))]

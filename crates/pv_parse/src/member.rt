@@ -4,16 +4,16 @@ ghost use Rattle.std.specs.Prelude.{◌≡◌, None, Some, MatchResult};
 ghost use Rattle.token_reading.specs.ReadFault.{IfNoTree};
 ghost use Rattle.pv_parse.specs.MemberReading.{form_at, member_at};
 
+use crate::attributes::read_attributes;
 use crate::constant::read_constant;
 use crate::function::read_function;
-use crate::spec_block::read_spec_block;
-use crate::attributes::read_attributes;
 use crate::imports::{read_friend, read_use};
 use crate::structs::read_struct;
 use file_tree::member::{Member, MemberForm};
 use move_tokens::token::Token;
 use std::alloc::Global;
 use token_reading::fault::ReadFault;
+use token_reading::kept::read_member_spec;
 use token_reading::tokens::place_of_word;
 
 /// What a member is, and the tokens behind it.
@@ -41,8 +41,8 @@ fn read_form(
         let (member, rest) = read_constant(alloc, place, rest, budget)?;
         return Ok((MemberForm::Constant(member), rest));
     }
-    if let Some((place, rest)) = place_of_word(tokens, b"spec") {
-        let (member, rest) = read_spec_block(alloc, place, rest)?;
+    if place_of_word(tokens, b"spec").is_some() {
+        let (member, rest) = read_member_spec(alloc, tokens)?;
         return Ok((MemberForm::Spec(member), rest));
     }
     let (member, rest) = read_function(alloc, tokens, budget)?;

@@ -4,14 +4,14 @@ ghost use Rattle.std.specs.Prelude.{◌≡◌, None, Some, MatchResult};
 ghost use Rattle.token_reading.specs.ReadFault.{IfNoTree};
 ghost use Rattle.pv_parse.specs.FileReading.{file_at, members_at, module_behind};
 
-use crate::member::read_member;
 use crate::attributes::read_attributes;
+use crate::member::read_member;
 use file_tree::member::{File, Member, Module};
+use leaf_parse::path::read_module_name;
 use move_tokens::token::{Punctuation, Token};
 use std::alloc::Global;
 use token_reading::fault::ReadFault;
 use token_reading::tokens::{begins_with, expect_sign, place_of_word};
-use leaf_parse::path::read_module_name;
 
 /// The members of a module up to its brace, and the tokens from the brace on.
 fn read_members(

@@ -5,13 +5,13 @@ ghost use Rattle.token_reading.specs.ReadFault.{IfNoTree};
 ghost use Rattle.leaf_parse.specs.TypeReading.{type_at};
 ghost use Rattle.pv_parse.specs.StructReading.{struct_at, struct_behind_name};
 
-use crate::abilities::read_abilities;
-use crate::parameters::read_parameters;
-use crate::typed_names::read_fields;
+use declaration_parse::abilities::read_abilities;
+use declaration_parse::parameters::read_parameters;
+use declaration_parse::typed_names::read_fields;
 use file_tree::member::Struct;
+use move_tokens::token::{Punctuation, Token};
 use move_tree::lexeme::Identifier;
 use pv_base::span::Span;
-use move_tokens::token::{Punctuation, Token};
 use std::alloc::Global;
 use token_reading::fault::ReadFault;
 use token_reading::tokens::{begins_capital, expect_sign, read_identifier};

@@ -1,6 +1,6 @@
 //! Tables of declarations.
 
-ghost use Rattle.std.specs.Prelude.{◌≡◌, ◌++◌, ◌∷◌, [], length, None, OnOk, OnErr, slice_get};
+ghost use Rattle.std.specs.Prelude.{◌≡◌, ◌↔◌, ◌++◌, ◌∷◌, [], if◌then◌else◌, length, None, IsTrue, IfOk, OnOk, OnErr, slice_get};
 ghost use Rattle.std.specs.Option.{option_copied, option_map};
 ghost use Rattle.std.specs.Map.{lookup};
 ghost use Rattle.std.specs.Map.Iter.{deref_pair};
@@ -64,5 +64,19 @@ impl<K: Eq + Hash + Drop, T: Drop> Table<K, T> {
     {
         self.map.insert(name, declaration)?;
         Ok(())
+    }
+
+    /// Puts a declaration behind the others and answers true, unless one of them has its name. After `NoMemory`
+    /// the table is as it was.
+    pub fn put(&mut self, name: K, declaration: T) -> Result<bool, NoMemory>
+        ensures new { IfOk result (λ is_new. IsTrue is_new ↔ (lookup (K.eq name) self.old ≡ None)) }
+        ensures put { IfOk result (λ is_new. self.new ≡ (if is_new then self.old ++ (name, declaration) ∷ [] else self.old)) }
+        ensures err { OnErr result (self.new ≡ self.old) }
+    {
+        if self.get(&name).is_some() {
+            return Ok(false);
+        }
+        self.push(name, declaration)?;
+        Ok(true)
     }
 }

@@ -1,14 +1,14 @@
 //! Parts of members that are read from texts: how many things they hold, and how many tokens are left.
 
 use crate::texts::scan;
-use pv_parse::abilities::{read_abilities, read_constraint};
+use declaration_parse::abilities::{read_abilities, read_constraint};
+use declaration_parse::typed_names::read_inputs;
+use file_tree::member::{Imported, Visibility};
+use pv_base::span::Span;
 use pv_parse::attributes::read_attributes;
 use pv_parse::header::{read_acquires, read_visibility};
 use pv_parse::imports::read_use;
 use pv_parse::structs::read_struct;
-use pv_parse::typed_names::read_inputs;
-use file_tree::member::{Imported, Visibility};
-use pv_base::span::Span;
 use std::alloc::Global;
 use std::process::Abort;
 use token_reading::fault::ReadFault;

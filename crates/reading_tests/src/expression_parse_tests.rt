@@ -2,10 +2,10 @@
 
 use expression_parse::expression::read_expression;
 use expression_tree::expression::{Expression, ExpressionNode};
-use move_tree::operator::BinaryOperator;
-use move_tree::path::Path;
 use move_tokens::scanner::tokens;
 use move_tokens::token::Tokens;
+use move_tree::operator::BinaryOperator;
+use move_tree::path::Path;
 use std::alloc::Global;
 use std::panic::Expect;
 use std::process::Abort;

@@ -1,11 +1,11 @@
 //! The first marker of texts, and why they were not parsed.
 
-use token_reading::explain::{ParseFault, explain};
-use token_reading::marker::{Marker, first_marker};
 use move_tokens::scanner::tokens;
 use std::alloc::Global;
 use std::process::Abort;
+use token_reading::explain::{ParseFault, explain};
 use token_reading::fault::ReadFault;
+use token_reading::marker::{Marker, first_marker};
 
 /// The first marker of a text has this index, and is printed as this text.
 fn finds(rt: &impl Abort, alloc: Global, text: &[u8], marker: Marker, index: usize) {

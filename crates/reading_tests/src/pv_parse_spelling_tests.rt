@@ -2,8 +2,8 @@
 
 use crate::texts::{compares, scan};
 use file_tree::member::{File, MemberForm};
-use spelling::spell_member::spell;
 use pv_parse::denoted::modules;
+use spelling::spell_member::spell;
 use std::alloc::Global;
 use std::process::Abort;
 

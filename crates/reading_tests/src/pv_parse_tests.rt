@@ -1,11 +1,11 @@
 //! Files that are read from texts, and why others are not.
 
 use crate::texts::scan;
-use token_reading::explain::ParseFault;
-use token_reading::marker::Marker;
 use pv_parse::denoted::modules;
 use std::alloc::Global;
 use std::process::Abort;
+use token_reading::explain::ParseFault;
+use token_reading::marker::Marker;
 
 /// The modules of the text have this many members in all.
 fn reads(rt: &impl Abort, alloc: Global, text: &[u8], members: usize) {

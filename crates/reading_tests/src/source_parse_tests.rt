@@ -1,11 +1,13 @@
 //! Sources that are read from texts, and why others are not.
 
 use crate::texts::scan;
-use token_reading::explain::ParseFault;
-use token_reading::marker::Marker;
+use clause_tree::clause::Spec;
 use source_parse::denoted::source;
 use std::alloc::Global;
+use std::panic::Expect;
 use std::process::Abort;
+use token_reading::explain::ParseFault;
+use token_reading::marker::Marker;
 
 /// How many members the modules of a text have in all, or why it is no source.
 fn found(rt: &impl Abort, alloc: Global, text: &[u8]) -> Result<usize, ParseFault> {
@@ -42,6 +44,34 @@ fn sources_of_texts(rt: HostRuntime) {
         alloc,
         b"module 0x1::m { fun f() { loop { spec { invariant x; }; a } } } module 0x1::n { const C: u64 = 1; }",
         Ok(2),
+    );
+}
+
+/// The spec blocks of the loops in a text have as many clauses as these digits say, one for each block.
+fn has_loops(rt: &impl Abort, alloc: Global, text: &[u8], expected: u32) {
+    let source = source(alloc, &scan(rt, alloc, text)).expect(rt, "a source");
+    let mut digits: u32 = 0;
+    for module in source.modules.iter() {
+        for member in module.members.iter() {
+            for tree in member.loops.iter() {
+                if let Spec::Loop { clauses, .. } = tree {
+                    let count = clauses.items.len() as u32;
+                    digits = digits.saturating_mul(10).saturating_add(count);
+                }
+            }
+        }
+    }
+    assert_eq!(rt; digits, expected);
+}
+
+#[test]
+fn loops_of_texts(rt: HostRuntime) {
+    let alloc = rt.alloc();
+    has_loops(
+        &rt,
+        alloc,
+        b"module 0x1::m { fun f() { while ({ spec { invariant a; invariant b; }; c }) { loop { a } }; loop { spec { invariant d; }; loop { spec { invariant e; invariant f; invariant g; }; h } } } spec f { requires x; } fun g() { loop { spec { }; a } } }",
+        2130,
     );
 }
 

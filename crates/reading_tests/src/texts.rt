@@ -1,8 +1,8 @@
 //! Texts as tokens, and whether these are those that a tree speaks of.
 
-use move_tree::lexeme::{Lexeme, Lexemes};
 use move_tokens::scanner::tokens;
 use move_tokens::token::{Token, TokenKind, Tokens};
+use move_tree::lexeme::{Lexeme, Lexemes};
 use std::alloc::Global;
 use std::process::Abort;
 

@@ -1,4 +1,3 @@
-pub mod PairLemmas
 pub mod FaultLemmas
 pub mod NameLemmas
 pub mod SlotLemmas

@@ -18,22 +18,11 @@ use Rattle.pv_base.specs.Names.{same_name}
 use Rattle.token_reading.proofs.Steps.{true_or_false}
 use Rattle.token_reading.proofs.TokenLemmas.{begins_capital-sound, begins_capital-complete}
 use Rattle.pv_base.proofs.NameLaws.{same_name-same, same_name-other}
-use Rattle.source_parse.specs.FunctionNames.{name_of_form, name_of_member, names_of, is_one_of, has, IsSetOf}
-use Rattle.source_parse.specs.Slots.{IsOfStruct}
+use Rattle.source_tree.specs.FunctionNames.{function_name, function_names}
+use Rattle.pv_base.specs.Names.{is_one_of, has, IsSetOf}
+use Rattle.source_tree.specs.Slots.{IsOfStruct}
 
 -- ---- names of structs
-
-none_of-sound : (names : List (List ℕ)) (w : List ℕ) → is_one_of names w ≡ false → AllByRecursion (λ other. w ≢ other) names
-none_of-sound [] w e = tt
-none_of-sound (k ∷ ks) w e = go (same_name w k) refl e (λ h. none_of-sound ks w h)
-  where
-    go : (b : Bool) → same_name w k ≡ b → (b || is_one_of ks w) ≡ false → (is_one_of ks w ≡ false → AllByRecursion (λ other. w ≢ other) ks) → AllByRecursion (λ other. w ≢ other) (k ∷ ks)
-    go true is e more = absurd (cc)
-    go false is e more = (λ h. true_or_false (same_name w k) (ap (same_name w) (sym h) ∙ same_name-same w) is, more e)
-
-none_of-complete : (names : List (List ℕ)) (w : List ℕ) → AllByRecursion (λ other. w ≢ other) names → is_one_of names w ≡ false
-none_of-complete [] w a = refl
-none_of-complete (k ∷ ks) w a = ap (λ b. b || is_one_of ks w) (same_name-other w k a.0) ∙ none_of-complete ks w a.1
 
 abbrev pub is_of_struct : List (List ℕ) → List ℕ → Bool
 is_of_struct functions name = begins_capital name && not (is_one_of functions name)
@@ -57,45 +46,24 @@ of_struct-none functions name none = go (is_of_struct functions name) refl
     go true e = absurd (none (of_struct-sound functions name e))
     go false e = e
 
--- ---- sets
-
--- the order of a set tells the same names apart
-pub is_eq-same_name : (a b : List ℕ) → is_eq (slice_cmp nat_cmp a b) ≡ same_name a b
-is_eq-same_name a b = sym (lists_ties nat_cmp unsigned_ties a b)
-
-pub is_one_of-push : (names : List (List ℕ)) (n q : List ℕ) → is_one_of (names ++ n ∷ []) q ≡ (is_one_of names q || (same_name q n || false))
-is_one_of-push names n q = list_any-append (same_name q) names (n ∷ [])
-
--- one more name
-pub set_more : (names : List (List ℕ)) (n q : List ℕ) (t u : Bool) → t ≡ is_one_of names q → u ≡ cond (is_eq (slice_cmp nat_cmp n q)) true t → u ≡ is_one_of (names ++ n ∷ []) q
-set_more names n q t u before more =
-    more ∙ ap (λ b. cond b true t) (is_eq-same_name n q ∙ nat_list_eq_equiv.symm n q) ∙ ap (λ b. cond (same_name q n) true b) before
-    ∙ one (is_one_of names q) (same_name q n) ∙ sym (is_one_of-push names n q)
-  where
-    one : (a b : Bool) → cond b true a ≡ (a || (b || false))
-    one true true = refl
-    one true false = refl
-    one false true = refl
-    one false false = refl
-
 -- ---- the names of a list's first functions
 
-names_more : (members : List MemberData) (i : ℕ) (d : MemberData) (names : List (List ℕ)) → i < length members → name_of_member (get_or members i d) ≡ names → names_of (take (i + 1) members) ≡ names_of (take i members) ++ names
+names_more : (members : List MemberData) (i : ℕ) (d : MemberData) (names : List (List ℕ)) → i < length members → function_name (get_or members i d).form ≡ names → function_names (take (i + 1) members) ≡ function_names (take i members) ++ names
 names_more members i d names h e =
-    ap names_of (take_more members i d h) ∙ flat_map-append name_of_member (take i members) (get_or members i d ∷ [])
-    ∙ ap (λ more. names_of (take i members) ++ more) (append-nil (name_of_member (get_or members i d)) ∙ e)
+    ap function_names (take_more members i d h) ∙ flat_map-append (λ m. function_name m.form) (take i members) (get_or members i d ∷ [])
+    ∙ ap (λ more. function_names (take i members) ++ more) (append-nil (function_name (get_or members i d).form) ∙ e)
 
-pub names_grow : (members : List MemberData) (i : ℕ) (d : MemberData) (key : List ℕ) (old new : BTreeSet (List ℕ)) → i < length members → IsSetOf old (names_of (take i members))
-    → ((q : List ℕ) → has new q ≡ cond (is_eq (slice_cmp nat_cmp key q)) true (has old q)) → name_of_member (get_or members i d) ≡ key ∷ [] → IsSetOf new (names_of (take (i + 1) members))
+pub names_grow : (members : List MemberData) (i : ℕ) (d : MemberData) (key : List ℕ) (old new : BTreeSet (List ℕ)) → i < length members → IsSetOf old (function_names (take i members))
+    → ((q : List ℕ) → has new q ≡ cond (is_eq (slice_cmp nat_cmp key q)) true (has old q)) → function_name (get_or members i d).form ≡ key ∷ [] → IsSetOf new (function_names (take (i + 1) members))
 names_grow members i d key old new h before more e q =
-    set_more (names_of (take i members)) key q (has old q) (has new q) (before q) (more q) ∙ ap (λ names. is_one_of names q) (sym (names_more members i d (key ∷ []) h e))
+    set_more (function_names (take i members)) key q (has old q) (has new q) (before q) (more q) ∙ ap (λ names. is_one_of names q) (sym (names_more members i d (key ∷ []) h e))
 
-pub names_stay : (members : List MemberData) (i : ℕ) (d : MemberData) (old new : BTreeSet (List ℕ)) → i < length members → IsSetOf old (names_of (take i members)) → new ≡ old
-    → name_of_member (get_or members i d) ≡ [] → IsSetOf new (names_of (take (i + 1) members))
+pub names_stay : (members : List MemberData) (i : ℕ) (d : MemberData) (old new : BTreeSet (List ℕ)) → i < length members → IsSetOf old (function_names (take i members)) → new ≡ old
+    → function_name (get_or members i d).form ≡ [] → IsSetOf new (function_names (take (i + 1) members))
 names_stay members i d old new h before same e q =
-    ap (λ s. has s q) same ∙ before q ∙ ap (λ names. is_one_of names q) (sym (names_more members i d [] h e ∙ append-nil (names_of (take i members))))
+    ap (λ s. has s q) same ∙ before q ∙ ap (λ names. is_one_of names q) (sym (names_more members i d [] h e ∙ append-nil (function_names (take i members))))
 
-pub no_function : (form : MemberForm) → ((f : FunctionTree) → form ≡ Function f → ⊥) → name_of_form form ≡ []
+pub no_function : (form : MemberForm) → ((f : FunctionTree) → form ≡ Function f → ⊥) → function_name form ≡ []
 no_function (Use u) none = refl
 no_function (Friend f) none = refl
 no_function (Struct s) none = refl

@@ -23,8 +23,8 @@ use Rattle.token_reading.proofs.Steps.{true_or_false}
 use Rattle.token_reading.proofs.BeginLemmas.{Begins-first}
 use Rattle.token_reading.proofs.TokenLemmas.{name_is_no_keyword, after_word-sound, after_word-complete, after_word-other}
 use Rattle.spec_parse.proofs.SpecBlockLemmas.{function_behind, behind}
-use Rattle.source_parse.specs.FunctionNames.{is_one_of}
-use Rattle.source_parse.specs.Slots.{IsSlotOf}
+use Rattle.pv_base.specs.Names.{is_one_of}
+use Rattle.source_tree.specs.Slots.{IsSlotOf}
 use Rattle.source_parse.specs.SlotReading.{word_of_kind, first_word, is_schema, names_struct, slot_at}
 use Rattle.source_parse.proofs.NameLemmas.{is_of_struct, of_struct-sound, of_struct-complete, of_struct-none}
 

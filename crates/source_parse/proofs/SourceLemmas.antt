@@ -2,11 +2,11 @@
 use Rattle.std.proofs.Common.{◌≡◌, List, subst}
 use Rattle.move_tokens.specs.declared.token.Token.{Token}
 use Rattle.pv_parse.proofs.DenotedLemmas.{one_file}
-use Rattle.source_parse.specs.SourceModuleData.{SourceModuleData}
-use Rattle.source_parse.specs.Pairs.{Paired}
-use Rattle.source_parse.specs.Members.{IsSourceModule}
-use Rattle.source_parse.specs.Denoted.{IsSourceOf}
-use Rattle.source_parse.proofs.PairLemmas.{one_list}
+use Rattle.source_tree.specs.SourceModuleData.{SourceModuleData}
+use Rattle.pv_base.specs.Pairs.{Paired}
+use Rattle.source_tree.specs.Members.{IsSourceModule}
+use Rattle.source_tree.specs.Denoted.{IsSourceOf}
+use Rattle.pv_base.proofs.PairLaws.{one_list}
 use Rattle.source_parse.proofs.MemberLemmas.{one_module}
 
 pub one_source : (ts : List Token) (x y : List SourceModuleData) → IsSourceOf x ts → IsSourceOf y ts → x ≡ y

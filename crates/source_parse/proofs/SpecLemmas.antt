@@ -3,8 +3,9 @@ use Rattle.std.proofs.Common.{◌≡◌, ℕ, Bool, List, [], ◌∷◌, refl, s
 use Rattle.std.specs.BTreeSet.{BTreeSet}
 use Rattle.move_tokens.specs.declared.token.Token.{Token}
 use Rattle.move_tree.specs.Lexemes.{AreTokens}
-use Rattle.file_tree.specs.declared.member.SpecBlock.{SpecBlock}
+use Rattle.move_tree.specs.declared.spec_tokens.KeptSpec.{KeptSpec}
 use Rattle.clause_tree.specs.declared.slot.Slot.{Slot}
+use Rattle.clause_tree.specs.declared.slot.Slot.TheVariants.{Loop}
 use Rattle.clause_tree.specs.declared.clause.Spec.{Spec}
 use Rattle.clause_tree.specs.ClauseSpelling.{spec_tree_spelling}
 use Rattle.token_reading.specs.Beginnings.{Begins}
@@ -12,15 +13,16 @@ use Rattle.token_reading.proofs.BeginLemmas.{Begins-same, begin_all}
 use Rattle.spec_parse.proofs.SpecBlockLemmas.{behind, spec_spelled}
 use Rattle.token_reading.specs.declared.explain.ParseFault.{ParseFault}
 use Rattle.token_reading.specs.declared.explain.ParseFault.TheVariants.{Grammar, LeftOut, NoMemory}
-use Rattle.spec_parse.specs.DenotedBlocks.{IsSpecBlockOf, AreOfNoSpecBlock, IsCause}
+use Rattle.spec_parse.specs.DenotedBlocks.{IsCause}
+use Rattle.clause_tree.specs.Denoted.{IsSpecBlockOf, AreOfNoSpecBlock}
 use Rattle.spec_parse.proofs.DenotedBlockLemmas.{one_spec_block}
 use Rattle.source_parse.specs.SpecFault.{IfNoSpec, fault_of}
-use Rattle.source_parse.specs.Kept.{tokens_of_block}
-use Rattle.source_parse.specs.Slots.{IsSlotOf}
-use Rattle.source_parse.specs.FunctionNames.{is_one_of, has, IsSetOf}
+use Rattle.source_tree.specs.Slots.{IsSlotOf}
+use Rattle.pv_base.specs.Names.{is_one_of, has, IsSetOf}
 use Rattle.source_parse.specs.SlotReading.{slot_at}
-use Rattle.source_parse.specs.Members.{IsSpecOf}
-use Rattle.source_parse.specs.Reading.{slot_of_block, HasNoTree}
+use Rattle.source_tree.specs.Members.{IsSpecOf}
+use Rattle.source_tree.specs.Loops.{IsLoopTree}
+use Rattle.source_parse.specs.Reading.{slot_by, slot_of_block, HasNoTree, HasNoLoopTree}
 use Rattle.source_parse.proofs.SlotLemmas.{not_loop, proper_named, slot_right, has_slot}
 
 tree_behind : (x : Spec) (t : Token) (ts : List Token) → AreTokens (t ∷ ts) (spec_tree_spelling x) → Begins (behind x) ts []
@@ -37,29 +39,51 @@ sound_at functions test same x t ts d =
     let h = has_slot functions (slot_at test ts) x d.proper (not_loop test ts) in
     subst (IsSlotOf functions x) (sym (slot_of_denoted functions test same (slot_at test ts) x t ts d h.slot h.is)) h.is
 
-pub tree_is_read : (functions : List (List ℕ)) (names : BTreeSet (List ℕ)) → IsSetOf names functions → (block : SpecBlock) (x : Spec)
-    → IsSpecBlockOf (slot_of_block names (tokens_of_block block)) x (tokens_of_block block) → IsSpecOf functions block x
-tree_is_read functions names same block x d = record { slot = slot_of_block names (tokens_of_block block); slot_is = sound_at functions (has names) same x _ _ d; denoted = d }
+-- a tree has tokens
+no_empty : (x : Spec) → AreTokens [] (spec_tree_spelling x) → ⊥
+no_empty x a = subst (AreTokens []) (spec_spelled x) a
 
-no_tree : (functions : List (List ℕ)) (names : BTreeSet (List ℕ)) → IsSetOf names functions → (block : SpecBlock)
-    → AreOfNoSpecBlock (slot_of_block names (tokens_of_block block)) (tokens_of_block block) → HasNoTree functions block
+slot_of_tokens : (functions : List (List ℕ)) (test : List ℕ → Bool) → ((name : List ℕ) → test name ≡ is_one_of functions name) → (slot : Slot) (x : Spec) (tokens : List Token)
+    → IsSpecBlockOf slot x tokens → (s : Slot) → IsSlotOf functions x s → slot_by test tokens ≡ s
+slot_of_tokens functions test same slot x [] d s is = absurd (no_empty x d.spelled)
+slot_of_tokens functions test same slot x (t ∷ ts) d s is = slot_of_denoted functions test same slot x t ts d s is
+
+sound_of_tokens : (functions : List (List ℕ)) (test : List ℕ → Bool) → ((name : List ℕ) → test name ≡ is_one_of functions name) → (x : Spec) (tokens : List Token)
+    → IsSpecBlockOf (slot_by test tokens) x tokens → IsSlotOf functions x (slot_by test tokens)
+sound_of_tokens functions test same x [] d = absurd (no_empty x d.spelled)
+sound_of_tokens functions test same x (t ∷ ts) d = sound_at functions test same x t ts d
+
+pub tree_is_read : (functions : List (List ℕ)) (names : BTreeSet (List ℕ)) → IsSetOf names functions → (block : KeptSpec) (x : Spec)
+    → IsSpecBlockOf (slot_of_block names block.tokens) x block.tokens → IsSpecOf functions block x
+tree_is_read functions names same block x d = record { slot = slot_of_block names block.tokens; slot_is = sound_of_tokens functions (has names) same x block.tokens d; denoted = d }
+
+no_tree : (functions : List (List ℕ)) (names : BTreeSet (List ℕ)) → IsSetOf names functions → (block : KeptSpec)
+    → AreOfNoSpecBlock (slot_of_block names block.tokens) block.tokens → HasNoTree functions block
 no_tree functions names same block none x s =
-    none x (subst (λ slot. IsSpecBlockOf slot x (tokens_of_block block)) (sym (slot_of_denoted functions (has names) same s.slot x _ _ s.denoted s.slot s.slot_is)) s.denoted)
+    none x (subst (λ slot. IsSpecBlockOf slot x block.tokens) (sym (slot_of_tokens functions (has names) same s.slot x block.tokens s.denoted s.slot s.slot_is)) s.denoted)
 
-pub no_tree_is_read : (functions : List (List ℕ)) (names : BTreeSet (List ℕ)) → IsSetOf names functions → (block : SpecBlock) (fault : ParseFault)
-    → IsCause (slot_of_block names (tokens_of_block block)) (tokens_of_block block) fault → IfNoSpec (fault_of fault) (HasNoTree functions block)
+pub no_tree_is_read : (functions : List (List ℕ)) (names : BTreeSet (List ℕ)) → IsSetOf names functions → (block : KeptSpec) (fault : ParseFault)
+    → IsCause (slot_of_block names block.tokens) block.tokens fault → IfNoSpec (fault_of fault) (HasNoTree functions block)
 no_tree_is_read functions names same block (Grammar place) c = no_tree functions names same block c.0
 no_tree_is_read functions names same block (LeftOut marker place) c = no_tree functions names same block c.0
 no_tree_is_read functions names same block NoMemory c = tt
 
-pub one_tree : (functions : List (List ℕ)) (block : SpecBlock) (x y : Spec) → IsSpecOf functions block x → IsSpecOf functions block y → x ≡ y
+pub one_tree : (functions : List (List ℕ)) (block : KeptSpec) (x y : Spec) → IsSpecOf functions block x → IsSpecOf functions block y → x ≡ y
 one_tree functions block x y p q =
     let same : (name : List ℕ) → is_one_of functions name ≡ is_one_of functions name = λ name. refl in
-    let e = sym (slot_of_denoted functions (is_one_of functions) same q.slot y _ _ q.denoted q.slot q.slot_is) ∙ slot_of_denoted functions (is_one_of functions) same p.slot x _ _ p.denoted p.slot p.slot_is in
-    one_spec_block p.slot (tokens_of_block block) x y p.denoted (subst (λ slot. IsSpecBlockOf slot y (tokens_of_block block)) e q.denoted)
+    let e = sym (slot_of_tokens functions (is_one_of functions) same q.slot y block.tokens q.denoted q.slot q.slot_is) ∙ slot_of_tokens functions (is_one_of functions) same p.slot x block.tokens p.denoted p.slot p.slot_is in
+    one_spec_block p.slot block.tokens x y p.denoted (subst (λ slot. IsSpecBlockOf slot y block.tokens) e q.denoted)
 
 -- the slot that was found is that of the tokens
-pub settled : (P : Slot → List Token → Type 0) (names : BTreeSet (List ℕ)) (block : SpecBlock) (slot : Slot) (seen tokens : List Token) → tokens ≡ tokens_of_block block → seen ≡ tokens → slot ≡ slot_of_block names seen
-    → P slot tokens → P (slot_of_block names (tokens_of_block block)) (tokens_of_block block)
-settled P names block slot seen tokens e f g p =
-    subst (λ ts. P (slot_of_block names ts) ts) e (subst (λ ts. P (slot_of_block names ts) tokens) f (subst (λ s. P s tokens) g p))
+pub settled : (P : Slot → Type 0) (names : BTreeSet (List ℕ)) (block : KeptSpec) (slot : Slot) (seen : List Token) → seen ≡ block.tokens → slot ≡ slot_of_block names seen → P slot → P (slot_of_block names block.tokens)
+settled P names block slot seen f g p = subst (λ ts. P (slot_of_block names ts)) f (subst P g p)
+
+-- ---- loops
+
+pub no_loop_is_read : (spec : KeptSpec) (fault : ParseFault) → IsCause Loop spec.tokens fault → IfNoSpec (fault_of fault) (HasNoLoopTree spec)
+no_loop_is_read spec (Grammar place) c = c.0
+no_loop_is_read spec (LeftOut marker place) c = c.0
+no_loop_is_read spec NoMemory c = tt
+
+pub one_loop : (spec : KeptSpec) (x y : Spec) → IsLoopTree spec x → IsLoopTree spec y → x ≡ y
+one_loop spec x y p q = one_spec_block Loop spec.tokens x y p q

@@ -1,13 +1,5 @@
-pub mod SourceData
-pub mod SourceModuleData
 pub mod SpecFault
-pub mod Kept
-pub mod Slots
-pub mod FunctionNames
 pub mod SlotReading
-pub mod Pairs
-pub mod Members
-pub mod Loops
 pub mod Denoted
 pub mod Reading
 pub mod FileReading

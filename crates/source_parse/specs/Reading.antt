@@ -1,28 +1,38 @@
 -- What the reader of modules knows where it finds none.
-use Rattle.std.specs.Prelude.{ℕ, List, [], ◌∷◌}
+use Rattle.std.specs.Prelude.{ℕ, Bool, List, [], ◌∷◌}
 use Rattle.move_tokens.specs.declared.token.Token.{Token}
 use Rattle.file_tree.specs.FileData.{MemberData, ModuleData}
 use Rattle.file_tree.specs.declared.member.MemberForm.{MemberForm}
-use Rattle.file_tree.specs.declared.member.SpecBlock.{SpecBlock}
+use Rattle.move_tree.specs.declared.spec_tokens.KeptSpec.{KeptSpec}
 use Rattle.clause_tree.specs.declared.slot.Slot.{Slot}
 use Rattle.clause_tree.specs.declared.slot.Slot.TheVariants.{Function}
 use Rattle.clause_tree.specs.declared.clause.Spec.{Spec as SpecTree}
-use Rattle.source_parse.specs.declared.source.SourceForm.{SourceForm}
-use Rattle.source_parse.specs.SourceData.{SourceMemberData}
-use Rattle.source_parse.specs.SourceModuleData.{SourceModuleData}
-use Rattle.source_parse.specs.FunctionNames.{has}
-use Rattle.source_parse.specs.Members.{IsSpecOf, IsSourceForm, IsSourceMember, IsSourceModule}
-use Rattle.source_parse.specs.Pairs.{Paired}
+use Rattle.source_tree.specs.declared.source.SourceForm.{SourceForm}
+use Rattle.source_tree.specs.SourceData.{SourceMemberData}
+use Rattle.source_tree.specs.SourceModuleData.{SourceModuleData}
+use Rattle.pv_base.specs.Names.{has}
+use Rattle.source_tree.specs.Loops.{IsLoopTree}
+use Rattle.source_tree.specs.Members.{IsSpecOf, IsSourceForm, IsSourceMember, IsSourceModule}
+use Rattle.pv_base.specs.Pairs.{Paired}
 use Rattle.source_parse.specs.SlotReading.{slot_at}
 use Rattle.std.specs.BTreeSet.{BTreeSet}
 
--- the slot of a block by its tokens, of which the first is its word
-abbrev pub slot_of_block : BTreeSet (List ℕ) → List Token → Slot
-slot_of_block functions [] = Function
-slot_of_block functions (t ∷ ts) = slot_at (has functions) ts
+-- the slot of a block by its tokens, of which the first is its word, and by a test of the names of functions
+abbrev pub slot_by : (List ℕ → Bool) → List Token → Slot
+slot_by is_function [] = Function
+slot_by is_function (t ∷ ts) = slot_at is_function ts
 
-abbrev pub HasNoTree : List (List ℕ) → SpecBlock → Type 0
+abbrev pub slot_of_block : BTreeSet (List ℕ) → List Token → Slot
+slot_of_block functions tokens = slot_by (has functions) tokens
+
+abbrev pub HasNoTree : List (List ℕ) → KeptSpec → Type 0
 HasNoTree functions block = (tree : SpecTree) → IsSpecOf functions block tree → ⊥
+
+abbrev pub HasNoLoopTree : KeptSpec → Type 0
+HasNoLoopTree spec = (tree : SpecTree) → IsLoopTree spec tree → ⊥
+
+abbrev pub HaveNoLoopTrees : List KeptSpec → Type 0
+HaveNoLoopTrees specs = (trees : List SpecTree) → Paired IsLoopTree specs trees → ⊥
 
 abbrev pub HasNoForm : List (List ℕ) → MemberForm → Type 0
 HasNoForm functions form = (found : SourceForm) → IsSourceForm functions form found → ⊥

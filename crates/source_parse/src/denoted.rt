@@ -2,27 +2,26 @@
 
 ghost use Rattle.std.specs.Prelude.{◌≡◌, List, IfOk, IfErr};
 ghost use Rattle.move_tokens.specs.declared.token.Token.{Token};
-ghost use Rattle.source_parse.specs.Denoted.{IsCause, IsSourceOf};
+ghost use Rattle.source_parse.specs.Denoted.{IsCause};
+ghost use Rattle.source_tree.specs.Denoted.{IsSourceOf};
 ghost use Rattle.source_parse.specs.FileReading.{MatchesFile};
-ghost use Rattle.source_parse.specs.SourceModuleData.{SourceModuleData};
+ghost use Rattle.source_tree.specs.SourceModuleData.{SourceModuleData};
 
 use crate::ending::end_of_blocks;
 use crate::fault::SpecFault;
-use crate::loops::check_modules;
 use crate::module::read_modules;
-use crate::source::Source;
 use file_tree::member::File;
-use token_reading::explain::{ParseFault, explain_at};
+use move_tokens::token::{Token, Tokens};
 use pv_base::memory::NoMemory;
 use pv_parse::denoted::{modules, one_file};
-use move_tokens::token::{Token, Tokens};
+use source_tree::source::Source;
 use std::alloc::Global;
+use token_reading::explain::{ParseFault, explain_at};
 
 /// The source of a file: its trees with those of the spec blocks in it.
 fn source_of(alloc: Global, file: File) -> Result<Source, SpecFault>
     ensures { MatchesFile «file» result }
 {
-    check_modules(alloc, file.modules.as_slice())?;
     let modules = read_modules(alloc, file.modules)?;
     Ok(Source { modules })
 }

@@ -4,14 +4,14 @@
 //! have ended in a spec block that stands before the place at which the file is no longer one.
 
 use crate::functions::{FunctionNames, names_among};
-use crate::kept::push_copies;
 use crate::module::slot_of_block;
 use clause_tree::slot::Slot;
-use token_reading::explain::ParseFault;
+use move_tokens::token::{Punctuation, Token, TokenKind};
 use pv_base::memory::NoMemory;
 use spec_parse::denoted_block::spec_block;
-use move_tokens::token::{Punctuation, Token, TokenKind, Tokens};
 use std::alloc::Global;
+use token_reading::balanced::copy_tokens;
+use token_reading::explain::ParseFault;
 use token_reading::tokens::{is_sign, is_word};
 
 /// Whether a token opens a bracket.
@@ -63,8 +63,7 @@ fn closed_by(tokens: &[Token], sign: Punctuation) -> &[Token] {
 /// The byte at which the reading of a spec block ends, where its tokens are of none. The markers of forms that are
 /// left out are looked for elsewhere.
 fn end_of_block(alloc: Global, block: &[Token], slot: Slot) -> Result<Option<u32>, NoMemory> {
-    let mut tokens = Tokens::new(alloc);
-    push_copies(alloc, block, &mut tokens)?;
+    let tokens = copy_tokens(alloc, block)?;
     match spec_block(alloc, &tokens, slot) {
         Ok(_) => Ok(None),
         Err(ParseFault::Grammar(place)) => Ok(Some(place)),

@@ -3,9 +3,9 @@
 ghost use Rattle.std.specs.Prelude.{◌≡◌};
 ghost use Rattle.source_parse.specs.SpecFault.{fault_of};
 
-use token_reading::explain::ParseFault;
 use pv_base::memory::NoMemory;
 use std::alloc::AllocFailed;
+use token_reading::explain::ParseFault;
 
 /// Why a spec block that a file keeps has no tree.
 #[derive(Clone, Copy, Debug, PartialEq, Eq)]

@@ -1,12 +1,13 @@
 //! The names of a module's functions.
 
 ghost use Rattle.std.specs.Prelude.{◌≡◌, IfOk};
-ghost use Rattle.source_parse.specs.FunctionNames.{IsSetOf, has, names_of};
+ghost use Rattle.source_tree.specs.FunctionNames.{function_names};
+ghost use Rattle.pv_base.specs.Names.{IsSetOf, has};
 
 use file_tree::member::{Member, MemberForm};
+use move_tokens::token::{Token, TokenKind};
 use pv_base::memory::NoMemory;
 use pv_base::name::Name;
-use move_tokens::token::{Token, TokenKind};
 use std::alloc::Global;
 use std::collections::BTreeSet;
 use std::marker::Model;
@@ -44,8 +45,8 @@ impl FunctionNames {
 }
 
 /// The names of the functions among the members.
-pub fn names_of(alloc: Global, members: &[Member]) -> Result<FunctionNames, NoMemory>
-    ensures { IfOk result (λ names. IsSetOf names (names_of members.now)) }
+pub fn function_names(alloc: Global, members: &[Member]) -> Result<FunctionNames, NoMemory>
+    ensures { IfOk result (λ names. IsSetOf names (function_names members.now)) }
 {
     let mut names = BTreeSet::new(alloc);
     for member in members {

@@ -1,12 +1,9 @@
-//! The source of a program: its files, with the trees of their spec blocks.
+//! Sources are read from tokens: files, and the tree of each spec block in them.
 #![tactic(auto)]
 
 pub mod denoted;
 pub mod ending;
 pub mod fault;
 pub mod functions;
-pub mod kept;
-pub mod loops;
 pub mod module;
 pub mod slots;
-pub mod source;

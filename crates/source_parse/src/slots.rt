@@ -2,13 +2,13 @@
 
 ghost use Rattle.std.specs.Prelude.{◌≡◌, None, Some};
 ghost use Rattle.std.specs.Option.{option_map};
-ghost use Rattle.source_parse.specs.FunctionNames.{has};
+ghost use Rattle.pv_base.specs.Names.{has};
 ghost use Rattle.source_parse.specs.SlotReading.{first_word, is_schema, names_struct, slot_at};
 
 use crate::functions::FunctionNames;
 use clause_tree::slot::Slot;
-use pv_base::name::Name;
 use move_tokens::token::{Token, TokenKind};
+use pv_base::name::Name;
 use token_reading::tokens::{begins_capital, skip_word};
 
 /// The first token, where it is a word.

@@ -1,1 +1,2 @@
 pub mod Taken
+mod PlaceLaws

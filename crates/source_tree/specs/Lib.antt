@@ -1,2 +1,11 @@
 pub mod Blocks
 pub mod Locals
+pub mod Loops
+pub mod FunctionNames
+pub mod SourceData
+pub mod SourceModuleData
+pub mod Slots
+pub mod Members
+pub mod Denoted
+pub mod Places
+pub mod TreePlaces

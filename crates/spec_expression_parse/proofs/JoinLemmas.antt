@@ -10,9 +10,9 @@ use Rattle.spec_tree.specs.SpecExpressionSpelling.{ends_in_path, spec_spelling}
 use Rattle.spec_tree.specs.ProperSpecExpressions.{level, left_level, HasNoOpenPack, IsProperSpec}
 use Rattle.token_reading.specs.Beginnings.{Begins}
 use Rattle.token_reading.proofs.ChainLemmas.{Parts, Rules}
-use Rattle.spec_expression_parse.specs.GluedReading.{after_glued}
+use Rattle.leaf_parse.specs.LeafReading.{after_glued}
 use Rattle.spec_expression_parse.specs.OperatorReading.{spec_joints}
-use Rattle.spec_expression_parse.proofs.GluedLemmas.{after_glued-none}
+use Rattle.leaf_parse.proofs.LeafLemmas.{after_glued-none}
 use Rattle.spec_expression_parse.proofs.OperatorLemmas.{operator_spelled, spec_operator_at-sound, spec_operator_at-complete, right_is_some, own_left, looser, tighter}
 use Rattle.spec_expression_parse.proofs.ShapeLemmas.{spec_no_sign, spec_alone}
 

@@ -34,101 +34,12 @@ use Rattle.token_reading.proofs.Steps.{step, last, some_one, either, if_some, if
 use Rattle.token_reading.proofs.BeginLemmas.{Begins-append, Begins-first}
 use Rattle.token_reading.proofs.TokenLemmas.{after_sign-sound, after_sign-complete, after_sign-other, after_word-complete, word_place_at-sound, word_place_at-complete, word_place_at-other, identifier_at-complete, identifier_at-other, begins_capital-sound, begins_capital-complete}
 use Rattle.leaf_parse.specs.PathReading.{address_at}
+use Rattle.leaf_parse.specs.LeafReading.{number_at, plain_literal_at}
 use Rattle.leaf_parse.proofs.PathLemmas.{path_opens, opens_no_word, address_at-sound, address_at-complete}
-use Rattle.spec_expression_parse.specs.LeafReading.{not_wider, number_of, number_at, plain_literal_at, address_literal_at, opens_bind, quantifier_word_at, quantifier_at, pack_opened}
-use Rattle.spec_expression_parse.proofs.GluedLemmas.{both}
-
--- ---- numbers
-
-not_wider-sound : (literal : NumberLiteral) (suffix : NumberSuffix) (l : NumberLiteral) → not_wider literal suffix ≡ Some l → (literal ≡ l) × (suffix ≢ U256)
-not_wider-sound literal Absent l e = (some_one literal l e, λ h. cc)
-not_wider-sound literal U8 l e = (some_one literal l e, λ h. cc)
-not_wider-sound literal U16 l e = (some_one literal l e, λ h. cc)
-not_wider-sound literal U32 l e = (some_one literal l e, λ h. cc)
-not_wider-sound literal U64 l e = (some_one literal l e, λ h. cc)
-not_wider-sound literal U128 l e = (some_one literal l e, λ h. cc)
-not_wider-sound literal U256 l e = absurd (cc)
-
-not_wider-complete : (literal : NumberLiteral) (suffix : NumberSuffix) → suffix ≢ U256 → not_wider literal suffix ≡ Some literal
-not_wider-complete literal Absent h = refl
-not_wider-complete literal U8 h = refl
-not_wider-complete literal U16 h = refl
-not_wider-complete literal U32 h = refl
-not_wider-complete literal U64 h = refl
-not_wider-complete literal U128 h = refl
-not_wider-complete literal U256 h = absurd (h refl)
-
-number_of-sound : (kind : TokenKind) (l : NumberLiteral) → number_of kind ≡ Some l → (kind ≡ Number l) × (l.suffix ≢ U256)
-number_of-sound (Number literal) l e = let u = not_wider-sound literal literal.suffix l e in (ap Number u.0, subst (λ m. m.suffix ≢ U256) u.0 u.1)
-number_of-sound (Word w) l e = absurd (cc)
-number_of-sound (ByteString text) l e = absurd (cc)
-number_of-sound (Punctuation s) l e = absurd (cc)
-
--- what a number gives that was found in the first token
-abbrev found_number : Token → List Token → Option NumberLiteral → Read Numeral
-found_number t ts found = option_and_then (λ literal. cond (is_some (after_sign ColonColon ts)) None (Some (record { literal = literal; place = t.span }, ts))) found
-
-number_at-sound : (ts : List Token) (r : Numeral × List Token) → number_at ts ≡ Some r → Begins (numeral r.0 ∷ []) ts r.1 × IsProperNumeral r.0
-unfolding number_at
-number_at-sound [] r e = absurd (cc)
-number_at-sound (t ∷ ts) r e =
-    let s = step (number_of t.kind) _ r e in
-    let c = if_not (is_some (after_sign ColonColon ts)) (record { literal = s.value; place = t.span }, ts) r s.then in
-    let n = number_of-sound t.kind s.value s.first in
-    subst (λ q. Begins (numeral q.0 ∷ []) (t ∷ ts) q.1 × IsProperNumeral q.0) c.1 ((record { kind = n.0; placed = refl; glued = tt }, refl), n.1)
-
-number_at-complete : (n : Numeral) (ts rest : List Token) → Begins (numeral n ∷ []) ts rest → IsProperNumeral n → after_sign ColonColon rest ≡ None → number_at ts ≡ Some (n, rest)
-unfolding number_at
-number_at-complete n [] rest b p e = absurd b
-number_at-complete n (t ∷ ts) rest b p e =
-    ap (λ k. found_number t ts (number_of k)) b.0.kind ∙ ap (found_number t ts) (not_wider-complete n.literal n.literal.suffix p)
-    ∙ ap (λ o. cond (is_some {T = List Token} o) None (Some (record { literal = n.literal; place = t.span }, ts))) (ap (after_sign ColonColon) b.1 ∙ e)
-    ∙ ap (λ place. Some (record { literal = n.literal; place = place }, ts)) b.0.placed ∙ ap (λ us. Some (n, us)) b.1
-
-number_at-other : (l : Lexeme) (ls : List Lexeme) (ts rest : List Token) → number_of l.kind ≡ None → Begins (l ∷ ls) ts rest → number_at ts ≡ None
-unfolding number_at
-number_at-other l ls [] rest e b = absurd b
-number_at-other l ls (t ∷ ts) rest e b = ap (λ k. found_number t ts (number_of k)) b.0.kind ∙ ap (found_number t ts) e
-
--- a number before colons begins a path
-number_at-colons : (l : Lexeme) (ls : List Lexeme) (ts rest : List Token) → Begins (l ∷ sign ColonColon ∷ ls) ts rest → number_at ts ≡ None
-unfolding number_at
-number_at-colons l ls [] rest b = absurd b
-number_at-colons l ls (t ∷ ts) rest b =
-    let c = Begins-first (sign ColonColon) ls ts rest b.1 in go (number_of t.kind) (ap (λ o. is_some {T = List Token} o) (after_sign-complete ColonColon ts c.mid c.front))
-  where
-    go : (found : Option NumberLiteral) → is_some (after_sign ColonColon ts) ≡ true → found_number t ts found ≡ None
-    go None e = refl
-    go (Some literal) e = cond_true (is_some (after_sign ColonColon ts)) None (Some (record { literal = literal; place = t.span }, ts)) e
+use Rattle.spec_expression_parse.specs.LeafReading.{address_literal_at, opens_bind, quantifier_word_at, quantifier_at, pack_opened}
+use Rattle.leaf_parse.proofs.LeafLemmas.{both_true as both, number_at-other, number_at-path, plain_none}
 
 -- ---- literals
-
-pub plain_literal_at-sound : (ts : List Token) (r : Literal × List Token) → plain_literal_at ts ≡ Some r → Begins (literal_spelling r.0) ts r.1 × IsProperLiteral r.0
-unfolding plain_literal_at
-plain_literal_at-sound ts r e =
-    elim (either (number_at ts) (λ n. Some (number_literal n.0, n.1)) _ r e) [
-      | inl s ↦ let n = number_at-sound ts s.value s.first in subst (λ q. Begins (literal_spelling q.0) ts q.1 × IsProperLiteral q.0) (some_one (number_literal s.value.0, s.value.1) r s.then) n
-      | inr n ↦ elim (either (word_place_at (codes "true") ts) (λ p. Some (Truth p.0 true, p.1)) _ r n.1) [
-        | inl s ↦ subst (λ q. Begins (literal_spelling q.0) ts q.1 × IsProperLiteral q.0) (some_one (Truth s.value.0 true, s.value.1) r s.then) (word_place_at-sound (codes "true") ts s.value s.first, tt)
-        | inr m ↦
-            let s = last (word_place_at (codes "false") ts) (λ p. (Truth p.0 false, p.1)) r m.1 in
-            subst (λ q. Begins (literal_spelling q.0) ts q.1 × IsProperLiteral q.0) s.then (word_place_at-sound (codes "false") ts s.value s.first, tt)
-      ]
-    ]
-
-pub number_literal-complete : (n : Numeral) (ts rest : List Token) → Begins (numeral n ∷ []) ts rest → IsProperNumeral n → after_sign ColonColon rest ≡ None → plain_literal_at ts ≡ Some (number_literal n, rest)
-unfolding plain_literal_at
-number_literal-complete n ts rest b p e = map_or_some (number_at ts) (λ n. Some (number_literal n.0, n.1)) _ (n, rest) (number_at-complete n ts rest b p e)
-
-pub truth_literal-complete : (place : Span) (value : Bool) (ts rest : List Token) → Begins (literal_spelling (Truth place value)) ts rest → plain_literal_at ts ≡ Some (Truth place value, rest)
-unfolding plain_literal_at
-truth_literal-complete place true ts rest b =
-    map_or_none (number_at ts) (λ n. Some (number_literal n.0, n.1)) _ (number_at-other (word (codes "true") (Some place)) [] ts rest refl b)
-    ∙ map_or_some (word_place_at (codes "true") ts) (λ p. Some (Truth p.0 true, p.1)) _ (place, rest) (word_place_at-complete (codes "true") place ts rest b)
-truth_literal-complete place false ts rest b =
-    map_or_none (number_at ts) (λ n. Some (number_literal n.0, n.1)) _ (number_at-other (word (codes "false") (Some place)) [] ts rest refl b)
-    ∙ map_or_none (word_place_at (codes "true") ts) (λ p. Some (Truth p.0 true, p.1)) _ (word_place_at-other (codes "true") (word (codes "false") (Some place)) [] ts rest refl b)
-    ∙ map_some (word_place_at (codes "false") ts) (λ p. (Truth p.0 false, p.1)) (place, rest) (word_place_at-complete (codes "false") place ts rest b)
 
 true_is_keyword : is_keyword (codes "true") ≡ true
 unfolding is_keyword
@@ -152,16 +63,14 @@ path_no_number (member_path i j) ls ts rest b = number_at-other (identifier i) (
 path_no_number (full_path m n) ls ts rest b = from_address m.address m.name n ls b
   where
     from_address : (a : Address) (m n : Identifier) (ls : List Lexeme) → Begins (path_spelling (full_path (record { address = a; name = m }) n) ++ ls) ts rest → number_at ts ≡ None
-    from_address (number_address a) m n ls b = number_at-colons (numeral a) (identifier m ∷ sign ColonColon ∷ identifier n ∷ ls) ts rest b
+    from_address (number_address a) m n ls b = number_at-path (numeral a) (identifier m ∷ sign ColonColon ∷ identifier n ∷ ls) ts rest b
     from_address (name_address i) m n ls b = number_at-other (identifier i) (sign ColonColon ∷ identifier m ∷ sign ColonColon ∷ identifier n ∷ ls) ts rest refl b
 
 -- a path begins with no number and no truth value
 pub path_no_literal : (p : Path) (ls : List Lexeme) (ts rest : List Token) → Begins (path_spelling p ++ ls) ts rest → IsProperPath p → plain_literal_at ts ≡ None
-unfolding plain_literal_at
 path_no_literal p ls ts rest b q =
-    map_or_none (number_at ts) (λ n. Some (number_literal n.0, n.1)) _ (path_no_number p ls ts rest b)
-    ∙ map_or_none (word_place_at (codes "true") ts) (λ p. Some (Truth p.0 true, p.1)) _ (path_no_place (codes "true") p ls ts rest true_is_keyword b q)
-    ∙ ap (option_map (λ p. (Truth p.0 false, p.1))) (path_no_place (codes "false") p ls ts rest false_is_keyword b q)
+    let o = path_opens p ls ts rest b q in
+    plain_none o.lexeme o.others ts rest (path_no_number p ls ts rest b) (opens_no_word (codes "true") o.lexeme.kind true_is_keyword o.opens) (opens_no_word (codes "false") o.lexeme.kind false_is_keyword o.opens) o.begins
 
 pub address_literal_at-sound : (place : Span) (whole ts : List Token) (r : Literal × List Token) → Begins (sign_at place AtSign ∷ []) whole ts → address_literal_at place ts ≡ Some r → Begins (literal_spelling r.0) whole r.1 × IsProperLiteral r.0
 unfolding address_literal_at

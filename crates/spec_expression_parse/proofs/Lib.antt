@@ -1,5 +1,4 @@
 pub mod RepeatLemmas
-pub mod GluedLemmas
 pub mod OperatorLemmas
 pub mod LeafLemmas
 pub mod ShapeLemmas

@@ -22,9 +22,9 @@ use Rattle.token_reading.specs.TokenReading.{Read, is_sign, after_sign}
 use Rattle.token_reading.proofs.Steps.{step, some_one, if_not, bind_some, cond_false, map_or_none, map_or_some}
 use Rattle.token_reading.proofs.BeginLemmas.{Begins-append, Begins-same}
 use Rattle.token_reading.proofs.TokenLemmas.{is_sign-sound, after_sign-other}
-use Rattle.spec_expression_parse.specs.GluedReading.{after_glued}
+use Rattle.leaf_parse.specs.LeafReading.{after_glued}
 use Rattle.spec_expression_parse.specs.OperatorReading.{sign_operator, kind_operator, opens_arguments, lengthened, spec_operator_at}
-use Rattle.spec_expression_parse.proofs.GluedLemmas.{glued, after_glued-sound, after_glued-complete, after_glued-other, after_glued-apart}
+use Rattle.leaf_parse.proofs.LeafLemmas.{glued, after_glued-sound, after_glued-complete, after_glued-other, after_glued-apart}
 
 -- ---- the sign that an operator begins with
 
@@ -281,7 +281,7 @@ operator_not_glued (Common Or) place ls ts rest b = after_glued-other less_sign 
 operator_not_glued (Common And) place ls ts rest b = after_glued-other less_sign (first_lexeme (Common And) place true) (later_lexemes (Common And) ++ ls) ts rest refl b
 operator_not_glued (Common Equal) place ls ts rest b = after_glued-other less_sign (first_lexeme (Common Equal) place true) (later_lexemes (Common Equal) ++ ls) ts rest refl b
 operator_not_glued (Common NotEqual) place ls ts rest b = after_glued-other less_sign (first_lexeme (Common NotEqual) place true) (later_lexemes (Common NotEqual) ++ ls) ts rest refl b
-operator_not_glued (Common Less) place ls ts rest b = after_glued-apart less_sign (Punctuation less_sign) (Some place) ls ts rest b
+operator_not_glued (Common Less) place ls ts rest b = after_glued-apart less_sign (lexeme (Punctuation less_sign) (Some place) (Some false)) ls ts rest refl b
 operator_not_glued (Common LessEqual) place ls ts rest b = after_glued-other less_sign (first_lexeme (Common LessEqual) place true) (later_lexemes (Common LessEqual) ++ ls) ts rest refl b
 operator_not_glued (Common Greater) place ls ts rest b = after_glued-other less_sign (first_lexeme (Common Greater) place true) (later_lexemes (Common Greater) ++ ls) ts rest refl b
 operator_not_glued (Common GreaterEqual) place ls ts rest b = after_glued-other less_sign (first_lexeme (Common GreaterEqual) place true) (later_lexemes (Common GreaterEqual) ++ ls) ts rest refl b

@@ -35,14 +35,14 @@ use Rattle.leaf_parse.specs.TypeReading.{arguments_at}
 use Rattle.leaf_parse.proofs.PathLemmas.{path_at-complete, path_no_sign}
 use Rattle.leaf_parse.proofs.TypeLemmas.{ReadsBackTypes, arguments_at-complete, arguments_spelled, inside_spelling}
 use Rattle.spec_expression_parse.specs.RepeatReading.{repeat_at}
-use Rattle.spec_expression_parse.specs.GluedReading.{after_glued}
+use Rattle.leaf_parse.specs.LeafReading.{after_glued, plain_literal_at}
 use Rattle.spec_expression_parse.specs.OperatorReading.{kind_operator, spec_operator_at}
-use Rattle.spec_expression_parse.specs.LeafReading.{plain_literal_at, address_literal_at, opens_bind, has_postfix, pack_opened}
+use Rattle.spec_expression_parse.specs.LeafReading.{address_literal_at, opens_bind, has_postfix, pack_opened}
 use Rattle.spec_expression_parse.specs.SpecReading.{Reader, call_at, spec_field_at, pack_at, applied_at, path_form, parenthesized_at, plain_term_at, term_at, index_at, postfix_at}
 use Rattle.spec_expression_parse.proofs.RepeatLemmas.{repeat_at-turn}
-use Rattle.spec_expression_parse.proofs.GluedLemmas.{glued, after_glued-complete, after_glued-other}
+use Rattle.leaf_parse.proofs.LeafLemmas.{glued, after_glued-complete, after_glued-other, plain_number, plain_truth}
 use Rattle.spec_expression_parse.proofs.OperatorLemmas.{level_is_some, spec_operator_at-other}
-use Rattle.spec_expression_parse.proofs.LeafLemmas.{number_literal-complete, truth_literal-complete, path_no_literal, address_literal_at-complete, opens_bind-other, pack_opened-complete, pack_opened-none}
+use Rattle.spec_expression_parse.proofs.LeafLemmas.{path_no_literal, address_literal_at-complete, opens_bind-other, pack_opened-complete, pack_opened-none}
 use Rattle.spec_expression_parse.proofs.Lists.{specs_spelled_from, each_proper_spec, filled_specs, listed_specs, fields_spelled_from, each_proper_field, filled_fields, listed_fields}
 use Rattle.spec_expression_parse.proofs.ShapeLemmas.{spec_no_sign, spec_alone, three_behind}
 use Rattle.spec_expression_parse.proofs.JoinLemmas.{Allowed}
@@ -312,9 +312,9 @@ module _ (bound : ℕ) (types : List Token → Read SourceTypeData) (types_compl
 
   literal-complete : (packs : Bool) (l : Literal) (ts rest : List Token) → Begins (literal_spelling l) ts rest → IsProperLiteral l → after_sign ColonColon rest ≡ None → term_at types item packs ts ≡ Some (SpecLiteral l, rest)
   unfolding term_at
-  literal-complete packs (number_literal n) ts rest b p d = plain_literal-complete packs (number_literal n) (numeral n) [] ts rest b refl refl (number_literal-complete n ts rest b p d)
-  literal-complete packs (Truth place true) ts rest b p d = plain_literal-complete packs (Truth place true) (word (codes "true") (Some place)) [] ts rest b refl refl (truth_literal-complete place true ts rest b)
-  literal-complete packs (Truth place false) ts rest b p d = plain_literal-complete packs (Truth place false) (word (codes "false") (Some place)) [] ts rest b refl refl (truth_literal-complete place false ts rest b)
+  literal-complete packs (number_literal n) ts rest b p d = plain_literal-complete packs (number_literal n) (numeral n) [] ts rest b refl refl (plain_number n ts rest b p d)
+  literal-complete packs (Truth place true) ts rest b p d = plain_literal-complete packs (Truth place true) (word (codes "true") (Some place)) [] ts rest b refl refl (plain_truth place true ts rest b)
+  literal-complete packs (Truth place false) ts rest b p d = plain_literal-complete packs (Truth place false) (word (codes "false") (Some place)) [] ts rest b refl refl (plain_truth place false ts rest b)
   literal-complete packs (address_literal place address) ts rest b p d =
       let s = Begins-first (sign_at place AtSign) (address_spelling address) ts rest b in
       map_or_none (sign_place_at LeftParenthesis ts) (λ p. parenthesized_at item p.0 p.1) _ (sign_place_at-other LeftParenthesis (sign_at place AtSign) (address_spelling address) ts rest refl b)

@@ -24,11 +24,11 @@ use Rattle.leaf_parse.specs.PathReading.{path_at}
 use Rattle.leaf_parse.specs.TypeReading.{arguments_at}
 use Rattle.leaf_parse.proofs.PathLemmas.{path_at-sound}
 use Rattle.leaf_parse.proofs.TypeLemmas.{ReadsTypes, arguments_at-sound, arguments_spelled, inside_spelling}
-use Rattle.spec_expression_parse.specs.GluedReading.{after_glued}
-use Rattle.spec_expression_parse.specs.LeafReading.{plain_literal_at, address_literal_at, pack_opened}
+use Rattle.leaf_parse.specs.LeafReading.{after_glued, plain_literal_at}
+use Rattle.spec_expression_parse.specs.LeafReading.{address_literal_at, pack_opened}
 use Rattle.spec_expression_parse.specs.SpecReading.{Reader, call_at, spec_field_at, pack_at, bare_path, applied_at, path_form, parenthesized_at, plain_term_at, term_at, index_at, postfix_at}
-use Rattle.spec_expression_parse.proofs.GluedLemmas.{glued, after_glued-sound}
-use Rattle.spec_expression_parse.proofs.LeafLemmas.{plain_literal_at-sound, address_literal_at-sound, pack_opened-sound}
+use Rattle.leaf_parse.proofs.LeafLemmas.{glued, after_glued-sound, plain_literal_at-sound}
+use Rattle.spec_expression_parse.proofs.LeafLemmas.{address_literal_at-sound, pack_opened-sound}
 use Rattle.spec_expression_parse.proofs.Lists.{specs_spelled, proper_specs, some_specs, fields_spelled, proper_fields, some_fields}
 use Rattle.spec_expression_parse.proofs.JoinLemmas.{Allowed, allowed}
 

@@ -21,29 +21,6 @@ use Rattle.leaf_parse.specs.PathReading.{address_at}
 
 -- ---- literals
 
--- a number whose type is not wider than u128
-abbrev pub not_wider : NumberLiteral → NumberSuffix → Option NumberLiteral
-not_wider literal U256 = None
-not_wider literal _ = Some literal
-
-abbrev pub number_of : TokenKind → Option NumberLiteral
-number_of (Number literal) = not_wider literal literal.suffix
-number_of (Word name) = None
-number_of (ByteString text) = None
-number_of (Punctuation sign) = None
-
--- a number that begins no path
-unfoldable pub number_at : List Token → Read Numeral
-number_at [] = None
-number_at (t ∷ ts) =
-    option_and_then (λ literal. if is_some (after_sign ColonColon ts) then None else Some (record { literal = literal; place = t.span }, ts)) (number_of t.kind)
-
--- a number or a truth value
-unfoldable pub plain_literal_at : List Token → Read Literal
-plain_literal_at ts =
-    option_map_or (λ n. Some (number_literal n.0, n.1)) (number_at ts)
-    (option_map_or (λ p. Some (Truth p.0 true, p.1)) (word_place_at (codes "true") ts) (option_map (λ p. (Truth p.0 false, p.1)) (word_place_at (codes "false") ts)))
-
 -- an address behind its `@`
 unfoldable pub address_literal_at : Span → List Token → Read Literal
 address_literal_at place ts = option_map (λ a. (Address place a.0, a.1)) (address_at ts)

@@ -1,13 +1,13 @@
 -- How the operators of spec expressions are read, and what they join.
 use Rattle.std.specs.Prelude.{Bool, true, false, ◌&&◌, if◌then◌else◌, List, [], ◌∷◌, Option, Some, None, option_and_then}
-use Rattle.std.specs.Option.{option_map_or}
+use Rattle.std.specs.Option.{option_map, option_map_or}
 use Rattle.pv_base.specs.declared.span.Span.{Span}
 use Rattle.move_tokens.specs.declared.token.Token.{Token}
 use Rattle.move_tokens.specs.declared.token.TokenKind.{TokenKind}
 use Rattle.move_tokens.specs.declared.token.TokenKind.TheVariants.{Word, Number, ByteString, Punctuation}
 use Rattle.move_tokens.specs.declared.token.Punctuation.{Punctuation as Sign}
-use Rattle.move_tokens.specs.declared.token.Punctuation.TheVariants.{PeriodPeriod, EqualEqual, EqualEqualGreater, ExclaimEqual, Less as less_sign, LessEqual as less_equal_sign, LessEqualEqualGreater, LessLess, Greater as greater_sign, GreaterEqual as greater_equal_sign, Plus, Minus, Star, Slash, Percent, Ampersand, AmpersandAmpersand, Pipe, PipePipe, Caret}
-use Rattle.move_tree.specs.declared.operator.BinaryOperator.TheVariants.{Or, And, Equal, NotEqual, Less, LessEqual, Greater, GreaterEqual, BitOr, BitXor, BitAnd, ShiftLeft, ShiftRight, Add, Subtract, Multiply, Divide, Remainder}
+use Rattle.move_tokens.specs.declared.token.Punctuation.TheVariants.{PeriodPeriod, EqualEqualGreater, LessEqualEqualGreater, Greater as greater_sign}
+use Rattle.move_tree.specs.declared.operator.BinaryOperator.TheVariants.{Less, Greater, ShiftLeft, ShiftRight}
 use Rattle.spec_tree.specs.declared.spec_operator.SpecOperator.{SpecOperator}
 use Rattle.spec_tree.specs.declared.spec_operator.SpecOperator.TheVariants.{Equivalent, Implies, Range, Common}
 use Rattle.spec_tree.specs.SpecExpressionData.{SpecExpressionData, SpecBinary}
@@ -15,31 +15,15 @@ use Rattle.spec_tree.specs.SpecExpressionSpelling.{ends_in_path}
 use Rattle.spec_tree.specs.ProperSpecExpressions.{spec_operator_level, right_level}
 use Rattle.token_reading.specs.TokenReading.{Read}
 use Rattle.token_reading.specs.ChainReading.{Joints}
-use Rattle.spec_expression_parse.specs.GluedReading.{after_glued}
+use Rattle.leaf_parse.specs.LeafReading.{after_glued}
+use Rattle.leaf_parse.specs.OperatorReading.{binary_of_sign}
 
 -- the operator that begins with a sign: of `>` the comparison
 abbrev pub sign_operator : Sign → Option SpecOperator
 sign_operator LessEqualEqualGreater = Some Equivalent
 sign_operator EqualEqualGreater = Some Implies
 sign_operator PeriodPeriod = Some Range
-sign_operator PipePipe = Some (Common Or)
-sign_operator AmpersandAmpersand = Some (Common And)
-sign_operator EqualEqual = Some (Common Equal)
-sign_operator ExclaimEqual = Some (Common NotEqual)
-sign_operator less_sign = Some (Common Less)
-sign_operator less_equal_sign = Some (Common LessEqual)
-sign_operator greater_sign = Some (Common Greater)
-sign_operator greater_equal_sign = Some (Common GreaterEqual)
-sign_operator Pipe = Some (Common BitOr)
-sign_operator Caret = Some (Common BitXor)
-sign_operator Ampersand = Some (Common BitAnd)
-sign_operator LessLess = Some (Common ShiftLeft)
-sign_operator Plus = Some (Common Add)
-sign_operator Minus = Some (Common Subtract)
-sign_operator Star = Some (Common Multiply)
-sign_operator Slash = Some (Common Divide)
-sign_operator Percent = Some (Common Remainder)
-sign_operator _ = None
+sign_operator sign = option_map Common (binary_of_sign sign)
 
 abbrev pub kind_operator : TokenKind → Option SpecOperator
 kind_operator (Punctuation sign) = sign_operator sign

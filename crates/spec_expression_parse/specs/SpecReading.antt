@@ -17,9 +17,9 @@ use Rattle.token_reading.specs.ChainReading.{whole_chain_at}
 use Rattle.leaf_parse.specs.PathReading.{path_at}
 use Rattle.leaf_parse.specs.TypeReading.{arguments_at, type_at}
 use Rattle.spec_expression_parse.specs.RepeatReading.{whole_repeat_at}
-use Rattle.spec_expression_parse.specs.GluedReading.{after_glued}
+use Rattle.leaf_parse.specs.LeafReading.{after_glued, plain_literal_at}
 use Rattle.spec_expression_parse.specs.OperatorReading.{spec_joints}
-use Rattle.spec_expression_parse.specs.LeafReading.{plain_literal_at, address_literal_at, quantifier_at, has_postfix, pack_opened}
+use Rattle.spec_expression_parse.specs.LeafReading.{address_literal_at, quantifier_at, has_postfix, pack_opened}
 
 -- readers of spec expressions, and of those that stand in brackets
 abbrev pub Reader : Type 0

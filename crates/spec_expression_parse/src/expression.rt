@@ -11,21 +11,26 @@ ghost use Rattle.spec_expression_parse.specs.LeafReading.{has_postfix};
 ghost use Rattle.spec_expression_parse.specs.SpecReading.{applied_at, bare_path, bind_at, binds_at, call_at, condition_at, has_trigger, if_at, operand_at, operated_at, pack_at, path_form, plain_term_at, postfix_at, quantified_at, spec_at, spec_field_at, spec_form, term_at, trigger_at};
 
 use crate::build::{conditional, field_of, item_of, joined, negated, parenthesized, quantified};
-use crate::leaf::{has_postfix, pack_opened, read_address_literal, read_plain_literal, read_quantifier, separator_of_binds};
-use crate::operator::{next_operator, skip_glued};
+use crate::leaf::{
+    has_postfix, pack_opened, read_address_literal, read_quantifier, separator_of_binds,
+};
+use crate::operator::next_operator;
+use leaf_parse::leaf::{read_plain_literal, skip_glued};
+use leaf_parse::path::read_path_of_term;
+use leaf_parse::types::{read_arguments, read_type};
+use move_tokens::token::{Punctuation, Token};
 use move_tree::path::Path;
 use move_tree::types::TypeArguments;
 use pv_base::span::Span;
 use spec_tree::level::right_level;
 use spec_tree::spec_expression::{Bind, Domain, SpecExpression, SpecField, SpecNode, Trigger};
 use spec_tree::spec_operator::Quantifier;
-use move_tokens::token::{Punctuation, Token};
 use std::alloc::Global;
 use token_reading::fault::ReadFault;
 use token_reading::lists::{Separator, separator_behind};
-use token_reading::tokens::{expect_sign, expect_word, place_of_sign, place_of_word, read_identifier, skip_sign};
-use leaf_parse::path::read_path_of_term;
-use leaf_parse::types::{read_arguments, read_type};
+use token_reading::tokens::{
+    expect_sign, expect_word, place_of_sign, place_of_word, read_identifier, skip_sign,
+};
 
 /// The level of what stands behind a `!`.
 const UNARY_LEVEL: usize = 13;

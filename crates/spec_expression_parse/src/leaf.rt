@@ -1,84 +1,24 @@
 //! The parts of a spec expression that hold no other: literals, and the words of quantifiers.
 
-ghost use Rattle.std.specs.Prelude.{◌≡◌, None, Some, MatchResult, IfOk};
+ghost use Rattle.std.specs.Prelude.{◌≡◌, None, Some, MatchResult};
 ghost use Rattle.std.specs.Option.{option_map};
-ghost use Rattle.move_tree.specs.ProperTypes.{last_name};
 ghost use Rattle.token_reading.specs.ReadFault.{IfNoTree};
 ghost use Rattle.token_reading.specs.ListReading.{separator_at};
-ghost use Rattle.spec_expression_parse.specs.LeafReading.{address_literal_at, has_postfix, number_at, number_of, opens_bind, pack_opened, plain_literal_at, quantifier_at, quantifier_word_at};
+ghost use Rattle.spec_expression_parse.specs.LeafReading.{address_literal_at, has_postfix, opens_bind, pack_opened, quantifier_at, quantifier_word_at};
 ghost use Rattle.spec_expression_parse.specs.SpecReading.{binds_end};
 
-use move_tree::lexeme::Numeral;
+use leaf_parse::path::{last_name, read_address};
+use move_tokens::token::{Punctuation, Token, TokenKind};
 use move_tree::literal::Literal;
 use move_tree::path::Path;
-use pv_base::memory::NoMemory;
 use pv_base::span::Span;
 use spec_tree::spec_operator::Quantifier;
-use move_tokens::token::{NumberLiteral, NumberSuffix, Punctuation, Token, TokenKind};
 use std::alloc::Global;
 use token_reading::fault::ReadFault;
 use token_reading::lists::Separator;
-use token_reading::tokens::{begins_capital, begins_with, expect_sign, is_keyword, place_of_word, skip_sign, skip_word};
-use leaf_parse::path::{copy_number, read_address};
-
-/// The number that a token is, where its type is not wider than `u128`.
-fn number_of(kind: &TokenKind) -> Option<&NumberLiteral>
-    ensures { option_map (λ literal. literal.now) result ≡ number_of kind.now }
-{
-    match kind {
-        TokenKind::Number(literal) if literal.suffix != NumberSuffix::U256 => Some(literal),
-        _ => None,
-    }
-}
-
-/// A number that begins no path, where one stands here, and the tokens behind it.
-#[tactic(auto, unfolding(crate::specs::LeafReading::number_at))]
-fn read_number(alloc: Global, tokens: &[Token]) -> Result<Option<(Numeral, &[Token])>, NoMemory>
-    ensures { IfOk result (λ read. option_map (λ r. (r.0, r.1.now)) read ≡ number_at tokens.now) }
-{
-    let Some((token, rest)) = tokens.split_first() else {
-        return Ok(None);
-    };
-    match number_of(&token.kind) {
-        Some(literal) => {
-            if begins_with(rest, Punctuation::ColonColon) {
-                return Ok(None);
-            }
-            let number = Numeral {
-                literal: copy_number(alloc, literal)?,
-                place: token.span,
-            };
-            Ok(Some((number, rest)))
-        }
-        None => Ok(None),
-    }
-}
-
-/// A number or a truth value, where one stands here, and the tokens behind it.
-#[tactic(auto, unfolding(crate::specs::LeafReading::plain_literal_at))]
-pub fn read_plain_literal(
-    alloc: Global,
-    tokens: &[Token],
-) -> Result<Option<(Literal, &[Token])>, NoMemory>
-    ensures { IfOk result (λ read. option_map (λ r. (r.0, r.1.now)) read ≡ plain_literal_at tokens.now) }
-{
-    if let Some((number, rest)) = read_number(alloc, tokens)? {
-        return Ok(Some((Literal::Number(number), rest)));
-    }
-    if let Some((place, rest)) = place_of_word(tokens, b"true") {
-        return Ok(Some((Literal::Truth { place, value: true }, rest)));
-    }
-    match place_of_word(tokens, b"false") {
-        Some((place, rest)) => Ok(Some((
-            Literal::Truth {
-                place,
-                value: false,
-            },
-            rest,
-        ))),
-        None => Ok(None),
-    }
-}
+use token_reading::tokens::{
+    begins_capital, begins_with, expect_sign, is_keyword, place_of_word, skip_sign, skip_word,
+};
 
 /// An address behind its `@`, and the tokens behind it.
 #[tactic(auto, unfolding(crate::specs::LeafReading::address_literal_at))]
@@ -141,17 +81,6 @@ pub fn has_postfix(tokens: &[Token]) -> bool
     ensures { result ≡ has_postfix tokens.now }
 {
     begins_with(tokens, Punctuation::Period) || begins_with(tokens, Punctuation::LeftBracket)
-}
-
-/// The last name of a path.
-fn last_name(path: &Path) -> &[u8]
-    ensures { result.now ≡ last_name path.now }
-{
-    match path {
-        Path::Name(name) => name.text.as_slice(),
-        Path::Member(_, name) => name.text.as_slice(),
-        Path::Full(_, name) => name.text.as_slice(),
-    }
 }
 
 /// The tokens behind the `{` of a pack, where a pack may stand and one stands behind this path.

@@ -3,46 +3,31 @@
 ghost use Rattle.std.specs.Prelude.{◌≡◌, None, Some};
 ghost use Rattle.std.specs.Option.{option_map};
 ghost use Rattle.token_reading.specs.ChainReading.{next_operator};
-ghost use Rattle.spec_expression_parse.specs.GluedReading.{after_glued};
 ghost use Rattle.spec_expression_parse.specs.OperatorReading.{kind_operator, lengthened, opens_arguments, sign_operator, spec_joints, spec_operator_at};
 
+use leaf_parse::leaf::skip_glued;
+use leaf_parse::operator::binary_of_sign;
+use move_tokens::token::{Punctuation, Token, TokenKind};
 use move_tree::operator::BinaryOperator;
 use pv_base::span::Span;
+use spec_tree::ending::is_path_last;
 use spec_tree::level::spec_operator_level;
 use spec_tree::spec_expression::SpecExpression;
 use spec_tree::spec_operator::SpecOperator;
-use spec_tree::ending::is_path_last;
-use move_tokens::token::{Punctuation, Token, TokenKind};
-use token_reading::tokens::is_sign;
 
 /// The operator that begins with a sign: of `>` the comparison.
 fn sign_operator(sign: Punctuation) -> Option<SpecOperator>
     ensures { result ≡ sign_operator sign }
 {
-    let common = match sign {
-        Punctuation::LessEqualEqualGreater => return Some(SpecOperator::Equivalent),
-        Punctuation::EqualEqualGreater => return Some(SpecOperator::Implies),
-        Punctuation::PeriodPeriod => return Some(SpecOperator::Range),
-        Punctuation::PipePipe => BinaryOperator::Or,
-        Punctuation::AmpersandAmpersand => BinaryOperator::And,
-        Punctuation::EqualEqual => BinaryOperator::Equal,
-        Punctuation::ExclaimEqual => BinaryOperator::NotEqual,
-        Punctuation::Less => BinaryOperator::Less,
-        Punctuation::LessEqual => BinaryOperator::LessEqual,
-        Punctuation::Greater => BinaryOperator::Greater,
-        Punctuation::GreaterEqual => BinaryOperator::GreaterEqual,
-        Punctuation::Pipe => BinaryOperator::BitOr,
-        Punctuation::Caret => BinaryOperator::BitXor,
-        Punctuation::Ampersand => BinaryOperator::BitAnd,
-        Punctuation::LessLess => BinaryOperator::ShiftLeft,
-        Punctuation::Plus => BinaryOperator::Add,
-        Punctuation::Minus => BinaryOperator::Subtract,
-        Punctuation::Star => BinaryOperator::Multiply,
-        Punctuation::Slash => BinaryOperator::Divide,
-        Punctuation::Percent => BinaryOperator::Remainder,
-        _ => return None,
-    };
-    Some(SpecOperator::Common(common))
+    match sign {
+        Punctuation::LessEqualEqualGreater => Some(SpecOperator::Equivalent),
+        Punctuation::EqualEqualGreater => Some(SpecOperator::Implies),
+        Punctuation::PeriodPeriod => Some(SpecOperator::Range),
+        _ => match binary_of_sign(sign) {
+            Some(operator) => Some(SpecOperator::Common(operator)),
+            None => None,
+        },
+    }
 }
 
 /// The operator that begins with a token.
@@ -62,19 +47,6 @@ fn opens_arguments(operator: SpecOperator) -> bool
     match operator {
         SpecOperator::Common(BinaryOperator::Less | BinaryOperator::ShiftLeft) => true,
         _ => false,
-    }
-}
-
-/// The tokens behind this sign, where it is glued to the token before it.
-#[tactic(auto, unfolding(crate::specs::GluedReading::after_glued))]
-pub fn skip_glued(tokens: &[Token], sign: Punctuation) -> Option<&[Token]>
-    ensures { option_map (λ rest. rest.now) result ≡ after_glued sign tokens.now }
-{
-    let (token, rest) = tokens.split_first()?;
-    if is_sign(&token.kind, sign) && token.glued {
-        Some(rest)
-    } else {
-        None
     }
 }
 

@@ -16,7 +16,8 @@ use Rattle.token_reading.specs.declared.explain.ParseFault.{ParseFault}
 use Rattle.token_reading.specs.declared.explain.ParseFault.TheVariants.{Grammar, LeftOut, NoMemory}
 use Rattle.token_reading.specs.ParseFault.{Explains}
 use Rattle.spec_parse.specs.WholeBlockReading.{whole_at}
-use Rattle.spec_parse.specs.DenotedBlocks.{IsSpecBlockOf, AreOfNoSpecBlock, IsCause}
+use Rattle.spec_parse.specs.DenotedBlocks.{IsCause}
+use Rattle.clause_tree.specs.Denoted.{IsSpecBlockOf, AreOfNoSpecBlock}
 use Rattle.spec_parse.proofs.WholeBlockLemmas.{whole_at-sound, whole_at-complete}
 
 pub read_is_spec_block : (slot : Slot) (n : ℕ) (ts : List Token) (e : Spec) → whole_at slot n ts ≡ Some e → IsSpecBlockOf slot e ts

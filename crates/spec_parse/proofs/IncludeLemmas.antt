@@ -37,7 +37,7 @@ use Rattle.leaf_parse.specs.PathReading.{path_at}
 use Rattle.leaf_parse.specs.TypeReading.{arguments_at, type_at}
 use Rattle.leaf_parse.proofs.PathLemmas.{path_at-sound, path_at-complete}
 use Rattle.leaf_parse.proofs.TypeLemmas.{arguments_spelled, inside_spelling, arguments_at-sound, arguments_at-complete, type_at-sound, type_at-complete, no_colons}
-use Rattle.pv_parse.proofs.BeforeLists.{filled_is_any}
+use Rattle.declaration_parse.proofs.BeforeLists.{filled_is_any}
 use Rattle.spec_expression_parse.specs.SpecReading.{spec_field_at, spec_at}
 use Rattle.spec_expression_parse.proofs.Lists.{specs_spelled, fields_spelled, proper_fields}
 use Rattle.spec_expression_parse.proofs.ShapeLemmas.{spec_no_sign, spec_alone}

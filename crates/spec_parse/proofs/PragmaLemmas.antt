@@ -29,8 +29,9 @@ use Rattle.token_reading.proofs.Steps.{step, last, some_one, either, either_read
 use Rattle.token_reading.proofs.BeginLemmas.{Begins-append, Begins-first, Begins-same}
 use Rattle.token_reading.proofs.TokenLemmas.{is_word-sound, after_sign-sound, after_sign-complete, after_sign-other, identifier_at-sound, identifier_at-complete}
 use Rattle.token_reading.proofs.ListLemmas.{some_items_at-sound, some_items_at-complete}
-use Rattle.pv_parse.proofs.BeforeLists.{filled_is_any}
-use Rattle.spec_expression_parse.specs.LeafReading.{not_wider, number_of}
+use Rattle.declaration_parse.proofs.BeforeLists.{filled_is_any}
+use Rattle.leaf_parse.specs.LeafReading.{fitting_number_of}
+use Rattle.leaf_parse.proofs.LeafLemmas.{fitting-complete, fitting_number_of-sound}
 use Rattle.spec_parse.specs.ClauseReading.{value_of, value_at, setting_at, pragma_at, pragmas_at}
 
 -- ---- values
@@ -47,30 +48,6 @@ value_spelled : (value : PragmaValue) → pragma_value_spelling (Some value) ≡
 value_spelled (truth_value place value) = refl
 value_spelled (number_value n) = refl
 
-not_wider-sound : (literal : NumberLiteral) (suffix : NumberSuffix) (l : NumberLiteral) → not_wider literal suffix ≡ Some l → (literal ≡ l) × (suffix ≢ U256)
-not_wider-sound literal Absent l e = (some_one literal l e, λ h. cc)
-not_wider-sound literal U8 l e = (some_one literal l e, λ h. cc)
-not_wider-sound literal U16 l e = (some_one literal l e, λ h. cc)
-not_wider-sound literal U32 l e = (some_one literal l e, λ h. cc)
-not_wider-sound literal U64 l e = (some_one literal l e, λ h. cc)
-not_wider-sound literal U128 l e = (some_one literal l e, λ h. cc)
-not_wider-sound literal U256 l e = absurd (cc)
-
-not_wider-complete : (literal : NumberLiteral) (suffix : NumberSuffix) → suffix ≢ U256 → not_wider literal suffix ≡ Some literal
-not_wider-complete literal Absent h = refl
-not_wider-complete literal U8 h = refl
-not_wider-complete literal U16 h = refl
-not_wider-complete literal U32 h = refl
-not_wider-complete literal U64 h = refl
-not_wider-complete literal U128 h = refl
-not_wider-complete literal U256 h = absurd (h refl)
-
-number_of-sound : (kind : TokenKind) (l : NumberLiteral) → number_of kind ≡ Some l → (kind ≡ Number l) × (l.suffix ≢ U256)
-number_of-sound (Number literal) l e = let s = not_wider-sound literal literal.suffix l e in (ap Number s.0, subst (λ m. m.suffix ≢ U256) s.0 s.1)
-number_of-sound (Word name) l e = absurd (cc)
-number_of-sound (ByteString text) l e = absurd (cc)
-number_of-sound (Punctuation s) l e = absurd (cc)
-
 -- a token that is spelled so
 record Spells (t : Token) (value : PragmaValue) : Type 0 where
   pub spelled : (ts : List Token) → Begins (value_spelling value) (t ∷ ts) ts
@@ -84,8 +61,8 @@ value_of-sound t value e =
       | inr h ↦ elim (either_read (is_word (codes "false") t.kind) _ _ value h.1) [
         | inl h ↦ subst (Spells t) (some_one (truth_value t.span false) value h.1) (record { spelled = λ ts. (record { kind = is_word-sound (codes "false") t.kind h.0; placed = refl; glued = tt }, refl); proper = tt })
         | inr h ↦
-            let l = last (number_of t.kind) (λ literal. number_value (record { literal = literal; place = t.span })) value h.1 in
-            let n = number_of-sound t.kind l.value l.first in
+            let l = last (fitting_number_of t.kind) (λ literal. number_value (record { literal = literal; place = t.span })) value h.1 in
+            let n = fitting_number_of-sound t.kind l.value l.first in
             subst (Spells t) l.then (record { spelled = λ ts. (record { kind = n.0; placed = refl; glued = tt }, refl); proper = n.1 })
       ]
     ]
@@ -101,10 +78,10 @@ value_at-sound (t ∷ ts) r e =
 -- the value of a token, by its kind and place
 abbrev valued : TokenKind → Span → Option PragmaValue
 valued kind place =
-    cond (is_word (codes "true") kind) (Some (truth_value place true)) (cond (is_word (codes "false") kind) (Some (truth_value place false)) (option_map (λ literal. number_value (record { literal = literal; place = place })) (number_of kind)))
+    cond (is_word (codes "true") kind) (Some (truth_value place true)) (cond (is_word (codes "false") kind) (Some (truth_value place false)) (option_map (λ literal. number_value (record { literal = literal; place = place })) (fitting_number_of kind)))
 
 valued-number : (l : NumberLiteral) (place : Span) → l.suffix ≢ U256 → valued (Number l) place ≡ Some (number_value (record { literal = l; place = place }))
-valued-number l place p = ap (option_map (λ literal. number_value (record { literal = literal; place = place }))) (not_wider-complete l l.suffix p)
+valued-number l place p = ap (option_map (λ literal. number_value (record { literal = literal; place = place }))) (fitting-complete l l.suffix p)
 
 value_at-valued : (value : PragmaValue) (kind : TokenKind) (place : Span) (ts rest : List Token) → valued kind place ≡ Some value → Begins (record { kind = kind; place = Some place; glued = None } ∷ []) ts rest → value_at ts ≡ Some (value, rest)
 unfolding value_at value_of

@@ -30,10 +30,10 @@ use Rattle.token_reading.proofs.BeginLemmas.{Begins-append, Begins-split, Begins
 use Rattle.token_reading.proofs.TokenLemmas.{begins_capital-sound, begins_capital-complete, after_sign-sound, after_sign-complete, after_sign-other, after_word-sound, after_word-complete, word_place_at-sound, word_place_at-complete, identifier_at-sound, identifier_at-complete}
 use Rattle.leaf_parse.specs.TypeReading.{type_at}
 use Rattle.leaf_parse.proofs.TypeLemmas.{type_at-sound, type_at-complete}
-use Rattle.pv_parse.specs.ParameterReading.{parameters_at}
-use Rattle.pv_parse.specs.TypedNameReading.{inputs_at}
-use Rattle.pv_parse.proofs.ParameterLemmas.{parameters_at-sound, parameters_at-complete}
-use Rattle.pv_parse.proofs.TypedNameLemmas.{inputs_at-sound, inputs_at-complete}
+use Rattle.declaration_parse.specs.ParameterReading.{parameters_at}
+use Rattle.declaration_parse.specs.TypedNameReading.{inputs_at}
+use Rattle.declaration_parse.proofs.ParameterLemmas.{parameters_at-sound, parameters_at-complete}
+use Rattle.declaration_parse.proofs.TypedNameLemmas.{inputs_at-sound, inputs_at-complete}
 use Rattle.spec_expression_parse.specs.SpecReading.{spec_at}
 use Rattle.spec_expression_parse.proofs.ShapeLemmas.{three_behind}
 use Rattle.spec_expression_parse.proofs.TermComplete.{sign_ends}

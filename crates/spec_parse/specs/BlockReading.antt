@@ -9,7 +9,7 @@ use Rattle.clause_tree.specs.declared.clause.Clause.TheVariants.{Pragma, Require
 use Rattle.clause_tree.specs.declared.slot.Slot.{Slot}
 use Rattle.clause_tree.specs.declared.slot.Slot.TheVariants.{Function, Struct, Module, Schema, SpecFunction, Loop}
 use Rattle.token_reading.specs.TokenReading.{Read, after_sign}
-use Rattle.pv_parse.specs.RepeatReading.{repeat_at}
+use Rattle.token_reading.specs.RepeatReading.{repeat_at}
 use Rattle.spec_parse.specs.ClauseReading.{clause_at}
 
 abbrev pub in_function : Clause → Bool

@@ -19,7 +19,7 @@ use Rattle.token_reading.specs.TokenReading.{Read, is_sign, is_word, after_sign,
 use Rattle.token_reading.specs.ListReading.{some_items_at, comma_list_at}
 use Rattle.leaf_parse.specs.PathReading.{path_at}
 use Rattle.leaf_parse.specs.TypeReading.{arguments_at, type_at}
-use Rattle.spec_expression_parse.specs.LeafReading.{number_of}
+use Rattle.leaf_parse.specs.LeafReading.{fitting_number_of}
 use Rattle.spec_expression_parse.specs.SpecReading.{spec_field_at, spec_at}
 use Rattle.spec_parse.specs.declared.words.ClauseWord.{ClauseWord}
 use Rattle.spec_parse.specs.declared.words.ClauseWord.TheVariants.{Pragma as pragma_word, Requires as requires_word, Ensures as ensures_word, AbortsIf as aborts_if_word, Modifies as modifies_word, Invariant as invariant_word, Let as let_word, Include as include_word}
@@ -75,7 +75,7 @@ unfoldable pub value_of : Token → Option PragmaValue
 value_of t =
     if is_word (codes "true") t.kind then Some (truth_value t.span true)
     else if is_word (codes "false") t.kind then Some (truth_value t.span false)
-    else option_map (λ literal. number_value (record { literal = literal; place = t.span })) (number_of t.kind)
+    else option_map (λ literal. number_value (record { literal = literal; place = t.span })) (fitting_number_of t.kind)
 
 unfoldable pub value_at : List Token → Read PragmaValue
 value_at [] = None

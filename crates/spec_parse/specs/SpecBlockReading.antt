@@ -12,8 +12,8 @@ use Rattle.clause_tree.specs.declared.clause.Spec.{Spec}
 use Rattle.clause_tree.specs.declared.clause.Spec.TheVariants.{Module as module_spec, Named as named_spec, Schema as schema_spec, Function as function_spec, Loop as loop_spec}
 use Rattle.token_reading.specs.TokenReading.{Read, begins_capital, after_sign, after_word, word_place_at, identifier_at}
 use Rattle.leaf_parse.specs.TypeReading.{type_at}
-use Rattle.pv_parse.specs.ParameterReading.{parameters_at}
-use Rattle.pv_parse.specs.TypedNameReading.{inputs_at}
+use Rattle.declaration_parse.specs.ParameterReading.{parameters_at}
+use Rattle.declaration_parse.specs.TypedNameReading.{inputs_at}
 use Rattle.spec_expression_parse.specs.SpecReading.{spec_at}
 use Rattle.spec_parse.specs.BlockReading.{block_at}
 

@@ -11,12 +11,12 @@ use crate::targets::read_modifies;
 use crate::words::{ClauseWord, clause_word};
 use clause_tree::clause::Clause;
 use file_tree::member::TypedName;
-use pv_base::span::Span;
+use leaf_parse::types::read_type;
 use move_tokens::token::{Punctuation, Token, TokenKind};
+use pv_base::span::Span;
 use std::alloc::Global;
 use token_reading::fault::ReadFault;
 use token_reading::tokens::{begins_with, expect_sign, is_keyword, read_identifier};
-use leaf_parse::types::read_type;
 
 /// Whether a variable of a schema stands here: a name before a colon.
 #[tactic(auto, unfolding(crate::specs::ClauseReading::opens_variable, token_reading::specs::TokenReading::identifier_at))]

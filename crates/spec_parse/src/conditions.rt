@@ -6,10 +6,10 @@ ghost use Rattle.spec_parse.specs.ClauseReading.{aborts_if_at, condition_at, ens
 
 use crate::words::{skip_post, skip_update};
 use clause_tree::clause::{AbortCode, Clause};
+use move_tokens::token::{Punctuation, Token};
 use pv_base::span::Span;
 use spec_expression_parse::expression::read_spec_expression;
 use spec_tree::spec_expression::SpecExpression;
-use move_tokens::token::{Punctuation, Token};
 use std::alloc::Global;
 use token_reading::fault::ReadFault;
 use token_reading::tokens::{expect_sign, read_identifier};

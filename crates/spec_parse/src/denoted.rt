@@ -9,11 +9,11 @@ ghost use Rattle.token_reading.specs.ReadFault.{IfNoTree};
 ghost use Rattle.spec_parse.specs.Denoted.{IsSpecExpressionOf, IsCause};
 ghost use Rattle.spec_parse.specs.WholeReading.{whole_at};
 
-use token_reading::explain::{ParseFault, explain};
+use move_tokens::token::{Token, Tokens};
 use spec_expression_parse::expression::read_spec_expression;
 use spec_tree::spec_expression::SpecExpression;
-use move_tokens::token::{Token, Tokens};
 use std::alloc::Global;
+use token_reading::explain::{ParseFault, explain};
 use token_reading::fault::ReadFault;
 
 /// The spec expression that the tokens denote: they spell it, and it is one that the grammar has.

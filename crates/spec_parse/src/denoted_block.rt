@@ -7,15 +7,16 @@ ghost use Rattle.clause_tree.specs.declared.clause.Spec.{Spec};
 ghost use Rattle.clause_tree.specs.ClauseSpelling.{spec_tree_spelling};
 ghost use Rattle.clause_tree.specs.ProperClauses.{IsProperBlock};
 ghost use Rattle.token_reading.specs.ReadFault.{IfNoTree};
-ghost use Rattle.spec_parse.specs.DenotedBlocks.{IsSpecBlockOf, IsCause};
+ghost use Rattle.spec_parse.specs.DenotedBlocks.{IsCause};
+ghost use Rattle.clause_tree.specs.Denoted.{IsSpecBlockOf};
 ghost use Rattle.spec_parse.specs.WholeBlockReading.{whole_at};
 
 use crate::spec_block::read_spec_block;
 use clause_tree::clause::Spec as SpecBlock;
 use clause_tree::slot::Slot;
-use token_reading::explain::{ParseFault, explain};
 use move_tokens::token::{Token, Tokens};
 use std::alloc::Global;
+use token_reading::explain::{ParseFault, explain};
 use token_reading::fault::ReadFault;
 
 /// The spec block of this slot that the tokens denote: they spell it, and it is one that the grammar has

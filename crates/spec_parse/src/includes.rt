@@ -9,17 +9,17 @@ ghost use Rattle.spec_expression_parse.specs.SpecReading.{spec_at, spec_field_at
 ghost use Rattle.spec_parse.specs.ClauseReading.{bindings_at, bindings_behind, given_at, include_at};
 
 use clause_tree::clause::{Bindings, Clause, Include};
+use leaf_parse::path::read_path;
+use leaf_parse::types::read_arguments;
+use move_tokens::token::{Punctuation, Token};
 use move_tree::types::TypeArguments;
 use pv_base::span::Span;
 use spec_expression_parse::expression::read_spec_expression;
 use spec_tree::spec_expression::SpecField;
-use move_tokens::token::{Punctuation, Token};
 use std::alloc::Global;
 use token_reading::fault::ReadFault;
 use token_reading::lists::{Separator, separator_behind};
 use token_reading::tokens::{expect_sign, read_identifier, skip_sign};
-use leaf_parse::path::read_path;
-use leaf_parse::types::read_arguments;
 
 /// Type arguments, where a `<` stands here, and the tokens behind them.
 #[tactic(auto, unfolding(crate::specs::ClauseReading::given_at))]

@@ -5,29 +5,19 @@ ghost use Rattle.std.specs.Option.{option_map};
 ghost use Rattle.token_reading.specs.ReadFault.{IfNoTree};
 ghost use Rattle.token_reading.specs.TokenReading.{after_sign};
 ghost use Rattle.token_reading.specs.ListReading.{some_items_at};
-ghost use Rattle.spec_expression_parse.specs.LeafReading.{number_of};
 ghost use Rattle.spec_parse.specs.ClauseReading.{pragma_at, pragmas_at, setting_at, value_at, value_of};
 
 use clause_tree::clause::{Clause, Pragma, PragmaValue, Pragmas};
+use leaf_parse::leaf::fitting_number_of;
+use leaf_parse::path::copy_number;
+use move_tokens::token::{Punctuation, Token};
 use move_tree::lexeme::Numeral;
 use pv_base::memory::NoMemory;
 use pv_base::span::Span;
-use move_tokens::token::{NumberLiteral, NumberSuffix, Punctuation, Token, TokenKind};
 use std::alloc::Global;
 use token_reading::fault::ReadFault;
 use token_reading::lists::{Separator, separator_behind};
 use token_reading::tokens::{is_word, read_identifier, skip_sign};
-use leaf_parse::path::copy_number;
-
-/// The number that a token is, where its type is not wider than `u128`.
-fn number_of(kind: &TokenKind) -> Option<&NumberLiteral>
-    ensures { option_map (λ literal. literal.now) result ≡ number_of kind.now }
-{
-    match kind {
-        TokenKind::Number(literal) if literal.suffix != NumberSuffix::U256 => Some(literal),
-        _ => None,
-    }
-}
 
 /// The value of a pragma that a token is.
 #[tactic(auto, unfolding(crate::specs::ClauseReading::value_of))]
@@ -44,7 +34,7 @@ fn copy_value(alloc: Global, token: &Token) -> Result<Option<PragmaValue>, NoMem
             value: false,
         }));
     }
-    match number_of(&token.kind) {
+    match fitting_number_of(&token.kind) {
         Some(literal) => {
             let literal = copy_number(alloc, literal)?;
             Ok(Some(PragmaValue::Number(Numeral { literal, place })))

@@ -7,17 +7,19 @@ ghost use Rattle.spec_parse.specs.SpecBlockReading.{behind_spec, body_at, loop_a
 use crate::block::read_block;
 use clause_tree::clause::{Schema, Spec, SpecFunction};
 use clause_tree::slot::Slot;
-use pv_parse::parameters::read_parameters;
-use pv_parse::typed_names::read_inputs;
+use declaration_parse::parameters::read_parameters;
+use declaration_parse::typed_names::read_inputs;
+use leaf_parse::types::read_type;
+use move_tokens::token::{Punctuation, Token};
 use move_tree::lexeme::Identifier;
 use pv_base::span::Span;
 use spec_expression_parse::expression::read_spec_expression;
 use spec_tree::spec_expression::SpecExpression;
-use move_tokens::token::{Punctuation, Token};
 use std::alloc::Global;
 use token_reading::fault::ReadFault;
-use token_reading::tokens::{begins_capital, expect_sign, expect_word, place_of_word, read_identifier};
-use leaf_parse::types::read_type;
+use token_reading::tokens::{
+    begins_capital, expect_sign, expect_word, place_of_word, read_identifier,
+};
 
 /// The block of a struct or a function, from its name on.
 #[tactic(auto, unfolding(crate::specs::SpecBlockReading::named_at))]

@@ -8,10 +8,10 @@ ghost use Rattle.spec_expression_parse.specs.SpecReading.{spec_at};
 ghost use Rattle.spec_parse.specs.ClauseReading.{modifies_at};
 
 use clause_tree::clause::{Clause, Targets};
+use move_tokens::token::{Punctuation, Token};
 use pv_base::span::Span;
 use spec_expression_parse::expression::read_spec_expression;
 use spec_tree::spec_expression::SpecExpression;
-use move_tokens::token::{Punctuation, Token};
 use std::alloc::Global;
 use token_reading::fault::ReadFault;
 use token_reading::lists::{Separator, separator_behind};

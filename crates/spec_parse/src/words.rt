@@ -4,8 +4,8 @@ ghost use Rattle.std.specs.Prelude.{◌≡◌, None, Some};
 ghost use Rattle.std.specs.Option.{option_map};
 ghost use Rattle.spec_parse.specs.ClauseReading.{clause_word_at, opens_expression, opens_kind, post_at, update_at, word_of};
 
-use pv_base::span::Span;
 use move_tokens::token::{Punctuation, Token, TokenKind};
+use pv_base::span::Span;
 use token_reading::tokens::{begins_with, is_sign, is_word, skip_word};
 
 /// The word that a clause begins with, where it is not a variable of a schema.

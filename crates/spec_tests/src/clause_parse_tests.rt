@@ -1,10 +1,10 @@
 //! Spec blocks and their clauses that are read from texts, and texts that are none.
 
 use crate::texts::scan;
-use spec_parse::block::read_block;
-use spec_parse::spec_block::read_spec_block;
 use clause_tree::clause::{Clause, Spec};
 use clause_tree::slot::Slot;
+use spec_parse::block::read_block;
+use spec_parse::spec_block::read_spec_block;
 use std::alloc::Global;
 use std::process::Abort;
 

@@ -1,11 +1,11 @@
 //! Texts that are spec expressions, and texts that are none.
 
+use move_tokens::scanner::tokens;
+use move_tokens::token::{Token, TokenKind};
 use move_tree::lexeme::{Lexeme, Lexemes};
 use spec_expression_parse::expression::read_spec_expression;
 use spec_tree::spec_expression::{SpecExpression, SpecNode};
 use spelling::spell_spec_expression::spell_spec_expression;
-use move_tokens::scanner::tokens;
-use move_tokens::token::{Token, TokenKind};
 use std::alloc::Global;
 use std::panic::Expect;
 use std::process::Abort;

@@ -3,13 +3,13 @@
 use crate::texts::scan;
 use clause_tree::clause::Spec;
 use clause_tree::slot::Slot;
-use token_reading::explain::ParseFault;
-use token_reading::marker::Marker;
-use spec_parse::denoted_block::spec_block;
 use spec_parse::denoted::spec_expression;
+use spec_parse::denoted_block::spec_block;
 use spec_tree::spec_expression::{SpecExpression, SpecNode};
 use std::alloc::Global;
 use std::process::Abort;
+use token_reading::explain::ParseFault;
+use token_reading::marker::Marker;
 
 /// What a spec expression is as a whole.
 #[derive(Clone, Copy, Debug, PartialEq, Eq)]

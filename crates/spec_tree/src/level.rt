@@ -3,8 +3,8 @@
 ghost use Rattle.std.specs.Prelude.{◌≡◌};
 ghost use Rattle.spec_tree.specs.ProperSpecExpressions.{spec_operator_level, right_level};
 
-use expression_tree::level::operator_level;
 use crate::spec_operator::SpecOperator;
+use expression_tree::level::operator_level;
 
 /// The level of an operator: the greater, the tighter it binds.
 pub fn spec_operator_level(operator: SpecOperator) -> usize

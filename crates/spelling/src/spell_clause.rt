@@ -6,16 +6,21 @@ ghost use Rattle.move_tree.specs.Lexemes.{comma_list};
 ghost use Rattle.clause_tree.specs.ClauseSpelling.{requires_word, ensures_word, aborts_if_word, modifies_word, invariant_word, include_word, failure_word, truth_spelling, pragma_value_spelling, pragma_spelling, pragmas_spelling, code_spelling, targets_spelling, update_spelling, post_spelling, bindings_spelling, include_spelling, condition_spelling, clause_spelling, clauses_spelling, clause_block_spelling, schema_spelling, spec_function_head_spelling, spec_function_body_spelling, spec_function_spelling, spec_tree_spelling};
 ghost use Rattle.spelling.specs.ClauseAfterCommas.{pragma_after_comma};
 
-use clause_tree::clause::{AbortCode, Bindings, Clause, Include, Pragma, PragmaValue, Pragmas, Schema, Spec, SpecFunction, Targets};
 use crate::spell_member::{spell_inputs, spell_parameters, spell_typed_name};
-use move_tree::lexeme::Lexemes;
 use crate::spell_path::{spell_identifier, spell_numeral, spell_path};
+use crate::spell_spec_expression::{
+    spell_spec_expression, spell_spec_expressions, spell_spec_fields,
+};
 use crate::spell_type::{spell_maybe_arguments, spell_type};
+use clause_tree::clause::{
+    AbortCode, Bindings, Clause, Include, Pragma, PragmaValue, Pragmas, Schema, Spec, SpecFunction,
+    Targets,
+};
+use move_tokens::token::Punctuation;
+use move_tree::lexeme::Lexemes;
 use pv_base::memory::NoMemory;
 use pv_base::span::Span;
 use spec_tree::spec_expression::SpecExpression;
-use crate::spell_spec_expression::{spell_spec_expression, spell_spec_expressions, spell_spec_fields};
-use move_tokens::token::Punctuation;
 use std::alloc::Global;
 
 #[tactic(auto, unfolding(crate::specs::ClauseSpelling::requires_word))]
@@ -148,7 +153,7 @@ fn spell_code(alloc: Global, code: &AbortCode, into: &mut Lexemes) -> Result<(),
         }
         AbortCode::Code(code) => {
             into.push_word(alloc, b"with", None)?;
-            spell_spec_expression(alloc, code, into)
+            spell_spec_expression(alloc, &code.expression, into)
         }
     }
 }

@@ -11,21 +11,21 @@ ghost use Rattle.expression_tree.specs.ExpressionView.{unboxed};
 ghost use Rattle.expression_tree.specs.ExpressionData.{IfExpression, maybe_expression_of, expressions_of, items_of, field_values_of};
 ghost use Rattle.expression_tree.specs.ExpressionSpelling.{annotation_spelling, maybe_loop_spec_spelling, expression_spelling, maybe_expression_spelling, else_spelling, block_spelling, items_spelling, item_spelling, initial_spelling, field_value_spelling, expression_spellings, field_value_spellings, expression_after_comma, field_value_after_comma};
 
-use expression_tree::ending::is_path_last;
-use expression_tree::expression::{Block, Expression, ExpressionNode, FieldValue, Item, ItemNode};
-use move_tree::lexeme::{Identifier, Lexemes};
 use crate::spell_literal::spell_literal;
 use crate::spell_operator::{spell_operator, spell_unary, spell_use};
-use move_tree::path::Path;
 use crate::spell_path::{spell_identifier, spell_path};
-use move_tree::spec_tokens::KeptSpec;
-use crate::spell_tokens::spell_kept_spec;
 use crate::spell_pattern::spell_pattern;
+use crate::spell_tokens::spell_kept_spec;
 use crate::spell_type::{spell_maybe_arguments, spell_type};
+use expression_tree::ending::is_path_last;
+use expression_tree::expression::{Block, Expression, ExpressionNode, FieldValue, Item, ItemNode};
+use move_tokens::token::Punctuation;
+use move_tree::lexeme::{Identifier, Lexemes};
+use move_tree::path::Path;
+use move_tree::spec_tokens::KeptSpec;
 use move_tree::types::{SourceType, TypeArguments};
 use pv_base::memory::NoMemory;
 use pv_base::span::Span;
-use move_tokens::token::Punctuation;
 use std::alloc::Global;
 
 /// The tokens of a type behind its colon, where there is one.

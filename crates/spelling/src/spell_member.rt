@@ -7,16 +7,20 @@ ghost use Rattle.move_tree.specs.PathSpelling.{path_spelling};
 ghost use Rattle.file_tree.specs.MemberSpelling.{attribute_spelling, alias_spelling, import_spelling, imported_spelling, use_member_spelling, friend_spelling, ability_spelling, abilities_spelling, more_ability_spelling, constraint_spelling, phantom_spelling, parameter_spelling, parameters_spelling, typed_name_spelling, typed_names_spelling, struct_spelling, constant_spelling, visibility_spelling, entry_spelling, of_friends, acquires_word, acquires_spelling, function_name_spelling, inputs_spelling, function_spelling, form_spelling, member_spelling, module_tree_spelling, file_spelling};
 ghost use Rattle.spelling.specs.MemberAfterCommas.{import_after_comma, ability_after_comma, parameter_after_comma, typed_name_after_comma, path_after_comma};
 
-use file_tree::member::{Abilities, Ability, Attribute, Constant, File, Friend, Function, Import, Imported, Imports, Member, MemberForm, Module, Paths, Struct, TypeParameter, TypeParameters, TypedName, TypedNames, Use, Visibility};
 use crate::spell_expression::{spell_annotation, spell_block, spell_expression};
-use move_tree::lexeme::{Identifier, Lexemes};
-use move_tree::path::Path;
 use crate::spell_path::{spell_identifier, spell_module_name, spell_path};
 use crate::spell_tokens::{spell_kept_spec, spell_tokens};
 use crate::spell_type::spell_type;
+use file_tree::member::{
+    Abilities, Ability, Attribute, Constant, File, Friend, Function, Import, Imported, Imports,
+    Member, MemberForm, Module, Paths, Struct, TypeParameter, TypeParameters, TypedName,
+    TypedNames, Use, Visibility,
+};
+use move_tokens::token::Punctuation;
+use move_tree::lexeme::{Identifier, Lexemes};
+use move_tree::path::Path;
 use pv_base::memory::NoMemory;
 use pv_base::span::Span;
-use move_tokens::token::Punctuation;
 use std::alloc::Global;
 
 fn spell_attribute(alloc: Global, attribute: &Attribute, into: &mut Lexemes) -> Result<(), NoMemory>

@@ -6,12 +6,12 @@ ghost use Rattle.move_tree.specs.Lexemes.{comma_list};
 ghost use Rattle.move_tree.specs.PatternData.{patterns_of, field_patterns_of};
 ghost use Rattle.move_tree.specs.PatternSpelling.{pattern_spelling, field_pattern_spelling, pattern_spellings, field_pattern_spellings, pattern_after_comma, field_pattern_after_comma};
 
-use move_tree::lexeme::Lexemes;
 use crate::spell_path::{spell_identifier, spell_path};
-use move_tree::pattern::{FieldPattern, Pattern, PatternNode};
 use crate::spell_type::spell_maybe_arguments;
-use pv_base::memory::NoMemory;
 use move_tokens::token::Punctuation;
+use move_tree::lexeme::Lexemes;
+use move_tree::pattern::{FieldPattern, Pattern, PatternNode};
+use pv_base::memory::NoMemory;
 use std::alloc::Global;
 
 /// The tokens of a pattern.

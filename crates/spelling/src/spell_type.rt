@@ -6,11 +6,11 @@ ghost use Rattle.move_tree.specs.Lexemes.{comma_list};
 ghost use Rattle.move_tree.specs.TypeTreeData.{source_types_of, maybe_arguments_of};
 ghost use Rattle.move_tree.specs.TypeSpelling.{type_spelling, type_spellings, arguments_spelling, maybe_arguments_spelling, type_after_comma};
 
-use move_tree::lexeme::Lexemes;
 use crate::spell_path::spell_path;
+use move_tokens::token::Punctuation;
+use move_tree::lexeme::Lexemes;
 use move_tree::types::{SourceType, SourceTypeNode, TypeArguments};
 use pv_base::memory::NoMemory;
-use move_tokens::token::Punctuation;
 use std::alloc::Global;
 
 /// The tokens of a type.

@@ -4,10 +4,10 @@ use Rattle.std.specs.Prelude.{option_and_then}
 use Rattle.std.specs.Option.{option_map}
 use Rattle.std.proofs.lemmas.Grind.{flat_map-append}
 use Rattle.file_tree.specs.declared.member.Function.{Function as FunctionTree}
-use Rattle.source_parse.specs.declared.source.SourceForm.{SourceForm}
-use Rattle.source_parse.specs.declared.source.SourceForm.TheVariants.{Use, Friend, Struct, Constant, Function, Spec}
-use Rattle.source_parse.specs.SourceData.{SourceMemberData}
-use Rattle.source_parse.specs.SourceModuleData.{SourceModuleData}
+use Rattle.source_tree.specs.declared.source.SourceForm.{SourceForm}
+use Rattle.source_tree.specs.declared.source.SourceForm.TheVariants.{Use, Friend, Struct, Constant, Function, Spec}
+use Rattle.source_tree.specs.SourceData.{SourceMemberData}
+use Rattle.source_tree.specs.SourceModuleData.{SourceModuleData}
 use Rattle.sum_tree.specs.SumData.{SumData}
 use Rattle.sum_tree.specs.FunctionData.{FunctionData}
 use Rattle.sum_read.specs.Functions.{is_plain, inputs_of, value_of, function_of}

@@ -6,12 +6,13 @@ use Rattle.std.specs.Cmp.Lexicographic.{slice_cmp}
 use Rattle.std.proofs.lemmas.Bool.{cases_Bool}
 use Rattle.std.proofs.lemmas.List.{map-append}
 use Rattle.pv_base.specs.Names.{same_name}
-use Rattle.source_parse.proofs.NameLemmas.{is_eq-same_name, is_one_of-push}
+use Rattle.pv_base.proofs.NameLaws.{is_eq-same_name, is_one_of-push}
 use Rattle.sum_tree.specs.declared.clause.Clause.{Clause}
 use Rattle.sum_tree.specs.FunctionData.{FunctionData}
 use Rattle.sum_tree.specs.SpecifiedData.{SpecifiedFunctionData}
 use Rattle.sum_module.specs.SpecData.{SpecData}
-use Rattle.sum_module.specs.Scope.{all_differ, is_one_of}
+use Rattle.sum_module.specs.Scope.{all_differ}
+use Rattle.pv_base.specs.Names.{is_one_of}
 use Rattle.sum_module.specs.Joined.{clauses_of_spec, clauses_among}
 use Rattle.sum_module.specs.ClauseTable.{names_among}
 use Rattle.sum_module.proofs.NameLemmas.{same_name-symm, same_name-is, not_before}

@@ -3,11 +3,11 @@ use Rattle.std.proofs.Common.{◌≡◌, ℕ, zero, suc, ◌+◌, ◌<◌, ◌�
 use Rattle.std.specs.BTreeSet.{BTreeSet}
 use Rattle.std.proofs.lemmas.Grind.{flat_map-append}
 use Rattle.std.proofs.lemmas.List.{take_more}
-use Rattle.source_parse.specs.SourceData.{SourceMemberData}
+use Rattle.source_tree.specs.SourceData.{SourceMemberData}
 use Rattle.sum_module.specs.declared.member.SumMember.{SumMember}
 use Rattle.sum_module.specs.Parameters.{Table, IsTableOf}
-use Rattle.sum_module.specs.Seen.{IsSetOf}
-use Rattle.sum_module.specs.Places.{form_place}
+use Rattle.pv_base.specs.Names.{IsSetOf}
+use Rattle.source_tree.specs.Places.{form_place}
 use Rattle.sum_module.specs.Members.{name_of_form, name_of_member, functions_of, IsMember, IsUnbuilt, AreMembers}
 use Rattle.sum_module.specs.Built.{IsFirstUnbuilt}
 

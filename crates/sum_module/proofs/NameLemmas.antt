@@ -4,8 +4,9 @@ use Rattle.std.specs.Cmp.Lexicographic.{same_text, nat_list_eq_equiv}
 use Rattle.std.proofs.lemmas.Bool.{cases_Bool, both_ways, and_parts, and_from, or_parts, or_from, or_left, or_right, not-true, not_from_true, not_from_false, and_left, and_right}
 use Rattle.std.proofs.lemmas.List.Folds.{list_any-append}
 use Rattle.pv_base.specs.Names.{same_name}
-use Rattle.source_parse.proofs.NameLemmas.{is_one_of-push}
-use Rattle.sum_module.specs.Scope.{all_differ, is_one_of}
+use Rattle.pv_base.proofs.NameLaws.{is_one_of-push}
+use Rattle.sum_module.specs.Scope.{all_differ}
+use Rattle.pv_base.specs.Names.{is_one_of}
 
 pub same_name-refl : (a : List ℕ) → same_name a a ≡ true
 same_name-refl a = nat_list_eq_equiv.refl a

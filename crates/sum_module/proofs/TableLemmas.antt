@@ -6,10 +6,10 @@ use Rattle.std.specs.Option.{option_or}
 use Rattle.std.proofs.lemmas.List.{take_more}
 use Rattle.file_tree.specs.declared.member.Function.{Function as FunctionTree}
 use Rattle.pv_base.specs.Names.{same_name}
-use Rattle.source_parse.proofs.NameLemmas.{is_eq-same_name}
-use Rattle.source_parse.specs.declared.source.SourceForm.{SourceForm}
-use Rattle.source_parse.specs.declared.source.SourceForm.TheVariants.{Use, Friend, Struct, Constant, Function, Spec}
-use Rattle.source_parse.specs.SourceData.{SourceMemberData}
+use Rattle.pv_base.proofs.NameLaws.{is_eq-same_name}
+use Rattle.source_tree.specs.declared.source.SourceForm.{SourceForm}
+use Rattle.source_tree.specs.declared.source.SourceForm.TheVariants.{Use, Friend, Struct, Constant, Function, Spec}
+use Rattle.source_tree.specs.SourceData.{SourceMemberData}
 use Rattle.sum_module.specs.Parameters.{Table, parameters_of, parameters_in, parameters_at, IsTableOf, IsAdded}
 
 or_none : {A : Type 0} (x : Option A) → option_or x None ≡ x

@@ -4,12 +4,12 @@ use Rattle.clause_tree.specs.declared.clause.Spec.{Spec as SpecTree}
 use Rattle.file_tree.specs.declared.member.Function.{Function as FunctionTree}
 use Rattle.move_tree.specs.declared.path.Address.{Address}
 use Rattle.move_tree.specs.declared.path.Address.TheVariants.{Number, Name}
-use Rattle.source_parse.specs.SourceData.{SourceMemberData}
-use Rattle.source_parse.specs.SourceModuleData.{SourceModuleData}
+use Rattle.source_tree.specs.SourceData.{SourceMemberData}
+use Rattle.source_tree.specs.SourceModuleData.{SourceModuleData}
 use Rattle.sum_module.specs.declared.member.SumMember.{SumMember}
 use Rattle.sum_module.specs.BuiltModuleData.{BuiltModuleData}
 use Rattle.sum_module.specs.Members.{IsFunction, IsSpec, IsUnbuilt, AreMembers}
-use Rattle.sum_module.specs.Places.{form_place, module_place}
+use Rattle.source_tree.specs.Places.{form_place, module_place}
 
 abbrev pub IsNoFunction : List SourceMemberData → FunctionTree → Type 0
 IsNoFunction before f = (found : SumMember) → IsFunction before f found → ⊥

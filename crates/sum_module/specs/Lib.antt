@@ -2,9 +2,7 @@ pub mod Scope
 pub mod SpecData
 pub mod BuiltModuleData
 pub mod Parameters
-pub mod Seen
 pub mod Members
-pub mod Places
 pub mod Fault
 pub mod Built
 pub mod Joined

@@ -6,16 +6,17 @@ use Rattle.std.specs.List.{flat_map, list_all}
 use Rattle.clause_tree.specs.declared.clause.Spec.{Spec as SpecTree}
 use Rattle.clause_tree.specs.declared.clause.Spec.TheVariants.{Named}
 use Rattle.file_tree.specs.declared.member.Function.{Function as FunctionTree}
-use Rattle.source_parse.specs.declared.source.SourceForm.{SourceForm}
-use Rattle.source_parse.specs.declared.source.SourceForm.TheVariants.{Use, Friend, Struct, Constant, Function, Spec}
-use Rattle.source_parse.specs.SourceData.{SourceMemberData}
+use Rattle.source_tree.specs.declared.source.SourceForm.{SourceForm}
+use Rattle.source_tree.specs.declared.source.SourceForm.TheVariants.{Use, Friend, Struct, Constant, Function, Spec}
+use Rattle.source_tree.specs.SourceData.{SourceMemberData}
 use Rattle.sum_tree.specs.FunctionData.{FunctionData}
 use Rattle.sum_read.specs.Clauses.{clauses_of}
 use Rattle.sum_read.specs.Functions.{function_of}
 use Rattle.sum_module.specs.declared.member.SumMember.{SumMember}
 use Rattle.sum_module.specs.declared.member.SumMember.TheVariants.{Function as function_member, Spec as spec_member}
 use Rattle.sum_module.specs.SpecData.{SpecData}
-use Rattle.sum_module.specs.Scope.{is_closed, is_one_of, knows_clause}
+use Rattle.sum_module.specs.Scope.{is_closed, knows_clause}
+use Rattle.pv_base.specs.Names.{is_one_of}
 use Rattle.sum_module.specs.Parameters.{parameters_in}
 
 -- ---- functions

@@ -1,6 +1,6 @@
 -- The module of sums that a module of a source is.
 use Rattle.std.specs.Prelude.{◌≡◌, ℕ}
-use Rattle.source_parse.specs.SourceModuleData.{SourceModuleData}
+use Rattle.source_tree.specs.SourceModuleData.{SourceModuleData}
 use Rattle.sum_tree.specs.SumModuleData.{SumModuleData}
 use Rattle.sum_module.specs.BuiltModuleData.{BuiltModuleData}
 use Rattle.sum_module.specs.Built.{IsBuilt}

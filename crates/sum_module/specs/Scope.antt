@@ -1,6 +1,5 @@
 -- Which words stand for something, and which names a function may give its parameters.
 use Rattle.std.specs.Prelude.{ℕ, Bool, true, false, not, ◌&&◌, ◌||◌, nat_le, List, [], ◌∷◌, length, codes}
-use Rattle.std.specs.List.{list_any}
 use Rattle.sum_tree.specs.declared.clause.Condition.{Condition}
 use Rattle.sum_tree.specs.declared.clause.Condition.TheVariants.{True, False, Compares}
 use Rattle.sum_tree.specs.declared.clause.ClauseKind.{ClauseKind}
@@ -8,13 +7,9 @@ use Rattle.sum_tree.specs.declared.clause.ClauseKind.TheVariants.{Requires, Ensu
 use Rattle.sum_tree.specs.declared.clause.Clause.{Clause}
 use Rattle.sum_module.specs.declared.scope.Place.{Place}
 use Rattle.sum_module.specs.declared.scope.Place.TheVariants.{Body, InClause}
-use Rattle.pv_base.specs.Names.{same_name}
+use Rattle.pv_base.specs.Names.{same_name, is_one_of}
 use Rattle.sum_tree.specs.SumData.{SumData, NumberSum, WordSum, JoinedSum}
 use Rattle.sum_tree.specs.FunctionData.{FunctionData}
-
--- the word is one of these names
-abbrev pub is_one_of : List (List ℕ) → List ℕ → Bool
-is_one_of names word = list_any (same_name word) names
 
 -- no name stands twice
 abbrev pub all_differ : List (List ℕ) → Bool

@@ -7,13 +7,13 @@ ghost use Rattle.sum_module.specs.Scope.{all_differ};
 ghost use Rattle.sum_module.specs.ClauseTable.{clauses_at, entry_at, names_among, with_clauses};
 ghost use Rattle.sum_module.specs.Joined.{clauses_among, clauses_of_spec, functions_in, module_of, specs_in};
 
+use crate::member::{Spec, SumMember};
+use crate::module::BuiltModule;
 use pv_base::memory::NoMemory;
 use pv_base::name::Name;
 use std::alloc::Global;
 use std::collections::BTreeMap;
 use std::marker::Model;
-use crate::member::{Spec, SumMember};
-use crate::module::BuiltModule;
 use sum_tree::clause::Clause;
 use sum_tree::function::{Function, SpecifiedFunction, SumModule};
 

@@ -7,7 +7,6 @@ pub mod join;
 pub mod member;
 pub mod module;
 pub mod parameters;
-pub mod places;
 pub mod scope;
 pub mod seen;
 pub mod sums;

@@ -7,7 +7,7 @@ ghost use Rattle.sum_module.specs.Parameters.{IsAdded, IsTableOf, names_of, para
 use file_tree::member::{Function, TypedName};
 use pv_base::memory::NoMemory;
 use pv_base::name::Name;
-use source_parse::source::{SourceForm, SourceMember};
+use source_tree::source::{SourceForm, SourceMember};
 use std::alloc::Global;
 use std::collections::BTreeMap;
 use std::marker::Model;

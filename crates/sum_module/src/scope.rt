@@ -2,7 +2,8 @@
 
 ghost use Rattle.std.specs.Prelude.{◌≡◌};
 ghost use Rattle.std.specs.List.{list_all};
-ghost use Rattle.sum_module.specs.Scope.{all_differ, are_parameters, is_closed, is_known, is_one_of, knows_clause, knows_condition, knows_sum};
+ghost use Rattle.sum_module.specs.Scope.{all_differ, are_parameters, is_closed, is_known, knows_clause, knows_condition, knows_sum};
+ghost use Rattle.pv_base.specs.Names.{is_one_of};
 
 use pv_base::name::Name;
 use sum_tree::clause::{Clause, ClauseKind, Condition};

@@ -2,11 +2,11 @@
 
 ghost use Rattle.std.specs.Prelude.{◌≡◌, ℕ, List, [], ◌++◌, OnOk};
 ghost use Rattle.sum_module.specs.Members.{name_of_form};
-ghost use Rattle.sum_module.specs.Seen.{IsSetOf, has};
+ghost use Rattle.pv_base.specs.Names.{IsSetOf, has};
 
 use pv_base::memory::NoMemory;
 use pv_base::name::Name;
-use source_parse::source::SourceForm;
+use source_tree::source::SourceForm;
 use std::alloc::Global;
 use std::collections::BTreeSet;
 use std::marker::Model;

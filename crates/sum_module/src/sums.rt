@@ -5,11 +5,11 @@ ghost use Rattle.sum_module.specs.Built.{IsUnbuiltAt};
 ghost use Rattle.sum_module.specs.Fault.{IfNotBuiltAt};
 ghost use Rattle.sum_module.specs.Program.{IsSumModule};
 
-use crate::join::join;
-use source_parse::source::SourceModule;
-use std::alloc::Global;
 use crate::fault::ModuleFault;
+use crate::join::join;
 use crate::module::read_module;
+use source_tree::source::SourceModule;
+use std::alloc::Global;
 use sum_tree::function::SumModule;
 
 /// The module of sums that a module is, in the file with this number.

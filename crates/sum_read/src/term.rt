@@ -6,13 +6,13 @@ ghost use Rattle.sum_read.specs.Sums.{literal_sum, number_sum, operator_of, spec
 ghost use Rattle.sum_tree.specs.SumData.{JoinedSum};
 
 use crate::fault::FormFault;
+use move_tokens::token::NumberSuffix;
 use move_tree::lexeme::Numeral;
 use move_tree::literal::Literal;
 use move_tree::operator::BinaryOperator;
 use move_tree::path::Path;
 use pv_base::memory::NoMemory;
 use spec_tree::spec_operator::SpecOperator;
-use move_tokens::token::NumberSuffix;
 use std::alloc::Global;
 use sum_tree::sum::{Operator, Sum, SumNode};
 

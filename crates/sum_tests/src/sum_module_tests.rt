@@ -1,7 +1,7 @@
 //! Modules that are read from texts, and the members that are not built.
 
-use source_parse::denoted::source;
 use move_tokens::scanner::tokens;
+use source_parse::denoted::source;
 use std::alloc::Global;
 use std::process::Abort;
 use sum_module::fault::ModuleFault;

@@ -1,7 +1,7 @@
 //! Modules of sums that are read from texts.
 
-use source_parse::denoted::source;
 use move_tokens::scanner::tokens;
+use source_parse::denoted::source;
 use std::alloc::Global;
 use std::process::Abort;
 use sum_module::fault::ModuleFault;

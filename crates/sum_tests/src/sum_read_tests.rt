@@ -2,6 +2,7 @@
 
 use clause_tree::clause::{AbortCode, Clause as ClauseTree};
 use expression_tree::expression::{Expression, ExpressionNode};
+use move_tokens::token::{NumberLiteral, NumberSuffix};
 use move_tree::lexeme::{Identifier, Numeral};
 use move_tree::literal::Literal;
 use move_tree::operator::BinaryOperator;
@@ -9,7 +10,6 @@ use move_tree::path::Path;
 use pv_base::name::Name;
 use pv_base::span::Span;
 use spec_tree::spec_expression::{SpecExpression, SpecNode};
-use move_tokens::token::{NumberLiteral, NumberSuffix};
 use std::alloc::Global;
 use std::panic::Expect;
 use std::process::Abort;

@@ -1,6 +1,6 @@
 -- Spec blocks are kept exactly: as the tokens that are read, where these are those of a block.
 use Rattle.std.proofs.Common.{◌≡◌, ◌≢◌, ℕ, ◌≤◌, ◌+◌, ◌-◌, Bool, true, false, cond, ◌==◌, length, reverse, take, arith, List, [], ◌∷◌, ◌++◌, Option, Some, None, refl, sym, ap, subst, ◌∙◌, inl, inr}
-use Rattle.std.specs.Prelude.{option_and_then, map, codes}
+use Rattle.std.specs.Prelude.{option_and_then, is_some, map, codes}
 use Rattle.std.specs.List.{AllByRecursion}
 use Rattle.std.proofs.lemmas.List.{reverse-append}
 use Rattle.std.proofs.Math.Dec.{eqb-suc-zero}
@@ -151,10 +151,10 @@ member_spec_at-sound ts r e =
     let h = head_end-sound [] s.behind_word s.behind_head s.head in
     let b = balanced_end-sound RightBrace [] s.behind_head l.value s.body in
     let all = Begins-append (word (codes "spec") None ∷ []) ((map kept h.head ++ sign LeftBrace ∷ []) ++ (map kept b.inside ++ sign RightBrace ∷ [])) ts s.behind_word l.value s.spec_word
-        (Begins-append (map kept h.head ++ sign LeftBrace ∷ []) (map kept b.inside ++ sign RightBrace ∷ []) s.behind_word s.behind_head l.value h.spelled b.spelled) in
+    (Begins-append (map kept h.head ++ sign LeftBrace ∷ []) (map kept b.inside ++ sign RightBrace ∷ []) s.behind_word s.behind_head l.value h.spelled b.spelled) in
     let f = front-sound (block_form h.head b.inside) ts l.value all in
     subst (λ q. Begins (kept_spelling q.0) ts q.1 × IsMemberSpec q.0) l.then
-      (f.1, record { head = h.head; body = b.inside; tokens = f.0; head_balanced = h.balanced; head_no_brace = h.no_brace; body_balanced = b.balanced })
+    (f.1, record { head = h.head; body = b.inside; tokens = f.0; head_balanced = h.balanced; head_no_brace = h.no_brace; body_balanced = b.balanced })
 
 pub loop_spec_at-sound : (ts : List Token) (r : KeptSpec × List Token) → loop_spec_at ts ≡ Some r → Begins (kept_spelling r.0) ts r.1 × IsLoopSpec r.0
 unfolding loop_spec_at
@@ -163,7 +163,7 @@ loop_spec_at-sound ts r e =
     let s = spec_end-sound (after_sign LeftBrace) ts l.value l.first in
     let b = balanced_end-sound RightBrace [] s.behind_head l.value s.body in
     let all = Begins-append (word (codes "spec") None ∷ []) ((sign LeftBrace ∷ []) ++ (map kept b.inside ++ sign RightBrace ∷ [])) ts s.behind_word l.value s.spec_word
-        (Begins-append (sign LeftBrace ∷ []) (map kept b.inside ++ sign RightBrace ∷ []) s.behind_word s.behind_head l.value (after_sign-sound LeftBrace s.behind_word s.behind_head s.head) b.spelled) in
+    (Begins-append (sign LeftBrace ∷ []) (map kept b.inside ++ sign RightBrace ∷ []) s.behind_word s.behind_head l.value (after_sign-sound LeftBrace s.behind_word s.behind_head s.head) b.spelled) in
     let f = front-sound (block_form [] b.inside) ts l.value all in
     subst (λ q. Begins (kept_spelling q.0) ts q.1 × IsLoopSpec q.0) l.then (f.1, record { body = b.inside; tokens = f.0; body_balanced = b.balanced })
 
@@ -204,14 +204,16 @@ pub record WordFirst (ts rest : List Token) : Type 0 where
 word_first : (ls : List Lexeme) (ts rest : List Token) → Begins (word (codes "spec") None ∷ ls) ts rest → WordFirst ts rest
 word_first ls [] rest b = absurd b
 word_first ls (t ∷ ts) rest b =
-    let i = record { kind = b.0.kind; placed = refl; glued = tt } in
+    let i : IsToken t (word (codes "spec") (Some t.span)) = record { kind = b.0.kind; placed = refl; glued = tt } in
     record { place = t.span; behind = ts; more = ls; first = (i, refl); whole = (i, b.1) }
 
 pub member_spec_first : (spec : KeptSpec) (ts rest : List Token) → Begins (kept_spelling spec) ts rest → IsMemberSpec spec → WordFirst ts rest
 member_spec_first spec ts rest b p = word_first ((map kept p.head ++ sign LeftBrace ∷ []) ++ (map kept p.body ++ sign RightBrace ∷ [])) ts rest (kept_begins (block_form p.head p.body) spec.tokens ts rest p.tokens b)
 
-pub loop_spec_first : (spec : KeptSpec) (ts rest : List Token) → Begins (kept_spelling spec) ts rest → IsLoopSpec spec → WordFirst ts rest
-loop_spec_first spec ts rest b p = word_first ((sign LeftBrace ∷ []) ++ (map kept p.body ++ sign RightBrace ∷ [])) ts rest (kept_begins (block_form [] p.body) spec.tokens ts rest p.tokens b)
+pub loop_spec_word : (spec : KeptSpec) (ts rest : List Token) → Begins (kept_spelling spec) ts rest → IsLoopSpec spec → is_some (after_word (codes "spec") ts) ≡ true
+loop_spec_word spec ts rest b p =
+    let w = Begins-first (word (codes "spec") None) ((sign LeftBrace ∷ []) ++ (map kept p.body ++ sign RightBrace ∷ [])) ts rest (kept_begins (block_form [] p.body) spec.tokens ts rest p.tokens b) in
+    ap (λ o. is_some {T = List Token} o) (after_word-complete (codes "spec") ts w.mid w.front)
 
 -- ---- what is left is no longer
 

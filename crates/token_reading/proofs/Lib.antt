@@ -10,3 +10,4 @@ pub mod SpelledTokens
 pub mod ChainLemmas
 pub mod ChainSteps
 pub mod MarkerLemmas
+pub mod RepeatLemmas

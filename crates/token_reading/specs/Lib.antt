@@ -8,3 +8,4 @@ pub mod KeptReading
 pub mod Markers
 pub mod MarkerReading
 pub mod ParseFault
+pub mod RepeatReading

@@ -3,11 +3,11 @@
 ghost use Rattle.std.specs.Prelude.{◌≡◌, ◌-◌, length};
 ghost use Rattle.token_reading.specs.ParseFault.{start_at, at_least_one, Explains, ExplainsAt};
 
-use crate::marker::{Marker, first_marker};
-use pv_base::memory::NoMemory;
-use move_tokens::token::Token;
-use std::alloc::AllocFailed;
 use crate::fault::ReadFault;
+use crate::marker::{Marker, first_marker};
+use move_tokens::token::Token;
+use pv_base::memory::NoMemory;
+use std::alloc::AllocFailed;
 
 /// Why a text was not parsed.
 #[derive(Clone, Copy, Debug, PartialEq, Eq)]

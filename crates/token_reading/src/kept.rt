@@ -42,10 +42,7 @@ fn skip_head(alloc: Global, tokens: &[Token]) -> Result<&[Token], ReadFault>
 
 /// The spec block of a member, from its word on, and the tokens behind it.
 #[tactic(auto, unfolding(crate::specs::KeptReading::member_spec_at, crate::specs::KeptReading::spec_end), using(crate::proofs::KeptLemmas::member_spec_shorter))]
-pub fn read_member_spec(
-    alloc: Global,
-    tokens: &[Token],
-) -> Result<(KeptSpec, &[Token]), ReadFault>
+pub fn read_member_spec(alloc: Global, tokens: &[Token]) -> Result<(KeptSpec, &[Token]), ReadFault>
     ensures { MatchResult result (λ read. member_spec_at tokens.now ≡ Some (read.0, read.1.now)) (λ fault. IfNoTree fault (member_spec_at tokens.now ≡ None)) }
 {
     let head = expect_word(tokens, b"spec")?;
@@ -57,10 +54,7 @@ pub fn read_member_spec(
 
 /// The spec block of a loop, from its word on, and the tokens behind it.
 #[tactic(auto, unfolding(crate::specs::KeptReading::loop_spec_at, crate::specs::KeptReading::spec_end), using(crate::proofs::KeptLemmas::loop_spec_shorter))]
-pub fn read_loop_spec(
-    alloc: Global,
-    tokens: &[Token],
-) -> Result<(KeptSpec, &[Token]), ReadFault>
+pub fn read_loop_spec(alloc: Global, tokens: &[Token]) -> Result<(KeptSpec, &[Token]), ReadFault>
     ensures { MatchResult result (λ read. loop_spec_at tokens.now ≡ Some (read.0, read.1.now)) (λ fault. IfNoTree fault (loop_spec_at tokens.now ≡ None)) }
 {
     let head = expect_word(tokens, b"spec")?;

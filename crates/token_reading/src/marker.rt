@@ -4,8 +4,8 @@ ghost use Rattle.std.specs.Prelude.{◌≡◌, ◌==◌, List};
 ghost use Rattle.token_reading.specs.Markers.{marker_text, Finds};
 ghost use Rattle.token_reading.specs.MarkerReading.{begins_hex, marker_of, marker_in, number_marker, word_marker};
 
-use move_tokens::token::{NumberSuffix, Punctuation, Token, TokenKind};
 use crate::tokens::begins_with;
+use move_tokens::token::{NumberSuffix, Punctuation, Token, TokenKind};
 
 /// A token that stands in no form that is read.
 #[derive(Clone, Copy, Debug, PartialEq, Eq)]

@@ -8,9 +8,9 @@ ghost use Rattle.token_reading.specs.TokenReading.{after_sign, after_word, begin
 ghost use Rattle.pv_base.specs.Names.{same_name};
 
 use crate::fault::ReadFault;
+use move_tokens::token::{Punctuation, Token, TokenKind};
 use move_tree::lexeme::Identifier;
 use pv_base::span::Span;
-use move_tokens::token::{Punctuation, Token, TokenKind};
 use std::alloc::Global;
 
 /// The keywords of Move, which are never names.

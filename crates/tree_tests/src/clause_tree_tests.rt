@@ -1,16 +1,19 @@
 //! Trees that are built by hand, against the tokens of the texts that they are trees of.
 
 use crate::texts::compares;
-use clause_tree::clause::{AbortCode, Bindings, Clause, Clauses, Include, Pragma, PragmaValue, Pragmas, Schema, Spec, SpecFunction, Targets};
-use spelling::spell_clause::{spell, spell_clause};
+use clause_tree::clause::{
+    AbortCode, Bindings, Clause, Clauses, Include, Pragma, PragmaValue, Pragmas, Schema, Spec,
+    SpecFunction, Targets,
+};
 use file_tree::member::{TypeParameter, TypeParameters, TypedName, TypedNames};
+use move_tokens::token::{NumberLiteral, NumberSuffix};
 use move_tree::lexeme::{Identifier, Lexemes, Numeral};
 use move_tree::path::Path;
 use move_tree::types::{SourceType, SourceTypeNode, TypeArguments};
 use pv_base::name::Name;
 use pv_base::span::Span;
 use spec_tree::spec_expression::{SpecExpression, SpecField, SpecNode};
-use move_tokens::token::{NumberLiteral, NumberSuffix};
+use spelling::spell_clause::{spell, spell_clause};
 use std::alloc::Global;
 use std::panic::Expect;
 use std::process::Abort;

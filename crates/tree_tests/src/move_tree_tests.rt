@@ -1,20 +1,21 @@
 //! Trees that are built by hand, against the tokens of the texts that they are trees of.
 
 use crate::texts::compares;
-use spelling::spell_expression::spell_expression;
 use expression_tree::expression::{Block, Expression, ExpressionNode, FieldValue, Item, ItemNode};
+use move_tokens::scanner::tokens;
+use move_tokens::token::{NumberLiteral, NumberSuffix};
 use move_tree::lexeme::{Identifier, Lexemes, Numeral};
 use move_tree::literal::Literal;
 use move_tree::operator::{BinaryOperator, UnaryOperator, UseKind};
 use move_tree::path::{Address, ModuleName, Path};
 use move_tree::pattern::{FieldPattern, Pattern, PatternNode};
 use move_tree::spec_tokens::KeptSpec;
-use spelling::spell_pattern::spell_pattern;
-use spelling::spell_type::spell_type;
 use move_tree::types::{SourceType, SourceTypeNode, TypeArguments};
 use pv_base::name::Name;
 use pv_base::span::Span;
-use move_tokens::token::{NumberLiteral, NumberSuffix, Punctuation, Token, TokenKind, Tokens};
+use spelling::spell_expression::spell_expression;
+use spelling::spell_pattern::spell_pattern;
+use spelling::spell_type::spell_type;
 use std::alloc::Global;
 use std::panic::Expect;
 use std::process::Abort;
@@ -466,33 +467,8 @@ fn block(rt: &impl Abort, alloc: Global) -> Box<Expression> {
 
 // spec { invariant i; }, from the byte 9 on
 fn loop_spec(rt: &impl Abort, alloc: Global) -> Box<KeptSpec> {
-    let mut tokens = Tokens::new(alloc);
-    tokens
-        .push(Token {
-            kind: TokenKind::Word(Name::from_slice(alloc, b"invariant").expect(rt, "memory")),
-            span: at(16, 25),
-            glued: false,
-        })
-        .expect(rt, "memory");
-    tokens
-        .push(Token {
-            kind: TokenKind::Word(Name::from_slice(alloc, b"i").expect(rt, "memory")),
-            span: at(26, 27),
-            glued: false,
-        })
-        .expect(rt, "memory");
-    tokens
-        .push(Token {
-            kind: TokenKind::Punctuation(Punctuation::Semicolon),
-            span: at(27, 28),
-            glued: true,
-        })
-        .expect(rt, "memory");
-    let spec = KeptSpec {
-        place: at(9, 13),
-        tokens,
-    };
-    Box::new(alloc, spec).expect(rt, "memory")
+    let tokens = tokens(alloc, 0, b"         spec { invariant i; }").expect(rt, "tokens");
+    Box::new(alloc, KeptSpec { tokens }).expect(rt, "memory")
 }
 
 // loop { continue }, from the byte 37 on

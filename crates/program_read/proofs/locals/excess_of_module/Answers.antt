@@ -1,6 +1,6 @@
 use Rattle.std.proofs.Common.{ap, sym, ◌∙◌}
-use Rattle.source_parse.specs.SourceData.{SourceMemberData}
-use Rattle.source_parse.specs.SourceModuleData.{SourceModuleData}
+use Rattle.source_tree.specs.SourceData.{SourceMemberData}
+use Rattle.source_tree.specs.SourceModuleData.{SourceModuleData}
 use Rattle.program_read.specs.LocalCounts.{excess_of_form, excess_of_member, first_of}
 use Rattle.program_read.proofs.LocalLemmas.{none_is, none_more, some_at}
 use Rattle.program_read.proofs.locals.excess_of_module.Goals as goal

@@ -3,7 +3,7 @@ use Rattle.move_tokens.specs.declared.token.Punctuation.TheVariants.{NumberSign}
 use Rattle.token_reading.specs.TokenReading.{sign_place_at}
 use Rattle.pv_parse.specs.AttributeReading.{placed_attribute_at, attributes_at}
 use Rattle.token_reading.proofs.ListSteps.{fault_hands_on, IfNoTree-weaker}
-use Rattle.pv_parse.proofs.RepeatLemmas.{repeating_stops, repeating_is_over, repeating_fails, repeating_goes_on}
+use Rattle.token_reading.proofs.RepeatLemmas.{repeating_stops, repeating_is_over, repeating_fails, repeating_goes_on}
 use Rattle.pv_parse.proofs.attributes.read_attributes.Goals as goal
 
 pub returns : goal.returns

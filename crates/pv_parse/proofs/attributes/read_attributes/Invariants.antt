@@ -1,7 +1,7 @@
 use Rattle.std.proofs.Common.{◌≡◌, ◌-◌, length}
 use Rattle.move_tokens.specs.declared.token.Punctuation.TheVariants.{NumberSign}
 use Rattle.token_reading.specs.TokenReading.{sign_place_at}
-use Rattle.pv_parse.specs.RepeatReading.{put_all, repeat_at}
+use Rattle.token_reading.specs.RepeatReading.{put_all, repeat_at}
 use Rattle.pv_parse.specs.AttributeReading.{placed_attribute_at}
 use Rattle.pv_parse.proofs.attributes.read_attributes.Given as goal
 

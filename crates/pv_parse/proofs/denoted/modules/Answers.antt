@@ -1,5 +1,6 @@
 use Rattle.std.proofs.Common.{refl, subst, rules}
-use Rattle.pv_parse.specs.Denoted.{IsFileOf, IsCause}
+use Rattle.pv_parse.specs.Denoted.{IsCause}
+use Rattle.file_tree.specs.Denoted.{IsFileOf}
 use Rattle.pv_parse.proofs.DenotedLemmas.{read_is_file, cause_is_known}
 use Rattle.pv_parse.proofs.denoted.modules.Goals as goal
 

@@ -1,6 +1,6 @@
 use Rattle.std.proofs.Common.{arith, rules, length, ◌-◌, ◌+◌}
 use Rattle.token_reading.proofs.ListSteps.{fault_hands_on, IfNoTree-weaker}
-use Rattle.pv_parse.proofs.RepeatLemmas.{repeating_stops, repeating_is_over, repeating_fails, repeating_goes_on}
+use Rattle.token_reading.proofs.RepeatLemmas.{repeating_stops, repeating_is_over, repeating_fails, repeating_goes_on}
 use Rattle.pv_parse.specs.FileReading.{before_module, module_behind}
 use Rattle.pv_parse.proofs.FileSteps.{no_module, one_module, file_ends, file_goes_on, file_fails}
 use Rattle.pv_parse.proofs.module.read_file.Goals as goal

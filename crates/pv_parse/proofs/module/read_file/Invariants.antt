@@ -1,5 +1,5 @@
 use Rattle.std.proofs.Common.{◌≡◌, ◌-◌, length}
-use Rattle.pv_parse.specs.RepeatReading.{put_all, repeat_at}
+use Rattle.token_reading.specs.RepeatReading.{put_all, repeat_at}
 use Rattle.pv_parse.specs.FileReading.{before_module, module_behind}
 use Rattle.pv_parse.proofs.module.read_file.Given as goal
 

@@ -1,6 +1,6 @@
 use Rattle.std.proofs.Common.{arith, rules, length, ◌-◌, ◌+◌}
 use Rattle.token_reading.proofs.ListSteps.{fault_hands_on, IfNoTree-weaker}
-use Rattle.pv_parse.proofs.RepeatLemmas.{repeating_stops, repeating_is_over, repeating_fails, repeating_goes_on}
+use Rattle.token_reading.proofs.RepeatLemmas.{repeating_stops, repeating_is_over, repeating_fails, repeating_goes_on}
 use Rattle.pv_parse.specs.MemberReading.{member_at}
 use Rattle.pv_parse.specs.FileReading.{before_member, members_at}
 use Rattle.pv_parse.proofs.FileSteps.{no_member, one_member}

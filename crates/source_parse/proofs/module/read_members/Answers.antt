@@ -1,7 +1,7 @@
 use Rattle.std.specs.Vec.Iter.{into_iter_items}
 use Rattle.source_parse.specs.Reading.{HasNoMember}
 use Rattle.source_parse.proofs.FaultLemmas.{hands_on}
-use Rattle.source_parse.proofs.MemberLemmas.{reading_more, reading_stop}
+use Rattle.pv_base.proofs.PairLaws.{reading_more, reading_stop}
 use Rattle.source_parse.proofs.module.read_members.Goals as goal
 
 pub returns-in_err-read_member : goal.returns-in_err-read_member

@@ -1,8 +1,8 @@
 use Rattle.std.proofs.Common.{ℕ, List}
 use Rattle.std.specs.Vec.Iter.{into_iter_items}
-use Rattle.source_parse.specs.FunctionNames.{IsSetOf}
-use Rattle.source_parse.specs.Members.{IsSourceMember}
-use Rattle.source_parse.proofs.MemberLemmas.{Reading}
+use Rattle.pv_base.specs.Names.{IsSetOf}
+use Rattle.source_tree.specs.Members.{IsSourceMember}
+use Rattle.pv_base.proofs.PairLaws.{Reading}
 use Rattle.source_parse.proofs.module.read_members.Given as goal
 
 abbrev pub invariant-loop-member : goal.invariant-loop-member

@@ -1,6 +1,7 @@
 use Rattle.std.proofs.Common.{ap, subst, ◌∙◌}
 use Rattle.file_tree.specs.FileData.{ModuleData}
-use Rattle.source_parse.specs.FunctionNames.{IsSetOf, names_of}
+use Rattle.source_tree.specs.FunctionNames.{function_names}
+use Rattle.pv_base.specs.Names.{IsSetOf}
 use Rattle.source_parse.specs.SpecFault.{IfNoSpec}
 use Rattle.source_parse.specs.Reading.{HaveNoMembers}
 use Rattle.source_parse.proofs.FaultLemmas.{hands_on}
@@ -8,7 +9,7 @@ use Rattle.source_parse.proofs.module.read_module.Goals as goal
 
 pub returns-in_err-members : goal.returns-in_err-members
 returns-in_err-members c =
-    hands_on c.from_residual-in_err-members.result _ _ (HaveNoMembers (names_of c.args.module.members) c.args.module.members) _ c.from_residual-in_err-members.ensures.1
+    hands_on c.from_residual-in_err-members.result _ _ (HaveNoMembers (function_names c.args.module.members) c.args.module.members) _ c.from_residual-in_err-members.ensures.1
     (λ none found s. none found.members s.members)
-    (subst (λ members. IfNoSpec c.in_err-members.field-0.0 (HaveNoMembers (names_of c.args.module.members) members)) (ap (λ (m : ModuleData). m.members) c.module.view_is)
-    (c.in_err-members.ensures (names_of c.args.module.members) (subst (λ members. IsSetOf c.in_ok-functions.functions (names_of members)) (c.as_slice.ensures.value ∙ ap (λ (m : ModuleData). m.members) c.module.view_is) c.in_ok-functions.ensures)))
+    (subst (λ members. IfNoSpec c.in_err-members.field-0.0 (HaveNoMembers (function_names c.args.module.members) members)) (ap (λ (m : ModuleData). m.members) c.module.view_is)
+    (c.in_err-members.ensures (function_names c.args.module.members) (subst (λ members. IsSetOf c.in_ok-functions.functions (function_names members)) (c.as_slice.ensures.value ∙ ap (λ (m : ModuleData). m.members) c.module.view_is) c.in_ok-functions.ensures)))

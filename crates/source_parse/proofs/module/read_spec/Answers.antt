@@ -1,17 +1,18 @@
 use Rattle.std.proofs.Common.{sym, subst, rules}
+use Rattle.clause_tree.specs.Denoted.{IsSpecBlockOf}
+use Rattle.spec_parse.specs.DenotedBlocks.{IsCause}
 use Rattle.source_parse.specs.SpecFault.{IfNoSpec}
 use Rattle.source_parse.specs.Reading.{HasNoTree}
-use Rattle.spec_parse.specs.DenotedBlocks.{IsSpecBlockOf, IsCause}
 use Rattle.source_parse.proofs.SpecLemmas.{tree_is_read, no_tree_is_read, settled}
 use Rattle.source_parse.proofs.module.read_spec.Goals as goal
 
 pub returns-in-Ok : goal.returns-in-Ok
 returns-in-Ok c = λ names same.
     tree_is_read names c.args.functions.now same c.args.block.now c.in-Ok.tree
-    (settled (λ slot ts. IsSpecBlockOf slot c.in-Ok.tree ts) c.args.functions.now c.args.block.now c.slot_of_block-slot.result c.as_slice.result.now c.in_ok-tokens.tokens c.in_ok-tokens.ensures (search rules) c.slot_of_block-slot.ensures c.in-Ok.ensures.denoted)
+    (settled (λ slot. IsSpecBlockOf slot c.in-Ok.tree c.args.block.now.tokens) c.args.functions.now c.args.block.now c.slot_of_block-slot.result c.as_slice.result.now (search rules) c.slot_of_block-slot.ensures c.in-Ok.ensures.denoted)
 
 pub returns : goal.returns
 returns c = λ names same.
     subst (λ fault. IfNoSpec fault (HasNoTree names c.args.block.now)) (sym c.fault_of.ensures)
     (no_tree_is_read names c.args.functions.now same c.args.block.now c.in-Err.fault
-    (settled (λ slot ts. IsCause slot ts c.in-Err.fault) c.args.functions.now c.args.block.now c.slot_of_block-slot.result c.as_slice.result.now c.in_ok-tokens.tokens c.in_ok-tokens.ensures (search rules) c.slot_of_block-slot.ensures c.in-Err.ensures.refused))
+    (settled (λ slot. IsCause slot c.args.block.now.tokens c.in-Err.fault) c.args.functions.now c.args.block.now c.slot_of_block-slot.result c.as_slice.result.now (search rules) c.slot_of_block-slot.ensures c.in-Err.ensures.refused))

@@ -1,6 +1,6 @@
 use Rattle.std.proofs.Common.{arith, rules, length, ◌-◌, ◌+◌}
 use Rattle.token_reading.proofs.ListSteps.{fault_hands_on, IfNoTree-weaker}
-use Rattle.pv_parse.proofs.RepeatLemmas.{repeating_stops, repeating_is_over, repeating_fails, repeating_goes_on}
+use Rattle.token_reading.proofs.RepeatLemmas.{repeating_stops, repeating_is_over, repeating_fails, repeating_goes_on}
 use Rattle.spec_parse.specs.ClauseReading.{clause_at}
 use Rattle.spec_parse.specs.BlockReading.{before_clause, clauses_at}
 use Rattle.spec_parse.proofs.BlockSteps.{no_clause, one_clause}

@@ -1,5 +1,5 @@
 use Rattle.std.proofs.Common.{◌≡◌, ◌-◌, length}
-use Rattle.pv_parse.specs.RepeatReading.{put_all, repeat_at}
+use Rattle.token_reading.specs.RepeatReading.{put_all, repeat_at}
 use Rattle.spec_parse.specs.ClauseReading.{clause_at}
 use Rattle.spec_parse.specs.BlockReading.{before_clause}
 use Rattle.spec_parse.proofs.block.read_clauses.Given as goal

@@ -1,5 +1,6 @@
 use Rattle.std.proofs.Common.{refl, subst, rules}
-use Rattle.spec_parse.specs.DenotedBlocks.{IsSpecBlockOf, IsCause}
+use Rattle.spec_parse.specs.DenotedBlocks.{IsCause}
+use Rattle.clause_tree.specs.Denoted.{IsSpecBlockOf}
 use Rattle.spec_parse.proofs.DenotedBlockLemmas.{read_is_spec_block, cause_is_known}
 use Rattle.spec_parse.proofs.block.spec_block.Goals as goal
 

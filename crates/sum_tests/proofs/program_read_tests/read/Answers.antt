@@ -1,6 +1,6 @@
 use Rattle.std.proofs.Common.{◌<◌, length, sym, subst}
 use Rattle.std.specs.List.{AllByRecursion}
-use Rattle.source_parse.proofs.PairLemmas.{all_append}
+use Rattle.pv_base.proofs.PairLaws.{all_append}
 use Rattle.sum_tests.proofs.program_read_tests.read.Goals as goal
 
 pub loop-text-preserved : goal.loop-text-preserved

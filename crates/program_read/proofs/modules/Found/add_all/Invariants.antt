@@ -1,5 +1,5 @@
 use Rattle.std.proofs.Common.{ℕ, List, ◌++◌, map, take}
-use Rattle.source_parse.specs.SourceModuleData.{SourceModuleData}
+use Rattle.source_tree.specs.SourceModuleData.{SourceModuleData}
 use Rattle.program_read.specs.ModuleReading.{AreRead}
 use Rattle.program_read.proofs.modules.Found.add_all.Given as goal
 

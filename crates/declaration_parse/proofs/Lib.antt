@@ -1,0 +1,4 @@
+pub mod BeforeLists
+pub mod AbilityLemmas
+pub mod ParameterLemmas
+pub mod TypedNameLemmas

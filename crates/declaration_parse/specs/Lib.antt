@@ -1,0 +1,3 @@
+pub mod AbilityReading
+pub mod ParameterReading
+pub mod TypedNameReading
