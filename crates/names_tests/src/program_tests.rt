@@ -5,7 +5,7 @@ use pv_base::span::Span;
 use pv_types::arena::{Arena, Node};
 use pv_types::code::{Body, CodeBinary, CodeLeaf, CodeMany, CodeUnary, LocalUse, Number};
 use pv_types::operator::{Arithmetic, BinaryOperator};
-use pv_types::program::{ModuleId, Program};
+use pv_types::program::{ConstantId, ModuleId, Program, SchemaId};
 use pv_types::sequence::Sequence;
 use pv_types::table::Table;
 use std::alloc::Global;
@@ -107,7 +107,30 @@ fn tables_keep_their_order(rt: HostRuntime) -> Result<(), Fail> {
         None => assert!(&rt; false, "no first entry"),
     }
     assert!(&rt; table.entry(2).is_none());
+    assert!(&rt; !table.put(module(&rt, alloc, 1, b"m"), 7).expect(&rt, "memory"));
+    assert!(&rt; table.put(module(&rt, alloc, 3, b"m"), 8).expect(&rt, "memory"));
+    assert_eq!(&rt; table.len(), 3);
     let program = Program::new(alloc);
     assert_eq!(&rt; program.functions.len(), 0);
+    Ok(())
+}
+
+#[test]
+fn names_are_copied(rt: HostRuntime) -> Result<(), Fail> {
+    let alloc = rt.alloc();
+    let owner = module(&rt, alloc, 1, b"m");
+    assert!(&rt; owner.try_clone(alloc).expect(&rt, "memory") == owner);
+    let constant = ConstantId {
+        address: 1,
+        module: Name::from_slice(alloc, b"m").expect(&rt, "memory"),
+        name: Name::from_slice(alloc, b"C").expect(&rt, "memory"),
+    };
+    assert!(&rt; constant.try_clone(alloc).expect(&rt, "memory") == constant);
+    let schema = SchemaId {
+        address: 1,
+        module: Name::from_slice(alloc, b"m").expect(&rt, "memory"),
+        name: Name::from_slice(alloc, b"S").expect(&rt, "memory"),
+    };
+    assert!(&rt; schema.try_clone(alloc).expect(&rt, "memory") == schema);
     Ok(())
 }

@@ -1,7 +1,8 @@
 //! Trees that stand in one list, node by node, each node behind its parts.
 
 ghost use Rattle.std.specs.Prelude.{◌≡◌, ◌<◌, ◌++◌, ◌∷◌, [], length, IfOk, OnOk, OnErr, slice_get, Some};
-ghost use Rattle.pv_types.specs.Trees.{IsBelow, Stays, at, tree_of, trees};
+ghost use Rattle.pv_types.specs.Listed.{IsSound, nodes_of, subtrees};
+ghost use Rattle.pv_types.specs.Trees.{IsBelow, Stays, Tree, at, tree_of, trees};
 
 use crate::sequence::Sequence;
 use pv_base::memory::NoMemory;
@@ -119,3 +120,11 @@ impl<L: Drop, U: Drop, B: Drop, M: Drop> Arena<L, U, B, M> {
         self.spans[place]
     }
 }
+
+/// A law: the nodes of a tree stand for the trees inside it and, last, for the tree itself. So no list of nodes is
+/// that of two trees.
+pub fn one_tree<L, U, B, M>()
+    ensures trees { (tree : Tree L U B M) → IsSound tree → trees (nodes_of tree) ≡ subtrees tree }
+    ensures one { (tree other : Tree L U B M)
+        → IsSound tree → IsSound other → nodes_of tree ≡ nodes_of other → tree ≡ other }
+{}
