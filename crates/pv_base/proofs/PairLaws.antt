@@ -1,6 +1,7 @@
 -- Pairing grows with its lists, ends where one item has no partner, and gives one list where each item has one partner.
-use Rattle.std.proofs.Common.{◌≡◌, ℕ, zero, suc, ◌<◌, List, [], ◌∷◌, ◌++◌, length, map, get_or, refl, sym, ap, subst, ◌∙◌, arith, append_assoc, append-nil}
+use Rattle.std.proofs.Common.{◌≡◌, ℕ, zero, suc, ◌+◌, ◌<◌, List, [], ◌∷◌, ◌++◌, length, map, take, get_or, refl, sym, ap, subst, ◌∙◌, arith, append_assoc, append-nil}
 use Rattle.std.specs.List.{AllByRecursion}
+use Rattle.std.proofs.lemmas.List.{take_more}
 use Rattle.pv_base.specs.Pairs.{Paired}
 
 pub paired_append : {A B : Type 0} (R : A → B → Type 0) (xs : List A) (ys : List B) (x : A) (y : B) → Paired R xs ys → R x y → Paired R (xs ++ x ∷ []) (ys ++ y ∷ [])
@@ -61,3 +62,23 @@ reading_stop {R = R} x back r e none ys p = no_pair R r.front x back ys none (su
 
 pub reading_end : {A B : Type 0} {R : A → B → Type 0} {all rest : List A} {found : List B} → Reading R all rest found → rest ≡ [] → Paired R all found
 reading_end {R = R} {found = found} r e = subst (λ all. Paired R all found) (sym (r.parts ∙ ap (λ rest. r.front ++ rest) e ∙ append-nil r.front)) r.paired
+
+-- ---- a loop over a list, by numbers
+
+mapped : {A B C : Type 0} (R : C → B → Type 0) (f : A → C) (xs : List A) (ys : List B) (x : A) (y : B) → Paired R (map f xs) ys → R (f x) y → Paired R (map f (xs ++ x ∷ [])) (ys ++ y ∷ [])
+mapped R f [] [] x y p r = (r, tt)
+mapped R f [] (w ∷ ys) x y p r = absurd p
+mapped R f (v ∷ xs) [] x y p r = absurd p
+mapped R f (v ∷ xs) (w ∷ ys) x y p r = (p.0, mapped R f xs ys x y p.1 r)
+
+-- one more item
+pub paired_next : {A B C : Type 0} (R : C → B → Type 0) (f : A → C) (xs : List A) (i : ℕ) (d : A) (ys more : List B) (y : B) → i < length xs → Paired R (map f (take i xs)) ys → R (f (get_or xs i d)) y → more ≡ ys ++ y ∷ [] → Paired R (map f (take (i + 1) xs)) more
+paired_next R f xs i d ys more y h p r e =
+    subst (Paired R (map f (take (i + 1) xs))) (sym e) (subst (λ zs. Paired R (map f zs) (ys ++ y ∷ [])) (sym (take_more xs i d h)) (mapped R f (take i xs) ys (get_or xs i d) y p r))
+
+-- an item without a partner
+pub no_pair_at : {A B C : Type 0} (R : C → B → Type 0) (f : A → C) (xs : List A) (i : ℕ) (d : A) (ys : List B) → i < length xs → ((y : B) → R (f (get_or xs i d)) y → ⊥) → Paired R (map f xs) ys → ⊥
+no_pair_at R f [] i d ys h none p = absurd (omega (arith, h))
+no_pair_at R f (x ∷ xs) i d [] h none p = p
+no_pair_at R f (x ∷ xs) zero d (y ∷ ys) h none p = none y p.0
+no_pair_at R f (x ∷ xs) (suc i) d (y ∷ ys) h none p = no_pair_at R f xs i d ys (omega (arith, h)) none p.1
