@@ -23,49 +23,49 @@ use pv_base::span::Span;
 use spec_tree::spec_expression::SpecExpression;
 use std::alloc::Global;
 
-#[tactic(auto, unfolding(crate::specs::ClauseSpelling::requires_word))]
+#[tactic(auto, unfolding(clause_tree::specs::ClauseSpelling::requires_word))]
 fn spell_requires_word(alloc: Global, place: Span, into: &mut Lexemes) -> Result<(), NoMemory>
     ensures { OnOk result (into.new ≡ into.old ++ requires_word place ∷ []) }
 {
     into.push_word(alloc, b"requires", Some(place))
 }
 
-#[tactic(auto, unfolding(crate::specs::ClauseSpelling::ensures_word))]
+#[tactic(auto, unfolding(clause_tree::specs::ClauseSpelling::ensures_word))]
 fn spell_ensures_word(alloc: Global, place: Span, into: &mut Lexemes) -> Result<(), NoMemory>
     ensures { OnOk result (into.new ≡ into.old ++ ensures_word place ∷ []) }
 {
     into.push_word(alloc, b"ensures", Some(place))
 }
 
-#[tactic(auto, unfolding(crate::specs::ClauseSpelling::aborts_if_word))]
+#[tactic(auto, unfolding(clause_tree::specs::ClauseSpelling::aborts_if_word))]
 fn spell_aborts_if_word(alloc: Global, place: Span, into: &mut Lexemes) -> Result<(), NoMemory>
     ensures { OnOk result (into.new ≡ into.old ++ aborts_if_word place ∷ []) }
 {
     into.push_word(alloc, b"aborts_if", Some(place))
 }
 
-#[tactic(auto, unfolding(crate::specs::ClauseSpelling::modifies_word))]
+#[tactic(auto, unfolding(clause_tree::specs::ClauseSpelling::modifies_word))]
 fn spell_modifies_word(alloc: Global, place: Span, into: &mut Lexemes) -> Result<(), NoMemory>
     ensures { OnOk result (into.new ≡ into.old ++ modifies_word place ∷ []) }
 {
     into.push_word(alloc, b"modifies", Some(place))
 }
 
-#[tactic(auto, unfolding(crate::specs::ClauseSpelling::invariant_word))]
+#[tactic(auto, unfolding(clause_tree::specs::ClauseSpelling::invariant_word))]
 fn spell_invariant_word(alloc: Global, place: Span, into: &mut Lexemes) -> Result<(), NoMemory>
     ensures { OnOk result (into.new ≡ into.old ++ invariant_word place ∷ []) }
 {
     into.push_word(alloc, b"invariant", Some(place))
 }
 
-#[tactic(auto, unfolding(crate::specs::ClauseSpelling::include_word))]
+#[tactic(auto, unfolding(clause_tree::specs::ClauseSpelling::include_word))]
 fn spell_include_word(alloc: Global, place: Span, into: &mut Lexemes) -> Result<(), NoMemory>
     ensures { OnOk result (into.new ≡ into.old ++ include_word place ∷ []) }
 {
     into.push_word(alloc, b"include", Some(place))
 }
 
-#[tactic(auto, unfolding(crate::specs::ClauseSpelling::failure_word))]
+#[tactic(auto, unfolding(clause_tree::specs::ClauseSpelling::failure_word))]
 fn spell_failure_word(alloc: Global, into: &mut Lexemes) -> Result<(), NoMemory>
     ensures { OnOk result (into.new ≡ into.old ++ failure_word ∷ []) }
 {

@@ -357,7 +357,7 @@ fn spell_constant(alloc: Global, constant: &Constant, into: &mut Lexemes) -> Res
     into.push_sign(Punctuation::Semicolon)
 }
 
-#[tactic(auto, unfolding(crate::specs::MemberSpelling::of_friends))]
+#[tactic(auto, unfolding(file_tree::specs::MemberSpelling::of_friends))]
 fn spell_of_friends(alloc: Global, into: &mut Lexemes) -> Result<(), NoMemory>
     ensures { OnOk result (into.new ≡ into.old ++ of_friends) }
 {
@@ -392,7 +392,7 @@ fn spell_entry(alloc: Global, entry: Option<Span>, into: &mut Lexemes) -> Result
     }
 }
 
-#[tactic(auto, unfolding(crate::specs::MemberSpelling::acquires_word))]
+#[tactic(auto, unfolding(file_tree::specs::MemberSpelling::acquires_word))]
 fn spell_acquires_word(alloc: Global, into: &mut Lexemes) -> Result<(), NoMemory>
     ensures { OnOk result (into.new ≡ into.old ++ acquires_word ∷ []) }
 {

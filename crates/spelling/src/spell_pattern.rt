@@ -83,7 +83,7 @@ fn spell_patterns(
 }
 
 #[cycle(spell_pattern)]
-#[tactic(auto, using(crate::proofs::Smaller::pattern_smaller))]
+#[tactic(auto, using(move_tree::proofs::Smaller::pattern_smaller))]
 fn spell_more_patterns(
     alloc: Global,
     patterns: &[Pattern],
@@ -117,7 +117,7 @@ fn spell_field_patterns(
 }
 
 #[cycle(spell_pattern)]
-#[tactic(auto, using(crate::proofs::Smaller::field_pattern_smaller))]
+#[tactic(auto, using(move_tree::proofs::Smaller::field_pattern_smaller))]
 fn spell_more_fields(
     alloc: Global,
     fields: &[FieldPattern],

@@ -152,7 +152,7 @@ fn spell_trigger(alloc: Global, trigger: &Trigger, into: &mut Lexemes) -> Result
 }
 
 #[cycle(spell_spec)]
-#[tactic(auto, using(crate::proofs::Smaller::trigger_smaller))]
+#[tactic(auto, using(spec_tree::proofs::Smaller::trigger_smaller))]
 fn spell_triggers(alloc: Global, triggers: &[Trigger], into: &mut Lexemes) -> Result<(), NoMemory>
     ensures { OnOk result (into.new ≡ into.old ++ triggers_spelling (triggers_of triggers.now)) }
 {
@@ -196,7 +196,7 @@ pub fn spell_spec_expressions(
 }
 
 #[cycle(spell_spec)]
-#[tactic(auto, using(crate::proofs::Smaller::spec_expression_smaller))]
+#[tactic(auto, using(spec_tree::proofs::Smaller::spec_expression_smaller))]
 fn spell_more_spec_expressions(
     alloc: Global,
     expressions: &[SpecExpression],
@@ -230,7 +230,7 @@ fn spell_binds(
 }
 
 #[cycle(spell_spec)]
-#[tactic(auto, using(crate::proofs::Smaller::bind_smaller))]
+#[tactic(auto, using(spec_tree::proofs::Smaller::bind_smaller))]
 fn spell_more_binds(alloc: Global, binds: &[Bind], into: &mut Lexemes) -> Result<(), NoMemory>
     ensures { OnOk result (into.new ≡ into.old ++ flat_map bind_after_comma binds.now) }
 {
@@ -261,7 +261,7 @@ pub fn spell_spec_fields(
 }
 
 #[cycle(spell_spec)]
-#[tactic(auto, using(crate::proofs::Smaller::spec_field_smaller))]
+#[tactic(auto, using(spec_tree::proofs::Smaller::spec_field_smaller))]
 fn spell_more_spec_fields(
     alloc: Global,
     fields: &[SpecField],

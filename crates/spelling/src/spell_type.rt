@@ -80,7 +80,7 @@ pub fn spell_arguments(
 }
 
 #[cycle(spell_type)]
-#[tactic(auto, using(crate::proofs::CommaLists::types_comma_list))]
+#[tactic(auto, using(crate::proofs::PatternCommas::types_comma_list))]
 fn spell_types(
     alloc: Global,
     types: &[SourceType],
@@ -99,7 +99,7 @@ fn spell_types(
 }
 
 #[cycle(spell_type)]
-#[tactic(auto, using(crate::proofs::Smaller::source_type_smaller))]
+#[tactic(auto, using(move_tree::proofs::Smaller::source_type_smaller))]
 fn spell_more_types(alloc: Global, types: &[SourceType], into: &mut Lexemes) -> Result<(), NoMemory>
     ensures { OnOk result (into.new ≡ into.old ++ flat_map type_after_comma types.now) }
 {
