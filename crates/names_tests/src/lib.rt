@@ -2,4 +2,6 @@
 #![tactic(auto)]
 
 #[cfg(test)]
+mod name_tests;
+#[cfg(test)]
 mod program_tests;

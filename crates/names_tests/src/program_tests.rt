@@ -107,8 +107,16 @@ fn tables_keep_their_order(rt: HostRuntime) -> Result<(), Fail> {
         None => assert!(&rt; false, "no first entry"),
     }
     assert!(&rt; table.entry(2).is_none());
-    assert!(&rt; !table.put(module(&rt, alloc, 1, b"m"), 7).expect(&rt, "memory"));
-    assert!(&rt; table.put(module(&rt, alloc, 3, b"m"), 8).expect(&rt, "memory"));
+    assert!(&rt;
+        !table
+            .put(module(&rt, alloc, 1, b"m"), 7)
+            .expect(&rt, "memory")
+    );
+    assert!(&rt;
+        table
+            .put(module(&rt, alloc, 3, b"m"), 8)
+            .expect(&rt, "memory")
+    );
     assert_eq!(&rt; table.len(), 3);
     let program = Program::new(alloc);
     assert_eq!(&rt; program.functions.len(), 0);

@@ -8,8 +8,8 @@ ghost use Rattle.program_read.specs.LocalCounts.{HasFewLocals, excess_of, excess
 use crate::fault::{FileFault, FileLimit, ProgramFault};
 use file_tree::member::Function;
 use pv_base::memory::NoMemory;
-use source_tree::source::{Source, SourceForm, SourceModule};
 use source_tree::locals::locals_of;
+use source_tree::source::{Source, SourceForm, SourceModule};
 use std::alloc::Global;
 
 /// The most parameters and locals that a function may have.

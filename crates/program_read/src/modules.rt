@@ -10,11 +10,11 @@ use crate::fault::{FileFault, ProgramFault};
 use answers::rule::Rule;
 use pv_base::memory::NoMemory;
 use pv_base::name::Name;
+use source_tree::places::module_place;
 use source_tree::source::{Source, SourceModule};
 use std::alloc::Global;
 use std::collections::BTreeSet;
 use sum_module::fault::ModuleFault;
-use source_tree::places::module_place;
 use sum_module::sums::read_sum_module;
 use sum_tree::function::SumModule;
 

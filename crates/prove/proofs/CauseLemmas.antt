@@ -1,5 +1,5 @@
 -- The causes of a run's statuses exclude each other, so that what a run ends with tells each cause in both directions.
-use Rattle.std.proofs.Common.{◌≡◌, ℕ, ◌<◌, ◌≤◌, ◌↔◌, Bool, true, false, if◌then◌else◌, List, [], ◌∷◌, ◌++◌, length, Option, Some, None, inl, inr, refl, sym, ap, subst, ◌∙◌, arith}
+use Rattle.std.proofs.Common.{◌≡◌, ℕ, ◌<◌, ◌≤◌, ◌↔◌, ◌⊎◌, Bool, true, false, if◌then◌else◌, List, [], ◌∷◌, ◌++◌, length, Option, Some, None, inl, inr, refl, sym, ap, subst, ◌∙◌, arith}
 use Rattle.std.specs.Prelude.{IfSome, IsSomeAnd}
 use Rattle.std.specs.List.{list_all, AllByRecursion}
 use Rattle.std.specs.FinMap as map
@@ -225,9 +225,10 @@ module _ (either : (files : List (List ℕ)) (program : List SumModuleData) (fil
 
         back : BreaksRule files rule f marker → IsRefused rule f marker ends
         back b =
-            let same = one_stop files file f fault (Breaks rule b.0 marker) stopped b.1 in
-            (line_in files f (place_of fault),
-            ap (λ k. stopped_status files k fault) same.file_is ∙ ap (stopped_status files f) (same_rule fault rule b.0 marker same.fault_is))
+            let same = one_stop files file f fault (Breaks rule b.0 marker) stopped b.1 in (
+              line_in files f (place_of fault),
+              ap (λ k. stopped_status files k fault) same.file_is ∙ ap (stopped_status files f) (same_rule fault rule b.0 marker same.fault_is),
+            )
 
     line_causes : (rule : Rule) → tells_place rule ≡ true → (f line : ℕ) (marker : Option Marker) → (ends ≡ refused rule f line marker) ↔ BreaksRuleOn files rule f line marker
     line_causes rule told f line marker = (there, back)

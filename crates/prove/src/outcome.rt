@@ -12,7 +12,9 @@ use pv_base::lists::Bytes;
 use pv_base::memory::NoMemory;
 use pv_base::name::Name;
 use report::status::{Device, LimitKind, Status};
-use report::status_text::{files_limit_line, limit_line, no_memory_line, refusal_line, source_fault_line};
+use report::status_text::{
+    files_limit_line, limit_line, no_memory_line, refusal_line, source_fault_line,
+};
 use report::writing::write_text;
 use std::alloc::Global;
 

@@ -143,12 +143,7 @@ fn bytes_of(files: &[Bytes], file: u32) -> &[u8]
 }
 
 /// What a fault of a file is called.
-fn stop_of(
-    alloc: Global,
-    files: &[Bytes],
-    file: u32,
-    fault: FileFault,
-) -> Result<RunStop, NoMemory>
+fn stop_of(alloc: Global, files: &[Bytes], file: u32, fault: FileFault) -> Result<RunStop, NoMemory>
     requires { AllByRecursion (λ bytes. length bytes ≤ FILE_LIMIT) files.now }
     ensures { IfOk result (λ stop. stop ≡ stop_of files.now file fault) }
 {

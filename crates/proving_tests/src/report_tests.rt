@@ -1,13 +1,14 @@
 //! The texts of reports and statuses, as a user sees them.
 
-use token_reading::marker::Marker;
+use answers::condition::ConditionKind;
+use answers::rule::Rule;
 use outside::memory_sink::VecSink;
 use pv_base::lists::{Bytes, Calls};
 use pv_base::name::Name;
-use report::report::{ConditionRecord, ConditionVerdict, FunctionRecord, FunctionVerdict, ParameterValue, Report};
+use report::report::{
+    ConditionRecord, ConditionVerdict, FunctionRecord, FunctionVerdict, ParameterValue, Report,
+};
 use report::report_text::report_lines;
-use answers::condition::ConditionKind;
-use answers::rule::Rule;
 use report::status::{Device, LimitKind, Refusal, Status};
 use report::status_text::{files_limit_line, limit_line, refusal_line, source_fault_line};
 use report::text::{Lines, push_hexadecimal};
@@ -15,6 +16,7 @@ use report::writing::write_lines;
 use std::alloc::Global;
 use std::panic::Expect;
 use std::process::Abort;
+use token_reading::marker::Marker;
 
 fn condition(
     kind: ConditionKind,

@@ -1,8 +1,9 @@
 -- A text of lines that end with their only line feed is the text of no other lines.
-use Rattle.std.proofs.Common.{◌≡◌, ℕ, zero, suc, ◌+◌, ◌<◌, ◌≤◌, ◌/◌, ◌%◌, Bool, true, false, not, cond, ◌==◌, ◌&&◌, List, [], ◌∷◌, ◌++◌, refl, sym, ap, subst, ◌∙◌, append_assoc, arith, ne_eqb}
+use Rattle.std.proofs.Common.{◌≡◌, ℕ, zero, suc, ◌+◌, ◌<◌, ◌≤◌, ◌/◌, ◌%◌, Bool, true, false, not, cond, ◌==◌, ◌&&◌, List, [], ◌∷◌, ◌++◌, refl, sym, ap, subst, ◌∙◌, append_assoc, arith}
 use Rattle.std.specs.List.{AllByRecursion, list_all}
 use Rattle.std.specs.Fmt.{digit_glyph, digits, digits_onto}
-use Rattle.std.proofs.lemmas.Bool.{eqb-true}
+use Rattle.std.specs.Prelude.{nat_lt}
+use Rattle.std.proofs.lemmas.Bool.{ne_eqb}
 use Rattle.report.specs.Told.{HoldsNoFeed}
 use Rattle.report.specs.Writing.{joined}
 
@@ -34,16 +35,15 @@ glyph_above d = go (nat_lt d 10)
 glyph_is_none : (d : ℕ) → not (digit_glyph false d == 10) ≡ true
 glyph_is_none d = ap not (ne_eqb (digit_glyph false d) 10 (λ e. omega (arith, e, glyph_above d)))
 
+one_of : (t : Bool) (xs ys : List ℕ) → HoldsNoFeed xs → HoldsNoFeed ys → HoldsNoFeed (cond t xs ys)
+one_of true xs ys p q = p
+one_of false xs ys p q = q
+
 digits_hold_none : (k base n : ℕ) (written : List ℕ) → HoldsNoFeed written → HoldsNoFeed (digits_onto k base false n written)
 digits_hold_none zero base n written h = h
-digits_hold_none (suc k) base n written h = go (n / base == 0)
-  where
-    more : HoldsNoFeed (digit_glyph false (n % base) ∷ written)
-    more = both (not (digit_glyph false (n % base) == 10)) (list_all (λ b. not (b == 10)) written) (glyph_is_none (n % base)) h
-
-    go : (t : Bool) → HoldsNoFeed (cond t (digit_glyph false (n % base) ∷ written) (digits_onto k base false (n / base) (digit_glyph false (n % base) ∷ written)))
-    go true = more
-    go false = digits_hold_none k base (n / base) (digit_glyph false (n % base) ∷ written) more
+digits_hold_none (suc k) base n written h =
+    let more : HoldsNoFeed (digit_glyph false (n % base) ∷ written) = both (not (digit_glyph false (n % base) == 10)) (list_all (λ b. not (b == 10)) written) (glyph_is_none (n % base)) h in
+    one_of (n / base == 0) (digit_glyph false (n % base) ∷ written) (digits_onto k base false (n / base) (digit_glyph false (n % base) ∷ written)) more (digits_hold_none k base (n / base) (digit_glyph false (n % base) ∷ written) more)
 
 pub number_holds_none : (base n : ℕ) → HoldsNoFeed (digits base false n)
 unfolding digits

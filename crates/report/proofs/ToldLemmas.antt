@@ -1,11 +1,11 @@
 -- What a printed line tells is told by its bytes.
 use Rattle.std.proofs.Common.{◌≡◌, ℕ, zero, suc, ℤ, pos, negsuc, ◌+◌, ◌-◌, ◌*◌, ◌/◌, ◌%◌, ◌<◌, ◌≤◌, ◌^◌, Bool, true, false, not, cond, ◌==◌, ◌&&◌, List, [], ◌∷◌, ◌++◌, map, Some, None, Option, refl, sym, ap, subst, ◌∙◌, append_assoc, arith}
-use Rattle.std.specs.Prelude.{codes, nat_lt, reverse, slice_index_or, count_by, length}
+use Rattle.std.specs.Prelude.{codes, nat_lt, slice_index_or, count_by, length}
 use Rattle.std.specs.List.{AllByRecursion, flat_map}
 use Rattle.std.specs.Fmt.{decimal}
 use Rattle.std.proofs.lemmas.Bool.Decides.{nat_tests}
 use Rattle.std.proofs.lemmas.Fmt.{decimal_by_steps}
-use Rattle.std.proofs.lemmas.List.{map-append, reverse-append}
+use Rattle.std.proofs.lemmas.List.{map-append}
 use Rattle.answers.specs.declared.condition.ConditionKind.{ConditionKind}
 use Rattle.answers.specs.declared.condition.ConditionKind.TheVariants.{Ensures, AbortsIf, Aborts}
 use Rattle.report.specs.ReportData.{ConditionRecordData, FunctionRecordData, ParameterValueData, ReportData}
@@ -16,6 +16,17 @@ use Rattle.report.specs.declared.report.ConditionVerdict.TheVariants.{Proved as 
 use Rattle.report.specs.declared.report.FunctionVerdict.{FunctionVerdict}
 use Rattle.report.specs.declared.report.FunctionVerdict.TheVariants.{Proved, Unknown}
 use Rattle.report.proofs.TextLines.{EndsOnce, ends_once, none_in, number_holds_none, same_lines}
+
+-- ---- texts backwards
+
+-- the text backwards, before another
+abbrev onto_back : List ℕ → List ℕ → List ℕ
+onto_back [] rest = rest
+onto_back (b ∷ bs) rest = onto_back bs (b ∷ rest)
+
+onto_both : (xs ys rest : List ℕ) → onto_back (xs ++ ys) rest ≡ onto_back ys (onto_back xs rest)
+onto_both [] ys rest = refl
+onto_both (x ∷ xs) ys rest = onto_both xs ys (x ∷ rest)
 
 -- ---- a verdict is read from the end of its line
 
@@ -51,7 +62,7 @@ record ReadsBack (n : ℕ) (bs : List ℕ) : Type 0 where
   value : value_back bs ≡ n
 
 abbrev Reads : ℕ → List ℕ → Type 0
-Reads n ds = (more : List ℕ) → ReadsBack n (reverse ds ++ 32 ∷ more)
+Reads n ds = (more : List ℕ) → ReadsBack n (onto_back ds (32 ∷ more))
 
 one_digit : (n : ℕ) → n < 10 → Reads n ((48 + n) ∷ [])
 one_digit n h more = record {
@@ -60,9 +71,9 @@ one_digit n h more = record {
 }
 
 more_digits : (n : ℕ) (ds : List ℕ) → 10 ≤ n → Reads (n / 10) ds → Reads n (ds ++ (48 + n % 10) ∷ [])
-more_digits n ds h reads more = subst (ReadsBack n) (sym (ap (λ bs. bs ++ 32 ∷ more) (reverse-append ds ((48 + n % 10) ∷ [])))) (record {
+more_digits n ds h reads more = subst (ReadsBack n) (sym (onto_both ds ((48 + n % 10) ∷ []) (32 ∷ more))) (record {
   digit = digit_is (48 + n % 10) (omega arith) (omega arith);
-  value = ap (λ t. cond t ((48 + n % 10 - 48) + 10 * value_back (reverse ds ++ 32 ∷ more)) 0) (digit_is (48 + n % 10) (omega arith) (omega arith)) ∙ ap (λ v. (48 + n % 10 - 48) + 10 * v) (reads more).value ∙ omega arith;
+  value = ap (λ t. cond t ((48 + n % 10 - 48) + 10 * value_back (onto_back ds (32 ∷ more))) 0) (digit_is (48 + n % 10) (omega arith) (omega arith)) ∙ ap (λ v. (48 + n % 10 - 48) + 10 * v) (reads more).value ∙ omega arith;
 })
 
 decimal_reads : (n : ℕ) → n < 2 ^ 64 → Reads n (decimal n)
@@ -71,28 +82,26 @@ decimal_reads n h = decimal_by_steps Reads one_digit more_digits n h
 budget_back : (n : ℕ) (bs : List ℕ) → ReadsBack n bs → condition_back bs ≡ Budget n
 budget_back n bs r = ap (λ t. cond t (Budget (value_back bs)) (cond (first bs == 100) condition_proved (cond (first bs == 110) Open (cond (first bs == 115) Rows (cond (first (behind bs) == 100) Wide Size))))) r.digit ∙ ap Budget r.value
 
-condition_reads : (v : ConditionVerdict) (more : List ℕ) → IsCounted v → condition_back (reverse (condition_verdict_text v) ++ 32 ∷ more) ≡ v
+condition_reads : (v : ConditionVerdict) (more : List ℕ) → IsCounted v → condition_back (onto_back (condition_verdict_text v) (32 ∷ more)) ≡ v
 condition_reads condition_proved more c = refl
 condition_reads Open more c = refl
 condition_reads Wide more c = refl
 condition_reads Rows more c = refl
 condition_reads Size more c = refl
 condition_reads (Budget n) more c =
-    ap (λ bs. condition_back (bs ++ 32 ∷ more)) (reverse-append (codes "budget ") (decimal n))
-    ∙ ap condition_back (append_assoc (reverse (decimal n)) (reverse (codes "budget ")) (32 ∷ more))
-    ∙ budget_back n _ (decimal_reads n c (behind (reverse (codes "budget ")) ++ 32 ∷ more))
+    ap condition_back (onto_both (codes "budget ") (decimal n) (32 ∷ more)) ∙ budget_back n _ (decimal_reads n c (behind (onto_back (codes "budget ") (32 ∷ more))))
 
-function_reads : (v : FunctionVerdict) (more : List ℕ) → function_back (reverse (function_verdict_text v) ++ 32 ∷ more) ≡ v
+function_reads : (v : FunctionVerdict) (more : List ℕ) → function_back (onto_back (function_verdict_text v) (32 ∷ more)) ≡ v
 function_reads Proved more = refl
 function_reads Unknown more = refl
 
 -- what stands before the line feed, from the end on
 abbrev back : List ℕ → List ℕ
-back line = behind (reverse line)
+back line = behind (onto_back line [])
 
-back_is : (front text : List ℕ) → back (((front ++ codes ": ") ++ text) ++ line_feed) ≡ reverse text ++ 32 ∷ 58 ∷ reverse front
+back_is : (front text : List ℕ) → back (((front ++ codes ": ") ++ text) ++ line_feed) ≡ onto_back text (32 ∷ 58 ∷ onto_back front [])
 back_is front text =
-    ap behind (reverse-append ((front ++ codes ": ") ++ text) line_feed) ∙ reverse-append (front ++ codes ": ") text ∙ ap (λ bs. reverse text ++ bs) (reverse-append front (codes ": "))
+    ap behind (onto_both ((front ++ codes ": ") ++ text) line_feed []) ∙ onto_both (front ++ codes ": ") text [] ∙ ap (onto_back text) (onto_both front (codes ": ") [])
 
 -- ---- what a line tells
 
@@ -104,7 +113,7 @@ line_tells line =
 function_tells : (f : FunctionRecordData) → line_tells (function_line f) ≡ of_function f.verdict
 function_tells f =
     let front = ((((codes "0x" ++ hexadecimal f.address) ++ codes "::") ++ f.module_name) ++ codes "::") ++ f.name in
-    ap (λ bs. of_function (function_back bs)) (back_is front (function_verdict_text f.verdict)) ∙ ap of_function (function_reads f.verdict (58 ∷ reverse front))
+    ap (λ bs. of_function (function_back bs)) (back_is front (function_verdict_text f.verdict)) ∙ ap of_function (function_reads f.verdict (58 ∷ onto_back front []))
 
 -- the third byte of the line of a condition is no blank
 of_kind : (kind : ConditionKind) (file line check text : List ℕ) (x y : LineVerdict)
@@ -117,7 +126,7 @@ condition_tells : (files : List (List ℕ)) (c : ConditionRecordData) → IsCoun
 condition_tells files c counted =
     let front = (((((codes "  " ++ kind_text c.kind) ++ codes " ") ++ slice_index_or files c.file []) ++ codes ":") ++ decimal c.line) ++ check_text c.check_line in
     of_kind c.kind (slice_index_or files c.file []) (decimal c.line) (check_text c.check_line) (condition_verdict_text c.verdict) (of_condition (condition_back (back (condition_line files c)))) of_none
-    ∙ ap (λ bs. of_condition (condition_back bs)) (back_is front (condition_verdict_text c.verdict)) ∙ ap of_condition (condition_reads c.verdict (58 ∷ reverse front) counted)
+    ∙ ap (λ bs. of_condition (condition_back bs)) (back_is front (condition_verdict_text c.verdict)) ∙ ap of_condition (condition_reads c.verdict (58 ∷ onto_back front []) counted)
 
 value_tells : (v : ParameterValueData) → line_tells (value_line v) ≡ of_none
 value_tells v = refl
@@ -191,20 +200,40 @@ denominator_holds_none (pos (suc (suc n))) = none_in (codes "/") (whole_text (po
 denominator_holds_none (negsuc n) = none_in (codes "/") (whole_text (negsuc n)) refl (whole_holds_none (negsuc n))
 
 function_ends : (f : FunctionRecordData) → IsPrintedFunction f → EndsOnce (function_line f)
-function_ends f p = ends_once _
-    (none_in _ (function_verdict_text f.verdict) (none_in _ (codes ": ") (none_in _ f.name (none_in _ (codes "::") (none_in _ f.module_name (none_in _ (codes "::") (none_in (codes "0x") (hexadecimal f.address) refl (number_holds_none 16 f.address)) refl) p.module_name) refl) p.name) refl) (function_verdict_holds_none f.verdict))
+function_ends f p =
+    let address = codes "0x" ++ hexadecimal f.address in
+    let in_module = (address ++ codes "::") ++ f.module_name in
+    let named = (in_module ++ codes "::") ++ f.name in
+    let at_address : HoldsNoFeed address = none_in (codes "0x") (hexadecimal f.address) refl (number_holds_none 16 f.address) in
+    let at_module : HoldsNoFeed in_module = none_in (address ++ codes "::") f.module_name (none_in address (codes "::") at_address refl) p.module_name in
+    let at_name : HoldsNoFeed named = none_in (in_module ++ codes "::") f.name (none_in in_module (codes "::") at_module refl) p.name in
+    ends_once ((named ++ codes ": ") ++ function_verdict_text f.verdict) (none_in (named ++ codes ": ") (function_verdict_text f.verdict) (none_in named (codes ": ") at_name refl) (function_verdict_holds_none f.verdict))
 
 condition_ends : (files : List (List ℕ)) (c : ConditionRecordData) → AllByRecursion HoldsNoFeed files → EndsOnce (condition_line files c)
-condition_ends files c p = ends_once _
-    (none_in _ (condition_verdict_text c.verdict) (none_in _ (codes ": ") (none_in _ (check_text c.check_line) (none_in _ (decimal c.line) (none_in _ (codes ":") (none_in _ (slice_index_or files c.file []) (none_in _ (codes " ") (none_in (codes "  ") (kind_text c.kind) refl (kind_holds_none c.kind)) refl) (file_holds_none files c.file p)) refl) (number_holds_none 10 c.line)) (check_holds_none c.check_line)) refl) (verdict_holds_none c.verdict))
+condition_ends files c p =
+    let kind = codes "  " ++ kind_text c.kind in
+    let file = (kind ++ codes " ") ++ slice_index_or files c.file [] in
+    let line = (file ++ codes ":") ++ decimal c.line in
+    let check = line ++ check_text c.check_line in
+    let of_kind : HoldsNoFeed kind = none_in (codes "  ") (kind_text c.kind) refl (kind_holds_none c.kind) in
+    let of_file : HoldsNoFeed file = none_in (kind ++ codes " ") (slice_index_or files c.file []) (none_in kind (codes " ") of_kind refl) (file_holds_none files c.file p) in
+    let of_line : HoldsNoFeed line = none_in (file ++ codes ":") (decimal c.line) (none_in file (codes ":") of_file refl) (number_holds_none 10 c.line) in
+    let of_check : HoldsNoFeed check = none_in line (check_text c.check_line) of_line (check_holds_none c.check_line) in
+    ends_once ((check ++ codes ": ") ++ condition_verdict_text c.verdict) (none_in (check ++ codes ": ") (condition_verdict_text c.verdict) (none_in check (codes ": ") of_check refl) (verdict_holds_none c.verdict))
 
 value_ends : (v : ParameterValueData) → HoldsNoFeed v.name → EndsOnce (value_line v)
-value_ends v p = ends_once _
-    (none_in _ (denominator_text v.denominator) (none_in _ (whole_text v.numerator) (none_in _ (codes " = ") (none_in (codes "    ") v.name refl p) refl) (whole_holds_none v.numerator)) (denominator_holds_none v.denominator))
+value_ends v p =
+    let name = codes "    " ++ v.name in
+    let numerator = (name ++ codes " = ") ++ whole_text v.numerator in
+    let of_name : HoldsNoFeed name = none_in (codes "    ") v.name refl p in
+    let of_numerator : HoldsNoFeed numerator = none_in (name ++ codes " = ") (whole_text v.numerator) (none_in name (codes " = ") of_name refl) (whole_holds_none v.numerator) in
+    ends_once (numerator ++ denominator_text v.denominator) (none_in numerator (denominator_text v.denominator) of_numerator (denominator_holds_none v.denominator))
 
 count_ends : (fs : List FunctionRecordData) → EndsOnce (count_line fs)
-count_ends fs = ends_once _
-    (none_in _ (decimal (length fs)) (none_in _ (codes " of ") (none_in (codes "proved ") (decimal (count_by (λ f. is_proved f.verdict) fs)) refl (number_holds_none 10 (count_by (λ f. is_proved f.verdict) fs))) refl) (number_holds_none 10 (length fs)))
+count_ends fs =
+    let proved = codes "proved " ++ decimal (count_by (λ f. is_proved f.verdict) fs) in
+    let of_proved : HoldsNoFeed proved = none_in (codes "proved ") (decimal (count_by (λ f. is_proved f.verdict) fs)) refl (number_holds_none 10 (count_by (λ f. is_proved f.verdict) fs)) in
+    ends_once ((proved ++ codes " of ") ++ decimal (length fs)) (none_in (proved ++ codes " of ") (decimal (length fs)) (none_in proved (codes " of ") of_proved refl) (number_holds_none 10 (length fs)))
 
 all_in : (xs ys : List (List ℕ)) → AllByRecursion EndsOnce xs → AllByRecursion EndsOnce ys → AllByRecursion EndsOnce (xs ++ ys)
 all_in [] ys p q = q

@@ -5,7 +5,9 @@ ghost use Rattle.report.specs.ReportText.{check_text, condition_line, condition_
 ghost use Rattle.report.specs.ReportData.{ReportData};
 ghost use Rattle.report.specs.Told.{IsPrintedReport, told_of_report};
 
-use crate::report::{ConditionRecord, ConditionVerdict, FunctionRecord, FunctionVerdict, ParameterValue, Report};
+use crate::report::{
+    ConditionRecord, ConditionVerdict, FunctionRecord, FunctionVerdict, ParameterValue, Report,
+};
 use crate::text::{Lines, push_decimal, push_hexadecimal, push_whole};
 use answers::condition::ConditionKind;
 use pv_base::lists::Bytes;

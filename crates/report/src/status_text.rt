@@ -5,11 +5,11 @@ ghost use Rattle.report.specs.Status.{files_limit_line, limit_line, marker_prefi
 
 use crate::status::{LimitKind, Refusal};
 use crate::text::push_decimal;
-use token_reading::marker::Marker;
 use pv_base::lists::Bytes;
 use pv_base::memory::NoMemory;
 use pv_base::name::Name;
 use std::alloc::Global;
+use token_reading::marker::Marker;
 
 /// What is written where the words are no words of this program.
 pub fn usage_line() -> &'static [u8]

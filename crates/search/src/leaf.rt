@@ -19,12 +19,17 @@ use tableaux::numbers::add_numbers;
 use tableaux::rows::system_of;
 use tableaux::straight::MOST_ENTRIES;
 
-/// The answer of a branch on which the search had nothing left to do. It counts only where the checkers
-/// accept the branch and its rows; that they do where the search ends there is tested, not proved.
-pub fn answer_at(alloc: Global, formula: &Formula, branch: Branch) -> Result<Answer, NoMemory>
+/// The answer of a branch on which the search had nothing left to do but what is due on numbers, which may
+/// make it too long. It counts only where the checkers accept the branch and its rows; that they do where the
+/// search ends there is tested, not proved.
+pub fn answer_at(alloc: Global, formula: &Formula, mut branch: Branch) -> Result<Answer, NoMemory>
     ensures shown { IfOk result (Shows formula.now) }
     ensures unspent { IfOk result (λ answer. is_spent answer ≡ false) }
 {
+    add_numbers(alloc, &mut branch)?;
+    if branch.entries.len() > MOST_ENTRIES {
+        return outgrown(formula, branch);
+    }
     let leaf = leaf_at(alloc, branch)?;
     if !is_leaf_of(formula, &leaf) {
         return Err(NoMemory);
@@ -37,9 +42,8 @@ pub fn answer_at(alloc: Global, formula: &Formula, branch: Branch) -> Result<Ans
     }
 }
 
-// The branch with what is due on numbers added, and the rows of its entries.
-fn leaf_at(alloc: Global, mut branch: Branch) -> Result<Leaf, NoMemory> {
-    add_numbers(alloc, &mut branch)?;
+// The branch and the rows of its entries.
+fn leaf_at(alloc: Global, branch: Branch) -> Result<Leaf, NoMemory> {
     let found = system_of(alloc, branch.entries.as_slice())?;
     Ok(Leaf {
         branch,

@@ -2,7 +2,6 @@
 
 ghost use Rattle.std.specs.Prelude.{◌<◌, ◌^◌, length, IfOk};
 
-use token_reading::marker::Marker;
 use answers::rule::Rule;
 use program_read::fault::{FileFault, FileLimit, ProgramFault};
 use program_read::program::read_program;
@@ -13,7 +12,7 @@ use std::panic::Expect;
 use std::process::Abort;
 use std::test::Fail;
 use sum_tree::function::SumModule;
-use token_reading::marker::Marker;
+use token_reading::marker::{Marker, Marker};
 
 /// The bytes of a text.
 fn bytes_of(rt: &impl Abort, alloc: Global, text: &str) -> Result<Bytes, NoMemory>
@@ -126,9 +125,21 @@ fn limits_of_files(rt: HostRuntime) -> Result<(), Fail> {
     let alloc = rt.alloc();
     for (piece, times, fault) in [
         ("let b = 0; ", 255, FileFault::breaks(Rule::NotBuilt, 16)),
-        ("let b = 0; ", 256, FileFault::Passes(FileLimit::Locals, 257)),
-        ("let (b, c) = d; ", 150, FileFault::Passes(FileLimit::Locals, 301)),
-        ("{ let b = 0; }; ", 256, FileFault::Passes(FileLimit::Locals, 257)),
+        (
+            "let b = 0; ",
+            256,
+            FileFault::Passes(FileLimit::Locals, 257),
+        ),
+        (
+            "let (b, c) = d; ",
+            150,
+            FileFault::Passes(FileLimit::Locals, 301),
+        ),
+        (
+            "{ let b = 0; }; ",
+            256,
+            FileFault::Passes(FileLimit::Locals, 257),
+        ),
         ("; ", 199_985, FileFault::breaks(Rule::Grammar, 32)),
         ("; ", 199_986, FileFault::Passes(FileLimit::Tokens, 200_001)),
         ("(", 201, FileFault::Passes(FileLimit::Nesting, 201)),

@@ -15,7 +15,9 @@ use answers::condition::{ConditionKey, ConditionKind};
 use fol::formula::{Formula, Term};
 use pv_base::memory::NoMemory;
 use std::alloc::Global;
-use sum_formula::premises::{entry_conditions, implication, premise_at_return, returned_sum, returns, start};
+use sum_formula::premises::{
+    entry_conditions, implication, premise_at_return, returned_sum, returns, start,
+};
 use sum_formula::translation::{condition, zero};
 use sum_tree::clause::{Clause, ClauseKind};
 use sum_tree::function::Function;

@@ -20,7 +20,9 @@ use pv_base::memory::NoMemory;
 use pv_base::name::Name;
 use pv_base::steps::Steps;
 use report::lines::LineFeeds;
-use report::report::{ConditionRecord, ConditionVerdict, FunctionRecord, FunctionVerdict, ParameterValue, Report};
+use report::report::{
+    ConditionRecord, ConditionVerdict, FunctionRecord, FunctionVerdict, ParameterValue, Report,
+};
 use search::answer::Answer;
 use search::prover::prove;
 use std::alloc::Global;

@@ -1,0 +1,3 @@
+pub mod NamedAddresses
+pub mod Scopes
+pub mod Visibility

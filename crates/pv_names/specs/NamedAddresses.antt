@@ -1,0 +1,12 @@
+-- The named addresses that are defined. Source: The Move Book, "Address", on named addresses.
+use Rattle.std.specs.Prelude.{ℕ, [], ◌∷◌}
+use Rattle.std.specs.Ordering.{nat_cmp}
+use Rattle.std.specs.Cmp.Lexicographic.{slice_cmp}
+use Rattle.std.specs.FinMap as map
+
+abbrev pub Numbers : Type 0
+Numbers = map.FinMap (slice_cmp nat_cmp) ℕ
+
+-- `std` alone, which is 1
+abbrev pub standard : Numbers
+standard = map.insert map.empty (115 ∷ 116 ∷ 100 ∷ []) 1
