@@ -5,7 +5,9 @@ ghost use Rattle.std.specs.Int.{w128};
 ghost use Rattle.lin_arith.specs.declared.bounds.Side.TheVariants.{Lower};
 ghost use Rattle.lin_arith.specs.Bounds.{IsOn, IsMetAt, IsAsTight, IsTightest, AreConsistent, AreNonzero, IsReached, IsUnmet};
 
-use linear_rows::numbers::{exact_quotient, floor_quotient, greatest_common_divisor, is_product_less};
+use linear_rows::numbers::{
+    exact_quotient, floor_quotient, greatest_common_divisor, is_product_less,
+};
 use linear_rows::rows::Fraction;
 
 /// A bound of an unknown: `coefficient` times the unknown is at most `bound`.

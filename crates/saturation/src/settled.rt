@@ -7,7 +7,9 @@ ghost use Rattle.cert.specs.Closes.{IsFalseForm};
 ghost use Rattle.cert.specs.Parts.{parts_of, parts_of_negated, cases_of, cases_of_negated};
 ghost use Rattle.saturation.specs.Saturated.{HasOne, Stands, AllStand, SomeStands, RangeStands, TrichotomyStands, DeniedStands, AxiomStands, IsSettled};
 
-use crate::claim::{both_stand, number_stands, range_axiom_stands, stands, trichotomy_axiom_stands};
+use crate::claim::{
+    both_stand, number_stands, range_axiom_stands, stands, trichotomy_axiom_stands,
+};
 use crate::terms::numbers_stand;
 use cert::branch::Entry;
 use cert::tableau::is_false;
