@@ -1,5 +1,5 @@
 use Rattle.spec_parse.proofs.DenotedBlockLemmas.{one_spelling}
-use Rattle.spec_parse.proofs.block.one_spelling.Goals as goal
+use Rattle.spec_parse.proofs.denoted_block.one_spelling.Goals as goal
 
 pub returns : goal.returns
 returns c = one_spelling

@@ -2,7 +2,7 @@ use Rattle.std.proofs.Common.{refl, subst, rules}
 use Rattle.spec_parse.specs.DenotedBlocks.{IsCause}
 use Rattle.clause_tree.specs.Denoted.{IsSpecBlockOf}
 use Rattle.spec_parse.proofs.DenotedBlockLemmas.{read_is_spec_block, cause_is_known}
-use Rattle.spec_parse.proofs.block.spec_block.Goals as goal
+use Rattle.spec_parse.proofs.denoted_block.spec_block.Goals as goal
 
 pub returns-in-Ok-clause-denoted : goal.returns-in-Ok-clause-denoted
 returns-in-Ok-clause-denoted c = subst (IsSpecBlockOf c.args.slot c.in-Ok.block) (search rules) (read_is_spec_block _ _ _ _ c.in-Ok.ensures)

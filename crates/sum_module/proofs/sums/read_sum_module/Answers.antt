@@ -1,5 +1,5 @@
 use Rattle.sum_module.proofs.BuiltLemmas.{names_differ}
-use Rattle.sum_module.proofs.module.read_sum_module.Goals as goal
+use Rattle.sum_module.proofs.sums.read_sum_module.Goals as goal
 
 pub join-requires : goal.join-requires
 join-requires c = names_differ c.args.«module».now c.in_ok-built.built c.in_ok-built.ensures
