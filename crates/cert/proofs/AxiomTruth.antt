@@ -8,7 +8,10 @@ use Rattle.pv_base.specs.TypeData.{TypeData, BoolType, IntType, NumType, Address
 use Rattle.pv_base.specs.declared.types.Width.{Width}
 use Rattle.pv_base.specs.declared.types.Width.TheVariants.{U8, U16, U32, U64, U128}
 use Rattle.fol.specs.declared.shapes.Shape.{Shape}
-use Rattle.fol.specs.FormulaData.{TermData, NumTerm, MaxTerm, AddTerm, SubTerm, MulTerm, DivTerm, ModTerm, AndTerm, OrTerm, XorTerm, ShlTerm, ShrTerm, LenTerm, FormulaData, IsFormula}
+use Rattle.fol.specs.declared.operators.Binary.TheVariants.{Add, And, Div, Mod, Mul, Or, Shl, Shr, Sub, Xor}
+use Rattle.fol.specs.declared.operators.Constant.TheVariants.{Max, Num}
+use Rattle.fol.specs.declared.operators.Unary.TheVariants.{Len}
+use Rattle.fol.specs.FormulaData.{TermData, NumTerm, MaxTerm, AddTerm, SubTerm, MulTerm, DivTerm, ModTerm, AndTerm, OrTerm, XorTerm, ShlTerm, ShrTerm, LenTerm, FormulaData, IsFormula, BinaryTerm, ConstantTerm, UnaryTerm}
 use Rattle.fol.specs.Val.{Val, NumberValue, TruthValue, NothingValue, VectorValue, StructValue, MemoryValue, same_value, same_value_itself}
 use Rattle.fol.specs.Operators.{number_of, at_most}
 use Rattle.fol.specs.TypedValue.{has_type, is_in_width}
@@ -91,19 +94,19 @@ module _ (m : Interpretation) (s : Assignment) where
   -- ---- whole numbers
 
   whole_true : (t : TermData) → IsWhole t → truth_of m (IsFormula NumType t) s ≡ true
-  whole_true (NumTerm i) h = refl
-  whole_true MaxTerm h = refl
-  whole_true (AddTerm t u) h = refl
-  whole_true (SubTerm t u) h = refl
-  whole_true (MulTerm t u) h = refl
-  whole_true (DivTerm t u) h = refl
-  whole_true (ModTerm t u) h = refl
-  whole_true (AndTerm t u) h = refl
-  whole_true (OrTerm t u) h = refl
-  whole_true (XorTerm t u) h = refl
-  whole_true (ShlTerm w t u) h = refl
-  whole_true (ShrTerm w t u) h = refl
-  whole_true (LenTerm t) h = refl
+  whole_true (ConstantTerm (Num i)) h = refl
+  whole_true (ConstantTerm Max) h = refl
+  whole_true (BinaryTerm Add t u) h = refl
+  whole_true (BinaryTerm Sub t u) h = refl
+  whole_true (BinaryTerm Mul t u) h = refl
+  whole_true (BinaryTerm Div t u) h = refl
+  whole_true (BinaryTerm Mod t u) h = refl
+  whole_true (BinaryTerm And t u) h = refl
+  whole_true (BinaryTerm Or t u) h = refl
+  whole_true (BinaryTerm Xor t u) h = refl
+  whole_true (BinaryTerm (Shl w) t u) h = refl
+  whole_true (BinaryTerm (Shr w) t u) h = refl
+  whole_true (UnaryTerm Len t) h = refl
   whole_true t h = absurd h
 
 -- ---- of two whole numbers

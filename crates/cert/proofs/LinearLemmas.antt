@@ -6,7 +6,9 @@ use Rattle.std.proofs.lemmas.List.Elements.{All-nil, All-cons, All-head, All-tai
 use lib.IntN.{*ℤ-zero}
 use Rattle.std.proofs.lemmas.List.{take_all}
 use Rattle.pv_base.proofs.TruthValues.{true_is, not_true}
-use Rattle.fol.specs.FormulaData.{TermData, NumTerm, AddTerm, SubTerm, MulTerm, FormulaData}
+use Rattle.fol.specs.declared.operators.Binary.TheVariants.{Add, Mul, Sub}
+use Rattle.fol.specs.declared.operators.Constant.TheVariants.{Num}
+use Rattle.fol.specs.FormulaData.{TermData, NumTerm, AddTerm, SubTerm, MulTerm, FormulaData, BinaryTerm, ConstantTerm}
 use Rattle.cert.specs.declared.certificate.Multiple.{Multiple}
 use Rattle.cert.specs.Linear.{kept, kept_of, same_term, numeral_of, Part, unknown_weight, product_weight, weight, Row, row_of_entry, row_weight, combined, total, MayMultiply, MayCount, IsContradiction}
 use Rattle.cert.specs.Unknowns.{EachUnknown, EachOfProduct, IsGone, RowGone, Cancels}
@@ -77,12 +79,12 @@ module _ (P : TermData → Type 0) (x : TermData) where
   leaf_cases t p false e = inl refl
 
   term_cases : (t : TermData) → EachUnknown P t → (weight (Some x) t ≡ Some (pos 0)) ⊎ P x
-  term_cases (NumTerm i) h = inl refl
-  term_cases (AddTerm t u) h =
+  term_cases (ConstantTerm (Num i)) h = inl refl
+  term_cases (BinaryTerm Add t u) h =
       sum_cases (P x) ◌+ℤ◌ (weight (Some x) t) (weight (Some x) u) refl (term_cases t h.0) (term_cases u h.1)
-  term_cases (SubTerm t u) h =
+  term_cases (BinaryTerm Sub t u) h =
       sum_cases (P x) ◌-ℤ◌ (weight (Some x) t) (weight (Some x) u) refl (term_cases t h.0) (term_cases u h.1)
-  term_cases (MulTerm t u) h =
+  term_cases (BinaryTerm Mul t u) h =
       product_cases (P x) (numeral_of t) (numeral_of u) (weight (Some x) t) (weight (Some x) u) (unknown_weight (Some x) (MulTerm t u)) _ _ _ (term_cases t) (term_cases u) (λ p. leaf_cases (MulTerm t u) p (same_term (MulTerm t u) x) refl) h
   term_cases t h = leaf_cases t h (same_term t x) refl
 
@@ -126,10 +128,10 @@ each_of_product None (Some c) L R W f g h = f
 each_of_product None None L R W f g h = h
 
 each_unknown : (P : TermData → Type 0) → ((u : TermData) → P u) → (t : TermData) → EachUnknown P t
-each_unknown P h (NumTerm i) = tt
-each_unknown P h (AddTerm t u) = (each_unknown P h t, each_unknown P h u)
-each_unknown P h (SubTerm t u) = (each_unknown P h t, each_unknown P h u)
-each_unknown P h (MulTerm t u) =
+each_unknown P h (ConstantTerm (Num i)) = tt
+each_unknown P h (BinaryTerm Add t u) = (each_unknown P h t, each_unknown P h u)
+each_unknown P h (BinaryTerm Sub t u) = (each_unknown P h t, each_unknown P h u)
+each_unknown P h (BinaryTerm Mul t u) =
     each_of_product (numeral_of t) (numeral_of u) _ _ _ (each_unknown P h t) (each_unknown P h u) (h (MulTerm t u))
 each_unknown P h t = h t
 

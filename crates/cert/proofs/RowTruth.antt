@@ -4,7 +4,10 @@ use Rattle.std.specs.Prelude.{All, int_le}
 use Rattle.std.proofs.lemmas.List.Elements.{All-head, All-tail}
 use Rattle.std.proofs.lemmas.Int.{ints}
 use lib.IntN.{*ℤ-zero, *ℤ_comm, pos-*ℤ-negsuc}
-use Rattle.fol.specs.FormulaData.{TermData, NumTerm, AddTerm, SubTerm, MulTerm, FormulaData, EqFormula, LeFormula, NotFormula}
+use Rattle.fol.specs.declared.operators.Binary.TheVariants.{Add, Mul, Sub}
+use Rattle.fol.specs.declared.operators.Comparison.TheVariants.{Eq, Le}
+use Rattle.fol.specs.declared.operators.Constant.TheVariants.{Num}
+use Rattle.fol.specs.FormulaData.{TermData, NumTerm, AddTerm, SubTerm, MulTerm, FormulaData, EqFormula, LeFormula, NotFormula, BinaryTerm, CompareFormula, ConstantTerm}
 use Rattle.fol.specs.Val.{same_value-equal}
 use Rattle.fol.specs.Operators.{number_of}
 use Rattle.fol.specs.Truth.{Interpretation, Assignment, value_of, truth_of}
@@ -25,14 +28,14 @@ module _ (m : Interpretation) (s : Assignment) where
   numbers t = number_of (value_of m t s)
 
   numeral_number : (t : TermData) (c : ℤ) → numeral_of t ≡ Some c → numbers t ≡ c
-  numeral_number (NumTerm i) c e = cc
+  numeral_number (ConstantTerm (Num i)) c e = cc
   numeral_number t c e = absurd (cc)
 
   pub number_is_sum : (t : TermData) → numbers t ≡ sum_of numbers t
-  number_is_sum (NumTerm i) = refl
-  number_is_sum (AddTerm t u) = λ i. number_is_sum t i +ℤ number_is_sum u i
-  number_is_sum (SubTerm t u) = λ i. number_is_sum t i -ℤ number_is_sum u i
-  number_is_sum (MulTerm t u) =
+  number_is_sum (ConstantTerm (Num i)) = refl
+  number_is_sum (BinaryTerm Add t u) = λ i. number_is_sum t i +ℤ number_is_sum u i
+  number_is_sum (BinaryTerm Sub t u) = λ i. number_is_sum t i -ℤ number_is_sum u i
+  number_is_sum (BinaryTerm Mul t u) =
       product_number t u (sum_of numbers t) (sum_of numbers u) (numbers (MulTerm t u)) (numbers t) (numbers u) (numeral_number t) (numeral_number u) (number_is_sum t) (number_is_sum u) refl (numeral_of t) (numeral_of u) refl refl
   number_is_sum t = refl
 
@@ -61,18 +64,18 @@ module _ (m : Interpretation) (s : Assignment) where
       record { at_most_zero = omega (arith, ints, h, l, g); is_zero = λ e. omega (arith, ints, h, l, g) }
 
   negated_row : (p : FormulaData) (row : Row) → row_of (NotFormula p) ≡ Some row → truth_of m (NotFormula p) s ≡ true → RowHolds row
-  negated_row (LeFormula t u) row e h =
+  negated_row (CompareFormula Le t u) row e h =
       let below = not_le_holds (numbers t) (numbers u) h in
       let same : record { lesser = u; greater = t; gap = pos 1; is_equation = false } ≡ row = cc in
       subst RowHolds same (inequality u t (pos 1) (omega (arith, ints, below)))
   negated_row p row e h = absurd (cc)
 
   pub row_holds : (p : FormulaData) (row : Row) → row_of p ≡ Some row → truth_of m p s ≡ true → RowHolds row
-  row_holds (LeFormula t u) row e h =
+  row_holds (CompareFormula Le t u) row e h =
       let below = le_holds (numbers t) (numbers u) h in
       let same : record { lesser = t; greater = u; gap = pos 0; is_equation = false } ≡ row = cc in
       subst RowHolds same (inequality t u (pos 0) (omega (arith, ints, below)))
-  row_holds (EqFormula t u) row e h =
+  row_holds (CompareFormula Eq t u) row e h =
       let same : record { lesser = t; greater = u; gap = pos 0; is_equation = true } ≡ row = cc in
       subst RowHolds same (equation t u (ap number_of (same_value-equal (value_of m t s) (value_of m u s) h)))
   row_holds (NotFormula p) row e h = negated_row p row e h

@@ -1,7 +1,11 @@
 -- A formula that has a certificate is valid.
 use Rattle.std.proofs.Common.{◌≡◌, zero, suc, List, [], ◌∷◌, ◌++◌, map, Some, Bool, true, false, not, ◌&&◌, ◌||◌, refl, ap, subst, rules}
 use Rattle.std.specs.Prelude.{IsTrue}
-use Rattle.fol.specs.FormulaData.{FalseTerm, FormulaData, EqFormula, HoldsFormula, NotFormula, AllOfFormula, AnyOfFormula, ImpliesFormula, IffFormula, FormulasData, NoFormulas, MoreFormulas, list_of_formulas}
+use Rattle.fol.specs.declared.operators.Comparison.TheVariants.{Eq}
+use Rattle.fol.specs.declared.operators.Connective.TheVariants.{Iff, Implies}
+use Rattle.fol.specs.declared.operators.Constant.TheVariants.{False}
+use Rattle.fol.specs.declared.operators.Junction.TheVariants.{AllOf, AnyOf}
+use Rattle.fol.specs.FormulaData.{FalseTerm, FormulaData, EqFormula, HoldsFormula, NotFormula, AllOfFormula, AnyOfFormula, ImpliesFormula, IffFormula, FormulasData, NoFormulas, MoreFormulas, list_of_formulas, CompareFormula, ConnectFormula, ConstantTerm, JoinFormula}
 use Rattle.fol.specs.declared.shapes.Shape.{Shape}
 use Rattle.fol.specs.Validity.{Valid}
 use Rattle.fol.specs.Val.{same_value, same_value_itself}
@@ -50,8 +54,8 @@ module _ (m : Interpretation) (s : Assignment) where
   these ps qs t e = let same : ps ≡ qs = cc in subst EachTrue same t
 
   negated_parts : (p : FormulaData) (ps : List FormulaData) → parts_of_negated p ≡ Some ps → not (truth_of m p s) ≡ true → EachTrue ps
-  negated_parts (AnyOfFormula qs) ps e t = these _ ps (any_parts qs t) e
-  negated_parts (ImpliesFormula p q) ps e t =
+  negated_parts (JoinFormula AnyOf qs) ps e t = these _ ps (any_parts qs t) e
+  negated_parts (ConnectFormula Implies p q) ps e t =
       let both = implies_parts (truth_of m p s) (truth_of m q s) t in
       these (p ∷ NotFormula q ∷ []) ps (both.0, (both.1, tt)) e
   negated_parts (NotFormula p) ps e t = these (p ∷ []) ps (not_not (truth_of m p s) t, tt) e
@@ -59,7 +63,7 @@ module _ (m : Interpretation) (s : Assignment) where
 
   -- the parts of a true formula are true
   parts_true : (p : FormulaData) (ps : List FormulaData) → parts_of p ≡ Some ps → truth_of m p s ≡ true → EachTrue ps
-  parts_true (AllOfFormula qs) ps e t = these _ ps (all_parts qs t) e
+  parts_true (JoinFormula AllOf qs) ps e t = these _ ps (all_parts qs t) e
   parts_true (NotFormula p) ps e t = negated_parts p ps e t
   parts_true p ps e t = absurd (cc)
 
@@ -107,17 +111,17 @@ module _ (m : Interpretation) (s : Assignment) where
   one_of ps qs t e = let same : ps ≡ qs = cc in subst (λ x. some_true x ≡ true) same t
 
   negated_cases : (p : FormulaData) (ps : List FormulaData) → cases_of_negated p ≡ Some ps → not (truth_of m p s) ≡ true → some_true ps ≡ true
-  negated_cases (AllOfFormula qs) ps e t = one_of _ ps (all_cases qs t) e
-  negated_cases (IffFormula p q) ps e t =
+  negated_cases (JoinFormula AllOf qs) ps e t = one_of _ ps (all_cases qs t) e
+  negated_cases (ConnectFormula Iff p q) ps e t =
       one_of (both_of p (NotFormula q) ∷ both_of (NotFormula p) q ∷ []) ps (not_iff_cases (truth_of m p s) (truth_of m q s) t) e
   negated_cases p ps e t = absurd (cc)
 
   -- of the cases of a true formula some is true
   cases_true : (p : FormulaData) (ps : List FormulaData) → cases_of p ≡ Some ps → truth_of m p s ≡ true → some_true ps ≡ true
-  cases_true (AnyOfFormula qs) ps e t = one_of _ ps (any_cases qs t) e
-  cases_true (ImpliesFormula p q) ps e t =
+  cases_true (JoinFormula AnyOf qs) ps e t = one_of _ ps (any_cases qs t) e
+  cases_true (ConnectFormula Implies p q) ps e t =
       one_of (NotFormula p ∷ q ∷ []) ps (implies_cases (truth_of m p s) (truth_of m q s) t) e
-  cases_true (IffFormula p q) ps e t =
+  cases_true (ConnectFormula Iff p q) ps e t =
       one_of (both_of p q ∷ both_of (NotFormula p) (NotFormula q) ∷ []) ps (iff_cases (truth_of m p s) (truth_of m q s) t) e
   cases_true (NotFormula p) ps e t = negated_cases p ps e t
   cases_true p ps e t = absurd (cc)
@@ -126,10 +130,10 @@ module _ (m : Interpretation) (s : Assignment) where
 
   -- an entry that can't be true by its form is not true
   false_form : (p : FormulaData) → IsFalseForm p → truth_of m p s ≡ true → ⊥
-  false_form (AnyOfFormula NoFormulas) h e = absurd (cc)
-  false_form (HoldsFormula FalseTerm) h e = absurd (cc)
-  false_form (NotFormula (AllOfFormula NoFormulas)) h e = absurd (cc)
-  false_form (NotFormula (EqFormula t u)) h e =
+  false_form (JoinFormula AnyOf NoFormulas) h e = absurd (cc)
+  false_form (HoldsFormula (ConstantTerm False)) h e = absurd (cc)
+  false_form (NotFormula (JoinFormula AllOf NoFormulas)) h e = absurd (cc)
+  false_form (NotFormula (CompareFormula Eq t u)) h e =
       never_both (same_value (value_of m t s) (value_of m u s)) (subst (λ x. same_value (value_of m t s) (value_of m x s) ≡ true) h (same_value_itself (value_of m t s))) e
   false_form p h e = absurd h
 

@@ -2,7 +2,9 @@
 use Rattle.std.proofs.Common.{◌≡◌, ℤ, pos, negsuc, ◌+ℤ◌, ◌-ℤ◌, ◌*ℤ◌, Option, Some, None, Bool, true, false, cond, nat_lt, ◌^◌, refl, sym, ap, ◌∙◌, arith, cond}
 use Rattle.std.proofs.lemmas.Int.{ints}
 use lib.IntN.{zero-*ℤ}
-use Rattle.fol.specs.FormulaData.{TermData, NumTerm, AddTerm, SubTerm, MulTerm}
+use Rattle.fol.specs.declared.operators.Binary.TheVariants.{Add, Mul, Sub}
+use Rattle.fol.specs.declared.operators.Constant.TheVariants.{Num}
+use Rattle.fol.specs.FormulaData.{TermData, NumTerm, AddTerm, SubTerm, MulTerm, BinaryTerm, ConstantTerm}
 use Rattle.fol.specs.FormulaCodes.{term_code, term_back, term_back-code}
 use Rattle.fol.specs.TreeOrder.{same_tree-equal, same_tree_itself}
 use Rattle.cert.specs.Linear.{kept, kept_of, same_term, numeral_of, unknown_weight, product_weight, weight}
@@ -54,10 +56,10 @@ sum_product None (Some c) left_value right_value whole_value = c *ℤ left_value
 sum_product None None left_value right_value whole_value = whole_value
 
 abbrev pub sum_of : Values → TermData → ℤ
-sum_of w (NumTerm i) = i
-sum_of w (AddTerm t u) = sum_of w t +ℤ sum_of w u
-sum_of w (SubTerm t u) = sum_of w t -ℤ sum_of w u
-sum_of w (MulTerm t u) = sum_product (numeral_of t) (numeral_of u) (sum_of w t) (sum_of w u) (w (MulTerm t u))
+sum_of w (ConstantTerm (Num i)) = i
+sum_of w (BinaryTerm Add t u) = sum_of w t +ℤ sum_of w u
+sum_of w (BinaryTerm Sub t u) = sum_of w t -ℤ sum_of w u
+sum_of w (BinaryTerm Mul t u) = sum_product (numeral_of t) (numeral_of u) (sum_of w t) (sum_of w u) (w (MulTerm t u))
 sum_of w t = w t
 
 -- the same values, but 0 for one unknown
@@ -121,11 +123,11 @@ products None (Some m) x y z v a a' b b' d d' c left right whole e = multiples m
 products None None x y z v a a' b b' d d' c left right whole e = whole c e
 
 pub splits : (x : TermData) (w : Values) (t : TermData) (c : ℤ) → weight (Some x) t ≡ Some c → sum_of w t ≡ sum_of (without x w) t +ℤ c *ℤ w x
-splits x w (NumTerm i) c e = numeral x w i c e
-splits x w (AddTerm t u) c e = sums (weight (Some x) t) (weight (Some x) u) (w x) _ _ _ _ c (splits x w t) (splits x w u) e
-splits x w (SubTerm t u) c e =
+splits x w (ConstantTerm (Num i)) c e = numeral x w i c e
+splits x w (BinaryTerm Add t u) c e = sums (weight (Some x) t) (weight (Some x) u) (w x) _ _ _ _ c (splits x w t) (splits x w u) e
+splits x w (BinaryTerm Sub t u) c e =
     differences (weight (Some x) t) (weight (Some x) u) (w x) _ _ _ _ c (splits x w t) (splits x w u) e
-splits x w (MulTerm t u) c e =
+splits x w (BinaryTerm Mul t u) c e =
     products (numeral_of t) (numeral_of u) (weight (Some x) t) (weight (Some x) u) (unknown_weight (Some x) (MulTerm t u)) (w x) _ _ _ _ _ _ c (splits x w t) (splits x w u) (leaf x (MulTerm t u) w) e
 splits x w t c e = leaf x t w c e
 
@@ -149,12 +151,12 @@ zero_leaf : (a j : ℤ) → a ≡ pos 0 → Some (pos 0) ≡ Some j → a ≡ j
 zero_leaf a j h e = cc
 
 pub constant : (w : Values) (t : TermData) → EachUnknown (λ u. w u ≡ pos 0) t → (k : ℤ) → weight None t ≡ Some k → sum_of w t ≡ k
-constant w (NumTerm i) h k e = kept_exact i k e
-constant w (AddTerm t u) h k e =
+constant w (ConstantTerm (Num i)) h k e = kept_exact i k e
+constant w (BinaryTerm Add t u) h k e =
     zero_sums ◌+ℤ◌ (weight None t) (weight None u) _ _ k (constant w t h.0) (constant w u h.1) e
-constant w (SubTerm t u) h k e =
+constant w (BinaryTerm Sub t u) h k e =
     zero_sums ◌-ℤ◌ (weight None t) (weight None u) _ _ k (constant w t h.0) (constant w u h.1) e
-constant w (MulTerm t u) h k e =
+constant w (BinaryTerm Mul t u) h k e =
     zero_products (numeral_of t) (numeral_of u) (weight None t) (weight None u) (Some (pos 0)) _ _ _ _ _ _ k (constant w t) (constant w u) (λ z j f. zero_leaf _ j z f) h e
 constant w t h k e = zero_leaf (w t) k h e
 
@@ -167,10 +169,10 @@ without_product None None left_gone right_gone whole_gone = whole_gone
 
 -- the same values, but 0 for each unknown of a term
 abbrev pub without_all : TermData → Values → Values
-without_all (NumTerm i) w = w
-without_all (AddTerm t u) w = without_all t (without_all u w)
-without_all (SubTerm t u) w = without_all t (without_all u w)
-without_all (MulTerm t u) w =
+without_all (ConstantTerm (Num i)) w = w
+without_all (BinaryTerm Add t u) w = without_all t (without_all u w)
+without_all (BinaryTerm Sub t u) w = without_all t (without_all u w)
+without_all (BinaryTerm Mul t u) w =
     without_product (numeral_of t) (numeral_of u) (without_all t w) (without_all u w) (without (MulTerm t u) w)
 without_all t w = without t w
 
@@ -184,10 +186,10 @@ product_kept Q None (Some c) f g h p q s = p
 product_kept Q None None f g h p q s = s
 
 pub without_all-kept : (Q : Values → Type 0) → IsKeptWithout Q → (t : TermData) (w : Values) → Q w → Q (without_all t w)
-without_all-kept Q k (NumTerm i) w q = q
-without_all-kept Q k (AddTerm t u) w q = without_all-kept Q k t (without_all u w) (without_all-kept Q k u w q)
-without_all-kept Q k (SubTerm t u) w q = without_all-kept Q k t (without_all u w) (without_all-kept Q k u w q)
-without_all-kept Q k (MulTerm t u) w q =
+without_all-kept Q k (ConstantTerm (Num i)) w q = q
+without_all-kept Q k (BinaryTerm Add t u) w q = without_all-kept Q k t (without_all u w) (without_all-kept Q k u w q)
+without_all-kept Q k (BinaryTerm Sub t u) w q = without_all-kept Q k t (without_all u w) (without_all-kept Q k u w q)
+without_all-kept Q k (BinaryTerm Mul t u) w q =
     product_kept Q (numeral_of t) (numeral_of u) _ _ _ (without_all-kept Q k t w q) (without_all-kept Q k u w q) (k (MulTerm t u) w q)
 without_all-kept Q k t w q = k t w q
 
@@ -206,10 +208,10 @@ each_product None (Some c) P Q R P' Q' R' f g h e = f e
 each_product None None P Q R P' Q' R' f g h e = h e
 
 pub EachUnknown-map : (P Q : TermData → Type 0) → ((u : TermData) → P u → Q u) → (t : TermData) → EachUnknown P t → EachUnknown Q t
-EachUnknown-map P Q f (NumTerm i) h = tt
-EachUnknown-map P Q f (AddTerm t u) h = (EachUnknown-map P Q f t h.0, EachUnknown-map P Q f u h.1)
-EachUnknown-map P Q f (SubTerm t u) h = (EachUnknown-map P Q f t h.0, EachUnknown-map P Q f u h.1)
-EachUnknown-map P Q f (MulTerm t u) h =
+EachUnknown-map P Q f (ConstantTerm (Num i)) h = tt
+EachUnknown-map P Q f (BinaryTerm Add t u) h = (EachUnknown-map P Q f t h.0, EachUnknown-map P Q f u h.1)
+EachUnknown-map P Q f (BinaryTerm Sub t u) h = (EachUnknown-map P Q f t h.0, EachUnknown-map P Q f u h.1)
+EachUnknown-map P Q f (BinaryTerm Mul t u) h =
     each_product (numeral_of t) (numeral_of u) _ _ _ _ _ _ (EachUnknown-map P Q f t) (EachUnknown-map P Q f u) (f (MulTerm t u)) h
 EachUnknown-map P Q f t h = f t h
 
@@ -227,11 +229,11 @@ product_gone None (Some c) P Q R f g h p q s = p
 product_gone None None P Q R f g h p q s = s
 
 pub without_all-gone : (t : TermData) (w : Values) → EachUnknown (λ u. without_all t w u ≡ pos 0) t
-without_all-gone (NumTerm i) w = tt
-without_all-gone (AddTerm t u) w =
+without_all-gone (ConstantTerm (Num i)) w = tt
+without_all-gone (BinaryTerm Add t u) w =
     (without_all-gone t (without_all u w), without_all-kept (λ v. EachUnknown (λ x. v x ≡ pos 0) u) (zeros_kept u) t (without_all u w) (without_all-gone u w))
-without_all-gone (SubTerm t u) w =
+without_all-gone (BinaryTerm Sub t u) w =
     (without_all-gone t (without_all u w), without_all-kept (λ v. EachUnknown (λ x. v x ≡ pos 0) u) (zeros_kept u) t (without_all u w) (without_all-gone u w))
-without_all-gone (MulTerm t u) w =
+without_all-gone (BinaryTerm Mul t u) w =
     product_gone (numeral_of t) (numeral_of u) (λ v. EachUnknown (λ x. v x ≡ pos 0) t) (λ v. EachUnknown (λ x. v x ≡ pos 0) u) (λ v. v (MulTerm t u) ≡ pos 0) _ _ _ (without_all-gone t w) (without_all-gone u w) (gone_leaf (MulTerm t u) w (same_term (MulTerm t u) (MulTerm t u)) refl)
 without_all-gone t w = gone_leaf t w (same_term t t) refl

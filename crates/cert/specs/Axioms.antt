@@ -2,7 +2,13 @@
 use Rattle.std.specs.Prelude.{◌≡◌, ◌-◌, ◌^◌, pos, [], ◌∷◌, Option, Some, None}
 use Rattle.pv_base.specs.TypeData.{TypeData, BoolType, IntType, NumType, AddressType, SignerType, VectorType, StructType, ParamType, SharedType, MutableType, TupleType}
 use Rattle.pv_base.specs.declared.types.Width.TheVariants.{U8, U16, U32, U64, U128}
-use Rattle.fol.specs.FormulaData.{TermData, VarTerm, NumTerm, MaxTerm, TrueTerm, FalseTerm, NothingTerm, BlankTerm, EmptyTerm, WideTerm, AddTerm, SubTerm, MulTerm, DivTerm, ModTerm, AndTerm, OrTerm, XorTerm, ShlTerm, ShrTerm, SelectTerm, StoreTerm, LenTerm, AtTerm, PushTerm, PopTerm, SetTerm, PackTerm, FieldTerm, SetFieldTerm, IfTerm, FormulaData, EqFormula, LeFormula, IsFormula, NotFormula, AllOfFormula, AnyOfFormula, IffFormula, formulas_of}
+use Rattle.fol.specs.declared.operators.Binary.{Binary}
+use Rattle.fol.specs.declared.operators.Constant.{Constant}
+use Rattle.fol.specs.declared.operators.Unary.{Unary}
+use Rattle.fol.specs.declared.operators.Binary.TheVariants.{Add, And, At, Div, Mod, Mul, Or, Push, Select, Shl, Shr, Sub, Xor}
+use Rattle.fol.specs.declared.operators.Constant.TheVariants.{Blank, Empty, False, Max, Nothing, Num, True, Wide}
+use Rattle.fol.specs.declared.operators.Unary.TheVariants.{Len, Pop}
+use Rattle.fol.specs.FormulaData.{TermData, VarTerm, ConstantTerm, UnaryTerm, BinaryTerm, TernaryTerm, NumTerm, MaxTerm, SubTerm, PackTerm, FieldTerm, SetFieldTerm, IfTerm, FormulaData, EqFormula, LeFormula, IsFormula, NotFormula, AllOfFormula, AnyOfFormula, IffFormula, formulas_of}
 use Rattle.cert.specs.declared.certificate.Axiom.{Axiom}
 use Rattle.cert.specs.declared.certificate.Axiom.TheVariants.{Range, Whole, Trichotomy}
 
@@ -29,34 +35,44 @@ abbrev pub range_axiom : TypeData → TermData → TermData → FormulaData
 range_axiom a t most =
     IffFormula (IsFormula a t) (AllOfFormula (formulas_of (IsFormula NumType t ∷ LeFormula (NumTerm (pos 0)) t ∷ LeFormula t most ∷ [])))
 
+-- whether a constant is a number that an axiom says to be whole
+abbrev IsWholeConstant : Constant → Type 0
+IsWholeConstant (Num i) = Unit {0}
+IsWholeConstant Max = Unit {0}
+IsWholeConstant True = ⊥
+IsWholeConstant False = ⊥
+IsWholeConstant Nothing = ⊥
+IsWholeConstant Blank = ⊥
+IsWholeConstant Empty = ⊥
+IsWholeConstant (Wide u) = ⊥
+
+abbrev CountsItems : Unary → Type 0
+CountsItems Len = Unit {0}
+CountsItems Pop = ⊥
+
+-- whether an operator is one of arithmetic or of bits
+abbrev IsArithmetic : Binary → Type 0
+IsArithmetic Add = Unit {0}
+IsArithmetic Sub = Unit {0}
+IsArithmetic Mul = Unit {0}
+IsArithmetic Div = Unit {0}
+IsArithmetic Mod = Unit {0}
+IsArithmetic And = Unit {0}
+IsArithmetic Or = Unit {0}
+IsArithmetic Xor = Unit {0}
+IsArithmetic (Shl w) = Unit {0}
+IsArithmetic (Shr w) = Unit {0}
+IsArithmetic Select = ⊥
+IsArithmetic At = ⊥
+IsArithmetic Push = ⊥
+
 -- whether a term is a whole number by its form
 abbrev pub IsWhole : TermData → Type 0
-IsWhole (NumTerm i) = Unit {0}
-IsWhole MaxTerm = Unit {0}
-IsWhole (AddTerm t u) = Unit {0}
-IsWhole (SubTerm t u) = Unit {0}
-IsWhole (MulTerm t u) = Unit {0}
-IsWhole (DivTerm t u) = Unit {0}
-IsWhole (ModTerm t u) = Unit {0}
-IsWhole (AndTerm t u) = Unit {0}
-IsWhole (OrTerm t u) = Unit {0}
-IsWhole (XorTerm t u) = Unit {0}
-IsWhole (ShlTerm w t u) = Unit {0}
-IsWhole (ShrTerm w t u) = Unit {0}
-IsWhole (LenTerm t) = Unit {0}
+IsWhole (ConstantTerm c) = IsWholeConstant c
+IsWhole (UnaryTerm o t) = CountsItems o
+IsWhole (BinaryTerm o t u) = IsArithmetic o
 IsWhole (VarTerm n) = ⊥
-IsWhole TrueTerm = ⊥
-IsWhole FalseTerm = ⊥
-IsWhole NothingTerm = ⊥
-IsWhole BlankTerm = ⊥
-IsWhole EmptyTerm = ⊥
-IsWhole (WideTerm u) = ⊥
-IsWhole (SelectTerm t u) = ⊥
-IsWhole (StoreTerm t u v) = ⊥
-IsWhole (AtTerm t u) = ⊥
-IsWhole (PushTerm t u) = ⊥
-IsWhole (PopTerm t) = ⊥
-IsWhole (SetTerm t u v) = ⊥
+IsWhole (TernaryTerm o t u v) = ⊥
 IsWhole (PackTerm a ts) = ⊥
 IsWhole (FieldTerm a k t) = ⊥
 IsWhole (SetFieldTerm a k t u) = ⊥

@@ -6,7 +6,8 @@ use Rattle.std.specs.Coded.{Coded, code_by}
 use Rattle.std.proofs.Common.{ap}
 use Rattle.pv_base.specs.Codes.{pick}
 use Rattle.fol.specs.FormulaData.{FormulaData}
-use Rattle.fol.specs.FormulaCodes.{head, tail, tree, whole_code, whole_back, whole_back-code, formula_code, formula_back, formula_back-code}
+use Rattle.fol.specs.FormulaCodes.{formula_code, formula_back, formula_back-code}
+use Rattle.fol.specs.OperatorCodes.{head, tail, tree, whole_code, whole_back, whole_back-code}
 use Rattle.cert.specs.CertData.{StepData, PartsStep, AxiomStep, CertData, CertTree, EndData, SplitEnd, LinearEnd, ClashEnd, FalseEnd, CasesData, NoCases, MoreCases}
 use Rattle.cert.specs.declared.certificate.Axiom.{Axiom}
 use Rattle.cert.specs.declared.certificate.Axiom.TheVariants.{Range, Whole, Trichotomy}

@@ -1,7 +1,10 @@
 -- When a certificate closes a branch: a closed analytic tableau (R. Smullyan, First-Order Logic, chapter II), with
 -- instances of axioms and contradictions of linear arithmetic.
 use Rattle.std.specs.Prelude.{◌≡◌, ℕ, ◌≤◌, List, [], ◌∷◌, ◌++◌, length, slice_get, Some}
-use Rattle.fol.specs.FormulaData.{FalseTerm, FormulaData, EqFormula, HoldsFormula, NotFormula, AllOfFormula, AnyOfFormula, NoFormulas}
+use Rattle.fol.specs.declared.operators.Comparison.TheVariants.{Eq}
+use Rattle.fol.specs.declared.operators.Constant.TheVariants.{False}
+use Rattle.fol.specs.declared.operators.Junction.TheVariants.{AllOf, AnyOf}
+use Rattle.fol.specs.FormulaData.{FalseTerm, FormulaData, EqFormula, HoldsFormula, NotFormula, AllOfFormula, AnyOfFormula, NoFormulas, CompareFormula, ConstantTerm, JoinFormula}
 use Rattle.cert.specs.CertData.{StepData, PartsStep, AxiomStep, CertData, CertTree, EndData, SplitEnd, LinearEnd, ClashEnd, FalseEnd, CasesData, NoCases, MoreCases}
 use Rattle.cert.specs.Parts.{parts_of, cases_of}
 use Rattle.cert.specs.Axioms.{IsInstanceOf}
@@ -37,13 +40,13 @@ after_steps entries (step ∷ steps) = after_steps (entries ++ added step) steps
 
 -- an entry that can't be true by its form
 abbrev pub IsFalseNegated : FormulaData → Type 0
-IsFalseNegated (AllOfFormula NoFormulas) = Unit {0}
-IsFalseNegated (EqFormula t u) = t ≡ u
+IsFalseNegated (JoinFormula AllOf NoFormulas) = Unit {0}
+IsFalseNegated (CompareFormula Eq t u) = t ≡ u
 IsFalseNegated _ = ⊥
 
 abbrev pub IsFalseForm : FormulaData → Type 0
-IsFalseForm (AnyOfFormula NoFormulas) = Unit {0}
-IsFalseForm (HoldsFormula FalseTerm) = Unit {0}
+IsFalseForm (JoinFormula AnyOf NoFormulas) = Unit {0}
+IsFalseForm (HoldsFormula (ConstantTerm False)) = Unit {0}
 IsFalseForm (NotFormula p) = IsFalseNegated p
 IsFalseForm _ = ⊥
 

@@ -2,7 +2,10 @@
 -- a false one shows that they have no common solution: the easy half of Farkas' lemma (A. Schrijver, Theory of Linear
 -- and Integer Programming, section 7.3). All sums on the way are to fit 128 bits.
 use Rattle.std.specs.Prelude.{◌≡◌, ℕ, suc, ◌^◌, ℤ, pos, negsuc, ◌+ℤ◌, ◌-ℤ◌, ◌*ℤ◌, Bool, true, false, nat_lt, List, [], ◌∷◌, slice_get, Option, Some, None, if◌then◌else◌, All}
-use Rattle.fol.specs.FormulaData.{TermData, NumTerm, AddTerm, SubTerm, MulTerm, FormulaData, EqFormula, LeFormula, NotFormula}
+use Rattle.fol.specs.declared.operators.Binary.TheVariants.{Add, Mul, Sub}
+use Rattle.fol.specs.declared.operators.Comparison.TheVariants.{Eq, Le}
+use Rattle.fol.specs.declared.operators.Constant.TheVariants.{Num}
+use Rattle.fol.specs.FormulaData.{TermData, NumTerm, AddTerm, SubTerm, MulTerm, FormulaData, EqFormula, LeFormula, NotFormula, BinaryTerm, CompareFormula, ConstantTerm}
 use Rattle.fol.specs.FormulaCodes.{term_code}
 use Rattle.fol.specs.TreeOrder.{same_tree}
 use Rattle.cert.specs.declared.certificate.Multiple.{Multiple}
@@ -27,7 +30,7 @@ unfoldable pub same_term : TermData → TermData → Bool
 same_term t u = same_tree (term_code t) (term_code u)
 
 abbrev pub numeral_of : TermData → Option ℤ
-numeral_of (NumTerm i) = Some i
+numeral_of (ConstantTerm (Num i)) = Some i
 numeral_of _ = None
 
 -- what of a sum is looked at: its constant part, or the coefficient of an unknown
@@ -52,10 +55,10 @@ product_weight None None weight_left weight_right weight_whole = weight_whole
 
 -- the constant part of a term as a sum, or the coefficient of an unknown in it
 abbrev pub weight : Part → TermData → Option ℤ
-weight part (NumTerm i) = numeral_weight part i
-weight part (AddTerm t u) = kept_of ◌+ℤ◌ (weight part t) (weight part u)
-weight part (SubTerm t u) = kept_of ◌-ℤ◌ (weight part t) (weight part u)
-weight part (MulTerm t u) =
+weight part (ConstantTerm (Num i)) = numeral_weight part i
+weight part (BinaryTerm Add t u) = kept_of ◌+ℤ◌ (weight part t) (weight part u)
+weight part (BinaryTerm Sub t u) = kept_of ◌-ℤ◌ (weight part t) (weight part u)
+weight part (BinaryTerm Mul t u) =
     product_weight (numeral_of t) (numeral_of u) (weight part t) (weight part u) (unknown_weight part (MulTerm t u))
 weight part t = unknown_weight part t
 
@@ -70,12 +73,12 @@ pub record Row : Type 0 where
 
 -- what an entry says as a row, if it is one
 abbrev pub negated_row_of : FormulaData → Option Row
-negated_row_of (LeFormula t u) = Some (record { lesser = u; greater = t; gap = pos 1; is_equation = false })
+negated_row_of (CompareFormula Le t u) = Some (record { lesser = u; greater = t; gap = pos 1; is_equation = false })
 negated_row_of _ = None
 
 abbrev pub row_of : FormulaData → Option Row
-row_of (LeFormula t u) = Some (record { lesser = t; greater = u; gap = pos 0; is_equation = false })
-row_of (EqFormula t u) = Some (record { lesser = t; greater = u; gap = pos 0; is_equation = true })
+row_of (CompareFormula Le t u) = Some (record { lesser = t; greater = u; gap = pos 0; is_equation = false })
+row_of (CompareFormula Eq t u) = Some (record { lesser = t; greater = u; gap = pos 0; is_equation = true })
 row_of (NotFormula p) = negated_row_of p
 row_of _ = None
 

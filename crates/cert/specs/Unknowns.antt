@@ -1,7 +1,9 @@
 -- The unknowns of a term as a sum: what stands in it and is no sum, no difference, no numeral, and no product with a
 -- numeral.
 use Rattle.std.specs.Prelude.{◌≡◌, ℤ, pos, List, slice_get, Option, Some, None}
-use Rattle.fol.specs.FormulaData.{TermData, NumTerm, AddTerm, SubTerm, MulTerm, FormulaData}
+use Rattle.fol.specs.declared.operators.Binary.TheVariants.{Add, Mul, Sub}
+use Rattle.fol.specs.declared.operators.Constant.TheVariants.{Num}
+use Rattle.fol.specs.FormulaData.{TermData, NumTerm, AddTerm, SubTerm, MulTerm, FormulaData, BinaryTerm, ConstantTerm}
 use Rattle.cert.specs.declared.certificate.Multiple.{Multiple}
 use Rattle.cert.specs.Linear.{numeral_of, Row, row_of_entry, total}
 
@@ -13,10 +15,10 @@ EachOfProduct None None left_has right_has whole_has = whole_has
 
 -- each unknown of the term has the property
 abbrev pub EachUnknown : (TermData → Type 0) → TermData → Type 0
-EachUnknown P (NumTerm i) = Unit {0}
-EachUnknown P (AddTerm t u) = EachUnknown P t × EachUnknown P u
-EachUnknown P (SubTerm t u) = EachUnknown P t × EachUnknown P u
-EachUnknown P (MulTerm t u) =
+EachUnknown P (ConstantTerm (Num i)) = Unit {0}
+EachUnknown P (BinaryTerm Add t u) = EachUnknown P t × EachUnknown P u
+EachUnknown P (BinaryTerm Sub t u) = EachUnknown P t × EachUnknown P u
+EachUnknown P (BinaryTerm Mul t u) =
     EachOfProduct (numeral_of t) (numeral_of u) (EachUnknown P t) (EachUnknown P u) (P (MulTerm t u))
 EachUnknown P t = P t
 

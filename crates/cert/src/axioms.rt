@@ -2,11 +2,12 @@
 
 ghost use Rattle.std.specs.Prelude.{◌≡◌, ◌↔◌, IsTrue, Some, pos, [], ◌∷◌};
 ghost use Rattle.pv_base.specs.TypeData.{NumType};
-ghost use Rattle.fol.specs.FormulaData.{TermData, NumTerm, MaxTerm, SubTerm, IsFormula, NotFormula, LeFormula, EqFormula};
+ghost use Rattle.fol.specs.FormulaData.{TermData, NumTerm, MaxTerm, SubTerm, IsFormula, NotFormula, LeFormula, EqFormula, IffFormula};
 ghost use Rattle.cert.specs.Axioms.{greatest, IsWhole, IsInstanceOf};
 
 use crate::certificate::Axiom;
 use fol::formula::{Formula, FormulaNode, Term, TermNode};
+use fol::operators::{Binary, Comparison, Connective, Constant, Junction, Unary};
 use fol::same::same_term;
 use pv_base::types::{TypeNode, TypeTerm, Width};
 
@@ -25,12 +26,21 @@ fn is_range(formula: &Formula) -> bool
     ensures { IsTrue result ↔ IsInstanceOf Axiom.Range formula.now }
 {
     match &formula.node {
-        FormulaNode::Iff(left, right) => match (&left.node, &right.node) {
-            (FormulaNode::Is(of, term), FormulaNode::AllOf(parts)) => {
-                are_range(parts.as_slice(), of, term)
-            }
-            _ => false,
-        },
+        FormulaNode::Connect(connective, left, right) => {
+            *connective == Connective::Iff && are_sides_of_range(left, right)
+        }
+        _ => false,
+    }
+}
+
+// Whether these are the two sides of a range axiom.
+fn are_sides_of_range(left: &Formula, right: &Formula) -> bool
+    ensures { IsTrue result ↔ IsInstanceOf Axiom.Range (IffFormula left.now right.now) }
+{
+    match (&left.node, &right.node) {
+        (FormulaNode::Is(of, term), FormulaNode::Join(junction, parts)) => {
+            *junction == Junction::AllOf && are_range(parts.as_slice(), of, term)
+        }
         _ => false,
     }
 }
@@ -61,7 +71,8 @@ fn is_from_zero(formula: &Formula, term: &Term) -> bool
     ensures { IsTrue result ↔ (formula.now ≡ LeFormula (NumTerm (pos 0)) term.now) }
 {
     match &formula.node {
-        FormulaNode::Le(low, inner) => is_numeral(low, 0) && same_term(inner, term),
+        FormulaNode::Compare(Comparison::Le, low, inner) => is_numeral(low, 0)
+            && same_term(inner, term),
         _ => false,
     }
 }
@@ -72,7 +83,8 @@ fn is_up_to_greatest(formula: &Formula, term: &Term, of: &TypeTerm) -> bool
         ↔ ((most : TermData) × (greatest of.now ≡ Some most) × (formula.now ≡ LeFormula term.now most)) }
 {
     match &formula.node {
-        FormulaNode::Le(inner, most) => same_term(inner, term) && is_greatest(most, of),
+        FormulaNode::Compare(Comparison::Le, inner, most) => same_term(inner, term)
+            && is_greatest(most, of),
         _ => false,
     }
 }
@@ -82,7 +94,7 @@ fn is_numeral(term: &Term, number: i128) -> bool
     ensures { IsTrue result ↔ (term.now ≡ NumTerm number) }
 {
     match &term.node {
-        TermNode::Num(i) => *i == number,
+        TermNode::Constant(Constant::Num(i)) => *i == number,
         _ => false,
     }
 }
@@ -104,7 +116,7 @@ fn is_greatest(term: &Term, of: &TypeTerm) -> bool
 fn is_max(term: &Term) -> bool
     ensures { IsTrue result ↔ (term.now ≡ MaxTerm) }
 {
-    matches!(&term.node, TermNode::Max)
+    matches!(&term.node, TermNode::Constant(Constant::Max))
 }
 
 fn is_whole(formula: &Formula) -> bool
@@ -121,19 +133,11 @@ pub fn is_arithmetic(term: &Term) -> bool
     ensures { IsTrue result ↔ IsWhole term.now }
 {
     match &term.node {
-        TermNode::Num(_)
-        | TermNode::Max
-        | TermNode::Add(_, _)
-        | TermNode::Sub(_, _)
-        | TermNode::Mul(_, _)
-        | TermNode::Div(_, _)
-        | TermNode::Mod(_, _)
-        | TermNode::And(_, _)
-        | TermNode::Or(_, _)
-        | TermNode::Xor(_, _)
-        | TermNode::Shl(_, _, _)
-        | TermNode::Shr(_, _, _)
-        | TermNode::Len(_) => true,
+        TermNode::Constant(constant) => matches!(*constant, Constant::Num(_) | Constant::Max),
+        TermNode::Unary(operator, _) => matches!(*operator, Unary::Len),
+        TermNode::Binary(operator, _, _) => {
+            !matches!(*operator, Binary::Select | Binary::At | Binary::Push)
+        }
         _ => false,
     }
 }
@@ -142,7 +146,9 @@ fn is_trichotomy(formula: &Formula) -> bool
     ensures { IsTrue result ↔ IsInstanceOf Axiom.Trichotomy formula.now }
 {
     match &formula.node {
-        FormulaNode::AnyOf(cases) => are_trichotomy(cases.as_slice()),
+        FormulaNode::Join(junction, cases) => {
+            *junction == Junction::AnyOf && are_trichotomy(cases.as_slice())
+        }
         _ => false,
     }
 }
@@ -157,7 +163,7 @@ fn are_trichotomy(cases: &[Formula]) -> bool
     }
     let equal = &cases[2];
     match &equal.node {
-        FormulaNode::Eq(t, u) => {
+        FormulaNode::Compare(Comparison::Eq, t, u) => {
             is_no_number(&cases[0], t)
                 && is_no_number(&cases[1], u)
                 && is_less(&cases[3], t, u)
@@ -183,7 +189,8 @@ fn is_less(formula: &Formula, lesser: &Term, greater: &Term) -> bool
         ↔ (formula.now ≡ LeFormula lesser.now (SubTerm greater.now (NumTerm (pos 1)))) }
 {
     match &formula.node {
-        FormulaNode::Le(left, right) => same_term(left, lesser) && is_predecessor(right, greater),
+        FormulaNode::Compare(Comparison::Le, left, right) => same_term(left, lesser)
+            && is_predecessor(right, greater),
         _ => false,
     }
 }
@@ -193,7 +200,7 @@ fn is_predecessor(term: &Term, of: &Term) -> bool
     ensures { IsTrue result ↔ (term.now ≡ SubTerm of.now (NumTerm (pos 1))) }
 {
     match &term.node {
-        TermNode::Sub(whole, one) => same_term(whole, of) && is_numeral(one, 1),
+        TermNode::Binary(Binary::Sub, whole, one) => same_term(whole, of) && is_numeral(one, 1),
         _ => false,
     }
 }

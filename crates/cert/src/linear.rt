@@ -10,6 +10,7 @@ ghost use Rattle.cert.specs.Unknowns.{EachUnknown, IsGone, RowGone, Cancels};
 use crate::branch::{Branch, Entry, entry_at};
 use crate::certificate::Multiple;
 use fol::formula::{Formula, FormulaNode, Term, TermNode};
+use fol::operators::{Binary, Comparison, Constant};
 use fol::same::same_term;
 
 /// What of a sum is looked at.
@@ -117,11 +118,11 @@ fn cancels(branch: &Branch<'_>, multiples: &[Multiple], term: &Term) -> bool
         ↔ EachUnknown (IsGone (entries_of branch.now) multiples.now) term.now }
 {
     match &term.node {
-        TermNode::Num(_) => true,
-        TermNode::Add(t, u) | TermNode::Sub(t, u) => {
+        TermNode::Constant(Constant::Num(_)) => true,
+        TermNode::Binary(Binary::Add, t, u) | TermNode::Binary(Binary::Sub, t, u) => {
             cancels(branch, multiples, t) && cancels(branch, multiples, u)
         }
-        TermNode::Mul(t, u) => match (numeral_of(t), numeral_of(u)) {
+        TermNode::Binary(Binary::Mul, t, u) => match (numeral_of(t), numeral_of(u)) {
             (Some(_), _) => cancels(branch, multiples, u),
             (None, Some(_)) => cancels(branch, multiples, t),
             (None, None) => is_zero(total(Part::Coefficient(term), branch, multiples)),
@@ -178,13 +179,13 @@ pub fn plain_row<'a>(of: &'a Formula) -> Option<Row<'a>>
     ensures { option_map row_data result ≡ row_of of.now }
 {
     match &of.node {
-        FormulaNode::Le(t, u) => Some(Row {
+        FormulaNode::Compare(Comparison::Le, t, u) => Some(Row {
             lesser: t,
             greater: u,
             gap: 0,
             is_equation: false,
         }),
-        FormulaNode::Eq(t, u) => Some(Row {
+        FormulaNode::Compare(Comparison::Eq, t, u) => Some(Row {
             lesser: t,
             greater: u,
             gap: 0,
@@ -199,7 +200,7 @@ fn negated_row<'a>(of: &'a Formula) -> Option<Row<'a>>
     ensures { option_map row_data result ≡ negated_row_of of.now }
 {
     match &of.node {
-        FormulaNode::Le(t, u) => Some(Row {
+        FormulaNode::Compare(Comparison::Le, t, u) => Some(Row {
             lesser: u,
             greater: t,
             gap: 1,
@@ -234,10 +235,10 @@ fn weight(part: Part<'_>, term: &Term) -> Option<i128>
     ensures { result ≡ weight (part_of part.entry) term.now }
 {
     match &term.node {
-        TermNode::Num(i) => Some(numeral_weight(part, *i)),
-        TermNode::Add(t, u) => kept_sum(weight(part, t), weight(part, u)),
-        TermNode::Sub(t, u) => kept_difference(weight(part, t), weight(part, u)),
-        TermNode::Mul(t, u) => match (numeral_of(t), numeral_of(u)) {
+        TermNode::Constant(Constant::Num(i)) => Some(numeral_weight(part, *i)),
+        TermNode::Binary(Binary::Add, t, u) => kept_sum(weight(part, t), weight(part, u)),
+        TermNode::Binary(Binary::Sub, t, u) => kept_difference(weight(part, t), weight(part, u)),
+        TermNode::Binary(Binary::Mul, t, u) => match (numeral_of(t), numeral_of(u)) {
             (Some(c), _) => kept_product(Some(c), weight(part, u)),
             (None, Some(c)) => kept_product(Some(c), weight(part, t)),
             (None, None) => Some(unknown_weight(part, term)),
@@ -269,7 +270,7 @@ pub fn numeral_of(term: &Term) -> Option<i128>
     ensures { result ≡ numeral_of term.now }
 {
     match &term.node {
-        TermNode::Num(i) => Some(*i),
+        TermNode::Constant(Constant::Num(i)) => Some(*i),
         _ => None,
     }
 }

@@ -11,6 +11,7 @@ ghost use Rattle.cert.specs.Parts.{parts_of, parts_of_negated, cases_of, cases_o
 use crate::branch::Entry;
 use crate::certificate::Case;
 use fol::formula::{Formula, FormulaNode, TermNode};
+use fol::operators::{Comparison, Connective, Constant, Junction};
 use fol::same::{same_formula, same_formulas, same_term};
 
 /// Whether these formulas are the parts of the entry.
@@ -27,7 +28,9 @@ fn are_parts_of(of: &Formula, formulas: &[Formula]) -> bool
     ensures { IsTrue result ↔ (parts_of of.now ≡ Some formulas.now) }
 {
     match &of.node {
-        FormulaNode::AllOf(parts) => same_formulas(formulas, parts.as_slice()),
+        FormulaNode::Join(junction, parts) => {
+            *junction == Junction::AllOf && same_formulas(formulas, parts.as_slice())
+        }
         FormulaNode::Not(of) => are_parts_of_negated(of, formulas),
         _ => false,
     }
@@ -37,8 +40,10 @@ fn are_parts_of_negated(of: &Formula, formulas: &[Formula]) -> bool
     ensures { IsTrue result ↔ (parts_of_negated of.now ≡ Some formulas.now) }
 {
     match &of.node {
-        FormulaNode::AnyOf(parts) => are_negations(formulas, parts.as_slice()),
-        FormulaNode::Implies(left, right) => match formulas {
+        FormulaNode::Join(junction, parts) => {
+            *junction == Junction::AnyOf && are_negations(formulas, parts.as_slice())
+        }
+        FormulaNode::Connect(Connective::Implies, left, right) => match formulas {
             [first, second] => same_formula(first, left) && is_negation(second, right),
             _ => false,
         },
@@ -91,7 +96,9 @@ pub fn is_both_of(formula: &Formula, left: Entry<'_>, right: Entry<'_>) -> bool
         ↔ (formula.now ≡ both_of (entry_formula left.entry) (entry_formula right.entry)) }
 {
     match &formula.node {
-        FormulaNode::AllOf(parts) => are_entries(parts.as_slice(), left, right),
+        FormulaNode::Join(junction, parts) => {
+            *junction == Junction::AllOf && are_entries(parts.as_slice(), left, right)
+        }
         _ => false,
     }
 }
@@ -118,13 +125,15 @@ fn are_cases_of(of: &Formula, cases: &[Case]) -> bool
     ensures { IsTrue result ↔ (cases_of of.now ≡ Some (map first_of cases.now)) }
 {
     match &of.node {
-        FormulaNode::AnyOf(parts) => are_formulas(cases, parts.as_slice()),
-        FormulaNode::Implies(left, right) => {
+        FormulaNode::Join(junction, parts) => {
+            *junction == Junction::AnyOf && are_formulas(cases, parts.as_slice())
+        }
+        FormulaNode::Connect(Connective::Implies, left, right) => {
             cases.len() == 2
                 && is_negation(formula_of(&cases[0]), left)
                 && same_formula(formula_of(&cases[1]), right)
         }
-        FormulaNode::Iff(left, right) => {
+        FormulaNode::Connect(Connective::Iff, left, right) => {
             cases.len() == 2
                 && is_both_of(
                     formula_of(&cases[0]),
@@ -146,8 +155,10 @@ fn are_cases_of_negated(of: &Formula, cases: &[Case]) -> bool
     ensures { IsTrue result ↔ (cases_of_negated of.now ≡ Some (map first_of cases.now)) }
 {
     match &of.node {
-        FormulaNode::AllOf(parts) => negate(cases, parts.as_slice()),
-        FormulaNode::Iff(left, right) => {
+        FormulaNode::Join(junction, parts) => {
+            *junction == Junction::AllOf && negate(cases, parts.as_slice())
+        }
+        FormulaNode::Connect(Connective::Iff, left, right) => {
             cases.len() == 2
                 && is_both_of(
                     formula_of(&cases[0]),
@@ -235,8 +246,10 @@ fn is_false_form(formula: &Formula) -> bool
     ensures { IsTrue result ↔ IsFalseForm formula.now }
 {
     match &formula.node {
-        FormulaNode::AnyOf(cases) => are_none(cases.as_slice()),
-        FormulaNode::Holds(term) => matches!(&term.node, TermNode::False),
+        FormulaNode::Join(junction, cases) => {
+            *junction == Junction::AnyOf && are_none(cases.as_slice())
+        }
+        FormulaNode::Holds(term) => matches!(&term.node, TermNode::Constant(Constant::False)),
         FormulaNode::Not(of) => is_false_negated(of),
         _ => false,
     }
@@ -246,8 +259,10 @@ fn is_false_negated(of: &Formula) -> bool
     ensures { IsTrue result ↔ IsFalseNegated of.now }
 {
     match &of.node {
-        FormulaNode::AllOf(parts) => are_none(parts.as_slice()),
-        FormulaNode::Eq(left, right) => same_term(left, right),
+        FormulaNode::Join(junction, parts) => {
+            *junction == Junction::AllOf && are_none(parts.as_slice())
+        }
+        FormulaNode::Compare(Comparison::Eq, left, right) => same_term(left, right),
         _ => false,
     }
 }

@@ -1,7 +1,7 @@
 -- Nothing is without depth, and a list is as deep as its first item or the rest.
 use Rattle.std.proofs.Common.{◌≡◌, ℕ, zero, suc, ◌+◌, ◌<◌, ◌≤◌, max, List, [], ◌∷◌, length, get_or, drop, refl, ap, arith, add-one, drop-cons}
 use Rattle.pv_base.specs.TypeData.{TypeData, types_of, BoolType, IntType, NumType, AddressType, SignerType, VectorType, StructType, ParamType, SharedType, MutableType, TupleType}
-use Rattle.fol.specs.FormulaData.{TermData, TermsData, FormulaData, terms_of, triggers_of, formulas_of, VarTerm, NumTerm, MaxTerm, TrueTerm, FalseTerm, NothingTerm, BlankTerm, EmptyTerm, WideTerm, AddTerm, SubTerm, MulTerm, DivTerm, ModTerm, AndTerm, OrTerm, XorTerm, ShlTerm, ShrTerm, SelectTerm, StoreTerm, LenTerm, AtTerm, PushTerm, PopTerm, SetTerm, PackTerm, FieldTerm, SetFieldTerm, IfTerm, EqFormula, LeFormula, IsFormula, HoldsFormula, NotFormula, AllOfFormula, AnyOfFormula, ImpliesFormula, IffFormula, ForAllFormula, ExistsFormula}
+use Rattle.fol.specs.FormulaData.{TermData, VarTerm, ConstantTerm, UnaryTerm, BinaryTerm, TernaryTerm, PackTerm, FieldTerm, SetFieldTerm, IfTerm, TermsData, FormulaData, CompareFormula, IsFormula, HoldsFormula, NotFormula, JoinFormula, ConnectFormula, QuantifyFormula, terms_of, triggers_of, formulas_of}
 use Rattle.fol.specs.Depth.{type_depth, types_depth, term_depth, terms_depth, triggers_depth, formula_depth, formulas_depth}
 
 pub type_depth_positive : (t : TypeData) → 0 < type_depth t
@@ -19,48 +19,23 @@ type_depth_positive (TupleType ts) = omega arith
 
 pub term_depth_positive : (t : TermData) → 0 < term_depth t
 term_depth_positive (VarTerm n) = omega arith
-term_depth_positive (NumTerm i) = omega arith
-term_depth_positive MaxTerm = omega arith
-term_depth_positive TrueTerm = omega arith
-term_depth_positive FalseTerm = omega arith
-term_depth_positive NothingTerm = omega arith
-term_depth_positive BlankTerm = omega arith
-term_depth_positive EmptyTerm = omega arith
-term_depth_positive (WideTerm u) = omega arith
-term_depth_positive (AddTerm t u) = omega arith
-term_depth_positive (SubTerm t u) = omega arith
-term_depth_positive (MulTerm t u) = omega arith
-term_depth_positive (DivTerm t u) = omega arith
-term_depth_positive (ModTerm t u) = omega arith
-term_depth_positive (AndTerm t u) = omega arith
-term_depth_positive (OrTerm t u) = omega arith
-term_depth_positive (XorTerm t u) = omega arith
-term_depth_positive (ShlTerm w t u) = omega arith
-term_depth_positive (ShrTerm w t u) = omega arith
-term_depth_positive (SelectTerm t u) = omega arith
-term_depth_positive (StoreTerm t u v) = omega arith
-term_depth_positive (LenTerm t) = omega arith
-term_depth_positive (AtTerm t u) = omega arith
-term_depth_positive (PushTerm t u) = omega arith
-term_depth_positive (PopTerm t) = omega arith
-term_depth_positive (SetTerm t u v) = omega arith
+term_depth_positive (ConstantTerm c) = omega arith
+term_depth_positive (UnaryTerm o t) = omega arith
+term_depth_positive (BinaryTerm o t u) = omega arith
+term_depth_positive (TernaryTerm o t u v) = omega arith
 term_depth_positive (PackTerm a ts) = omega arith
 term_depth_positive (FieldTerm a k t) = omega arith
 term_depth_positive (SetFieldTerm a k t u) = omega arith
 term_depth_positive (IfTerm p t u) = omega arith
 
 pub formula_depth_positive : (p : FormulaData) → 0 < formula_depth p
-formula_depth_positive (EqFormula t u) = omega arith
-formula_depth_positive (LeFormula t u) = omega arith
+formula_depth_positive (CompareFormula o t u) = omega arith
 formula_depth_positive (IsFormula a t) = omega arith
 formula_depth_positive (HoldsFormula t) = omega arith
 formula_depth_positive (NotFormula p) = omega arith
-formula_depth_positive (AllOfFormula ps) = omega arith
-formula_depth_positive (AnyOfFormula ps) = omega arith
-formula_depth_positive (ImpliesFormula p q) = omega arith
-formula_depth_positive (IffFormula p q) = omega arith
-formula_depth_positive (ForAllFormula n ts p) = omega arith
-formula_depth_positive (ExistsFormula n ts p) = omega arith
+formula_depth_positive (JoinFormula o ps) = omega arith
+formula_depth_positive (ConnectFormula o p q) = omega arith
+formula_depth_positive (QuantifyFormula o n ts p) = omega arith
 
 pub types_depth_drop : (xs : List TypeData) (i : ℕ) (d : TypeData) → i < length xs → types_depth (types_of (drop i xs)) ≡ max (type_depth (get_or xs i d)) (types_depth (types_of (drop (i + 1) xs)))
 types_depth_drop xs i d h = rw (add-one, drop-cons xs i d)

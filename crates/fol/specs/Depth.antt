@@ -2,7 +2,7 @@
 use Rattle.std.specs.Prelude.{ℕ, ◌+◌, ◌<◌, max}
 use Rattle.std.proofs.Common.{arith}
 use Rattle.pv_base.specs.TypeData.{TypeData, TypesData, BoolType, IntType, NumType, AddressType, SignerType, VectorType, StructType, ParamType, SharedType, MutableType, TupleType, NoTypes, MoreTypes}
-use Rattle.fol.specs.FormulaData.{TermData, VarTerm, NumTerm, MaxTerm, TrueTerm, FalseTerm, NothingTerm, BlankTerm, EmptyTerm, WideTerm, AddTerm, SubTerm, MulTerm, DivTerm, ModTerm, AndTerm, OrTerm, XorTerm, ShlTerm, ShrTerm, SelectTerm, StoreTerm, LenTerm, AtTerm, PushTerm, PopTerm, SetTerm, PackTerm, FieldTerm, SetFieldTerm, IfTerm, TermsData, NoTerms, MoreTerms, TriggersData, NoTriggers, MoreTriggers, FormulaData, EqFormula, LeFormula, IsFormula, HoldsFormula, NotFormula, AllOfFormula, AnyOfFormula, ImpliesFormula, IffFormula, ForAllFormula, ExistsFormula, FormulasData, NoFormulas, MoreFormulas}
+use Rattle.fol.specs.FormulaData.{TermData, VarTerm, ConstantTerm, UnaryTerm, BinaryTerm, TernaryTerm, PackTerm, FieldTerm, SetFieldTerm, IfTerm, TermsData, NoTerms, MoreTerms, TriggersData, NoTriggers, MoreTriggers, FormulaData, CompareFormula, IsFormula, HoldsFormula, NotFormula, JoinFormula, ConnectFormula, QuantifyFormula, FormulasData, NoFormulas, MoreFormulas}
 
 abbrev mutual
   pub type_depth : TypeData → ℕ
@@ -25,31 +25,10 @@ abbrev mutual
 abbrev mutual
   pub term_depth : TermData → ℕ
   term_depth (VarTerm n) = 1
-  term_depth (NumTerm i) = 1
-  term_depth MaxTerm = 1
-  term_depth TrueTerm = 1
-  term_depth FalseTerm = 1
-  term_depth NothingTerm = 1
-  term_depth BlankTerm = 1
-  term_depth EmptyTerm = 1
-  term_depth (WideTerm u) = 1
-  term_depth (AddTerm t u) = 1 + max (term_depth t) (term_depth u)
-  term_depth (SubTerm t u) = 1 + max (term_depth t) (term_depth u)
-  term_depth (MulTerm t u) = 1 + max (term_depth t) (term_depth u)
-  term_depth (DivTerm t u) = 1 + max (term_depth t) (term_depth u)
-  term_depth (ModTerm t u) = 1 + max (term_depth t) (term_depth u)
-  term_depth (AndTerm t u) = 1 + max (term_depth t) (term_depth u)
-  term_depth (OrTerm t u) = 1 + max (term_depth t) (term_depth u)
-  term_depth (XorTerm t u) = 1 + max (term_depth t) (term_depth u)
-  term_depth (ShlTerm w t u) = 1 + max (term_depth t) (term_depth u)
-  term_depth (ShrTerm w t u) = 1 + max (term_depth t) (term_depth u)
-  term_depth (SelectTerm t u) = 1 + max (term_depth t) (term_depth u)
-  term_depth (StoreTerm t u v) = 1 + max (term_depth t) (max (term_depth u) (term_depth v))
-  term_depth (LenTerm t) = 1 + term_depth t
-  term_depth (AtTerm t u) = 1 + max (term_depth t) (term_depth u)
-  term_depth (PushTerm t u) = 1 + max (term_depth t) (term_depth u)
-  term_depth (PopTerm t) = 1 + term_depth t
-  term_depth (SetTerm t u v) = 1 + max (term_depth t) (max (term_depth u) (term_depth v))
+  term_depth (ConstantTerm c) = 1
+  term_depth (UnaryTerm o t) = 1 + term_depth t
+  term_depth (BinaryTerm o t u) = 1 + max (term_depth t) (term_depth u)
+  term_depth (TernaryTerm o t u v) = 1 + max (term_depth t) (max (term_depth u) (term_depth v))
   term_depth (PackTerm a ts) = 1 + max (type_depth a) (terms_depth ts)
   term_depth (FieldTerm a k t) = 1 + max (type_depth a) (term_depth t)
   term_depth (SetFieldTerm a k t u) = 1 + max (type_depth a) (max (term_depth t) (term_depth u))
@@ -64,17 +43,13 @@ abbrev mutual
   triggers_depth (MoreTriggers t ts) = max (terms_depth t) (triggers_depth ts)
 
   pub formula_depth : FormulaData → ℕ
-  formula_depth (EqFormula t u) = 1 + max (term_depth t) (term_depth u)
-  formula_depth (LeFormula t u) = 1 + max (term_depth t) (term_depth u)
+  formula_depth (CompareFormula o t u) = 1 + max (term_depth t) (term_depth u)
   formula_depth (IsFormula a t) = 1 + max (type_depth a) (term_depth t)
   formula_depth (HoldsFormula t) = 1 + term_depth t
   formula_depth (NotFormula p) = 1 + formula_depth p
-  formula_depth (AllOfFormula ps) = 1 + formulas_depth ps
-  formula_depth (AnyOfFormula ps) = 1 + formulas_depth ps
-  formula_depth (ImpliesFormula p q) = 1 + max (formula_depth p) (formula_depth q)
-  formula_depth (IffFormula p q) = 1 + max (formula_depth p) (formula_depth q)
-  formula_depth (ForAllFormula n ts p) = 1 + max (triggers_depth ts) (formula_depth p)
-  formula_depth (ExistsFormula n ts p) = 1 + max (triggers_depth ts) (formula_depth p)
+  formula_depth (JoinFormula o ps) = 1 + formulas_depth ps
+  formula_depth (ConnectFormula o p q) = 1 + max (formula_depth p) (formula_depth q)
+  formula_depth (QuantifyFormula o n ts p) = 1 + max (triggers_depth ts) (formula_depth p)
 
   pub formulas_depth : FormulasData → ℕ
   formulas_depth NoFormulas = 0

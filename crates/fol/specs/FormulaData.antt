@@ -1,38 +1,34 @@
 -- Terms and formulas as pure data, as contracts see them: many-sorted first-order logic with whole numbers, arrays
--- ("memories"), sequences ("vectors") and tuples with names ("structs"), in one sort of values.
+-- ("memories"), sequences ("vectors") and tuples with names ("structs"), in one sort of values. Terms and formulas go by
+-- the number of their parts, with an operator for each.
 use Rattle.std.specs.Prelude.{◌≡◌, ℕ, ◌+◌, ℤ, List, [], ◌∷◌, refl}
 use Rattle.std.proofs.Common.{ap, sym, ◌∙◌}
 use Rattle.pv_base.specs.TypeData.{TypeData}
 use Rattle.pv_base.specs.declared.types.Width.{Width}
+use Rattle.fol.specs.declared.operators.Constant.{Constant}
+use Rattle.fol.specs.declared.operators.Constant.TheVariants.{Num, Max, True, False, Nothing, Blank, Empty, Wide}
+use Rattle.fol.specs.declared.operators.Unary.{Unary}
+use Rattle.fol.specs.declared.operators.Unary.TheVariants.{Len, Pop}
+use Rattle.fol.specs.declared.operators.Binary.{Binary}
+use Rattle.fol.specs.declared.operators.Binary.TheVariants.{Add, Sub, Mul, Div, Mod, And, Or, Xor, Shl, Shr, Select, At, Push}
+use Rattle.fol.specs.declared.operators.Ternary.{Ternary}
+use Rattle.fol.specs.declared.operators.Ternary.TheVariants.{Store, Set}
+use Rattle.fol.specs.declared.operators.Comparison.{Comparison}
+use Rattle.fol.specs.declared.operators.Comparison.TheVariants.{Eq, Le}
+use Rattle.fol.specs.declared.operators.Junction.{Junction}
+use Rattle.fol.specs.declared.operators.Junction.TheVariants.{AllOf, AnyOf}
+use Rattle.fol.specs.declared.operators.Connective.{Connective}
+use Rattle.fol.specs.declared.operators.Connective.TheVariants.{Implies, Iff}
+use Rattle.fol.specs.declared.operators.Quantifier.{Quantifier}
+use Rattle.fol.specs.declared.operators.Quantifier.TheVariants.{ForAll, Exists}
 
 mutual
   pub data TermData : Type 0 where
     VarTerm : ℕ → TermData
-    NumTerm : ℤ → TermData
-    MaxTerm : TermData
-    TrueTerm : TermData
-    FalseTerm : TermData
-    NothingTerm : TermData
-    BlankTerm : TermData
-    EmptyTerm : TermData
-    WideTerm : ℕ → TermData
-    AddTerm : TermData → TermData → TermData
-    SubTerm : TermData → TermData → TermData
-    MulTerm : TermData → TermData → TermData
-    DivTerm : TermData → TermData → TermData
-    ModTerm : TermData → TermData → TermData
-    AndTerm : TermData → TermData → TermData
-    OrTerm : TermData → TermData → TermData
-    XorTerm : TermData → TermData → TermData
-    ShlTerm : Width → TermData → TermData → TermData
-    ShrTerm : Width → TermData → TermData → TermData
-    SelectTerm : TermData → TermData → TermData
-    StoreTerm : TermData → TermData → TermData → TermData
-    LenTerm : TermData → TermData
-    AtTerm : TermData → TermData → TermData
-    PushTerm : TermData → TermData → TermData
-    PopTerm : TermData → TermData
-    SetTerm : TermData → TermData → TermData → TermData
+    ConstantTerm : Constant → TermData
+    UnaryTerm : Unary → TermData → TermData
+    BinaryTerm : Binary → TermData → TermData → TermData
+    TernaryTerm : Ternary → TermData → TermData → TermData → TermData
     PackTerm : TypeData → TermsData → TermData
     FieldTerm : TypeData → ℕ → TermData → TermData
     SetFieldTerm : TypeData → ℕ → TermData → TermData → TermData
@@ -47,21 +43,118 @@ mutual
     MoreTriggers : TermsData → TriggersData → TriggersData
 
   pub data FormulaData : Type 0 where
-    EqFormula : TermData → TermData → FormulaData
-    LeFormula : TermData → TermData → FormulaData
+    CompareFormula : Comparison → TermData → TermData → FormulaData
     IsFormula : TypeData → TermData → FormulaData
     HoldsFormula : TermData → FormulaData
     NotFormula : FormulaData → FormulaData
-    AllOfFormula : FormulasData → FormulaData
-    AnyOfFormula : FormulasData → FormulaData
-    ImpliesFormula : FormulaData → FormulaData → FormulaData
-    IffFormula : FormulaData → FormulaData → FormulaData
-    ForAllFormula : ℕ → TriggersData → FormulaData → FormulaData
-    ExistsFormula : ℕ → TriggersData → FormulaData → FormulaData
+    JoinFormula : Junction → FormulasData → FormulaData
+    ConnectFormula : Connective → FormulaData → FormulaData → FormulaData
+    QuantifyFormula : Quantifier → ℕ → TriggersData → FormulaData → FormulaData
 
   pub data FormulasData : Type 0 where
     NoFormulas : FormulasData
     MoreFormulas : FormulaData → FormulasData → FormulasData
+
+-- ---- each operator's term or formula by its name
+
+abbrev pub NumTerm : ℤ → TermData
+NumTerm i = ConstantTerm (Num i)
+
+abbrev pub MaxTerm : TermData
+MaxTerm = ConstantTerm Max
+
+abbrev pub TrueTerm : TermData
+TrueTerm = ConstantTerm True
+
+abbrev pub FalseTerm : TermData
+FalseTerm = ConstantTerm False
+
+abbrev pub NothingTerm : TermData
+NothingTerm = ConstantTerm Nothing
+
+abbrev pub BlankTerm : TermData
+BlankTerm = ConstantTerm Blank
+
+abbrev pub EmptyTerm : TermData
+EmptyTerm = ConstantTerm Empty
+
+abbrev pub WideTerm : ℕ → TermData
+WideTerm u = ConstantTerm (Wide u)
+
+abbrev pub LenTerm : TermData → TermData
+LenTerm t = UnaryTerm Len t
+
+abbrev pub PopTerm : TermData → TermData
+PopTerm t = UnaryTerm Pop t
+
+abbrev pub AddTerm : TermData → TermData → TermData
+AddTerm t u = BinaryTerm Add t u
+
+abbrev pub SubTerm : TermData → TermData → TermData
+SubTerm t u = BinaryTerm Sub t u
+
+abbrev pub MulTerm : TermData → TermData → TermData
+MulTerm t u = BinaryTerm Mul t u
+
+abbrev pub DivTerm : TermData → TermData → TermData
+DivTerm t u = BinaryTerm Div t u
+
+abbrev pub ModTerm : TermData → TermData → TermData
+ModTerm t u = BinaryTerm Mod t u
+
+abbrev pub AndTerm : TermData → TermData → TermData
+AndTerm t u = BinaryTerm And t u
+
+abbrev pub OrTerm : TermData → TermData → TermData
+OrTerm t u = BinaryTerm Or t u
+
+abbrev pub XorTerm : TermData → TermData → TermData
+XorTerm t u = BinaryTerm Xor t u
+
+abbrev pub SelectTerm : TermData → TermData → TermData
+SelectTerm t u = BinaryTerm Select t u
+
+abbrev pub AtTerm : TermData → TermData → TermData
+AtTerm t u = BinaryTerm At t u
+
+abbrev pub PushTerm : TermData → TermData → TermData
+PushTerm t u = BinaryTerm Push t u
+
+abbrev pub ShlTerm : Width → TermData → TermData → TermData
+ShlTerm w t u = BinaryTerm (Shl w) t u
+
+abbrev pub ShrTerm : Width → TermData → TermData → TermData
+ShrTerm w t u = BinaryTerm (Shr w) t u
+
+abbrev pub StoreTerm : TermData → TermData → TermData → TermData
+StoreTerm t u v = TernaryTerm Store t u v
+
+abbrev pub SetTerm : TermData → TermData → TermData → TermData
+SetTerm t u v = TernaryTerm Set t u v
+
+abbrev pub EqFormula : TermData → TermData → FormulaData
+EqFormula t u = CompareFormula Eq t u
+
+abbrev pub LeFormula : TermData → TermData → FormulaData
+LeFormula t u = CompareFormula Le t u
+
+abbrev pub AllOfFormula : FormulasData → FormulaData
+AllOfFormula ps = JoinFormula AllOf ps
+
+abbrev pub AnyOfFormula : FormulasData → FormulaData
+AnyOfFormula ps = JoinFormula AnyOf ps
+
+abbrev pub ImpliesFormula : FormulaData → FormulaData → FormulaData
+ImpliesFormula p q = ConnectFormula Implies p q
+
+abbrev pub IffFormula : FormulaData → FormulaData → FormulaData
+IffFormula p q = ConnectFormula Iff p q
+
+abbrev pub ForAllFormula : ℕ → TriggersData → FormulaData → FormulaData
+ForAllFormula n ts p = QuantifyFormula ForAll n ts p
+
+abbrev pub ExistsFormula : ℕ → TriggersData → FormulaData → FormulaData
+ExistsFormula n ts p = QuantifyFormula Exists n ts p
 
 -- ---- lists as the lists above, and back
 
@@ -127,31 +220,10 @@ formulas_of-list_of_formulas (MoreFormulas p ps) = ap (MoreFormulas p) (formulas
 abbrev mutual
   pub term_size : TermData → ℕ
   term_size (VarTerm n) = 1
-  term_size (NumTerm i) = 1
-  term_size MaxTerm = 1
-  term_size TrueTerm = 1
-  term_size FalseTerm = 1
-  term_size NothingTerm = 1
-  term_size BlankTerm = 1
-  term_size EmptyTerm = 1
-  term_size (WideTerm u) = 1
-  term_size (AddTerm t u) = 1 + (term_size t + term_size u)
-  term_size (SubTerm t u) = 1 + (term_size t + term_size u)
-  term_size (MulTerm t u) = 1 + (term_size t + term_size u)
-  term_size (DivTerm t u) = 1 + (term_size t + term_size u)
-  term_size (ModTerm t u) = 1 + (term_size t + term_size u)
-  term_size (AndTerm t u) = 1 + (term_size t + term_size u)
-  term_size (OrTerm t u) = 1 + (term_size t + term_size u)
-  term_size (XorTerm t u) = 1 + (term_size t + term_size u)
-  term_size (ShlTerm w t u) = 1 + (term_size t + term_size u)
-  term_size (ShrTerm w t u) = 1 + (term_size t + term_size u)
-  term_size (SelectTerm t u) = 1 + (term_size t + term_size u)
-  term_size (StoreTerm t u v) = 1 + (term_size t + term_size u + term_size v)
-  term_size (LenTerm t) = 1 + term_size t
-  term_size (AtTerm t u) = 1 + (term_size t + term_size u)
-  term_size (PushTerm t u) = 1 + (term_size t + term_size u)
-  term_size (PopTerm t) = 1 + term_size t
-  term_size (SetTerm t u v) = 1 + (term_size t + term_size u + term_size v)
+  term_size (ConstantTerm c) = 1
+  term_size (UnaryTerm o t) = 1 + term_size t
+  term_size (BinaryTerm o t u) = 1 + (term_size t + term_size u)
+  term_size (TernaryTerm o t u v) = 1 + (term_size t + term_size u + term_size v)
   term_size (PackTerm a ts) = 1 + terms_size ts
   term_size (FieldTerm a k t) = 1 + term_size t
   term_size (SetFieldTerm a k t u) = 1 + (term_size t + term_size u)
@@ -166,17 +238,13 @@ abbrev mutual
   triggers_size (MoreTriggers t ts) = 1 + (terms_size t + triggers_size ts)
 
   pub formula_size : FormulaData → ℕ
-  formula_size (EqFormula t u) = 1 + (term_size t + term_size u)
-  formula_size (LeFormula t u) = 1 + (term_size t + term_size u)
+  formula_size (CompareFormula o t u) = 1 + (term_size t + term_size u)
   formula_size (IsFormula a t) = 1 + term_size t
   formula_size (HoldsFormula t) = 1 + term_size t
   formula_size (NotFormula p) = 1 + formula_size p
-  formula_size (AllOfFormula ps) = 1 + formulas_size ps
-  formula_size (AnyOfFormula ps) = 1 + formulas_size ps
-  formula_size (ImpliesFormula p q) = 1 + (formula_size p + formula_size q)
-  formula_size (IffFormula p q) = 1 + (formula_size p + formula_size q)
-  formula_size (ForAllFormula n ts p) = 1 + (triggers_size ts + formula_size p)
-  formula_size (ExistsFormula n ts p) = 1 + (triggers_size ts + formula_size p)
+  formula_size (JoinFormula o ps) = 1 + formulas_size ps
+  formula_size (ConnectFormula o p q) = 1 + (formula_size p + formula_size q)
+  formula_size (QuantifyFormula o n ts p) = 1 + (triggers_size ts + formula_size p)
 
   pub formulas_size : FormulasData → ℕ
   formulas_size NoFormulas = 1

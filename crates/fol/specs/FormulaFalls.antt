@@ -5,9 +5,9 @@ use denote.Param.Weighed.{most}
 use Rattle.fol.specs.FormulaData.{TermData, TermsData, FormulaData, term_size, terms_size, triggers_size, formula_size, formulas_size, terms_of, triggers_of, formulas_of}
 use Rattle.fol.specs.FormulaView.{term_of_node, formula_of_node}
 use Rattle.fol.specs.declared.formula.TermNode.{TermNode}
-use Rattle.fol.specs.declared.formula.TermNode.TheVariants.{Var, Num, Max, True, False, Nothing, Blank, Empty, Wide, Add, Sub, Mul, Div, Mod, And, Or, Xor, Shl, Shr, Select, Store, Len, At, Push, Pop, Set, Pack, Field, SetField, If}
+use Rattle.fol.specs.declared.formula.TermNode.TheVariants.{Var, Constant, Unary, Binary, Ternary, Pack, Field, SetField, If}
 use Rattle.fol.specs.declared.formula.FormulaNode.{FormulaNode}
-use Rattle.fol.specs.declared.formula.FormulaNode.TheVariants.{Eq, Le, Is, Holds, Not, AllOf, AnyOf, Implies, Iff, ForAll, Exists}
+use Rattle.fol.specs.declared.formula.FormulaNode.TheVariants.{Compare, Is, Holds, Not, Join, Connect, Quantify}
 use Rattle.fol.specs.declared.formula.Formula.TheDeep.{deep-TermNode, deep-FormulaNode}
 
 -- no term is larger than all of them together
@@ -25,45 +25,20 @@ formulas_fall (p ∷ ps) = omega (arith, formulas_fall ps)
 
 pub term_falls : (n : TermNode) → max (deep-TermNode n) 0 ≤ term_size (term_of_node n)
 term_falls (Var n) = omega arith
-term_falls (Num i) = omega arith
-term_falls Max = omega arith
-term_falls True = omega arith
-term_falls False = omega arith
-term_falls Nothing = omega arith
-term_falls Blank = omega arith
-term_falls Empty = omega arith
-term_falls (Wide u) = omega arith
-term_falls (Add t u) = omega arith
-term_falls (Sub t u) = omega arith
-term_falls (Mul t u) = omega arith
-term_falls (Div t u) = omega arith
-term_falls (Mod t u) = omega arith
-term_falls (And t u) = omega arith
-term_falls (Or t u) = omega arith
-term_falls (Xor t u) = omega arith
-term_falls (Shl w t u) = omega arith
-term_falls (Shr w t u) = omega arith
-term_falls (Select t u) = omega arith
-term_falls (Store t u v) = omega arith
-term_falls (Len t) = omega arith
-term_falls (At t u) = omega arith
-term_falls (Push t u) = omega arith
-term_falls (Pop t) = omega arith
-term_falls (Set t u v) = omega arith
+term_falls (Constant c) = omega arith
+term_falls (Unary o t) = omega arith
+term_falls (Binary o t u) = omega arith
+term_falls (Ternary o t u v) = omega arith
 term_falls (Pack a ts) = omega (arith, terms_fall ts.items)
 term_falls (Field a k t) = omega arith
 term_falls (SetField a k t u) = omega arith
 term_falls (If p t u) = omega arith
 
 pub formula_falls : (n : FormulaNode) → max (deep-FormulaNode n) 0 ≤ formula_size (formula_of_node n)
-formula_falls (Eq t u) = omega arith
-formula_falls (Le t u) = omega arith
+formula_falls (Compare o t u) = omega arith
 formula_falls (Is a t) = omega arith
 formula_falls (Holds t) = omega arith
 formula_falls (Not p) = omega arith
-formula_falls (AllOf ps) = omega (arith, formulas_fall ps.items)
-formula_falls (AnyOf ps) = omega (arith, formulas_fall ps.items)
-formula_falls (Implies p q) = omega arith
-formula_falls (Iff p q) = omega arith
-formula_falls (ForAll n ts p) = omega (arith, triggers_fall ts.items)
-formula_falls (Exists n ts p) = omega (arith, triggers_fall ts.items)
+formula_falls (Join o ps) = omega (arith, formulas_fall ps.items)
+formula_falls (Connect o p q) = omega arith
+formula_falls (Quantify o n ts p) = omega (arith, triggers_fall ts.items)

@@ -1,7 +1,7 @@
 pub mod FormulaData
 pub mod FormulaCodes
 pub mod FormulaView
-pub mod Joined
+pub mod OperatorCodes
 pub mod FormulaFalls
 pub mod TreeOrder
 pub mod Val

@@ -1,10 +1,20 @@
 -- What the operators of terms give at values. Each has a value at all values: what is no number counts as 0 in
 -- arithmetic, what is no vector as the empty one, and what is no memory as the one without entries.
-use Rattle.std.specs.Prelude.{ℕ, ◌-◌, ℤ, pos, negsuc, ◌+ℤ◌, ◌-ℤ◌, ◌*ℤ◌, int_le, Bool, false, List, [], ◌∷◌, ◌++◌, length, take, slice_index_or, slice_set, if◌then◌else◌}
+use Rattle.std.specs.Prelude.{ℕ, ◌-◌, ℤ, pos, negsuc, ◌+ℤ◌, ◌-ℤ◌, ◌*ℤ◌, int_le, Bool, true, false, List, ◌^◌, bit_and, bit_or, bit_xor, [], ◌∷◌, ◌++◌, length, take, slice_index_or, slice_set, if◌then◌else◌}
 use Rattle.std.specs.Ordering.{match_ordering}
 use Rattle.pv_base.specs.TypeData.{TypeData}
 use Rattle.pv_base.specs.declared.types.Width.{Width}
-use Rattle.fol.specs.Val.{Val, NumberValue, TruthValue, NothingValue, VectorValue, StructValue, MemoryValue, Entries, NoEntries, MoreEntries, values_of, list_of_values, same_value, same_type, compare_values}
+use Rattle.fol.specs.declared.operators.Constant.{Constant}
+use Rattle.fol.specs.declared.operators.Constant.TheVariants.{Num, Max, True, False, Nothing, Blank, Empty, Wide}
+use Rattle.fol.specs.declared.operators.Unary.{Unary}
+use Rattle.fol.specs.declared.operators.Unary.TheVariants.{Len, Pop}
+use Rattle.fol.specs.declared.operators.Binary.{Binary}
+use Rattle.fol.specs.declared.operators.Binary.TheVariants.{Add, Sub, Mul, Div, Mod, And, Or, Xor, Shl, Shr, Select, At, Push}
+use Rattle.fol.specs.declared.operators.Ternary.{Ternary}
+use Rattle.fol.specs.declared.operators.Ternary.TheVariants.{Store, Set}
+use Rattle.fol.specs.declared.operators.Comparison.{Comparison}
+use Rattle.fol.specs.declared.operators.Comparison.TheVariants.{Eq, Le}
+use Rattle.fol.specs.Val.{Val, NumberValue, TruthValue, NothingValue, VectorValue, StructValue, MemoryValue, NoValues, Entries, NoEntries, MoreEntries, values_of, list_of_values, same_value, same_type, compare_values}
 use Rattle.fol.specs.Whole.{quotient, remainder, bitwise, shifted_left, shifted_right}
 
 -- ---- what a value counts as
@@ -130,3 +140,42 @@ field_value t k _ = NothingValue
 abbrev pub set_field_value : TypeData → ℕ → Val → Val → Val
 set_field_value t k (StructValue u vs) value = if same_type t u then StructValue u (values_of (slice_set (list_of_values vs) k value)) else StructValue u vs
 set_field_value t k v value = v
+
+-- ---- by operator
+
+abbrev pub constant_value : Constant → Val
+constant_value (Num i) = NumberValue i
+constant_value Max = NumberValue (pos (2 ^ 128 - 1))
+constant_value True = TruthValue true
+constant_value False = TruthValue false
+constant_value Nothing = NothingValue
+constant_value Blank = MemoryValue NoEntries
+constant_value Empty = VectorValue NoValues
+constant_value (Wide u) = NumberValue (pos u)
+
+abbrev pub unary_value : Unary → Val → Val
+unary_value Len v = len_value v
+unary_value Pop v = pop_value v
+
+abbrev pub binary_value : Binary → Val → Val → Val
+binary_value Add v w = add_values v w
+binary_value Sub v w = sub_values v w
+binary_value Mul v w = mul_values v w
+binary_value Div v w = div_values v w
+binary_value Mod v w = mod_values v w
+binary_value And v w = bit_values bit_and v w
+binary_value Or v w = bit_values bit_or v w
+binary_value Xor v w = bit_values bit_xor v w
+binary_value (Shl width) v i = shl_values width v i
+binary_value (Shr width) v i = shr_values width v i
+binary_value Select memory key = select_value memory key
+binary_value At v i = at_value v i
+binary_value Push v item = push_value v item
+
+abbrev pub ternary_value : Ternary → Val → Val → Val → Val
+ternary_value Store memory key value = store_value memory key value
+ternary_value Set v i item = set_value v i item
+
+abbrev pub compared : Comparison → Val → Val → Bool
+compared Eq v w = same_value v w
+compared Le v w = at_most v w

@@ -11,7 +11,7 @@ use Rattle.std.specs.Cmp.{IsTotalOrder, on_total}
 use Rattle.std.proofs.Common.{ap, ◌∙◌, sym}
 use Rattle.pv_base.specs.Codes.{pick}
 use Rattle.pv_base.specs.TypeData.{TypeData, type_code, type_back, type_back-code}
-use Rattle.fol.specs.FormulaCodes.{tree, whole_code, whole_back, whole_back-code}
+use Rattle.fol.specs.OperatorCodes.{tree, whole_code, whole_back, whole_back-code}
 use Rattle.fol.specs.TreeOrder.{compare_trees, equal_trees, same_tree, same_tree-equal, same_tree_itself, tree_total}
 
 mutual

@@ -63,30 +63,10 @@ pub fn is_term_deeper(term: &Term, limit: u32) -> bool
     }
     let below = limit - 1;
     match &term.node {
-        TermNode::Var(_)
-        | TermNode::Num(_)
-        | TermNode::Max
-        | TermNode::True
-        | TermNode::False
-        | TermNode::Nothing
-        | TermNode::Blank
-        | TermNode::Empty
-        | TermNode::Wide(_) => false,
-        TermNode::Len(a) | TermNode::Pop(a) => is_term_deeper(a, below),
-        TermNode::Add(a, b)
-        | TermNode::Sub(a, b)
-        | TermNode::Mul(a, b)
-        | TermNode::Div(a, b)
-        | TermNode::Mod(a, b)
-        | TermNode::And(a, b)
-        | TermNode::Or(a, b)
-        | TermNode::Xor(a, b)
-        | TermNode::Shl(_, a, b)
-        | TermNode::Shr(_, a, b)
-        | TermNode::Select(a, b)
-        | TermNode::At(a, b)
-        | TermNode::Push(a, b) => is_term_deeper(a, below) || is_term_deeper(b, below),
-        TermNode::Store(a, b, c) | TermNode::Set(a, b, c) => {
+        TermNode::Var(_) | TermNode::Constant(_) => false,
+        TermNode::Unary(_, a) => is_term_deeper(a, below),
+        TermNode::Binary(_, a, b) => is_term_deeper(a, below) || is_term_deeper(b, below),
+        TermNode::Ternary(_, a, b, c) => {
             is_term_deeper(a, below) || is_term_deeper(b, below) || is_term_deeper(c, below)
         }
         TermNode::Pack(of, ts) => is_type_deeper(of, below) || is_any_term_deeper(ts, below),
@@ -145,17 +125,13 @@ pub fn is_deeper(formula: &Formula, limit: u32) -> bool
     }
     let below = limit - 1;
     match &formula.node {
-        FormulaNode::Eq(a, b) | FormulaNode::Le(a, b) => {
-            is_term_deeper(a, below) || is_term_deeper(b, below)
-        }
+        FormulaNode::Compare(_, a, b) => is_term_deeper(a, below) || is_term_deeper(b, below),
         FormulaNode::Is(of, a) => is_type_deeper(of, below) || is_term_deeper(a, below),
         FormulaNode::Holds(a) => is_term_deeper(a, below),
         FormulaNode::Not(p) => is_deeper(p, below),
-        FormulaNode::AllOf(ps) | FormulaNode::AnyOf(ps) => is_any_deeper(ps, below),
-        FormulaNode::Implies(p, q) | FormulaNode::Iff(p, q) => {
-            is_deeper(p, below) || is_deeper(q, below)
-        }
-        FormulaNode::ForAll(_, ts, p) | FormulaNode::Exists(_, ts, p) => {
+        FormulaNode::Join(_, ps) => is_any_deeper(ps, below),
+        FormulaNode::Connect(_, p, q) => is_deeper(p, below) || is_deeper(q, below),
+        FormulaNode::Quantify(_, _, ts, p) => {
             is_any_trigger_deeper(ts, below) || is_deeper(p, below)
         }
     }

@@ -1,6 +1,9 @@
 //! Terms and formulas.
 
-use pv_base::types::{TypeTerm, Width};
+use crate::operators::{
+    Binary, Comparison, Connective, Constant, Junction, Quantifier, Ternary, Unary,
+};
+use pv_base::types::TypeTerm;
 use std::marker::Model;
 
 /// A term: it has one value for each choice of values of its variables.
@@ -18,55 +21,17 @@ impl Drop for Term {
     }
 }
 
-/// The forms of a term. Each has a value whatever its parts are; `specs/Operators.antt` says which.
+/// The shapes of a term. Each term has a value whatever its parts are; `specs/Operators.antt` says
+/// which.
 #[cycle(formula)]
 #[derive(Drop)]
 pub enum TermNode {
     /// The variable with this number.
     Var(u32),
-    /// The whole number.
-    Num(i128),
-    /// The greatest `u128`, 2^128 - 1.
-    Max,
-    True,
-    False,
-    /// The value that no Move value equals.
-    Nothing,
-    /// The memory without entries.
-    Blank,
-    /// The vector without items.
-    Empty,
-    /// The whole number, for those that no `Num` holds.
-    Wide(u128),
-    Add(Box<Term>, Box<Term>),
-    Sub(Box<Term>, Box<Term>),
-    Mul(Box<Term>, Box<Term>),
-    /// The quotient, rounded down; 0 where the divisor is 0.
-    Div(Box<Term>, Box<Term>),
-    /// What the quotient leaves: the dividend less the divisor times the quotient.
-    Mod(Box<Term>, Box<Term>),
-    /// Bit by bit, as are `Or` and `Xor`.
-    And(Box<Term>, Box<Term>),
-    Or(Box<Term>, Box<Term>),
-    Xor(Box<Term>, Box<Term>),
-    /// Shifted to the left within the width.
-    Shl(Width, Box<Term>, Box<Term>),
-    /// Shifted to the right.
-    Shr(Width, Box<Term>, Box<Term>),
-    /// What a memory holds at a key.
-    Select(Box<Term>, Box<Term>),
-    /// A memory with a value written at a key.
-    Store(Box<Term>, Box<Term>, Box<Term>),
-    /// The number of items of a vector.
-    Len(Box<Term>),
-    /// The item of a vector at a place, counted from 0.
-    At(Box<Term>, Box<Term>),
-    /// A vector with one more item at its end.
-    Push(Box<Term>, Box<Term>),
-    /// A vector without its last item.
-    Pop(Box<Term>),
-    /// A vector with the item at a place replaced.
-    Set(Box<Term>, Box<Term>, Box<Term>),
+    Constant(Constant),
+    Unary(Unary, Box<Term>),
+    Binary(Binary, Box<Term>, Box<Term>),
+    Ternary(Ternary, Box<Term>, Box<Term>, Box<Term>),
     /// The struct of this type with these fields.
     Pack(TypeTerm, Vec<Term>),
     /// The field with this number of a struct of this type.
@@ -103,26 +68,20 @@ impl Drop for Formula {
     }
 }
 
-/// The forms of a formula.
+/// The shapes of a formula.
 #[cycle(formula)]
 #[derive(Drop)]
 pub enum FormulaNode {
-    Eq(Box<Term>, Box<Term>),
-    /// The first number is at most the second.
-    Le(Box<Term>, Box<Term>),
+    Compare(Comparison, Box<Term>, Box<Term>),
     /// The term has a value of the type.
     Is(TypeTerm, Box<Term>),
     /// The term is `True`.
     Holds(Box<Term>),
     Not(Box<Formula>),
-    AllOf(Vec<Formula>),
-    AnyOf(Vec<Formula>),
-    Implies(Box<Formula>, Box<Formula>),
-    Iff(Box<Formula>, Box<Formula>),
-    /// True for each value of the variable.
-    ForAll(u32, Triggers, Box<Formula>),
-    /// True for some value of the variable.
-    Exists(u32, Triggers, Box<Formula>),
+    Join(Junction, Vec<Formula>),
+    Connect(Connective, Box<Formula>, Box<Formula>),
+    /// The formula for each value, or for some value, of the variable.
+    Quantify(Quantifier, u32, Triggers, Box<Formula>),
 }
 
 impl Model for Term {

@@ -6,5 +6,6 @@ pub mod depth;
 pub mod formula;
 pub mod laws;
 pub mod make;
+pub mod operators;
 pub mod same;
 pub mod shapes;

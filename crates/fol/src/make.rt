@@ -5,6 +5,7 @@ ghost use Rattle.fol.specs.FormulaData.{VarTerm, NumTerm, TrueTerm, FalseTerm, N
 ghost use Rattle.fol.specs.Numerals.{numeral};
 
 use crate::formula::{Formula, FormulaNode, Term, TermNode, Triggers};
+use crate::operators::{Binary, Comparison, Constant, Junction, Quantifier};
 use pv_base::types::TypeTerm;
 
 impl Term {
@@ -22,7 +23,7 @@ impl Term {
         ensures { result ≡ NumTerm value }
     {
         Term {
-            node: TermNode::Num(value),
+            node: TermNode::Constant(Constant::Num(value)),
         }
     }
 
@@ -31,9 +32,9 @@ impl Term {
         ensures { result ≡ numeral value }
     {
         let node = match i128::try_from(value) {
-            Ok(signed) => TermNode::Num(signed),
-            Err(_) if value == u128::MAX => TermNode::Max,
-            Err(_) => TermNode::Wide(value),
+            Ok(signed) => TermNode::Constant(Constant::Num(signed)),
+            Err(_) if value == u128::MAX => TermNode::Constant(Constant::Max),
+            Err(_) => TermNode::Constant(Constant::Wide(value)),
         };
         Term { node }
     }
@@ -43,9 +44,9 @@ impl Term {
         ensures { result ≡ (if value then TrueTerm else FalseTerm) }
     {
         let node = if value {
-            TermNode::True
+            TermNode::Constant(Constant::True)
         } else {
-            TermNode::False
+            TermNode::Constant(Constant::False)
         };
         Term { node }
     }
@@ -55,7 +56,7 @@ impl Term {
         ensures { result ≡ NothingTerm }
     {
         Term {
-            node: TermNode::Nothing,
+            node: TermNode::Constant(Constant::Nothing),
         }
     }
 
@@ -64,7 +65,7 @@ impl Term {
         ensures { result ≡ AddTerm left.value right.value }
     {
         Term {
-            node: TermNode::Add(left, right),
+            node: TermNode::Binary(Binary::Add, left, right),
         }
     }
 
@@ -73,7 +74,7 @@ impl Term {
         ensures { result ≡ SubTerm left.value right.value }
     {
         Term {
-            node: TermNode::Sub(left, right),
+            node: TermNode::Binary(Binary::Sub, left, right),
         }
     }
 
@@ -82,7 +83,7 @@ impl Term {
         ensures { result ≡ MulTerm left.value right.value }
     {
         Term {
-            node: TermNode::Mul(left, right),
+            node: TermNode::Binary(Binary::Mul, left, right),
         }
     }
 
@@ -91,7 +92,7 @@ impl Term {
         ensures { result ≡ DivTerm left.value right.value }
     {
         Term {
-            node: TermNode::Div(left, right),
+            node: TermNode::Binary(Binary::Div, left, right),
         }
     }
 
@@ -100,7 +101,7 @@ impl Term {
         ensures { result ≡ ModTerm left.value right.value }
     {
         Term {
-            node: TermNode::Mod(left, right),
+            node: TermNode::Binary(Binary::Mod, left, right),
         }
     }
 }
@@ -111,7 +112,7 @@ impl Formula {
         ensures { result ≡ EqFormula left.value right.value }
     {
         Formula {
-            node: FormulaNode::Eq(left, right),
+            node: FormulaNode::Compare(Comparison::Eq, left, right),
         }
     }
 
@@ -120,7 +121,7 @@ impl Formula {
         ensures { result ≡ LeFormula left.value right.value }
     {
         Formula {
-            node: FormulaNode::Le(left, right),
+            node: FormulaNode::Compare(Comparison::Le, left, right),
         }
     }
 
@@ -156,7 +157,7 @@ impl Formula {
         ensures { result ≡ AllOfFormula (formulas_of formulas.items) }
     {
         Formula {
-            node: FormulaNode::AllOf(formulas),
+            node: FormulaNode::Join(Junction::AllOf, formulas),
         }
     }
 
@@ -165,7 +166,7 @@ impl Formula {
         ensures { result ≡ AnyOfFormula (formulas_of formulas.items) }
     {
         Formula {
-            node: FormulaNode::AnyOf(formulas),
+            node: FormulaNode::Join(Junction::AnyOf, formulas),
         }
     }
 
@@ -174,7 +175,7 @@ impl Formula {
         ensures { result ≡ ForAllFormula variable (triggers_of triggers.items) body.value }
     {
         Formula {
-            node: FormulaNode::ForAll(variable, triggers, body),
+            node: FormulaNode::Quantify(Quantifier::ForAll, variable, triggers, body),
         }
     }
 
@@ -183,7 +184,7 @@ impl Formula {
         ensures { result ≡ ExistsFormula variable (triggers_of triggers.items) body.value }
     {
         Formula {
-            node: FormulaNode::Exists(variable, triggers, body),
+            node: FormulaNode::Quantify(Quantifier::Exists, variable, triggers, body),
         }
     }
 }

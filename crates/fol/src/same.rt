@@ -13,35 +13,13 @@ pub fn same_term(left: &Term, right: &Term) -> bool
 {
     match (&left.node, &right.node) {
         (TermNode::Var(a), TermNode::Var(b)) => *a == *b,
-        (TermNode::Num(a), TermNode::Num(b)) => *a == *b,
-        (TermNode::Wide(a), TermNode::Wide(b)) => *a == *b,
-        (TermNode::Max, TermNode::Max)
-        | (TermNode::True, TermNode::True)
-        | (TermNode::False, TermNode::False)
-        | (TermNode::Nothing, TermNode::Nothing)
-        | (TermNode::Blank, TermNode::Blank)
-        | (TermNode::Empty, TermNode::Empty) => true,
-        (TermNode::Add(a, b), TermNode::Add(c, d))
-        | (TermNode::Sub(a, b), TermNode::Sub(c, d))
-        | (TermNode::Mul(a, b), TermNode::Mul(c, d))
-        | (TermNode::Div(a, b), TermNode::Div(c, d))
-        | (TermNode::Mod(a, b), TermNode::Mod(c, d))
-        | (TermNode::And(a, b), TermNode::And(c, d))
-        | (TermNode::Or(a, b), TermNode::Or(c, d))
-        | (TermNode::Xor(a, b), TermNode::Xor(c, d))
-        | (TermNode::Select(a, b), TermNode::Select(c, d))
-        | (TermNode::At(a, b), TermNode::At(c, d))
-        | (TermNode::Push(a, b), TermNode::Push(c, d)) => same_term(a, c) && same_term(b, d),
-        (TermNode::Shl(v, a, b), TermNode::Shl(w, c, d))
-        | (TermNode::Shr(v, a, b), TermNode::Shr(w, c, d)) => {
+        (TermNode::Constant(a), TermNode::Constant(b)) => *a == *b,
+        (TermNode::Unary(v, a), TermNode::Unary(w, b)) => *v == *w && same_term(a, b),
+        (TermNode::Binary(v, a, b), TermNode::Binary(w, c, d)) => {
             *v == *w && same_term(a, c) && same_term(b, d)
         }
-        (TermNode::Store(a, b, c), TermNode::Store(d, e, f))
-        | (TermNode::Set(a, b, c), TermNode::Set(d, e, f)) => {
-            same_term(a, d) && same_term(b, e) && same_term(c, f)
-        }
-        (TermNode::Len(a), TermNode::Len(b)) | (TermNode::Pop(a), TermNode::Pop(b)) => {
-            same_term(a, b)
+        (TermNode::Ternary(v, a, b, c), TermNode::Ternary(w, d, e, f)) => {
+            *v == *w && same_term(a, d) && same_term(b, e) && same_term(c, f)
         }
         (TermNode::Pack(s, a), TermNode::Pack(t, b)) => {
             same_type(s, t) && same_terms(a.as_slice(), b.as_slice())
@@ -107,22 +85,23 @@ pub fn same_formula(left: &Formula, right: &Formula) -> bool
     ensures { IsTrue result ↔ (left.now ≡ right.now) }
 {
     match (&left.node, &right.node) {
-        (FormulaNode::Eq(a, b), FormulaNode::Eq(c, d))
-        | (FormulaNode::Le(a, b), FormulaNode::Le(c, d)) => same_term(a, c) && same_term(b, d),
+        (FormulaNode::Compare(v, a, b), FormulaNode::Compare(w, c, d)) => {
+            *v == *w && same_term(a, c) && same_term(b, d)
+        }
         (FormulaNode::Is(s, a), FormulaNode::Is(t, b)) => same_type(s, t) && same_term(a, b),
         (FormulaNode::Holds(a), FormulaNode::Holds(b)) => same_term(a, b),
         (FormulaNode::Not(p), FormulaNode::Not(q)) => same_formula(p, q),
-        (FormulaNode::AllOf(ps), FormulaNode::AllOf(qs))
-        | (FormulaNode::AnyOf(ps), FormulaNode::AnyOf(qs)) => {
-            same_formulas(ps.as_slice(), qs.as_slice())
+        (FormulaNode::Join(v, ps), FormulaNode::Join(w, qs)) => {
+            *v == *w && same_formulas(ps.as_slice(), qs.as_slice())
         }
-        (FormulaNode::Implies(p, q), FormulaNode::Implies(r, s))
-        | (FormulaNode::Iff(p, q), FormulaNode::Iff(r, s)) => {
-            same_formula(p, r) && same_formula(q, s)
+        (FormulaNode::Connect(v, p, q), FormulaNode::Connect(w, r, s)) => {
+            *v == *w && same_formula(p, r) && same_formula(q, s)
         }
-        (FormulaNode::ForAll(m, ts, p), FormulaNode::ForAll(n, us, q))
-        | (FormulaNode::Exists(m, ts, p), FormulaNode::Exists(n, us, q)) => {
-            *m == *n && same_triggers(ts.as_slice(), us.as_slice()) && same_formula(p, q)
+        (FormulaNode::Quantify(v, m, ts, p), FormulaNode::Quantify(w, n, us, q)) => {
+            *v == *w
+                && *m == *n
+                && same_triggers(ts.as_slice(), us.as_slice())
+                && same_formula(p, q)
         }
         _ => false,
     }

@@ -3,6 +3,7 @@
 use cert::certificate::{Axiom, Cert, End, Multiple, Step, StepNode};
 use cert::checker::check;
 use fol::formula::{Formula, FormulaNode, Term, TermNode};
+use fol::operators::{Comparison, Connective, Constant};
 use fol::shapes::Shapes;
 use pv_base::types::{TypeNode, TypeTerm};
 use std::alloc::Global;
@@ -18,13 +19,14 @@ fn variable(number: u32) -> Term {
 
 fn numeral(number: i128) -> Term {
     Term {
-        node: TermNode::Num(number),
+        node: TermNode::Constant(Constant::Num(number)),
     }
 }
 
 fn at_most(rt: &impl Abort, alloc: Global, left: Term, right: Term) -> Formula {
     Formula {
-        node: FormulaNode::Le(
+        node: FormulaNode::Compare(
+            Comparison::Le,
             Box::new(alloc, left).expect(rt, "memory"),
             Box::new(alloc, right).expect(rt, "memory"),
         ),
@@ -34,7 +36,8 @@ fn at_most(rt: &impl Abort, alloc: Global, left: Term, right: Term) -> Formula {
 // x at most 1 where x is at most 0.
 fn weaker_bound(rt: &impl Abort, alloc: Global) -> Formula {
     Formula {
-        node: FormulaNode::Implies(
+        node: FormulaNode::Connect(
+            Connective::Implies,
             Box::new(alloc, at_most(rt, alloc, variable(0), numeral(0))).expect(rt, "memory"),
             Box::new(alloc, at_most(rt, alloc, variable(0), numeral(1))).expect(rt, "memory"),
         ),

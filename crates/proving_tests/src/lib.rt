@@ -13,3 +13,5 @@ mod report_tests;
 mod saturation_tests;
 #[cfg(test)]
 mod search_tests;
+#[cfg(test)]
+mod substitution_tests;

@@ -2,6 +2,7 @@
 
 use cert::certificate::Axiom;
 use fol::formula::{Formula, FormulaNode, Term};
+use fol::operators::Junction;
 use linear_rows::rows::{LinRow, Rows};
 use pv_base::types::{TypeNode, TypeTerm};
 use saturation::branch::{Branch, Origin};
@@ -61,7 +62,7 @@ fn either(rt: &impl Abort, alloc: Global) -> Formula {
         .expect(rt, "memory");
     cases.push(past(rt, alloc)).expect(rt, "memory");
     Formula {
-        node: FormulaNode::AnyOf(cases),
+        node: FormulaNode::Join(Junction::AnyOf, cases),
     }
 }
 

@@ -3,6 +3,7 @@
 ghost use Rattle.std.specs.Prelude.{◌≡◌, ◌<◌};
 
 use fol::formula::{Formula, FormulaNode, Term};
+use fol::operators::Connective;
 use fol::shapes::Shapes;
 use pv_base::memory::NoMemory;
 use pv_base::steps::Steps;
@@ -51,7 +52,7 @@ fn found<L: Ledger>(
 fn follows(rt: &impl Abort, alloc: Global, in_range: bool, claim: Box<Formula>) -> Box<Formula> {
     let premises = Box::new(alloc, premises(rt, alloc, in_range)).expect(rt, "memory");
     let formula = Formula {
-        node: FormulaNode::Implies(premises, claim),
+        node: FormulaNode::Connect(Connective::Implies, premises, claim),
     };
     Box::new(alloc, formula).expect(rt, "memory")
 }

@@ -2,7 +2,8 @@
 -- II), with the axioms on numbers.
 use Rattle.std.specs.Prelude.{◌≡◌, ℕ, List, slice_get, Option, Some, None, All, IfSome}
 use Rattle.pv_base.specs.TypeData.{TypeData, NumType}
-use Rattle.fol.specs.FormulaData.{TermData, FormulaData, EqFormula, IsFormula, NotFormula}
+use Rattle.fol.specs.declared.operators.Comparison.TheVariants.{Eq}
+use Rattle.fol.specs.FormulaData.{TermData, FormulaData, EqFormula, IsFormula, NotFormula, CompareFormula}
 use Rattle.cert.specs.Axioms.{greatest, range_axiom, trichotomy_axiom, IsWhole}
 use Rattle.cert.specs.Closes.{IsFalseForm}
 use Rattle.cert.specs.Parts.{parts_of, cases_of}
@@ -44,7 +45,7 @@ TrichotomyStands entries t u =
 -- where two numbers are said to differ
 abbrev pub DeniedStands : List FormulaData → FormulaData → Type 0
 DeniedStands entries (IsFormula a t) = RangeStands entries a t
-DeniedStands entries (EqFormula t u) = TrichotomyStands entries t u
+DeniedStands entries (CompareFormula Eq t u) = TrichotomyStands entries t u
 DeniedStands entries _ = Unit {0}
 
 abbrev pub AxiomStands : List FormulaData → FormulaData → Type 0

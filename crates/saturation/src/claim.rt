@@ -13,6 +13,7 @@ use cert::branch::Entry;
 use cert::certificate::Axiom;
 use cert::tableau::{is_both_of, is_entry};
 use fol::formula::{Formula, FormulaNode, Term};
+use fol::operators::{Comparison, Connective, Junction};
 use fol::same::same_term;
 use pv_base::same::same_type;
 use pv_base::types::{TypeNode, TypeTerm};
@@ -92,7 +93,8 @@ fn is_range_at(formula: &Formula, of: &TypeTerm, term: &Term) -> bool
     ensures { IsTrue result ↔ IsRangeAt of.now term.now formula.now }
 {
     match &formula.node {
-        FormulaNode::Iff(left, _) => has_type(left, of, term) && is_instance(Axiom::Range, formula),
+        FormulaNode::Connect(Connective::Iff, left, _) => has_type(left, of, term)
+            && is_instance(Axiom::Range, formula),
         _ => false,
     }
 }
@@ -112,9 +114,12 @@ fn is_trichotomy_at(formula: &Formula, left: &Term, right: &Term) -> bool
     ensures { IsTrue result ↔ (formula.now ≡ trichotomy_axiom left.now right.now) }
 {
     match &formula.node {
-        FormulaNode::AnyOf(cases) => {
-            equates(cases.as_slice(), left, right) && is_instance(Axiom::Trichotomy, formula)
-        }
+        FormulaNode::Join(junction, cases) => match *junction {
+            Junction::AllOf => false,
+            Junction::AnyOf => {
+                equates(cases.as_slice(), left, right) && is_instance(Axiom::Trichotomy, formula)
+            }
+        },
         _ => false,
     }
 }
@@ -134,7 +139,7 @@ fn are_equated(formula: &Formula, left: &Term, right: &Term) -> bool
     ensures { IsTrue result ↔ (formula.now ≡ EqFormula left.now right.now) }
 {
     match &formula.node {
-        FormulaNode::Eq(t, u) => same_term(t, left) && same_term(u, right),
+        FormulaNode::Compare(Comparison::Eq, t, u) => same_term(t, left) && same_term(u, right),
         _ => false,
     }
 }

@@ -13,6 +13,7 @@ use cert::axioms::is_instance;
 use cert::branch::Entry;
 use cert::tableau::{is_both_of, is_entry};
 use fol::formula::{Formula, FormulaNode};
+use fol::operators::{Connective, Junction};
 use fol::same::same_formula;
 
 /// The greatest number of entries of a branch.
@@ -104,7 +105,9 @@ fn is_part(of: &Formula, number: u32, formula: &Formula) -> bool
     ensures { IsTrue result ↔ IsNumber number formula.now (parts_of of.now) }
 {
     match &of.node {
-        FormulaNode::AllOf(parts) => is_formula_at(parts.as_slice(), number, formula),
+        FormulaNode::Join(junction, parts) => {
+            *junction == Junction::AllOf && is_formula_at(parts.as_slice(), number, formula)
+        }
         FormulaNode::Not(inner) => is_part_of_negated(inner, number, formula),
         _ => false,
     }
@@ -114,8 +117,10 @@ fn is_part_of_negated(of: &Formula, number: u32, formula: &Formula) -> bool
     ensures { IsTrue result ↔ IsNumber number formula.now (parts_of_negated of.now) }
 {
     match &of.node {
-        FormulaNode::AnyOf(parts) => is_negation_at(parts.as_slice(), number, formula),
-        FormulaNode::Implies(left, right) => match number {
+        FormulaNode::Join(junction, parts) => {
+            *junction == Junction::AnyOf && is_negation_at(parts.as_slice(), number, formula)
+        }
+        FormulaNode::Connect(Connective::Implies, left, right) => match number {
             0 => same_formula(formula, left),
             1 => is_entry(formula, Entry::Negated(right)),
             _ => false,
@@ -130,13 +135,15 @@ fn is_case(of: &Formula, number: u32, formula: &Formula) -> bool
     ensures { IsTrue result ↔ IsNumber number formula.now (cases_of of.now) }
 {
     match &of.node {
-        FormulaNode::AnyOf(cases) => is_formula_at(cases.as_slice(), number, formula),
-        FormulaNode::Implies(left, right) => match number {
+        FormulaNode::Join(junction, cases) => {
+            *junction == Junction::AnyOf && is_formula_at(cases.as_slice(), number, formula)
+        }
+        FormulaNode::Connect(Connective::Implies, left, right) => match number {
             0 => is_entry(formula, Entry::Negated(left)),
             1 => same_formula(formula, right),
             _ => false,
         },
-        FormulaNode::Iff(left, right) => match number {
+        FormulaNode::Connect(Connective::Iff, left, right) => match number {
             0 => is_both_of(formula, Entry::Plain(left), Entry::Plain(right)),
             1 => is_both_of(formula, Entry::Negated(left), Entry::Negated(right)),
             _ => false,
@@ -150,8 +157,10 @@ fn is_case_of_negated(of: &Formula, number: u32, formula: &Formula) -> bool
     ensures { IsTrue result ↔ IsNumber number formula.now (cases_of_negated of.now) }
 {
     match &of.node {
-        FormulaNode::AllOf(parts) => is_negation_at(parts.as_slice(), number, formula),
-        FormulaNode::Iff(left, right) => match number {
+        FormulaNode::Join(junction, parts) => {
+            *junction == Junction::AllOf && is_negation_at(parts.as_slice(), number, formula)
+        }
+        FormulaNode::Connect(Connective::Iff, left, right) => match number {
             0 => is_both_of(formula, Entry::Plain(left), Entry::Negated(right)),
             1 => is_both_of(formula, Entry::Negated(left), Entry::Plain(right)),
             _ => false,

@@ -14,6 +14,7 @@ use crate::terms::numbers_stand;
 use cert::branch::Entry;
 use cert::tableau::is_false;
 use fol::formula::{Formula, FormulaNode, Term};
+use fol::operators::{Comparison, Connective, Junction};
 use pv_base::types::{TypeNode, TypeTerm};
 
 /// Whether each entry is settled.
@@ -50,7 +51,10 @@ fn parts_stand(entries: &[Formula], entry: &Formula) -> bool
     ensures { IsTrue result ↔ AllStand entries.now (parts_of entry.now) }
 {
     match &entry.node {
-        FormulaNode::AllOf(parts) => all_stand(entries, parts.as_slice()),
+        FormulaNode::Join(junction, parts) => match *junction {
+            Junction::AllOf => all_stand(entries, parts.as_slice()),
+            Junction::AnyOf => true,
+        },
         FormulaNode::Not(inner) => parts_of_negated_stand(entries, inner),
         _ => true,
     }
@@ -60,10 +64,16 @@ fn parts_of_negated_stand(entries: &[Formula], of: &Formula) -> bool
     ensures { IsTrue result ↔ AllStand entries.now (parts_of_negated of.now) }
 {
     match &of.node {
-        FormulaNode::AnyOf(parts) => all_negated_stand(entries, parts.as_slice()),
-        FormulaNode::Implies(left, right) => {
-            stands(entries, Entry::Plain(left)) && stands(entries, Entry::Negated(right))
-        }
+        FormulaNode::Join(junction, parts) => match *junction {
+            Junction::AllOf => true,
+            Junction::AnyOf => all_negated_stand(entries, parts.as_slice()),
+        },
+        FormulaNode::Connect(connective, left, right) => match *connective {
+            Connective::Implies => {
+                stands(entries, Entry::Plain(left)) && stands(entries, Entry::Negated(right))
+            }
+            Connective::Iff => true,
+        },
         FormulaNode::Not(only) => stands(entries, Entry::Plain(only)),
         _ => true,
     }
@@ -96,14 +106,19 @@ fn a_case_stands(entries: &[Formula], entry: &Formula) -> bool
     ensures { IsTrue result ↔ SomeStands entries.now (cases_of entry.now) }
 {
     match &entry.node {
-        FormulaNode::AnyOf(cases) => one_stands(entries, cases.as_slice()),
-        FormulaNode::Implies(left, right) => {
-            stands(entries, Entry::Negated(left)) || stands(entries, Entry::Plain(right))
-        }
-        FormulaNode::Iff(left, right) => {
-            both_stand(entries, Entry::Plain(left), Entry::Plain(right))
-                || both_stand(entries, Entry::Negated(left), Entry::Negated(right))
-        }
+        FormulaNode::Join(junction, cases) => match *junction {
+            Junction::AllOf => true,
+            Junction::AnyOf => one_stands(entries, cases.as_slice()),
+        },
+        FormulaNode::Connect(connective, left, right) => match *connective {
+            Connective::Implies => {
+                stands(entries, Entry::Negated(left)) || stands(entries, Entry::Plain(right))
+            }
+            Connective::Iff => {
+                both_stand(entries, Entry::Plain(left), Entry::Plain(right))
+                    || both_stand(entries, Entry::Negated(left), Entry::Negated(right))
+            }
+        },
         FormulaNode::Not(inner) => a_case_of_negated_stands(entries, inner),
         _ => true,
     }
@@ -113,11 +128,17 @@ fn a_case_of_negated_stands(entries: &[Formula], of: &Formula) -> bool
     ensures { IsTrue result ↔ SomeStands entries.now (cases_of_negated of.now) }
 {
     match &of.node {
-        FormulaNode::AllOf(parts) => one_negated_stands(entries, parts.as_slice()),
-        FormulaNode::Iff(left, right) => {
-            both_stand(entries, Entry::Plain(left), Entry::Negated(right))
-                || both_stand(entries, Entry::Negated(left), Entry::Plain(right))
-        }
+        FormulaNode::Join(junction, parts) => match *junction {
+            Junction::AllOf => one_negated_stands(entries, parts.as_slice()),
+            Junction::AnyOf => true,
+        },
+        FormulaNode::Connect(connective, left, right) => match *connective {
+            Connective::Implies => true,
+            Connective::Iff => {
+                both_stand(entries, Entry::Plain(left), Entry::Negated(right))
+                    || both_stand(entries, Entry::Negated(left), Entry::Plain(right))
+            }
+        },
         _ => true,
     }
 }
@@ -160,7 +181,9 @@ fn axiom_at_denied_stands(entries: &[Formula], of: &Formula) -> bool
 {
     match &of.node {
         FormulaNode::Is(of, term) => range_stands(entries, of, term),
-        FormulaNode::Eq(left, right) => trichotomy_stands(entries, left, right),
+        FormulaNode::Compare(Comparison::Eq, left, right) => trichotomy_stands(
+            entries, left, right,
+        ),
         _ => true,
     }
 }

@@ -12,6 +12,7 @@ ghost use Rattle.saturation.specs.Rest.{IsAfterOne, IsAfterRow, IsAfterEntry};
 
 use cert::linear::{Part, Row, numeral_of, plain_row, row_weight};
 use fol::formula::{Formula, Term, TermNode};
+use fol::operators::{Binary, Constant};
 use fol::same::same_term;
 use linear_rows::rows::{LinRow, Rows};
 
@@ -163,11 +164,11 @@ fn has_known_terms(unknowns: &[Term], term: &Term) -> bool
     ensures { IsTrue result ↔ EachUnknown (IsKnown unknowns.now) term.now }
 {
     match &term.node {
-        TermNode::Num(_) => true,
-        TermNode::Add(t, u) | TermNode::Sub(t, u) => {
+        TermNode::Constant(Constant::Num(_)) => true,
+        TermNode::Binary(Binary::Add, t, u) | TermNode::Binary(Binary::Sub, t, u) => {
             has_known_terms(unknowns, t) && has_known_terms(unknowns, u)
         }
-        TermNode::Mul(t, u) => match (numeral_of(t), numeral_of(u)) {
+        TermNode::Binary(Binary::Mul, t, u) => match (numeral_of(t), numeral_of(u)) {
             (Some(_), _) => has_known_terms(unknowns, u),
             (None, Some(_)) => has_known_terms(unknowns, t),
             (None, None) => is_known(unknowns, term),

@@ -16,19 +16,12 @@ pub fn numbers_stand(entries: &[Formula], formula: &Formula) -> bool
     ensures { IsTrue result ↔ EachIn (WholeStands entries.now) formula.now }
 {
     match &formula.node {
-        FormulaNode::Eq(t, u) | FormulaNode::Le(t, u) => {
-            term_stands(entries, t) && term_stands(entries, u)
-        }
+        FormulaNode::Compare(_, t, u) => term_stands(entries, t) && term_stands(entries, u),
         FormulaNode::Is(_, t) | FormulaNode::Holds(t) => term_stands(entries, t),
         FormulaNode::Not(p) => numbers_stand(entries, p),
-        FormulaNode::AllOf(ps) | FormulaNode::AnyOf(ps) => all_numbers_stand(
-            entries,
-            ps.as_slice(),
-        ),
-        FormulaNode::Implies(p, q) | FormulaNode::Iff(p, q) => {
-            numbers_stand(entries, p) && numbers_stand(entries, q)
-        }
-        FormulaNode::ForAll(_, _, _) | FormulaNode::Exists(_, _, _) => true,
+        FormulaNode::Join(_, ps) => all_numbers_stand(entries, ps.as_slice()),
+        FormulaNode::Connect(_, p, q) => numbers_stand(entries, p) && numbers_stand(entries, q),
+        FormulaNode::Quantify(_, _, _, _) => true,
     }
 }
 
@@ -51,33 +44,12 @@ fn term_stands(entries: &[Formula], term: &Term) -> bool
 {
     whole_stands(entries, term)
         && match &term.node {
-            TermNode::Var(_)
-            | TermNode::Num(_)
-            | TermNode::Max
-            | TermNode::True
-            | TermNode::False
-            | TermNode::Nothing
-            | TermNode::Blank
-            | TermNode::Empty
-            | TermNode::Wide(_) => true,
-            TermNode::Len(a) | TermNode::Pop(a) | TermNode::Field(_, _, a) => {
-                term_stands(entries, a)
+            TermNode::Var(_) | TermNode::Constant(_) => true,
+            TermNode::Unary(_, a) | TermNode::Field(_, _, a) => term_stands(entries, a),
+            TermNode::Binary(_, a, b) | TermNode::SetField(_, _, a, b) => {
+                term_stands(entries, a) && term_stands(entries, b)
             }
-            TermNode::Add(a, b)
-            | TermNode::Sub(a, b)
-            | TermNode::Mul(a, b)
-            | TermNode::Div(a, b)
-            | TermNode::Mod(a, b)
-            | TermNode::And(a, b)
-            | TermNode::Or(a, b)
-            | TermNode::Xor(a, b)
-            | TermNode::Shl(_, a, b)
-            | TermNode::Shr(_, a, b)
-            | TermNode::Select(a, b)
-            | TermNode::At(a, b)
-            | TermNode::Push(a, b)
-            | TermNode::SetField(_, _, a, b) => term_stands(entries, a) && term_stands(entries, b),
-            TermNode::Store(a, b, c) | TermNode::Set(a, b, c) => {
+            TermNode::Ternary(_, a, b, c) => {
                 term_stands(entries, a) && term_stands(entries, b) && term_stands(entries, c)
             }
             TermNode::Pack(_, ts) => terms_stand(entries, ts.as_slice()),

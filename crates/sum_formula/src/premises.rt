@@ -12,6 +12,7 @@ ghost use Rattle.sum_formula.specs.Premises.{all_three, argument_formula, argume
 use crate::translation::{condition, greatest, join, sum, word, zero};
 use fol::copy::{copy_formula, copy_term};
 use fol::formula::{Formula, FormulaNode, Term};
+use fol::operators::Connective;
 use pv_base::memory::NoMemory;
 use pv_base::name::Name;
 use pv_base::types::{TypeNode, TypeTerm, Width};
@@ -156,7 +157,7 @@ pub fn implication(alloc: Global, premise: &Formula, claim: Formula) -> Result<F
     let claim = Box::new(alloc, claim)?;
     let premise = copy_formula(alloc, premise)?;
     Ok(Formula {
-        node: FormulaNode::Implies(premise, claim),
+        node: FormulaNode::Connect(Connective::Implies, premise, claim),
     })
 }
 

@@ -3,6 +3,7 @@
 use crate::rows::contradiction;
 use cert::certificate::End;
 use fol::formula::{Formula, FormulaNode, TermNode};
+use fol::operators::{Comparison, Connective, Constant, Junction};
 use fol::same::{same_formula, same_term};
 use pv_base::memory::NoMemory;
 use std::alloc::Global;
@@ -68,7 +69,7 @@ fn has_equivalence(entries: &[Formula], waiting: &[u32]) -> bool {
 /// Whether the entry with this number is an equivalence.
 pub fn is_equivalence(entries: &[Formula], index: u32) -> bool {
     match entries.get(index as usize) {
-        Some(entry) => matches!(&entry.node, FormulaNode::Iff(_, _)),
+        Some(entry) => matches!(&entry.node, FormulaNode::Connect(Connective::Iff, _, _)),
         None => false,
     }
 }
@@ -84,8 +85,8 @@ fn place_of(entries: &[Formula], formula: &Formula) -> Option<u32> {
 // Whether an entry can't be true by its form.
 fn is_false(entry: &Formula) -> bool {
     match &entry.node {
-        FormulaNode::AnyOf(cases) => cases.is_empty(),
-        FormulaNode::Holds(term) => matches!(&term.node, TermNode::False),
+        FormulaNode::Join(Junction::AnyOf, cases) => cases.is_empty(),
+        FormulaNode::Holds(term) => matches!(&term.node, TermNode::Constant(Constant::False)),
         FormulaNode::Not(inner) => is_false_negated(inner),
         _ => false,
     }
@@ -94,8 +95,8 @@ fn is_false(entry: &Formula) -> bool {
 // Whether the negation of a formula can't be true by its form.
 fn is_false_negated(formula: &Formula) -> bool {
     match &formula.node {
-        FormulaNode::AllOf(parts) => parts.is_empty(),
-        FormulaNode::Eq(left, right) => same_term(left, right),
+        FormulaNode::Join(Junction::AllOf, parts) => parts.is_empty(),
+        FormulaNode::Compare(Comparison::Eq, left, right) => same_term(left, right),
         _ => false,
     }
 }

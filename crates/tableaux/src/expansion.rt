@@ -2,6 +2,7 @@
 
 use fol::copy::{copy_formula, copy_term};
 use fol::formula::{Formula, FormulaNode, Term, TermNode};
+use fol::operators::{Connective, Constant, Junction};
 use pv_base::memory::NoMemory;
 use pv_base::same::copy_type;
 use pv_base::types::{TypeNode, TypeTerm, Width};
@@ -10,7 +11,7 @@ use std::alloc::Global;
 /// The parts of a conjunction; none of another formula.
 pub fn parts(alloc: Global, formula: &Formula) -> Result<Option<Vec<Formula>>, NoMemory> {
     match &formula.node {
-        FormulaNode::AllOf(parts) => Ok(Some(copies(alloc, parts.as_slice())?)),
+        FormulaNode::Join(Junction::AllOf, parts) => Ok(Some(copies(alloc, parts.as_slice())?)),
         FormulaNode::Not(inner) => parts_of_negated(alloc, inner),
         _ => Ok(None),
     }
@@ -18,8 +19,8 @@ pub fn parts(alloc: Global, formula: &Formula) -> Result<Option<Vec<Formula>>, N
 
 fn parts_of_negated(alloc: Global, formula: &Formula) -> Result<Option<Vec<Formula>>, NoMemory> {
     match &formula.node {
-        FormulaNode::AnyOf(parts) => Ok(Some(negations(alloc, parts.as_slice())?)),
-        FormulaNode::Implies(left, right) => {
+        FormulaNode::Join(Junction::AnyOf, parts) => Ok(Some(negations(alloc, parts.as_slice())?)),
+        FormulaNode::Connect(Connective::Implies, left, right) => {
             let mut both = Vec::new(alloc);
             both.push(left.try_clone(alloc)?)?;
             both.push(negation(alloc, right)?)?;
@@ -37,14 +38,16 @@ fn parts_of_negated(alloc: Global, formula: &Formula) -> Result<Option<Vec<Formu
 /// The cases of a disjunction; none of another formula.
 pub fn cases(alloc: Global, formula: &Formula) -> Result<Option<Vec<Formula>>, NoMemory> {
     match &formula.node {
-        FormulaNode::AnyOf(cases) => Ok(Some(copies(alloc, cases.as_slice())?)),
-        FormulaNode::Implies(left, right) => {
+        FormulaNode::Join(Junction::AnyOf, cases) => Ok(Some(copies(alloc, cases.as_slice())?)),
+        FormulaNode::Connect(Connective::Implies, left, right) => {
             let mut both = Vec::new(alloc);
             both.push(negation(alloc, left)?)?;
             both.push(right.try_clone(alloc)?)?;
             Ok(Some(both))
         }
-        FormulaNode::Iff(left, right) => Ok(Some(two_ways(alloc, left, right, false)?)),
+        FormulaNode::Connect(Connective::Iff, left, right) => Ok(Some(two_ways(
+            alloc, left, right, false,
+        )?)),
         FormulaNode::Not(inner) => cases_of_negated(alloc, inner),
         _ => Ok(None),
     }
@@ -52,8 +55,10 @@ pub fn cases(alloc: Global, formula: &Formula) -> Result<Option<Vec<Formula>>, N
 
 fn cases_of_negated(alloc: Global, formula: &Formula) -> Result<Option<Vec<Formula>>, NoMemory> {
     match &formula.node {
-        FormulaNode::AllOf(parts) => Ok(Some(negations(alloc, parts.as_slice())?)),
-        FormulaNode::Iff(left, right) => Ok(Some(two_ways(alloc, left, right, true)?)),
+        FormulaNode::Join(Junction::AllOf, parts) => Ok(Some(negations(alloc, parts.as_slice())?)),
+        FormulaNode::Connect(Connective::Iff, left, right) => Ok(Some(two_ways(
+            alloc, left, right, true,
+        )?)),
         _ => Ok(None),
     }
 }
@@ -61,10 +66,12 @@ fn cases_of_negated(alloc: Global, formula: &Formula) -> Result<Option<Vec<Formu
 /// Whether the formula is a disjunction.
 pub fn is_disjunction(formula: &Formula) -> bool {
     match &formula.node {
-        FormulaNode::AnyOf(_) | FormulaNode::Implies(_, _) | FormulaNode::Iff(_, _) => true,
+        FormulaNode::Join(Junction::AnyOf, _)
+        | FormulaNode::Connect(Connective::Implies, _, _)
+        | FormulaNode::Connect(Connective::Iff, _, _) => true,
         FormulaNode::Not(inner) => matches!(
             &inner.node,
-            FormulaNode::AllOf(_) | FormulaNode::Iff(_, _)
+            FormulaNode::Join(Junction::AllOf, _) | FormulaNode::Connect(Connective::Iff, _, _)
         ),
         _ => false,
     }
@@ -77,7 +84,7 @@ pub fn range(alloc: Global, of: &TypeTerm, term: &Term) -> Result<Option<Formula
             let claim = Box::new(alloc, has_type(alloc, of, term)?)?;
             let bounds = Box::new(alloc, Formula::all_of(bounds(alloc, term, width)?))?;
             Ok(Some(Formula {
-                node: FormulaNode::Iff(claim, bounds),
+                node: FormulaNode::Connect(Connective::Iff, claim, bounds),
             }))
         }
         None => Ok(None),
@@ -126,7 +133,7 @@ fn greatest(width: Width) -> Term {
         Width::U32 => Term::number(0xffff_ffff),
         Width::U64 => Term::number(0xffff_ffff_ffff_ffff),
         Width::U128 => Term {
-            node: TermNode::Max,
+            node: TermNode::Constant(Constant::Max),
         },
     }
 }
@@ -137,26 +144,6 @@ pub fn is_number(alloc: Global, term: &Term) -> Result<Formula, NoMemory> {
         node: TypeNode::Num,
     };
     Ok(Formula::has_type(number, copy_term(alloc, term)?))
-}
-
-/// Whether the term is a whole number by its form.
-pub fn is_whole(term: &Term) -> bool {
-    matches!(
-        &term.node,
-        TermNode::Num(_)
-            | TermNode::Max
-            | TermNode::Add(_, _)
-            | TermNode::Sub(_, _)
-            | TermNode::Mul(_, _)
-            | TermNode::Div(_, _)
-            | TermNode::Mod(_, _)
-            | TermNode::And(_, _)
-            | TermNode::Or(_, _)
-            | TermNode::Xor(_, _)
-            | TermNode::Shl(_, _, _)
-            | TermNode::Shr(_, _, _)
-            | TermNode::Len(_)
-    )
 }
 
 /// The trichotomy axiom at two terms.

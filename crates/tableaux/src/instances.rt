@@ -1,8 +1,10 @@
 //! The instances of axioms that an entry calls for.
 
-use crate::expansion::{is_number, is_whole, range, trichotomy};
+use crate::expansion::{is_number, range, trichotomy};
+use cert::axioms::is_arithmetic;
 use cert::certificate::{Axiom, Step, StepNode};
 use fol::formula::{Formula, FormulaNode, Term};
+use fol::operators::Comparison;
 use pv_base::memory::NoMemory;
 use pv_base::types::TypeTerm;
 use saturation::claim::range_axiom_stands;
@@ -35,7 +37,7 @@ fn instances_at_denied(
     of: &Formula,
 ) -> Result<Vec<Step>, NoMemory> {
     match &of.node {
-        FormulaNode::Eq(left, right) => trichotomy_steps(alloc, left, right),
+        FormulaNode::Compare(Comparison::Eq, left, right) => trichotomy_steps(alloc, left, right),
         FormulaNode::Is(of, term) => denied_steps(alloc, entries, of, term),
         _ => Ok(Vec::new(alloc)),
     }
@@ -92,7 +94,7 @@ fn trichotomy_steps(alloc: Global, left: &Term, right: &Term) -> Result<Vec<Step
 
 // That a term is a whole number, where it is one by its form.
 fn add_whole(alloc: Global, steps: &mut Vec<Step>, term: &Term) -> Result<(), NoMemory> {
-    if is_whole(term) {
+    if is_arithmetic(term) {
         add(steps, Axiom::Whole, is_number(alloc, term)?)
     } else {
         Ok(())

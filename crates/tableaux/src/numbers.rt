@@ -1,7 +1,8 @@
 //! The terms of a branch that are whole numbers by their form.
 
-use crate::expansion::{is_number, is_whole};
+use crate::expansion::is_number;
 use crate::growing::grow;
+use cert::axioms::is_arithmetic;
 use cert::certificate::Axiom;
 use fol::formula::{Formula, FormulaNode, Term, TermNode};
 use pv_base::memory::NoMemory;
@@ -30,18 +31,12 @@ fn add_missing(
     missing: &mut Vec<Formula>,
 ) -> Result<(), NoMemory> {
     match &formula.node {
-        FormulaNode::Eq(t, u) | FormulaNode::Le(t, u) => {
-            add_missing_of_two(alloc, entries, t, u, missing)
-        }
+        FormulaNode::Compare(_, t, u) => add_missing_of_two(alloc, entries, t, u, missing),
         FormulaNode::Is(_, t) | FormulaNode::Holds(t) => add_missing_of(alloc, entries, t, missing),
         FormulaNode::Not(p) => add_missing(alloc, entries, p, missing),
-        FormulaNode::AllOf(ps) | FormulaNode::AnyOf(ps) => {
-            add_all_missing(alloc, entries, ps.as_slice(), missing)
-        }
-        FormulaNode::Implies(p, q) | FormulaNode::Iff(p, q) => {
-            add_missing_in_two(alloc, entries, p, q, missing)
-        }
-        FormulaNode::ForAll(_, _, _) | FormulaNode::Exists(_, _, _) => Ok(()),
+        FormulaNode::Join(_, ps) => add_all_missing(alloc, entries, ps.as_slice(), missing),
+        FormulaNode::Connect(_, p, q) => add_missing_in_two(alloc, entries, p, q, missing),
+        FormulaNode::Quantify(_, _, _, _) => Ok(()),
     }
 }
 
@@ -81,35 +76,14 @@ fn add_missing_of(
 ) -> Result<(), NoMemory> {
     add_missing_at(alloc, entries, term, missing)?;
     match &term.node {
-        TermNode::Var(_)
-        | TermNode::Num(_)
-        | TermNode::Max
-        | TermNode::True
-        | TermNode::False
-        | TermNode::Nothing
-        | TermNode::Blank
-        | TermNode::Empty
-        | TermNode::Wide(_) => Ok(()),
-        TermNode::Len(a) | TermNode::Pop(a) | TermNode::Field(_, _, a) => {
+        TermNode::Var(_) | TermNode::Constant(_) => Ok(()),
+        TermNode::Unary(_, a) | TermNode::Field(_, _, a) => {
             add_missing_of(alloc, entries, a, missing)
         }
-        TermNode::Add(a, b)
-        | TermNode::Sub(a, b)
-        | TermNode::Mul(a, b)
-        | TermNode::Div(a, b)
-        | TermNode::Mod(a, b)
-        | TermNode::And(a, b)
-        | TermNode::Or(a, b)
-        | TermNode::Xor(a, b)
-        | TermNode::Shl(_, a, b)
-        | TermNode::Shr(_, a, b)
-        | TermNode::Select(a, b)
-        | TermNode::At(a, b)
-        | TermNode::Push(a, b)
-        | TermNode::SetField(_, _, a, b) => add_missing_of_two(alloc, entries, a, b, missing),
-        TermNode::Store(a, b, c) | TermNode::Set(a, b, c) => {
-            add_missing_of_three(alloc, entries, a, b, c, missing)
+        TermNode::Binary(_, a, b) | TermNode::SetField(_, _, a, b) => {
+            add_missing_of_two(alloc, entries, a, b, missing)
         }
+        TermNode::Ternary(_, a, b, c) => add_missing_of_three(alloc, entries, a, b, c, missing),
         TermNode::Pack(_, ts) => add_missing_of_all(alloc, entries, ts.as_slice(), missing),
         TermNode::If(p, a, b) => add_missing_of_choice(alloc, entries, p, a, b, missing),
     }
@@ -174,7 +148,10 @@ fn add_missing_at(
     term: &Term,
     missing: &mut Vec<Formula>,
 ) -> Result<(), NoMemory> {
-    if is_whole(term) && !number_stands(entries, term) && !number_stands(missing.as_slice(), term) {
+    if is_arithmetic(term)
+        && !number_stands(entries, term)
+        && !number_stands(missing.as_slice(), term)
+    {
         missing.push(is_number(alloc, term)?)?;
     }
     Ok(())

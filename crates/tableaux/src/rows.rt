@@ -2,6 +2,7 @@
 
 use cert::certificate::Multiple;
 use fol::formula::{Formula, FormulaNode, Term, TermNode};
+use fol::operators::{Binary, Comparison, Constant};
 use fol::same::same_term;
 use lin_arith::solve;
 use linear_rows::rows::{LinAnswer, LinRow, Rows};
@@ -126,12 +127,12 @@ fn add_entry<'a>(
     origins: &mut Vec<Origin>,
 ) -> Result<(), NoMemory> {
     match &formula.node {
-        FormulaNode::Le(left, right) => {
+        FormulaNode::Compare(Comparison::Le, left, right) => {
             if let Some(form) = difference(alloc, left, right, 0, unknowns)? {
                 add_row(entry, false, form, rows, origins)?;
             }
         }
-        FormulaNode::Eq(left, right) => {
+        FormulaNode::Compare(Comparison::Eq, left, right) => {
             if let Some(form) = difference(alloc, left, right, 0, unknowns)? {
                 add_row(entry, false, form, rows, origins)?;
             }
@@ -140,7 +141,7 @@ fn add_entry<'a>(
             }
         }
         FormulaNode::Not(inner) => {
-            if let FormulaNode::Le(left, right) = &inner.node {
+            if let FormulaNode::Compare(Comparison::Le, left, right) = &inner.node {
                 if let Some(form) = difference(alloc, right, left, 1, unknowns)? {
                     add_row(entry, false, form, rows, origins)?;
                 }
@@ -198,17 +199,17 @@ fn add_term<'a>(
     unknowns: &mut Vec<&'a Term>,
 ) -> Result<bool, NoMemory> {
     match &term.node {
-        TermNode::Num(number) => Ok(add_constant(*number, times, form)),
-        TermNode::Add(left, right) => {
+        TermNode::Constant(Constant::Num(number)) => Ok(add_constant(*number, times, form)),
+        TermNode::Binary(Binary::Add, left, right) => {
             Ok(add_term(left, times, form, unknowns)? && add_term(right, times, form, unknowns)?)
         }
-        TermNode::Sub(left, right) => match times.checked_neg() {
+        TermNode::Binary(Binary::Sub, left, right) => match times.checked_neg() {
             Some(less) => {
                 Ok(add_term(left, times, form, unknowns)? && add_term(right, less, form, unknowns)?)
             }
             None => Ok(false),
         },
-        TermNode::Mul(left, right) => match (numeral_of(left), numeral_of(right)) {
+        TermNode::Binary(Binary::Mul, left, right) => match (numeral_of(left), numeral_of(right)) {
             (Some(factor), _) => match times.checked_mul(factor) {
                 Some(product) => add_term(right, product, form, unknowns),
                 None => Ok(false),
@@ -225,7 +226,7 @@ fn add_term<'a>(
 
 fn numeral_of(term: &Term) -> Option<i128> {
     match &term.node {
-        TermNode::Num(number) => Some(*number),
+        TermNode::Constant(Constant::Num(number)) => Some(*number),
         _ => None,
     }
 }

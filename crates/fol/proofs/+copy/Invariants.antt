@@ -35,14 +35,14 @@ invariant-copy::copy_triggers-loop-trigger l = l.triggers.items ≡ take l.trigg
 abbrev pub invariant-copy::copy_formulas-loop-formula : goal.invariant-copy::copy_formulas-loop-formula
 invariant-copy::copy_formulas-loop-formula l = l.formulas.items ≡ take l.formula-index l.from
 
-abbrev pub decreases-copy::copy_joined : goal.decreases-copy::copy_joined
-decreases-copy::copy_joined l = 3 * (term_size l.a.now + term_size l.b.now) + 2
+abbrev pub decreases-copy::copy_unary : goal.decreases-copy::copy_unary
+decreases-copy::copy_unary l = 3 * term_size l.a.now + 2
 
-abbrev pub decreases-copy::copy_len : goal.decreases-copy::copy_len
-decreases-copy::copy_len l = 3 * term_size l.a.now + 2
+abbrev pub decreases-copy::copy_binary : goal.decreases-copy::copy_binary
+decreases-copy::copy_binary l = 3 * (term_size l.a.now + term_size l.b.now) + 2
 
-abbrev pub decreases-copy::copy_pop : goal.decreases-copy::copy_pop
-decreases-copy::copy_pop l = 3 * term_size l.a.now + 2
+abbrev pub decreases-copy::copy_ternary : goal.decreases-copy::copy_ternary
+decreases-copy::copy_ternary l = 3 * (term_size l.a.now + term_size l.b.now + term_size l.c.now) + 2
 
 abbrev pub decreases-copy::copy_pack : goal.decreases-copy::copy_pack
 decreases-copy::copy_pack l = 3 * terms_size (terms_of l.ts.now) + 1
@@ -56,17 +56,8 @@ decreases-copy::copy_set_field l = 3 * (term_size l.a.now + term_size l.b.now) +
 abbrev pub decreases-copy::copy_if : goal.decreases-copy::copy_if
 decreases-copy::copy_if l = 3 * (formula_size l.p.now + term_size l.a.now + term_size l.b.now) + 2
 
-abbrev pub decreases-copy::copy_store : goal.decreases-copy::copy_store
-decreases-copy::copy_store l = 3 * (term_size l.a.now + term_size l.b.now + term_size l.c.now) + 2
-
-abbrev pub decreases-copy::copy_set : goal.decreases-copy::copy_set
-decreases-copy::copy_set l = 3 * (term_size l.a.now + term_size l.b.now + term_size l.c.now) + 2
-
-abbrev pub decreases-copy::copy_equal : goal.decreases-copy::copy_equal
-decreases-copy::copy_equal l = 3 * (term_size l.a.now + term_size l.b.now) + 2
-
-abbrev pub decreases-copy::copy_at_most : goal.decreases-copy::copy_at_most
-decreases-copy::copy_at_most l = 3 * (term_size l.a.now + term_size l.b.now) + 2
+abbrev pub decreases-copy::copy_compare : goal.decreases-copy::copy_compare
+decreases-copy::copy_compare l = 3 * (term_size l.a.now + term_size l.b.now) + 2
 
 abbrev pub decreases-copy::copy_is : goal.decreases-copy::copy_is
 decreases-copy::copy_is l = 3 * term_size l.a.now + 2
@@ -77,20 +68,11 @@ decreases-copy::copy_holds l = 3 * term_size l.a.now + 2
 abbrev pub decreases-copy::copy_not : goal.decreases-copy::copy_not
 decreases-copy::copy_not l = 3 * formula_size l.p.now + 2
 
-abbrev pub decreases-copy::copy_all_of : goal.decreases-copy::copy_all_of
-decreases-copy::copy_all_of l = 3 * formulas_size (formulas_of l.ps.now) + 1
+abbrev pub decreases-copy::copy_join : goal.decreases-copy::copy_join
+decreases-copy::copy_join l = 3 * formulas_size (formulas_of l.ps.now) + 1
 
-abbrev pub decreases-copy::copy_any_of : goal.decreases-copy::copy_any_of
-decreases-copy::copy_any_of l = 3 * formulas_size (formulas_of l.ps.now) + 1
+abbrev pub decreases-copy::copy_connect : goal.decreases-copy::copy_connect
+decreases-copy::copy_connect l = 3 * (formula_size l.p.now + formula_size l.q.now) + 2
 
-abbrev pub decreases-copy::copy_implies : goal.decreases-copy::copy_implies
-decreases-copy::copy_implies l = 3 * (formula_size l.p.now + formula_size l.q.now) + 2
-
-abbrev pub decreases-copy::copy_iff : goal.decreases-copy::copy_iff
-decreases-copy::copy_iff l = 3 * (formula_size l.p.now + formula_size l.q.now) + 2
-
-abbrev pub decreases-copy::copy_for_all : goal.decreases-copy::copy_for_all
-decreases-copy::copy_for_all l = 3 * (triggers_size (triggers_of l.triggers.now) + formula_size l.p.now) + 2
-
-abbrev pub decreases-copy::copy_exists : goal.decreases-copy::copy_exists
-decreases-copy::copy_exists l = 3 * (triggers_size (triggers_of l.triggers.now) + formula_size l.p.now) + 2
+abbrev pub decreases-copy::copy_quantify : goal.decreases-copy::copy_quantify
+decreases-copy::copy_quantify l = 3 * (triggers_size (triggers_of l.triggers.now) + formula_size l.p.now) + 2

@@ -1,10 +1,12 @@
-use Rattle.std.proofs.Common.{sym, ap, ◌∙◌}
-use Rattle.fol.specs.FormulaData.{AnyOfFormula, formulas_of}
+use Rattle.std.proofs.Common.{◌≡◌, sym, ap, ◌∙◌, rules}
+use Rattle.fol.specs.declared.operators.Junction.TheVariants.{AnyOf}
+use Rattle.fol.specs.FormulaData.{JoinFormula, formulas_of}
 use Rattle.fol.specs.FormulaView.{formula_of_node}
 use Rattle.cert.proofs.AxiomLemmas.{trichotomy_stored}
 use Rattle.cert.proofs.axioms.is_trichotomy.Goals as goal
 
-pub returns-in-AnyOf : goal.returns-in-AnyOf
-returns-in-AnyOf c =
-    let stored = ap (λ ps. AnyOfFormula (formulas_of ps)) c.as_slice.ensures.value ∙ ap formula_of_node (sym c.in-AnyOf.is) ∙ c.formula.view_is in
+pub returns-then-eq : goal.returns-then-eq
+returns-then-eq c =
+    let junction : c.in-Join.junction ≡ AnyOf = search rules in
+    let stored = (λ i. JoinFormula (sym junction i) (formulas_of (c.as_slice.ensures.value i))) ∙ ap formula_of_node (sym c.in-Join.is) ∙ c.formula.view_is in
     trichotomy_stored _ _ _ stored c.are_trichotomy.ensures

@@ -1,11 +1,13 @@
-use Rattle.std.proofs.Common.{sym, ap, ◌∙◌}
-use Rattle.fol.specs.FormulaData.{AnyOfFormula, formulas_of}
+use Rattle.std.proofs.Common.{◌≡◌, sym, ap, ◌∙◌, rules}
+use Rattle.fol.specs.declared.operators.Junction.TheVariants.{AnyOf}
+use Rattle.fol.specs.FormulaData.{JoinFormula, formulas_of}
 use Rattle.fol.specs.FormulaView.{formula_of_node}
 use Rattle.cert.proofs.TableauLemmas.{any_of_parts}
 use Rattle.saturation.proofs.FormLemmas.{number_in}
 use Rattle.saturation.proofs.growth.is_part_of_negated.Goals as goal
 
-pub returns-in-AnyOf : goal.returns-in-AnyOf
-returns-in-AnyOf c =
-    let stored = ap (λ ps. AnyOfFormula (formulas_of ps)) c.as_slice.ensures.value ∙ ap formula_of_node (sym c.in-AnyOf.is) ∙ c.of.view_is in
+pub returns-then-eq : goal.returns-then-eq
+returns-then-eq c =
+    let junction : c.in-Join.junction ≡ AnyOf = search rules in
+    let stored = (λ i. JoinFormula (sym junction i) (formulas_of (c.as_slice.ensures.value i))) ∙ ap formula_of_node (sym c.in-Join.is) ∙ c.of.view_is in
     number_in c.args.number c.args.formula.now _ _ _ (any_of_parts _ _ stored) c.is_negation_at.ensures

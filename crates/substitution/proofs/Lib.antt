@@ -1,0 +1,3 @@
+pub mod FreeLaws
+pub mod InstanceTruth
+pub mod Lists

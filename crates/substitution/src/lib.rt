@@ -1,0 +1,6 @@
+//! Terms put in for variables.
+#![tactic(auto)]
+
+pub mod binders;
+pub mod free;
+pub mod instance;
