@@ -1,23 +1,18 @@
--- Sets of names, and which names are those of structs.
+-- Which names are those of structs, and the names of a list's first functions.
 use Rattle.std.proofs.Common.{◌≡◌, ◌≢◌, ℕ, ◌+◌, ◌<◌, Bool, true, false, cond, ◌&&◌, ◌||◌, List, [], ◌∷◌, ◌++◌, length, take, get_or, refl, sym, ap, ◌∙◌, append-nil}
 use Rattle.std.specs.Prelude.{not}
-use Rattle.std.specs.List.{AllByRecursion}
 use Rattle.std.specs.Ordering.{nat_cmp, is_eq}
-use Rattle.std.specs.Cmp.{unsigned_ties}
-use Rattle.std.specs.Cmp.Lexicographic.{slice_cmp, lists_ties, nat_list_eq_equiv}
+use Rattle.std.specs.Cmp.Lexicographic.{slice_cmp}
 use Rattle.std.specs.BTreeSet.{BTreeSet}
 use Rattle.std.proofs.lemmas.Grind.{flat_map-append}
 use Rattle.std.proofs.lemmas.List.{take_more}
-use Rattle.std.proofs.lemmas.List.Folds.{list_any-append}
 use Rattle.file_tree.specs.FileData.{MemberData}
 use Rattle.file_tree.specs.declared.member.Function.{Function as FunctionTree}
 use Rattle.file_tree.specs.declared.member.MemberForm.{MemberForm}
 use Rattle.file_tree.specs.declared.member.MemberForm.TheVariants.{Use, Friend, Struct, Constant, Function, Spec}
 use Rattle.token_reading.specs.TokenReading.{begins_capital}
-use Rattle.pv_base.specs.Names.{same_name}
-use Rattle.token_reading.proofs.Steps.{true_or_false}
 use Rattle.token_reading.proofs.TokenLemmas.{begins_capital-sound, begins_capital-complete}
-use Rattle.pv_base.proofs.NameLaws.{same_name-same, same_name-other}
+use Rattle.pv_base.proofs.NameLaws.{none_of-sound, none_of-complete, set_more}
 use Rattle.source_tree.specs.FunctionNames.{function_name, function_names}
 use Rattle.pv_base.specs.Names.{is_one_of, has, IsSetOf}
 use Rattle.source_tree.specs.Slots.{IsOfStruct}

@@ -164,7 +164,7 @@ clauses_at-complete n xs ts rest inside h b p e =
       value = ts;
       first = cond_false (is_some (after_sign RightBrace ts)) None (Some ts) (ap (λ o. is_some {T = List Token} o) (clause_no_sign RightBrace c ts rest b));
       then = clause_at-complete n c ts rest h b p;
-    }) clause_some (length ts) xs ts rest (omega arith) h b p (cond_true (is_some (after_sign RightBrace rest)) None (Some rest) (ap (λ o. is_some {T = List Token} o) e))
+    }) (λ c p. clause_some c) (length ts) xs ts rest (omega arith) h b p (cond_true (is_some (after_sign RightBrace rest)) None (Some rest) (ap (λ o. is_some {T = List Token} o) e))
 
 -- ---- blocks
 

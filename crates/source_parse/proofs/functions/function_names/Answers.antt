@@ -8,7 +8,7 @@ use Rattle.source_parse.proofs.functions.function_names.Goals as goal
 
 pub loop-member-preserved : goal.loop-member-preserved
 loop-member-preserved c =
-    let item = ap name_of_member (sym c.member-item.is) ∙ ap (λ (m : MemberData). function_name m.form) (sym c.member.view_is) in
+    let item = ap (λ (m : MemberData). function_name m.form) (sym c.member-item.is) ∙ ap (λ (m : MemberData). function_name m.form) (sym c.member.view_is) in
     elim c.match-member.branch [
       | in-Function+in_ok-try_clone+in_ok-insert w ↦ names_grow c.args.members.now c.loop-member.member-index c.member-item.result w.in_ok-try_clone.field-0 c.loop-member.names c.match-member.names c.loop-member-test.true c.loop-member.invariant
           (λ q. ap (λ s. has s q) w.names-is ∙ w.in_ok-insert.ensures.updates.0 q)
