@@ -6,9 +6,9 @@ ghost use Rattle.fol.specs.FormulaData.{ImpliesFormula};
 ghost use Rattle.ref_sem.specs.Bodies.{HasU64Body};
 ghost use Rattle.sum_formula.specs.Premises.{returns_formula};
 ghost use Rattle.vc_gen.specs.Decided.{Decide};
-ghost use Rattle.vc_gen.specs.Keys.{key_at, keys_of};
+ghost use Rattle.vc_gen.specs.Keys.{has_kind, key_at, keys_of};
 ghost use Rattle.vc_gen.specs.declared.condition.VerificationCondition.{VerificationCondition};
-ghost use Rattle.vc_gen.specs.Conditions.{aborts_condition, at_each_return, at_no_return, condition_if, conditions_at_return, conditions_of, conditions_under, has_kind};
+ghost use Rattle.vc_gen.specs.Conditions.{aborts_condition, at_each_return, at_no_return, condition_if, conditions_at_return, conditions_of, conditions_under};
 
 use crate::condition::VerificationCondition;
 use answers::condition::{ConditionKey, ConditionKind};
