@@ -3,6 +3,7 @@
 use pv_base::name::Name;
 use pv_base::span::Span;
 use pv_types::arena::{Arena, Node};
+use pv_types::boxed::Boxed;
 use pv_types::code::{Body, CodeBinary, CodeLeaf, CodeMany, CodeUnary, LocalUse, Number};
 use pv_types::operator::{Arithmetic, BinaryOperator};
 use pv_types::program::{ConstantId, ModuleId, Program, SchemaId};
@@ -140,5 +141,7 @@ fn names_are_copied(rt: HostRuntime) -> Result<(), Fail> {
         name: Name::from_slice(alloc, b"S").expect(&rt, "memory"),
     };
     assert!(&rt; schema.try_clone(alloc).expect(&rt, "memory") == schema);
+    let boxed: Boxed<u64> = Boxed::new(alloc, 7).expect(&rt, "memory");
+    assert_eq!(&rt; *boxed.get(), 7);
     Ok(())
 }

@@ -1,6 +1,7 @@
 //! Bodies: expressions and patterns of Move with their names resolved.
 
 use crate::arena::Arena;
+use crate::boxed::Boxed;
 use crate::operator::{BinaryOperator, StorageOperation, VectorFunction};
 use crate::program::ConstantId;
 use crate::sequence::Sequence;
@@ -30,7 +31,7 @@ pub enum CodeLeaf {
     Address(u128),
     /// A local by its number, also where it is a place that is borrowed or assigned.
     Local(LocalUse, usize),
-    Constant(ConstantId),
+    Constant(Boxed<ConstantId>),
     /// `return` without a value
     Return,
     Break,
@@ -50,14 +51,14 @@ pub enum CodeUnary {
     BorrowMutable,
     /// A field, by its name.
     Field(Name),
-    Cast(TypeTerm),
+    Cast(Boxed<TypeTerm>),
     Return,
     Abort,
     Loop,
     /// An item of a block whose value is not used.
     Discard,
     /// `let` with a pattern alone, and with the type that is written.
-    Declare(Option<TypeTerm>),
+    Declare(Option<Boxed<TypeTerm>>),
 }
 
 /// What has two parts.
@@ -73,7 +74,7 @@ pub enum CodeBinary {
     /// A condition, and the code of the abort where it is false.
     Assert,
     /// `let` with a pattern and its value, and with the type that is written.
-    Let(Option<TypeTerm>),
+    Let(Option<Boxed<TypeTerm>>),
 }
 
 /// What is called.
@@ -86,36 +87,38 @@ pub enum Callee {
     AddressOf,
 }
 
-/// What has a list of parts. Type arguments are those that are written: none where they are left out.
+/// What is called, with the type arguments that are written: none where they are left out.
+#[derive(Drop)]
+pub struct Call {
+    pub callee: Callee,
+    pub types: TypeList,
+}
+
+/// A struct whose fields are named, with the type arguments that are written: none where they are left out.
+#[derive(Drop)]
+pub struct NamedFields {
+    pub owner: StructId,
+    pub types: TypeList,
+    pub fields: Sequence<Name>,
+}
+
+/// What has a list of parts.
 #[derive(Drop)]
 pub enum CodeMany {
     /// A call, whose parts are its arguments.
-    Call {
-        callee: Callee,
-        types: TypeList,
-    },
-    /// A vector of its parts.
+    Call(Boxed<Call>),
+    /// A vector of its parts, with the type arguments that are written.
     Vector(TypeList),
     /// A struct, whose parts are the values of the named fields.
-    Pack {
-        name: StructId,
-        types: TypeList,
-        fields: Sequence<Name>,
-    },
+    Pack(Boxed<NamedFields>),
     /// A pattern for a struct, whose parts are patterns for the named fields.
-    Unpack {
-        name: StructId,
-        types: TypeList,
-        fields: Sequence<Name>,
-    },
+    Unpack(Boxed<NamedFields>),
     /// None or several expressions between parentheses.
     Tuple,
     /// Several patterns between parentheses.
     TuplePattern,
     /// A block, whose parts are its items, and last its value where it has one.
-    Block {
-        has_value: bool,
-    },
+    Block { has_value: bool },
 }
 
 /// A body. Its nodes stand in the order of their last tokens, so the last one is the whole.

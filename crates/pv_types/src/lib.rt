@@ -2,6 +2,7 @@
 #![tactic(auto)]
 
 pub mod arena;
+pub mod boxed;
 pub mod clause;
 pub mod code;
 pub mod declaration;

@@ -1,12 +1,13 @@
 //! Spec expressions with their names resolved.
 
 use crate::arena::Arena;
-use crate::code::Number;
+use crate::boxed::Boxed;
+use crate::code::{NamedFields, Number};
 use crate::operator::{Quantifier, SpecBuiltin, SpecOperator};
 use crate::program::ConstantId;
 use crate::sequence::Sequence;
 use pv_base::name::Name;
-use pv_base::types::{FunctionId, StructId, TypeList, TypeTerm, Width};
+use pv_base::types::{FunctionId, TypeList, TypeTerm, Width};
 
 /// What a name in a spec expression means, by its number among its like.
 #[derive(Clone, Copy, Debug, PartialEq, Eq)]
@@ -34,7 +35,7 @@ pub enum SpecLeaf {
     Truth(bool),
     Address(u128),
     Name(SpecName),
-    Constant(ConstantId),
+    Constant(Boxed<ConstantId>),
     /// The greatest value of an integer type, as `MAX_U64`.
     Max(Width),
 }
@@ -76,20 +77,20 @@ pub struct Bind {
     pub domain: Domain,
 }
 
-/// What has a list of parts. Type arguments are those that are written: none where they are left out.
+/// What is called, with the type arguments that are written: none where they are left out.
+#[derive(Drop)]
+pub struct SpecCall {
+    pub callee: SpecCallee,
+    pub types: TypeList,
+}
+
+/// What has a list of parts.
 #[derive(Drop)]
 pub enum SpecMany {
     /// A call, whose parts are its arguments.
-    Call {
-        callee: SpecCallee,
-        types: TypeList,
-    },
+    Call(Boxed<SpecCall>),
     /// A struct, whose parts are the values of the named fields.
-    Pack {
-        name: StructId,
-        types: TypeList,
-        fields: Sequence<Name>,
-    },
+    Pack(Boxed<NamedFields>),
     /// Its parts are the ranges of its variables, the terms of its triggers, each of which has as many as is
     /// said, and its body.
     Quantified {
