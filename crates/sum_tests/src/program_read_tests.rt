@@ -12,7 +12,7 @@ use std::panic::Expect;
 use std::process::Abort;
 use std::test::Fail;
 use sum_tree::function::SumModule;
-use token_reading::marker::{Marker, Marker};
+use token_reading::marker::Marker;
 
 /// The bytes of a text.
 fn bytes_of(rt: &impl Abort, alloc: Global, text: &str) -> Result<Bytes, NoMemory>
