@@ -11,7 +11,7 @@ pub returns-in_err-read_loop : goal.returns-in_err-read_loop
 returns-in_err-read_loop c =
     hands_on c.from_residual.result _ _ (HasNoLoopTree c.spec-item.result.now) _ c.from_residual.ensures.1
     (λ none trees p. no_pair_at IsLoopTree (λ s. s.now) c.as_slice-spec-items.result.now c.loop-spec.spec-index c.spec-item.result trees c.loop-spec-test.true
-    (λ y r. none y (subst (λ s. IsLoopTree s.now y) c.spec-item.is r))
+    (λ y r. none y (subst (λ s. IsLoopTree s.now y) (sym c.spec-item.is) r))
     (subst (λ specs. Paired IsLoopTree specs trees) (sym c.as_slice-spec-items.ensures) p)) c.in_err-read_loop.ensures
 
 pub loop-spec-preserved : goal.loop-spec-preserved

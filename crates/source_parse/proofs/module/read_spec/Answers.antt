@@ -11,8 +11,8 @@ returns-in-Ok c = λ names same.
     tree_is_read names c.args.functions.now same c.args.block.now c.in-Ok.tree
     (settled (λ slot. IsSpecBlockOf slot c.in-Ok.tree c.args.block.now.tokens) c.args.functions.now c.args.block.now c.slot_of_block-slot.result c.as_slice.result.now (search rules) c.slot_of_block-slot.ensures c.in-Ok.ensures.denoted)
 
-pub returns : goal.returns
-returns c = λ names same.
+pub returns-in-Err : goal.returns-in-Err
+returns-in-Err c = λ names same.
     subst (λ fault. IfNoSpec fault (HasNoTree names c.args.block.now)) (sym c.fault_of.ensures)
     (no_tree_is_read names c.args.functions.now same c.args.block.now c.in-Err.fault
     (settled (λ slot. IsCause slot c.args.block.now.tokens c.in-Err.fault) c.args.functions.now c.args.block.now c.slot_of_block-slot.result c.as_slice.result.now (search rules) c.slot_of_block-slot.ensures c.in-Err.ensures.refused))
