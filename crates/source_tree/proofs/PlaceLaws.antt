@@ -50,7 +50,7 @@ literal_first (address_literal place address) = refl
 pub type_first : (t : SourceTypeData) → first_token_place (type_spelling t) ≡ Some (type_place t)
 type_first (SharedSourceType place target) = refl
 type_first (MutableSourceType place target) = refl
-type_first (NamedSourceType path arguments) = behind (path_spelling path) _ (path_place path) (path_first path)
+type_first (NamedSourceType path types) = behind (path_spelling path) _ (path_place path) (path_first path)
 type_first (TupleSourceType place items last) = refl
 
 pub expression_first : (e : ExpressionData) → first_token_place (expression_spelling e) ≡ Some (expression_place e)
@@ -73,13 +73,13 @@ expression_first (UseExpression Copy place local) = refl
 expression_first (FieldExpression base field) = behind (expression_spelling base) (sign Period ∷ identifier field ∷ []) _ (expression_first base)
 expression_first (LiteralExpression literal) = literal_first literal
 expression_first (PathExpression path) = path_first path
-expression_first (CallExpression function arguments values last) =
-    behind ((path_spelling function ++ maybe_arguments_spelling (Some true) arguments) ++ sign LeftParenthesis ∷ comma_list (expression_spellings values) last) (sign RightParenthesis ∷ []) _
-    (behind (path_spelling function ++ maybe_arguments_spelling (Some true) arguments) (sign LeftParenthesis ∷ comma_list (expression_spellings values) last) _ (behind (path_spelling function) (maybe_arguments_spelling (Some true) arguments) _ (path_first function)))
-expression_first (PackExpression path arguments fields last) =
-    behind ((path_spelling path ++ maybe_arguments_spelling (Some true) arguments) ++ sign LeftBrace ∷ comma_list (field_value_spellings fields) last) (sign RightBrace ∷ []) _
-    (behind (path_spelling path ++ maybe_arguments_spelling (Some true) arguments) (sign LeftBrace ∷ comma_list (field_value_spellings fields) last) _ (behind (path_spelling path) (maybe_arguments_spelling (Some true) arguments) _ (path_first path)))
-expression_first (VectorExpression place arguments items last) = refl
+expression_first (CallExpression function types values last) =
+    behind ((path_spelling function ++ maybe_arguments_spelling (Some true) types) ++ sign LeftParenthesis ∷ comma_list (expression_spellings values) last) (sign RightParenthesis ∷ []) _
+    (behind (path_spelling function ++ maybe_arguments_spelling (Some true) types) (sign LeftParenthesis ∷ comma_list (expression_spellings values) last) _ (behind (path_spelling function) (maybe_arguments_spelling (Some true) types) _ (path_first function)))
+expression_first (PackExpression path types fields last) =
+    behind ((path_spelling path ++ maybe_arguments_spelling (Some true) types) ++ sign LeftBrace ∷ comma_list (field_value_spellings fields) last) (sign RightBrace ∷ []) _
+    (behind (path_spelling path ++ maybe_arguments_spelling (Some true) types) (sign LeftBrace ∷ comma_list (field_value_spellings fields) last) _ (behind (path_spelling path) (maybe_arguments_spelling (Some true) types) _ (path_first path)))
+expression_first (VectorExpression place types items last) = refl
 expression_first (AssertExpression place condition code) = refl
 expression_first (TupleExpression place items last) = refl
 expression_first (CastExpression place value target) = refl
@@ -88,8 +88,8 @@ expression_first (BlockExpression (BlockOf place spec items value)) = refl
 pub spec_first : (e : SpecExpressionData) → first_token_place (spec_spelling e) ≡ Some (spec_expression_place e)
 spec_first (SpecBinary left operator place right) =
     behind (spec_spelling left ++ spec_operator_spelling operator place (spec_ends_in_path left)) (spec_spelling right) _ (behind (spec_spelling left) (spec_operator_spelling operator place (spec_ends_in_path left)) _ (spec_first left))
-spec_first (SpecQuantified ForAll place binds triggers body) = refl
-spec_first (SpecQuantified Exists place binds triggers body) = refl
+spec_first (SpecQuantified ForAll place binds found body) = refl
+spec_first (SpecQuantified Exists place binds found body) = refl
 spec_first (SpecIf place condition then_branch else_branch) = refl
 spec_first (SpecNot place operand) = refl
 spec_first (SpecField base field) = behind (spec_spelling base) (sign Period ∷ identifier field ∷ []) _ (spec_first base)
@@ -97,10 +97,10 @@ spec_first (SpecIndex base index) =
     behind (spec_spelling base ++ sign LeftBracket ∷ spec_spelling index) (sign RightBracket ∷ []) _ (behind (spec_spelling base) (sign LeftBracket ∷ spec_spelling index) _ (spec_first base))
 spec_first (SpecLiteral literal) = literal_first literal
 spec_first (SpecPath path) = path_first path
-spec_first (SpecCall function arguments values last) =
-    behind ((path_spelling function ++ maybe_arguments_spelling (Some true) arguments) ++ sign LeftParenthesis ∷ comma_list (spec_spellings values) last) (sign RightParenthesis ∷ []) _
-    (behind (path_spelling function ++ maybe_arguments_spelling (Some true) arguments) (sign LeftParenthesis ∷ comma_list (spec_spellings values) last) _ (behind (path_spelling function) (maybe_arguments_spelling (Some true) arguments) _ (path_first function)))
-spec_first (SpecPack path arguments fields last) =
-    behind ((path_spelling path ++ maybe_arguments_spelling (Some true) arguments) ++ sign LeftBrace ∷ comma_list (spec_field_spellings fields) last) (sign RightBrace ∷ []) _
-    (behind (path_spelling path ++ maybe_arguments_spelling (Some true) arguments) (sign LeftBrace ∷ comma_list (spec_field_spellings fields) last) _ (behind (path_spelling path) (maybe_arguments_spelling (Some true) arguments) _ (path_first path)))
+spec_first (SpecCall function types values last) =
+    behind ((path_spelling function ++ maybe_arguments_spelling (Some true) types) ++ sign LeftParenthesis ∷ comma_list (spec_spellings values) last) (sign RightParenthesis ∷ []) _
+    (behind (path_spelling function ++ maybe_arguments_spelling (Some true) types) (sign LeftParenthesis ∷ comma_list (spec_spellings values) last) _ (behind (path_spelling function) (maybe_arguments_spelling (Some true) types) _ (path_first function)))
+spec_first (SpecPack path types fields last) =
+    behind ((path_spelling path ++ maybe_arguments_spelling (Some true) types) ++ sign LeftBrace ∷ comma_list (spec_field_spellings fields) last) (sign RightBrace ∷ []) _
+    (behind (path_spelling path ++ maybe_arguments_spelling (Some true) types) (sign LeftBrace ∷ comma_list (spec_field_spellings fields) last) _ (behind (path_spelling path) (maybe_arguments_spelling (Some true) types) _ (path_first path)))
 spec_first (SpecParenthesized place inner) = refl

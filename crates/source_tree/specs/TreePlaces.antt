@@ -34,7 +34,7 @@ literal_place (address_literal place address) = place
 abbrev pub type_place : SourceTypeData → Span
 type_place (SharedSourceType place target) = place
 type_place (MutableSourceType place target) = place
-type_place (NamedSourceType path arguments) = path_place path
+type_place (NamedSourceType path types) = path_place path
 type_place (TupleSourceType place items last) = place
 
 abbrev pub block_place : BlockData → Span
@@ -55,9 +55,9 @@ expression_place (UseExpression kind place local) = place
 expression_place (FieldExpression base field) = expression_place base
 expression_place (LiteralExpression literal) = literal_place literal
 expression_place (PathExpression path) = path_place path
-expression_place (CallExpression function arguments values last) = path_place function
-expression_place (PackExpression path arguments fields last) = path_place path
-expression_place (VectorExpression place arguments items last) = place
+expression_place (CallExpression function types values last) = path_place function
+expression_place (PackExpression path types fields last) = path_place path
+expression_place (VectorExpression place types items last) = place
 expression_place (AssertExpression place condition code) = place
 expression_place (TupleExpression place items last) = place
 expression_place (CastExpression place value target) = place
@@ -65,13 +65,13 @@ expression_place (BlockExpression block) = block_place block
 
 abbrev pub spec_expression_place : SpecExpressionData → Span
 spec_expression_place (SpecBinary left operator place right) = spec_expression_place left
-spec_expression_place (SpecQuantified quantifier place binds triggers body) = place
+spec_expression_place (SpecQuantified quantifier place binds found body) = place
 spec_expression_place (SpecIf place condition then_branch else_branch) = place
 spec_expression_place (SpecNot place operand) = place
 spec_expression_place (SpecField base field) = spec_expression_place base
 spec_expression_place (SpecIndex base index) = spec_expression_place base
 spec_expression_place (SpecLiteral literal) = literal_place literal
 spec_expression_place (SpecPath path) = path_place path
-spec_expression_place (SpecCall function arguments values last) = path_place function
-spec_expression_place (SpecPack path arguments fields last) = path_place path
+spec_expression_place (SpecCall function types values last) = path_place function
+spec_expression_place (SpecPack path types fields last) = path_place path
 spec_expression_place (SpecParenthesized place inner) = place
