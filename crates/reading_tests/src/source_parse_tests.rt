@@ -48,15 +48,16 @@ fn sources_of_texts(rt: HostRuntime) {
 }
 
 /// The spec blocks of the loops in a text have as many clauses as these digits say, one for each block.
-fn has_loops(rt: &impl Abort, alloc: Global, text: &[u8], expected: u32) {
+fn has_loops(rt: &impl Abort, alloc: Global, text: &[u8], expected: usize) {
     let source = source(alloc, &scan(rt, alloc, text)).expect(rt, "a source");
-    let mut digits: u32 = 0;
+    let mut digits: usize = 0;
     for module in source.modules.iter() {
         for member in module.members.iter() {
             for tree in member.loops.iter() {
                 if let Spec::Loop { clauses, .. } = tree {
-                    let count = clauses.items.len() as u32;
-                    digits = digits.saturating_mul(10).saturating_add(count);
+                    digits = digits
+                        .saturating_mul(10)
+                        .saturating_add(clauses.items.len());
                 }
             }
         }
