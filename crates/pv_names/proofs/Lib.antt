@@ -1,1 +1,4 @@
+pub mod DeclaredLaws
+pub mod EachLaws
 pub mod InnermostLaws
+pub mod TypeLists
