@@ -1,0 +1,4 @@
+pub mod Declares
+pub mod Brings
+pub mod Program
+pub mod Twice

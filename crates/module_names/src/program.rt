@@ -1,0 +1,129 @@
+//! What is declared twice in a program.
+
+ghost use Rattle.std.specs.Prelude.{◌≡◌, ◌++◌, not, None, IsTrue, IfOk, OnOk};
+ghost use Rattle.std.specs.List.{flat_map};
+ghost use Rattle.indexmap.specs.IndexSet.{insert_all, insert_key};
+ghost use Rattle.pv_names.specs.Builtins.{builtin_declarations};
+ghost use Rattle.pv_names.specs.Meanings.{module_meaning};
+ghost use Rattle.pv_names.specs.EnvironmentData.{with_declared};
+ghost use Rattle.pv_names.specs.MemberNames.{same_declaration};
+ghost use Rattle.module_names.specs.Declares.{module_declares};
+ghost use Rattle.module_names.specs.Program.{builtin_declaration, is_among, language, module_of, modules_of, twice_in_source};
+
+use crate::declares::declare_module;
+use crate::twice::first_twice;
+use indexmap::IndexSet;
+use pv_base::memory::NoMemory;
+use pv_base::name::Name;
+use pv_names::addresses::Addresses;
+use pv_names::environment::Environment;
+use pv_names::fault::NameFault;
+use pv_names::member::{Declaration, MemberId, MemberKind};
+use pv_types::program::ModuleId;
+use source_tree::source::SourceModule;
+use std::alloc::Global;
+
+/// Notes what the modules of a source declare.
+pub fn declare_modules(
+    alloc: Global,
+    modules: &[SourceModule],
+    environment: &mut Environment,
+) -> Result<(), NoMemory>
+    ensures { OnOk result (environment.new ≡ with_declared environment.old (insert_all same_declaration environment.old.declared (flat_map (module_declares environment.old) modules.now))) }
+{
+    for module_tree in modules {
+        declare_module(alloc, module_tree, environment)?;
+    }
+    Ok(())
+}
+
+/// Notes a function that the language has by itself.
+fn declare_function(
+    alloc: Global,
+    owner: &[u8],
+    name: &[u8],
+    environment: &mut Environment,
+) -> Result<(), NoMemory>
+    ensures { OnOk result (environment.new ≡ with_declared environment.old (insert_key same_declaration environment.old.declared (builtin_declaration owner.now name.now))) }
+{
+    let owner = ModuleId {
+        address: 1,
+        name: Name::from_slice(alloc, owner)?,
+    };
+    let member = MemberId {
+        owner,
+        name: Name::from_slice(alloc, name)?,
+    };
+    environment.declare(Declaration {
+        kind: MemberKind::Function,
+        member,
+    })?;
+    Ok(())
+}
+
+/// Notes the functions that the language has by itself.
+fn declare_builtins(alloc: Global, environment: &mut Environment) -> Result<(), NoMemory>
+    ensures { OnOk result (environment.new ≡ with_declared environment.old (insert_all same_declaration environment.old.declared builtin_declarations)) }
+{
+    declare_function(alloc, b"vector", b"empty", environment)?;
+    declare_function(alloc, b"vector", b"length", environment)?;
+    declare_function(alloc, b"vector", b"borrow", environment)?;
+    declare_function(alloc, b"vector", b"push_back", environment)?;
+    declare_function(alloc, b"vector", b"borrow_mut", environment)?;
+    declare_function(alloc, b"vector", b"pop_back", environment)?;
+    declare_function(alloc, b"vector", b"destroy_empty", environment)?;
+    declare_function(alloc, b"vector", b"swap", environment)?;
+    declare_function(alloc, b"signer", b"address_of", environment)
+}
+
+/// A program whose modules declare nothing: that of the language alone.
+pub fn language(alloc: Global) -> Result<Environment, NoMemory>
+    ensures { IfOk result (λ environment. environment ≡ language) }
+{
+    let own = ModuleId {
+        address: 1,
+        name: Name::from_slice(alloc, b"vector")?,
+    };
+    let mut environment = Environment::new(alloc, Addresses::standard(alloc)?, own);
+    declare_builtins(alloc, &mut environment)?;
+    Ok(environment)
+}
+
+/// Whether a module has an address and a name that none has that was seen, and is then seen. One whose address is not
+/// known is not compared.
+fn is_new_module(
+    alloc: Global,
+    environment: &Environment,
+    module_tree: &SourceModule,
+    seen: &mut IndexSet<ModuleId>,
+) -> Result<bool, NoMemory>
+    ensures new { IfOk result (λ is_new. is_new ≡ not (is_among seen.old.keys (module_meaning environment.now module_tree.now.name))) }
+    ensures seen { IfOk result (λ is_new. IsTrue is_new → seen.new.keys ≡ seen.old.keys ++ module_of environment.now module_tree.now) }
+{
+    match environment.module_named(alloc, &module_tree.name) {
+        Ok(id) => Ok(seen.insert(id)?),
+        Err(NameFault::Unknown) => Ok(true),
+        Err(NameFault::NoMemory) => Err(NoMemory),
+    }
+}
+
+/// The place of the first token of the first declaration, among those of a source, that is there a second time.
+pub fn twice_in_source(
+    alloc: Global,
+    environment: &Environment,
+    modules: &[SourceModule],
+    seen: &mut IndexSet<ModuleId>,
+) -> Result<Option<u32>, NoMemory>
+    ensures found { IfOk result (λ found. found ≡ twice_in_source environment.now seen.old.keys modules.now) }
+    ensures seen { IfOk result (λ found. (found ≡ None) → seen.new.keys ≡ seen.old.keys ++ modules_of environment.now modules.now) }
+{
+    for module_tree in modules {
+        if !is_new_module(alloc, environment, module_tree, seen)? {
+            return Ok(Some(module_tree.place.start));
+        }
+        if let Some(place) = first_twice(alloc, environment, &module_tree.members)? {
+            return Ok(Some(place));
+        }
+    }
+    Ok(None)
+}
