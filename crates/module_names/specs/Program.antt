@@ -1,6 +1,6 @@
 -- What is declared twice in the modules of a program. Source: The Move Book, "Modules and Scripts": a module is named by its
 -- address and its name; `0x1::vector` and `0x1::signer` are those of the language.
-use Rattle.std.specs.Prelude.{ℕ, Bool, false, List, [], ◌∷◌, ◌++◌, Option, Some, None, if◌then◌else◌}
+use Rattle.std.specs.Prelude.{ℕ, ◌+◌, Bool, false, List, [], ◌∷◌, ◌++◌, Option, Some, None, if◌then◌else◌}
 use Rattle.std.specs.List.{list_any, flat_map}
 use Rattle.std.specs.Option.{option_or}
 use Rattle.source_tree.specs.SourceModuleData.{SourceModuleData}
@@ -9,7 +9,7 @@ use Rattle.indexmap.specs.IndexSet.{insert_all}
 use Rattle.pv_names.specs.NamedAddresses.{standard}
 use Rattle.pv_names.specs.declared.member.Declaration.{Declaration}
 use Rattle.pv_names.specs.declared.member.MemberKind.TheVariants.{Function}
-use Rattle.pv_names.specs.Builtins.{builtin_declarations, vector_module}
+use Rattle.pv_names.specs.Builtins.{builtin_declarations, vector_module, signer_module}
 use Rattle.pv_names.specs.MemberNames.{same_module, same_declaration}
 use Rattle.pv_names.specs.EnvironmentData.{EnvironmentData, with_declared}
 use Rattle.pv_names.specs.Meanings.{module_meaning}
@@ -52,3 +52,24 @@ language = record {
 -- the language, and what the modules of sources declare
 abbrev pub declaring : List (List SourceModuleData) → EnvironmentData
 declaring sources = with_declared language (insert_all same_declaration language.declared (flat_map (flat_map (module_declares language)) sources))
+
+-- ---- files
+
+-- the modules that the language has by itself
+abbrev pub builtin_modules : List ModuleId
+builtin_modules = vector_module ∷ signer_module ∷ []
+
+-- the place in the file of this number, or else what is found behind it
+abbrev pub first_place : ℕ → Option ℕ → Option (ℕ × ℕ) → Option (ℕ × ℕ)
+first_place n None behind = behind
+first_place n (Some place) behind = Some (n, place)
+
+-- behind these modules, in files of which the first has this number
+abbrev pub twice_in_sources : EnvironmentData → List ModuleId → ℕ → List (List SourceModuleData) → Option (ℕ × ℕ)
+twice_in_sources env before n [] = None
+twice_in_sources env before n (source ∷ sources) =
+    first_place n (twice_in_source env before source) (twice_in_sources env (before ++ modules_of env source) (1 + n) sources)
+
+-- The first declaration of files that is there a second time: the number of its file, and the place of its first token.
+abbrev pub first_twice_of : List (List SourceModuleData) → Option (ℕ × ℕ)
+first_twice_of sources = twice_in_sources (declaring sources) builtin_modules 0 sources

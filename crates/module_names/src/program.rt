@@ -8,7 +8,7 @@ ghost use Rattle.pv_names.specs.Meanings.{module_meaning};
 ghost use Rattle.pv_names.specs.EnvironmentData.{with_declared};
 ghost use Rattle.pv_names.specs.MemberNames.{same_declaration};
 ghost use Rattle.module_names.specs.Declares.{module_declares};
-ghost use Rattle.module_names.specs.Program.{builtin_declaration, is_among, language, module_of, modules_of, twice_in_source};
+ghost use Rattle.module_names.specs.Program.{builtin_declaration, builtin_modules, declaring, first_twice_of, is_among, language, module_of, modules_of, twice_in_source, twice_in_sources};
 
 use crate::declares::declare_module;
 use crate::twice::first_twice;
@@ -20,7 +20,7 @@ use pv_names::environment::Environment;
 use pv_names::fault::NameFault;
 use pv_names::member::{Declaration, MemberId, MemberKind};
 use pv_types::program::ModuleId;
-use source_tree::source::SourceModule;
+use source_tree::source::{Source, SourceModule};
 use std::alloc::Global;
 
 /// Notes what the modules of a source declare.
@@ -126,4 +126,71 @@ pub fn twice_in_source(
         }
     }
     Ok(None)
+}
+
+/// Notes what the modules of sources declare.
+fn declare_sources(
+    alloc: Global,
+    sources: &[Source],
+    environment: &mut Environment,
+) -> Result<(), NoMemory>
+    ensures { OnOk result (environment.new ≡ with_declared environment.old (insert_all same_declaration environment.old.declared (flat_map (flat_map (module_declares environment.old)) sources.now))) }
+{
+    for source in sources {
+        declare_modules(alloc, source.modules.as_slice(), environment)?;
+    }
+    Ok(())
+}
+
+/// The language, and what the modules of sources declare.
+pub fn declaring(alloc: Global, sources: &[Source]) -> Result<Environment, NoMemory>
+    ensures { IfOk result (λ environment. environment ≡ declaring sources.now) }
+{
+    let mut environment = language(alloc)?;
+    declare_sources(alloc, sources, &mut environment)?;
+    Ok(environment)
+}
+
+/// The modules that the language has by itself.
+fn builtin_modules(alloc: Global) -> Result<IndexSet<ModuleId>, NoMemory>
+    ensures { IfOk result (λ modules. modules.keys ≡ builtin_modules) }
+{
+    let mut modules = IndexSet::new(alloc);
+    modules.insert(ModuleId {
+        address: 1,
+        name: Name::from_slice(alloc, b"vector")?,
+    })?;
+    modules.insert(ModuleId {
+        address: 1,
+        name: Name::from_slice(alloc, b"signer")?,
+    })?;
+    Ok(modules)
+}
+
+/// Behind modules that were seen, the number of the file and the place of the first token of the first declaration that
+/// is there a second time.
+fn twice_behind(
+    alloc: Global,
+    environment: &Environment,
+    sources: &[Source],
+    seen: IndexSet<ModuleId>,
+) -> Result<Option<(usize, u32)>, NoMemory>
+    ensures { IfOk result (λ found. found ≡ twice_in_sources environment.now seen.keys 0 sources.now) }
+{
+    let mut seen = seen;
+    for (number, source) in sources.iter().enumerate() {
+        let modules = source.modules.as_slice();
+        if let Some(place) = twice_in_source(alloc, environment, modules, &mut seen)? {
+            return Ok(Some((number, place)));
+        }
+    }
+    Ok(None)
+}
+
+/// The first declaration of files that is there a second time: the number of its file, and the place of its first token.
+pub fn first_twice_of(alloc: Global, sources: &[Source]) -> Result<Option<(usize, u32)>, NoMemory>
+    ensures { IfOk result (λ found. found ≡ first_twice_of sources.now) }
+{
+    let environment = declaring(alloc, sources)?;
+    twice_behind(alloc, &environment, sources, builtin_modules(alloc)?)
 }
