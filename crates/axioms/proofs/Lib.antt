@@ -1,0 +1,12 @@
+pub mod Memories
+pub mod Vectors
+pub mod Shapes
+pub mod FieldLists
+pub mod EquationTruth
+pub mod ExceptionTruth
+pub mod AlternativeTruth
+pub mod RuleTruth
+pub mod EquivalenceTruth
+pub mod FactTruth
+pub mod StructTruth
+pub mod AxiomTruth

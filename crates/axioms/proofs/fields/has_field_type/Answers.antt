@@ -1,0 +1,7 @@
+use Rattle.pv_base.proofs.TruthValues.{fails}
+use Rattle.axioms.specs.Fields.{HasFieldType}
+use Rattle.axioms.proofs.fields.has_field_type.Goals as goal
+
+pub returns-in-None : goal.returns-in-None
+unfolding HasFieldType
+returns-in-None c = fails _ (λ h. c.in-None.ensures h.0 h.1 h.3)

@@ -1,0 +1,10 @@
+pub mod Forms
+pub mod Fields
+pub mod Equations
+pub mod Exceptions
+pub mod Alternatives
+pub mod Rules
+pub mod Equivalences
+pub mod Facts
+pub mod Structs
+pub mod Axioms

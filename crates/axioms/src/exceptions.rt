@@ -1,0 +1,146 @@
+//! The axioms that state that two terms are equal unless a formula is true.
+
+ghost use Rattle.std.specs.Prelude.{◌≡◌, ◌↔◌, IsTrue};
+ghost use Rattle.fol.specs.FormulaData.{LenTerm, SubTerm, EqFormula, LeFormula};
+ghost use Rattle.axioms.specs.Forms.{number};
+ghost use Rattle.axioms.specs.Exceptions.{IsException};
+
+use crate::axiom::Exception;
+use crate::forms::{is_binary, is_compare, is_numeral, is_unary};
+use fol::formula::{Formula, FormulaNode, Term, TermNode};
+use fol::operators::{Binary, Comparison, Ternary, Unary};
+use fol::same::same_term;
+
+/// Whether the axiom states that the two terms are equal unless the formula is true.
+pub fn is_exception(name: Exception, unless: &Formula, left: &Term, right: &Term) -> bool
+    ensures { IsTrue result ↔ IsException name unless.now left.now right.now }
+{
+    match name {
+        Exception::SelectOther => is_select_other(unless, left, right),
+        Exception::AtOtherPushed => is_at_other_pushed(unless, left, right),
+        Exception::LenPopped => is_len_popped(unless, left, right),
+        Exception::AtPopped => is_at_popped(unless, left, right),
+        Exception::AtOtherSet => is_at_other_set(unless, left, right),
+    }
+}
+
+fn is_select_other(unless: &Formula, left: &Term, right: &Term) -> bool
+    ensures { IsTrue result ↔ IsException Exception.SelectOther unless.now left.now right.now }
+{
+    match &left.node {
+        TermNode::Binary(Binary::Select, stored, key) => match &stored.node {
+            TermNode::Ternary(Ternary::Store, memory, at, _) => {
+                is_compare(unless, Comparison::Eq, at, key)
+                    && is_binary(right, Binary::Select, memory, key)
+            }
+            _ => false,
+        },
+        _ => false,
+    }
+}
+
+fn is_at_other_pushed(unless: &Formula, left: &Term, right: &Term) -> bool
+    ensures { IsTrue result ↔ IsException Exception.AtOtherPushed unless.now left.now right.now }
+{
+    match &left.node {
+        TermNode::Binary(Binary::At, pushed, place) => match &pushed.node {
+            TermNode::Binary(Binary::Push, vector, _) => {
+                is_len(unless, place, vector) && is_binary(right, Binary::At, vector, place)
+            }
+            _ => false,
+        },
+        _ => false,
+    }
+}
+
+// Whether the formula says that the term is the length of the vector.
+fn is_len(formula: &Formula, term: &Term, vector: &Term) -> bool
+    ensures { IsTrue result ↔ (formula.now ≡ EqFormula term.now (LenTerm vector.now)) }
+{
+    match &formula.node {
+        FormulaNode::Compare(Comparison::Eq, found, length) => {
+            same_term(found, term) && is_unary(length, Unary::Len, vector)
+        }
+        _ => false,
+    }
+}
+
+fn is_len_popped(unless: &Formula, left: &Term, right: &Term) -> bool
+    ensures { IsTrue result ↔ IsException Exception.LenPopped unless.now left.now right.now }
+{
+    match &left.node {
+        TermNode::Unary(Unary::Len, popped) => match &popped.node {
+            TermNode::Unary(Unary::Pop, vector) => {
+                is_empty(unless, vector) && is_last_place(right, vector)
+            }
+            _ => false,
+        },
+        _ => false,
+    }
+}
+
+// Whether the formula says that the vector has no items.
+fn is_empty(formula: &Formula, vector: &Term) -> bool
+    ensures { IsTrue result ↔ (formula.now ≡ LeFormula (LenTerm vector.now) (number 0)) }
+{
+    match &formula.node {
+        FormulaNode::Compare(Comparison::Le, length, zero) => {
+            is_unary(length, Unary::Len, vector) && is_numeral(zero, 0)
+        }
+        _ => false,
+    }
+}
+
+// Whether the term is the length of the vector less 1.
+fn is_last_place(term: &Term, vector: &Term) -> bool
+    ensures { IsTrue result ↔ (term.now ≡ SubTerm (LenTerm vector.now) (number 1)) }
+{
+    match &term.node {
+        TermNode::Binary(Binary::Sub, length, one) => {
+            is_unary(length, Unary::Len, vector) && is_numeral(one, 1)
+        }
+        _ => false,
+    }
+}
+
+fn is_at_popped(unless: &Formula, left: &Term, right: &Term) -> bool
+    ensures { IsTrue result ↔ IsException Exception.AtPopped unless.now left.now right.now }
+{
+    match &left.node {
+        TermNode::Binary(Binary::At, popped, place) => match &popped.node {
+            TermNode::Unary(Unary::Pop, vector) => {
+                is_from_last_place(unless, vector, place)
+                    && is_binary(right, Binary::At, vector, place)
+            }
+            _ => false,
+        },
+        _ => false,
+    }
+}
+
+// Whether the formula says that the term is at least the length of the vector less 1.
+fn is_from_last_place(formula: &Formula, vector: &Term, term: &Term) -> bool
+    ensures { IsTrue result ↔ (formula.now ≡ LeFormula (SubTerm (LenTerm vector.now) (number 1)) term.now) }
+{
+    match &formula.node {
+        FormulaNode::Compare(Comparison::Le, low, found) => {
+            is_last_place(low, vector) && same_term(found, term)
+        }
+        _ => false,
+    }
+}
+
+fn is_at_other_set(unless: &Formula, left: &Term, right: &Term) -> bool
+    ensures { IsTrue result ↔ IsException Exception.AtOtherSet unless.now left.now right.now }
+{
+    match &left.node {
+        TermNode::Binary(Binary::At, set, place) => match &set.node {
+            TermNode::Ternary(Ternary::Set, vector, at, _) => {
+                is_compare(unless, Comparison::Eq, at, place)
+                    && is_binary(right, Binary::At, vector, place)
+            }
+            _ => false,
+        },
+        _ => false,
+    }
+}
