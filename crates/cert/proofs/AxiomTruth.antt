@@ -11,7 +11,7 @@ use Rattle.fol.specs.declared.shapes.Shape.{Shape}
 use Rattle.fol.specs.declared.operators.Binary.TheVariants.{Add, And, Div, Mod, Mul, Or, Shl, Shr, Sub, Xor}
 use Rattle.fol.specs.declared.operators.Constant.TheVariants.{Max, Num}
 use Rattle.fol.specs.declared.operators.Unary.TheVariants.{Len}
-use Rattle.fol.specs.FormulaData.{TermData, NumTerm, MaxTerm, AddTerm, SubTerm, MulTerm, DivTerm, ModTerm, AndTerm, OrTerm, XorTerm, ShlTerm, ShrTerm, LenTerm, FormulaData, IsFormula, BinaryTerm, ConstantTerm, UnaryTerm}
+use Rattle.fol.specs.FormulaData.{TermData, NumTerm, MaxTerm, FormulaData, IsFormula, BinaryTerm, ConstantTerm, UnaryTerm}
 use Rattle.fol.specs.Val.{Val, NumberValue, TruthValue, NothingValue, VectorValue, StructValue, MemoryValue, same_value, same_value_itself}
 use Rattle.fol.specs.Operators.{number_of, at_most}
 use Rattle.fol.specs.TypedValue.{has_type, is_in_width}

@@ -9,3 +9,4 @@ pub mod TableauLemmas
 pub mod AxiomLemmas
 pub mod LinearLemmas
 pub mod CheckerLemmas
+pub mod KeptLemmas

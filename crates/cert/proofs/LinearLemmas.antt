@@ -1,5 +1,5 @@
 -- What the checker of combinations tests is what their definition says.
-use Rattle.std.proofs.Common.{◌≡◌, ◌↔◌, ◌⊎◌, inl, inr, ℕ, zero, suc, ◌+◌, ◌<◌, ◌≤◌, ℤ, pos, negsuc, ◌+ℤ◌, ◌-ℤ◌, ◌*ℤ◌, ◌<ℤ◌, List, [], ◌∷◌, length, get_or, take, drop, Option, Some, None, Bool, true, false, cond, slice_get, refl, sym, ap, ◌∙◌, subst, arith, add-one, drop-cons, rules}
+use Rattle.std.proofs.Common.{◌≡◌, ◌↔◌, ◌⊎◌, inl, inr, ℕ, zero, suc, ◌+◌, ◌<◌, ◌≤◌, ℤ, pos, negsuc, ◌+ℤ◌, ◌-ℤ◌, ◌*ℤ◌, ◌<ℤ◌, List, [], ◌∷◌, length, get_or, take, drop, Option, Some, None, Bool, true, false, cond, slice_get, refl, sym, ap, ◌∙◌, subst, arith, add-one, drop-cons}
 use Rattle.std.specs.Prelude.{IsTrue, All}
 use Rattle.std.proofs.lemmas.Int.{ints}
 use Rattle.std.proofs.lemmas.List.Elements.{All-nil, All-cons, All-head, All-tail, All-get_or, All-more}
@@ -8,7 +8,7 @@ use Rattle.std.proofs.lemmas.List.{take_all}
 use Rattle.pv_base.proofs.TruthValues.{true_is, not_true}
 use Rattle.fol.specs.declared.operators.Binary.TheVariants.{Add, Mul, Sub}
 use Rattle.fol.specs.declared.operators.Constant.TheVariants.{Num}
-use Rattle.fol.specs.FormulaData.{TermData, NumTerm, AddTerm, SubTerm, MulTerm, FormulaData, BinaryTerm, ConstantTerm}
+use Rattle.fol.specs.FormulaData.{TermData, MulTerm, FormulaData, BinaryTerm, ConstantTerm}
 use Rattle.cert.specs.declared.certificate.Multiple.{Multiple}
 use Rattle.cert.specs.Linear.{kept, kept_of, same_term, numeral_of, Part, unknown_weight, product_weight, weight, Row, row_of_entry, row_weight, combined, total, MayMultiply, MayCount, IsContradiction}
 use Rattle.cert.specs.Unknowns.{EachUnknown, EachOfProduct, IsGone, RowGone, Cancels}

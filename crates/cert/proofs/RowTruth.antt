@@ -7,7 +7,7 @@ use lib.IntN.{*ℤ-zero, *ℤ_comm, pos-*ℤ-negsuc}
 use Rattle.fol.specs.declared.operators.Binary.TheVariants.{Add, Mul, Sub}
 use Rattle.fol.specs.declared.operators.Comparison.TheVariants.{Eq, Le}
 use Rattle.fol.specs.declared.operators.Constant.TheVariants.{Num}
-use Rattle.fol.specs.FormulaData.{TermData, NumTerm, AddTerm, SubTerm, MulTerm, FormulaData, EqFormula, LeFormula, NotFormula, BinaryTerm, CompareFormula, ConstantTerm}
+use Rattle.fol.specs.FormulaData.{TermData, MulTerm, FormulaData, NotFormula, BinaryTerm, CompareFormula, ConstantTerm}
 use Rattle.fol.specs.Val.{same_value-equal}
 use Rattle.fol.specs.Operators.{number_of}
 use Rattle.fol.specs.Truth.{Interpretation, Assignment, value_of, truth_of}

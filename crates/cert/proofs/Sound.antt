@@ -1,11 +1,11 @@
 -- A formula that has a certificate is valid.
-use Rattle.std.proofs.Common.{◌≡◌, zero, suc, List, [], ◌∷◌, ◌++◌, map, Some, Bool, true, false, not, ◌&&◌, ◌||◌, refl, ap, subst, rules}
+use Rattle.std.proofs.Common.{◌≡◌, zero, suc, List, [], ◌∷◌, ◌++◌, map, Some, Bool, true, false, not, ◌&&◌, ◌||◌, refl, ap, subst}
 use Rattle.std.specs.Prelude.{IsTrue}
 use Rattle.fol.specs.declared.operators.Comparison.TheVariants.{Eq}
 use Rattle.fol.specs.declared.operators.Connective.TheVariants.{Iff, Implies}
 use Rattle.fol.specs.declared.operators.Constant.TheVariants.{False}
 use Rattle.fol.specs.declared.operators.Junction.TheVariants.{AllOf, AnyOf}
-use Rattle.fol.specs.FormulaData.{FalseTerm, FormulaData, EqFormula, HoldsFormula, NotFormula, AllOfFormula, AnyOfFormula, ImpliesFormula, IffFormula, FormulasData, NoFormulas, MoreFormulas, list_of_formulas, CompareFormula, ConnectFormula, ConstantTerm, JoinFormula}
+use Rattle.fol.specs.FormulaData.{FormulaData, HoldsFormula, NotFormula, FormulasData, NoFormulas, MoreFormulas, list_of_formulas, CompareFormula, ConnectFormula, ConstantTerm, JoinFormula}
 use Rattle.fol.specs.declared.shapes.Shape.{Shape}
 use Rattle.fol.specs.Validity.{Valid}
 use Rattle.fol.specs.Val.{same_value, same_value_itself}

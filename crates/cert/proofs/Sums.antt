@@ -1,10 +1,10 @@
 -- A term as a sum of unknowns with coefficients: what its weights say of its value when each unknown has some value.
-use Rattle.std.proofs.Common.{◌≡◌, ℤ, pos, negsuc, ◌+ℤ◌, ◌-ℤ◌, ◌*ℤ◌, Option, Some, None, Bool, true, false, cond, nat_lt, ◌^◌, refl, sym, ap, ◌∙◌, arith, cond}
+use Rattle.std.proofs.Common.{◌≡◌, suc, ℤ, pos, negsuc, ◌+ℤ◌, ◌-ℤ◌, ◌*ℤ◌, Option, Some, None, Bool, true, false, cond, nat_lt, ◌^◌, refl, sym, ap, ◌∙◌, arith, cond}
 use Rattle.std.proofs.lemmas.Int.{ints}
 use lib.IntN.{zero-*ℤ}
 use Rattle.fol.specs.declared.operators.Binary.TheVariants.{Add, Mul, Sub}
 use Rattle.fol.specs.declared.operators.Constant.TheVariants.{Num}
-use Rattle.fol.specs.FormulaData.{TermData, NumTerm, AddTerm, SubTerm, MulTerm, BinaryTerm, ConstantTerm}
+use Rattle.fol.specs.FormulaData.{TermData, MulTerm, BinaryTerm, ConstantTerm}
 use Rattle.fol.specs.FormulaCodes.{term_code, term_back, term_back-code}
 use Rattle.fol.specs.TreeOrder.{same_tree-equal, same_tree_itself}
 use Rattle.cert.specs.Linear.{kept, kept_of, same_term, numeral_of, unknown_weight, product_weight, weight}
@@ -30,7 +30,7 @@ by_test false z y e = absurd (cc)
 
 pub kept_exact : (z y : ℤ) → kept z ≡ Some y → z ≡ y
 kept_exact (pos n) y e = by_test (nat_lt n (2 ^ 127)) (pos n) y e
-kept_exact (negsuc n) y e = by_test (nat_lt n (2 ^ 127)) (negsuc n) y e
+kept_exact (negsuc n) y e = by_test (nat_lt (suc n) (2 ^ 127)) (negsuc n) y e
 
 -- the operands of an operation that is kept, and its result
 pub record Kept (op : ℤ → ℤ → ℤ) (x y : Option ℤ) (z : ℤ) : Type 0 where

@@ -4,7 +4,7 @@ use Rattle.std.specs.Prelude.{◌≡◌, ℕ, ◌≤◌, List, [], ◌∷◌, �
 use Rattle.fol.specs.declared.operators.Comparison.TheVariants.{Eq}
 use Rattle.fol.specs.declared.operators.Constant.TheVariants.{False}
 use Rattle.fol.specs.declared.operators.Junction.TheVariants.{AllOf, AnyOf}
-use Rattle.fol.specs.FormulaData.{FalseTerm, FormulaData, EqFormula, HoldsFormula, NotFormula, AllOfFormula, AnyOfFormula, NoFormulas, CompareFormula, ConstantTerm, JoinFormula}
+use Rattle.fol.specs.FormulaData.{FormulaData, HoldsFormula, NotFormula, NoFormulas, CompareFormula, ConstantTerm, JoinFormula}
 use Rattle.cert.specs.CertData.{StepData, PartsStep, AxiomStep, CertData, CertTree, EndData, SplitEnd, LinearEnd, ClashEnd, FalseEnd, CasesData, NoCases, MoreCases}
 use Rattle.cert.specs.Parts.{parts_of, cases_of}
 use Rattle.cert.specs.Axioms.{IsInstanceOf}

@@ -5,17 +5,17 @@ use Rattle.std.specs.Prelude.{◌≡◌, ℕ, suc, ◌^◌, ℤ, pos, negsuc, �
 use Rattle.fol.specs.declared.operators.Binary.TheVariants.{Add, Mul, Sub}
 use Rattle.fol.specs.declared.operators.Comparison.TheVariants.{Eq, Le}
 use Rattle.fol.specs.declared.operators.Constant.TheVariants.{Num}
-use Rattle.fol.specs.FormulaData.{TermData, NumTerm, AddTerm, SubTerm, MulTerm, FormulaData, EqFormula, LeFormula, NotFormula, BinaryTerm, CompareFormula, ConstantTerm}
+use Rattle.fol.specs.FormulaData.{TermData, MulTerm, FormulaData, NotFormula, BinaryTerm, CompareFormula, ConstantTerm}
 use Rattle.fol.specs.FormulaCodes.{term_code}
 use Rattle.fol.specs.TreeOrder.{same_tree}
 use Rattle.cert.specs.declared.certificate.Multiple.{Multiple}
 
 -- ---- arithmetic within 128 bits
 
--- the number, where it fits 128 bits with a sign
+-- the number, where it fits 128 bits: its absolute value is below 2^127
 abbrev pub kept : ℤ → Option ℤ
 kept (pos n) = if nat_lt n (2 ^ 127) then Some (pos n) else None
-kept (negsuc n) = if nat_lt n (2 ^ 127) then Some (negsuc n) else None
+kept (negsuc n) = if nat_lt (suc n) (2 ^ 127) then Some (negsuc n) else None
 
 -- an operation on two numbers, where all of them fit
 abbrev pub kept_of : (ℤ → ℤ → ℤ) → Option ℤ → Option ℤ → Option ℤ

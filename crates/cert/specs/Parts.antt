@@ -3,7 +3,7 @@
 use Rattle.std.specs.Prelude.{List, [], ◌∷◌, map, Option, Some, None}
 use Rattle.fol.specs.declared.operators.Connective.TheVariants.{Iff, Implies}
 use Rattle.fol.specs.declared.operators.Junction.TheVariants.{AllOf, AnyOf}
-use Rattle.fol.specs.FormulaData.{FormulaData, NotFormula, AllOfFormula, AnyOfFormula, ImpliesFormula, IffFormula, list_of_formulas, formulas_of, ConnectFormula, JoinFormula}
+use Rattle.fol.specs.FormulaData.{FormulaData, NotFormula, AllOfFormula, list_of_formulas, formulas_of, ConnectFormula, JoinFormula}
 
 -- both of two formulas
 abbrev pub both_of : FormulaData → FormulaData → FormulaData

@@ -3,7 +3,7 @@
 use Rattle.std.specs.Prelude.{◌≡◌, ℤ, pos, List, slice_get, Option, Some, None}
 use Rattle.fol.specs.declared.operators.Binary.TheVariants.{Add, Mul, Sub}
 use Rattle.fol.specs.declared.operators.Constant.TheVariants.{Num}
-use Rattle.fol.specs.FormulaData.{TermData, NumTerm, AddTerm, SubTerm, MulTerm, FormulaData, BinaryTerm, ConstantTerm}
+use Rattle.fol.specs.FormulaData.{TermData, MulTerm, FormulaData, BinaryTerm, ConstantTerm}
 use Rattle.cert.specs.declared.certificate.Multiple.{Multiple}
 use Rattle.cert.specs.Linear.{numeral_of, Row, row_of_entry, total}
 

@@ -3,7 +3,7 @@
 ghost use Rattle.std.specs.Prelude.{◌≡◌, ◌↔◌, ℕ, suc, ◌+ℤ◌, ◌-ℤ◌, ◌*ℤ◌, ◌<ℤ◌, IsTrue, Some, pos, slice_get, All};
 ghost use Rattle.std.specs.Option.{option_map};
 ghost use Rattle.cert.specs.Branch.{entries_of, entry_formula, IsCounted};
-ghost use Rattle.cert.specs.Linear.{kept_of, numeral_of, numeral_weight, unknown_weight, weight, row_of, negated_row_of, row_of_entry, row_weight, total, MayMultiply, MayCount, IsContradiction};
+ghost use Rattle.cert.specs.Linear.{kept, kept_of, numeral_of, numeral_weight, unknown_weight, weight, row_of, negated_row_of, row_of_entry, row_weight, total, MayMultiply, MayCount, IsContradiction};
 ghost use Rattle.cert.specs.LinearView.{part_of, row_data};
 ghost use Rattle.cert.specs.Unknowns.{EachUnknown, IsGone, RowGone, Cancels};
 
@@ -12,6 +12,7 @@ use crate::certificate::Multiple;
 use fol::formula::{Formula, FormulaNode, Term, TermNode};
 use fol::operators::{Binary, Comparison, Constant};
 use fol::same::same_term;
+use linear_rows::numbers::{difference, fitting, product, sum};
 
 /// What of a sum is looked at.
 #[derive(Clone, Copy)]
@@ -235,7 +236,7 @@ fn weight(part: Part<'_>, term: &Term) -> Option<i128>
     ensures { result ≡ weight (part_of part.entry) term.now }
 {
     match &term.node {
-        TermNode::Constant(Constant::Num(i)) => Some(numeral_weight(part, *i)),
+        TermNode::Constant(Constant::Num(i)) => numeral_weight(part, *i),
         TermNode::Binary(Binary::Add, t, u) => kept_sum(weight(part, t), weight(part, u)),
         TermNode::Binary(Binary::Sub, t, u) => kept_difference(weight(part, t), weight(part, u)),
         TermNode::Binary(Binary::Mul, t, u) => match (numeral_of(t), numeral_of(u)) {
@@ -247,12 +248,12 @@ fn weight(part: Part<'_>, term: &Term) -> Option<i128>
     }
 }
 
-fn numeral_weight(part: Part<'_>, number: i128) -> i128
-    ensures { Some result ≡ numeral_weight (part_of part.entry) number }
+fn numeral_weight(part: Part<'_>, number: i128) -> Option<i128>
+    ensures { result ≡ numeral_weight (part_of part.entry) number }
 {
     match part {
-        Part::Constant => number,
-        Part::Coefficient(_) => 0,
+        Part::Constant => kept(number),
+        Part::Coefficient(_) => Some(0),
     }
 }
 
@@ -275,20 +276,27 @@ pub fn numeral_of(term: &Term) -> Option<i128>
     }
 }
 
+// The number, where it fits.
+fn kept(number: i128) -> Option<i128>
+    ensures { result ≡ kept number }
+{
+    fitting(number)
+}
+
 fn kept_sum(x: Option<i128>, y: Option<i128>) -> Option<i128>
     ensures { result ≡ kept_of ◌+ℤ◌ x y }
 {
-    x?.checked_add(y?)
+    sum(x?, y?)
 }
 
 fn kept_difference(x: Option<i128>, y: Option<i128>) -> Option<i128>
     ensures { result ≡ kept_of ◌-ℤ◌ x y }
 {
-    x?.checked_sub(y?)
+    difference(x?, y?)
 }
 
 fn kept_product(x: Option<i128>, y: Option<i128>) -> Option<i128>
     ensures { result ≡ kept_of ◌*ℤ◌ x y }
 {
-    x?.checked_mul(y?)
+    product(x?, y?)
 }

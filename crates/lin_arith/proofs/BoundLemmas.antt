@@ -1,14 +1,19 @@
 -- Bounds of one unknown: which of two leaves less room, and what meets them.
-use Rattle.std.proofs.Common.{◌≡◌, ◌≢◌, ℕ, zero, suc, ◌+◌, ◌*◌, ◌<◌, ◌≤◌, pos, negsuc, ℤ, ◌+ℤ◌, ◌*ℤ◌, ◌≤ℤ◌, ◌<ℤ◌, neg_ℤ, refl, sym, ap, ◌∙◌, subst, arith, ◌↔◌, ◌⊎◌, inl, inr, List, get_or, Option, Some, None, MatchOption, IfSome, below_more}
+use Rattle.std.proofs.Common.{◌≡◌, ◌≢◌, Bool, true, false, cond, ℕ, zero, suc, ◌+◌, ◌*◌, ◌-◌, ◌^◌, ◌<◌, ◌≤◌, pos, negsuc, ℤ, ◌+ℤ◌, ◌*ℤ◌, ◌≤ℤ◌, ◌<ℤ◌, neg_ℤ, refl, sym, ap, ◌∙◌, subst, arith, ◌↔◌, ◌⊎◌, inl, inr, List, get_or, Option, Some, None, MatchOption, IfSome, FitsSigned, below_more}
 use Rattle.std.specs.Prelude.{unsigned_abs, All}
 use Rattle.std.proofs.Math.IntN.{*ℤ_comm}
-use Rattle.std.proofs.lemmas.Int.{ints, by_lt_z}
-use Rattle.lin_arith.specs.Bounds.{IsOn, IsMetAt, IsAsTight, IsTightest, AreConsistent, AreNonzero}
+use Rattle.std.proofs.Math.Nat.{one-dvd, mul-dvd-mul_left, dvd_of_mul-dvd-mul_left}
+use Rattle.std.proofs.lemmas.Int.{ints, by_lt_z, unsigned_abs-mul}
+use Rattle.std.specs.Int.{w128, IsGcd, ◌∣◌}
+use Rattle.lin_arith.specs.Bounds.{IsOn, IsMetAt, IsAsTight, IsTightest, AreConsistent, AreNonzero, AreMet, FitsBound, IsBetween, IsReached}
+use Rattle.lin_arith.specs.Bounds.IsBetween.{whole}
+use Rattle.linear_rows.specs.declared.rows.Fraction.{Fraction}
+use Rattle.linear_rows.proofs.ListLemmas.{below_or_past}
 use Rattle.linear_rows.specs.Floor.{IsFloor}
 use Rattle.lin_arith.specs.declared.bounds.Bound.{Bound}
 use Rattle.lin_arith.specs.declared.bounds.Side.{Side}
 use Rattle.lin_arith.specs.declared.bounds.Side.TheVariants.{Upper, Lower}
-use Rattle.pv_base.proofs.WholeNumbers.{mul_swap, mul_neg, mul_le, le_of_mul, one_mul}
+use Rattle.pv_base.proofs.WholeNumbers.{mul_swap, mul_neg, neg_mul, mul_le, le_of_mul, one_mul}
 
 -- products of numbers with sizes, by the sizes of both
 pub products_not_negative : (a b : ℤ) (m n : ℕ) → pos 0 ≤ℤ a → pos 0 ≤ℤ b → ((unsigned_abs a * m ≤ unsigned_abs b * n) ↔ ((a *ℤ pos m) ≤ℤ (b *ℤ pos n)))
@@ -202,3 +207,84 @@ uppers_met bounds u f z best floor le = λ k d h on. upper_met u (get_or bounds 
 pub uppers_most : (bounds : List Bound) (u : Bound) (f z : ℤ) → IsTightest Upper bounds u → IsFloor u.bound (unsigned_abs u.coefficient) f → All (IsMetAt z (pos 1)) bounds → z ≤ℤ f
 uppers_most bounds u f z best floor met =
     upper_most u f z best.on_side floor (subst (λ (b : Bound). IsMetAt z (pos 1) b) best.member.2 (met best.member.0 u best.member.1))
+
+-- ---- whole numbers, and those of 128 bits among them
+
+-- a number of 128 bits, or one that is far from 0
+fits_or_far : (z : ℤ) → FitsSigned w128 z ⊎ (2 ^ 127 ≤ unsigned_abs z)
+fits_or_far (pos n) = elim (below_or_past n (2 ^ 127)) [ inl l ↦ inl (omega (arith, ints, l)) | inr l ↦ inr l ]
+fits_or_far (negsuc n) = elim (below_or_past n (2 ^ 127)) [ inl l ↦ inl (omega (arith, ints, l)) | inr l ↦ inr (omega (arith, l)) ]
+
+size_within : (z : ℤ) → FitsSigned w128 z → unsigned_abs z ≤ 2 ^ 127
+size_within (pos n) f = omega (arith, ints, f)
+size_within (negsuc n) f = omega (arith, ints, f)
+
+pub nearer_above : (a z : ℤ) → pos 0 <ℤ a → a ≤ℤ z → unsigned_abs a ≤ unsigned_abs z
+nearer_above (pos a) (pos z) h l = omega (arith, ints, l)
+nearer_above (pos a) (negsuc z) h l = absurd (omega (arith, ints, h, l))
+nearer_above (negsuc a) z h l = absurd (omega (arith, ints, h))
+
+pub nearer_below : (a z : ℤ) → a <ℤ pos 0 → z ≤ℤ a → unsigned_abs a ≤ unsigned_abs z
+nearer_below (pos a) z h l = absurd (omega (arith, ints, h))
+nearer_below (negsuc a) (pos z) h l = absurd (omega (arith, ints, l))
+nearer_below (negsuc a) (negsuc z) h l = omega (arith, ints, l)
+
+-- the greater of a number and 0
+pub nearer_max : (b : Bool) (a m z : ℤ) → m ≡ cond b a (pos 0) → pos 0 ≤ℤ m → a ≤ℤ z → unsigned_abs m ≤ unsigned_abs z
+nearer_max true (pos a) m (pos z) e h l = subst (λ (x : ℤ). unsigned_abs x ≤ z) (sym e) (omega (arith, ints, l))
+nearer_max true (pos a) m (negsuc z) e h l = absurd (omega (arith, ints, l))
+nearer_max true (negsuc a) m z e h l = absurd (let n : pos 0 ≤ℤ negsuc a = subst (λ (x : ℤ). pos 0 ≤ℤ x) e h in omega (arith, ints, n))
+nearer_max false a m z e h l = subst (λ (x : ℤ). unsigned_abs x ≤ unsigned_abs z) (sym e) (omega arith)
+
+-- the nearest to 0 among the numbers of 128 bits that meet the bounds is the nearest of all
+pub whole_is_between : (bounds : List Bound) (value : Fraction) → value.denominator ≡ pos 1 → FitsSigned w128 value.numerator → AreMet bounds value.numerator → ((z : ℤ) → FitsSigned w128 z → AreMet bounds z → unsigned_abs value.numerator ≤ unsigned_abs z) → IsBetween bounds value
+whole_is_between bounds value one fits met near = whole one met (λ z m. elim (fits_or_far z) [
+  | inl f ↦ near z f m
+  | inr far ↦ (let s = size_within value.numerator fits in omega (arith, s, far))
+])
+
+lower_up : (b : Bound) (y z : ℤ) → y ≤ℤ z → IsOn Lower b → IsMetAt y (pos 1) b → IsMetAt z (pos 1) b
+lower_up b y z le on m =
+    let k = mul_le (neg_ℤ b.coefficient) y z (omega (arith, ints, on)) le in
+    let e1 = neg_mul b.coefficient y in
+    let e2 = neg_mul b.coefficient z in
+    omega (arith, ints, k, e1, e2, m)
+
+-- where no number of 128 bits meets the bounds, since the greatest that meets the upper ones is less than the least that
+-- meets the lower ones, none does
+pub none_met : (bounds : List Bound) (u : Bound) (f least : ℤ) → FitsSigned w128 f → IsTightest Upper bounds u → IsFloor u.bound (unsigned_abs u.coefficient) f → f <ℤ least → ((z : ℤ) → FitsSigned w128 z → All (λ b. IsOn Lower b → IsMetAt z (pos 1) b) bounds → least ≤ℤ z) → (z : ℤ) → AreMet bounds z → ⊥
+none_met bounds u f least fits best floor less lowest z met = by_size z met (uppers_most bounds u f z best floor met) (fits_or_far z)
+  where
+    lowers : (y z : ℤ) → y ≤ℤ z → AreMet bounds y → All (λ b. IsOn Lower b → IsMetAt z (pos 1) b) bounds
+    lowers y z le m k d h on = lower_up (get_or bounds k d) y z le on (m k d h)
+
+    by_size : (z : ℤ) → AreMet bounds z → z ≤ℤ f → FitsSigned w128 z ⊎ (2 ^ 127 ≤ unsigned_abs z) → ⊥
+    by_size z m le (inl g) = let l = lowest z g (lowers z z (omega (arith, ints)) m) in omega (arith, ints, l, le, less)
+    by_size (pos n) m le (inr far) = omega (arith, ints, far, le, fits)
+    by_size (negsuc n) m le (inr far) =
+        let g : FitsSigned w128 (negsuc (2 ^ 127 - 1)) = omega (arith, ints) in
+        let down : negsuc n ≤ℤ negsuc (2 ^ 127 - 1) = omega (arith, ints, far) in
+        let l = lowest (negsuc (2 ^ 127 - 1)) g (lowers (negsuc n) (negsuc (2 ^ 127 - 1)) down m) in
+        omega (arith, ints, l, less, fits)
+
+-- a bound whose numbers fit is met by the greatest number of 128 bits, if it is a lower one
+pub reached : (b : Bound) → FitsBound b → IsReached b
+reached b f on =
+    let k = mul_le (pos (2 ^ 127 - 1)) b.coefficient (negsuc 0) (omega (arith, ints)) (omega (arith, ints, on)) in
+    let e = *ℤ_comm b.coefficient (pos (2 ^ 127 - 1)) in
+    let one = times_one b.bound in
+    let above = f.1.0 in
+    omega (arith, ints, k, e, one, above)
+
+-- quotients by the greatest common divisor have no common divisor but 1
+pub lowest_terms : (g : ℕ) (a b n d : ℤ) → 0 < g → pos g *ℤ a ≡ n → pos g *ℤ b ≡ d → IsGcd (unsigned_abs n) (unsigned_abs d) g → IsGcd (unsigned_abs a) (unsigned_abs b) 1
+lowest_terms g a b n d p e f h = (
+  one-dvd (unsigned_abs a),
+  one-dvd (unsigned_abs b),
+  λ k x y.
+      let s : g * unsigned_abs a ≡ unsigned_abs n = sym (unsigned_abs-mul (pos g) a) ∙ ap unsigned_abs e in
+      let t : g * unsigned_abs b ≡ unsigned_abs d = sym (unsigned_abs-mul (pos g) b) ∙ ap unsigned_abs f in
+      let u : g * k ∣ unsigned_abs n = subst (λ (m : ℕ). g * k ∣ m) s (mul-dvd-mul_left k g x) in
+      let v : g * k ∣ unsigned_abs d = subst (λ (m : ℕ). g * k ∣ m) t (mul-dvd-mul_left k g y) in
+      dvd_of_mul-dvd-mul_left k p (subst (λ (m : ℕ). g * k ∣ m) (let o : g ≡ g * 1 = omega arith in o) (h.2 (g * k) u v)),
+)

@@ -15,12 +15,13 @@ use Rattle.lin_arith.specs.Stages.{IsSound, StandsInStage, IsWhole}
 use Rattle.lin_arith.specs.Substitution.{LinearForm, form_of, put_in, put_in_all, IsTrueForm, Meets, ArePositive}
 use Rattle.lin_arith.specs.declared.bounds.Bound.{Bound}
 use Rattle.lin_arith.specs.declared.elimination.Stage.{Stage}
+use Rattle.lin_arith.specs.Values.{HasValue}
 use Rattle.linear_rows.specs.declared.rows.Fraction.{Fraction}
 use Rattle.linear_rows.proofs.ClosureLemmas.{size_positive, no_mix, without_in_sum, without_one_more}
 use Rattle.pv_base.proofs.WholeNumbers.{mul_assoc, mul_add, mul_neg, mul_sub, mul_swap, mul_positive, mul_negative, mul_not_negative, mul_le, le_of_mul, one_mul, positive_of_multiple, negative_of_multiple, sign_of_multiple, zero_of_multiple}
 use Rattle.linear_rows.proofs.ListLemmas.{get_or-past, below_or_past}
 
-left_push : (values : List Fraction) (value : Fraction) (row : Inequality) → left_of (values ++ value ∷ []) row ≡ put_in (left_of values row) value
+pub left_push : (values : List Fraction) (value : Fraction) (row : Inequality) → left_of (values ++ value ∷ []) row ≡ put_in (left_of values row) value
 left_push values value row = fold-append put_in (form_of row) values (value ∷ [])
 
 choice_zero : (t : Bool) (q c : ℤ) → c ≡ pos 0 → (if t then pos 0 else (q *ℤ c)) ≡ pos 0
@@ -34,7 +35,7 @@ choice_false : (t : Bool) (c : ℤ) → t ≡ false → (if t then pos 0 else c)
 choice_false t c e = ap (λ (b : Bool). if b then pos 0 else c) e
 
 -- an unknown that does not stand in a form is not put into it
-zero_stays : (form : LinearForm) (u : ℕ) (values : List Fraction) → form.at u ≡ pos 0 → (put_in_all form values).at u ≡ pos 0
+pub zero_stays : (form : LinearForm) (u : ℕ) (values : List Fraction) → form.at u ≡ pos 0 → (put_in_all form values).at u ≡ pos 0
 zero_stays form u [] z = z
 zero_stays form u (v ∷ vs) z = zero_stays (put_in form v) u vs (choice_zero (u == v.unknown) v.denominator (form.at u) z)
 
@@ -132,12 +133,6 @@ compatible_numbers x y a b r s p below none h =
     let turned : n *ℤ r ≡ neg_ℤ (b *ℤ r) = *ℤ_comm n r ∙ mul_neg r b ∙ ap (λ (w : ℤ). neg_ℤ w) (*ℤ_comm r b) in
     omega (arith, ints, sum, turned)
 
--- an unknown has a value
-pub record HasValue (values : List Fraction) (u : ℕ) : Type 0 where
-  pub value : Fraction
-  pub is_in : Contains values value
-  pub same : value.unknown ≡ u
-
 -- values for all unknowns but these, with which each row without these is met
 pub record AreChosen (width : ℕ) (found : List Inequality) (unknowns : List ℕ) (values : List Fraction) : Type 0 where
   pub positive : ArePositive values
@@ -149,7 +144,7 @@ pub record AreChosen (width : ℕ) (found : List Inequality) (unknowns : List �
 pub met_by_all : (row : Inequality) (values : List Fraction) → ArePositive values → IsSound row → ((u : ℕ) → coefficient u row ≡ pos 0) → Meets values row
 met_by_all row values p sound none = true_stays (form_of row) values p (record { no_unknown_left = none; not_negative = sound none })
 
-no_value_yet : (width : ℕ) (found : List Inequality) (unknowns : List ℕ) (unknown : ℕ) (values : List Fraction) → AreChosen width found (unknowns ++ unknown ∷ []) values → All (λ (v : Fraction). v.unknown ≢ unknown) values
+pub no_value_yet : (width : ℕ) (found : List Inequality) (unknowns : List ℕ) (unknown : ℕ) (values : List Fraction) → AreChosen width found (unknowns ++ unknown ∷ []) values → All (λ (v : Fraction). v.unknown ≢ unknown) values
 no_value_yet width found unknowns unknown values c k d l e = c.others (get_or values k d) (Contains-get_or values k d l) (subst (λ (u : ℕ). Contains (unknowns ++ unknown ∷ []) u) (sym e) (Contains-push unknowns unknown))
 
 -- the rows of a stage with the values of the later ones

@@ -1,17 +1,13 @@
 -- A combination with no unknown among the first ones has none at all, where no row has others.
-use Rattle.std.proofs.Common.{◌≡◌, ℕ, suc, ◌<◌, ◌≤◌, List, [], ◌∷◌, length, get_or, pos, ℤ, ◌≤ℤ◌, ◌<ℤ◌, FitsSigned, refl, sym, ◌∙◌, subst, arith, map, inl, inr}
+use Rattle.std.proofs.Common.{◌≡◌, ℕ, suc, ◌<◌, ◌≤◌, List, [], ◌∷◌, length, get_or, pos, ℤ, ◌≤ℤ◌, ◌<ℤ◌, refl, sym, ◌∙◌, subst, arith, map, inl, inr}
 use Rattle.std.specs.Prelude.{All}
-use Rattle.std.specs.Int.{w128}
 use Rattle.std.specs.List.{range_with_len}
 use Rattle.std.proofs.Math.IntN.{*ℤ-zero}
-use Rattle.std.proofs.lemmas.Int.{ints}
 use Rattle.std.proofs.lemmas.List.FromFn.{get_or-map-range_with_len, length-map-range_with_len}
 use Rattle.linear_rows.proofs.ListLemmas.{get_or-past, below_or_past}
 use Rattle.linear_rows.specs.Inequality.{Inequality, coefficient, IsWithinWidth}
+use Rattle.lin_arith.proofs.FitLemmas.{zero_fits}
 use Rattle.linear_rows.specs.Combination.{weighted_sum, StaysWithin, combination, CombinesWithin, IsContradiction}
-
-zero_fits : FitsSigned w128 (pos 0)
-zero_fits = omega (arith, ints)
 
 weighted_sum-zero : (part : Inequality → ℤ) (ms : List ℤ) (rows : List Inequality) → All (λ row. part row ≡ pos 0) rows → weighted_sum part ms rows ≡ pos 0
 weighted_sum-zero part [] rows h = refl

@@ -1,11 +1,11 @@
 -- A given row is the combination of the given rows in which it alone has a multiplier, of 1.
-use Rattle.std.proofs.Common.{◌≡◌, ◌≢◌, ℕ, zero, suc, ◌<◌, ◌≤◌, List, [], ◌∷◌, length, get_or, pos, ℤ, ◌+ℤ◌, ◌<ℤ◌, FitsSigned, refl, sym, ap, ◌∙◌, subst, arith, map, inl, inr}
+use Rattle.std.proofs.Common.{◌≡◌, ◌≢◌, ℕ, zero, suc, ◌<◌, ◌≤◌, List, [], ◌∷◌, length, get_or, pos, ℤ, ◌+ℤ◌, ◌<ℤ◌, refl, sym, ap, ◌∙◌, subst, arith, map, inl, inr}
 use Rattle.std.specs.Prelude.{All}
-use Rattle.std.specs.Int.{w128}
 use Rattle.std.specs.List.{range_with_len}
 use Rattle.std.proofs.Math.IntN.{zero-*ℤ}
 use Rattle.std.proofs.lemmas.Int.{ints}
 use Rattle.std.proofs.lemmas.List.FromFn.{get_or-map-range_with_len, length-map-range_with_len}
+use Rattle.linear_rows.specs.Fits.{Fits, IsFitting}
 use Rattle.linear_rows.specs.Inequality.{Inequality, coefficient, padded}
 use Rattle.linear_rows.specs.Combination.{number, weighted_sum, StaysWithin, bound_of, combination, IsContradiction}
 use Rattle.linear_rows.specs.Elimination.{IsUnit}
@@ -17,10 +17,8 @@ use Rattle.std.proofs.lemmas.List.Elements.{All-nil}
 use Rattle.linear_rows.proofs.ClosureLemmas.{IsMultiple, multiple_of_itself}
 use Rattle.pv_base.proofs.WholeNumbers.{one_mul}
 use Rattle.linear_rows.proofs.ListLemmas.{get_or-past, below_or_past}
+use Rattle.lin_arith.proofs.FitLemmas.{zero_fits}
 use Rattle.lin_arith.proofs.StageLemmas.{unit_multipliers, width_of_combination}
-
-zero_fits : FitsSigned w128 (pos 0)
-zero_fits = omega (arith, ints)
 
 -- no multiplier but 0
 no_sum : (part : Inequality → ℤ) (ms : List ℤ) (rows : List Inequality) → ((k : ℕ) → number k ms ≡ pos 0) → weighted_sum part ms rows ≡ pos 0
@@ -31,7 +29,7 @@ no_sum part (m ∷ ms) (row ∷ rows) h =
     let rest = no_sum part ms rows (λ k. h (suc k)) in
     rw (here, zero-*ℤ (part row), rest) refl
 
-no_sum_within : (part : Inequality → ℤ) (total : ℤ) (ms : List ℤ) (rows : List Inequality) → FitsSigned w128 total → ((k : ℕ) → number k ms ≡ pos 0) → StaysWithin part total ms rows
+no_sum_within : (part : Inequality → ℤ) (total : ℤ) (ms : List ℤ) (rows : List Inequality) → Fits total → ((k : ℕ) → number k ms ≡ pos 0) → StaysWithin part total ms rows
 no_sum_within part total [] rows f h = tt
 no_sum_within part total (m ∷ ms) [] f h = tt
 no_sum_within part total (m ∷ ms) (row ∷ rows) f h =
@@ -54,7 +52,7 @@ unit_sum part (m ∷ ms) (row ∷ rows) (suc i) d e l one others =
     let same : pos 0 +ℤ part (get_or rows i d) ≡ part (get_or rows i d) = omega (arith, ints) in
     rw (here, zero-*ℤ (part row), rest, same) refl
 
-unit_within : (part : Inequality → ℤ) (ms : List ℤ) (rows : List Inequality) (i : ℕ) (d : Inequality) → length ms ≡ length rows → i < length rows → number i ms ≡ pos 1 → ((k : ℕ) → k ≢ i → number k ms ≡ pos 0) → FitsSigned w128 (part (get_or rows i d)) → StaysWithin part (pos 0) ms rows
+unit_within : (part : Inequality → ℤ) (ms : List ℤ) (rows : List Inequality) (i : ℕ) (d : Inequality) → length ms ≡ length rows → i < length rows → number i ms ≡ pos 1 → ((k : ℕ) → k ≢ i → number k ms ≡ pos 0) → Fits (part (get_or rows i d)) → StaysWithin part (pos 0) ms rows
 unit_within part ms [] i d e l one others f = absurd (omega (arith, l))
 unit_within part [] (row ∷ rows) i d e l one others f = absurd (omega (arith, e))
 unit_within part (m ∷ ms) (row ∷ rows) zero d e l one others f =
@@ -76,7 +74,7 @@ padded_is width ms rows i row h is = λ j. record {
     at part = ap part is ∙ sym (unit_sum part ms rows i row h.one_each h.is_one h.itself h.others)
 
 -- a given row that is a contradiction
-pub given_contradicts : (width : ℕ) (ms : List ℤ) (rows : List Inequality) (i : ℕ) (row : Inequality) → IsUnit (length rows) i ms → row ≡ get_or rows i row → length row.coefficients ≤ width → FitsSigned w128 row.bound → row.bound <ℤ pos 0 → All (λ c. c ≡ pos 0) (padded width row).coefficients → IsContradiction rows ms
+pub given_contradicts : (width : ℕ) (ms : List ℤ) (rows : List Inequality) (i : ℕ) (row : Inequality) → IsUnit (length rows) i ms → row ≡ get_or rows i row → length row.coefficients ≤ width → Fits row.bound → row.bound <ℤ pos 0 → All (λ c. c ≡ pos 0) (padded width row).coefficients → IsContradiction rows ms
 given_contradicts width ms rows i row h is short f b zeros =
     let none = λ (u : ℕ). elim (below_or_past u width) as (λ _. coefficient u row ≡ pos 0) [
       | inl l ↦
@@ -92,13 +90,13 @@ given_contradicts width ms rows i row h is short f b zeros =
       not_negative = m.not_negative;
       no_unknown_left = λ u. unit_sum (coefficient u) ms rows i row h.one_each h.is_one h.itself h.others ∙ sym (at (coefficient u)) ∙ none u;
       negative_bound = subst (λ (z : ℤ). z <ℤ pos 0) (at bound_of ∙ sym (unit_sum bound_of ms rows i row h.one_each h.is_one h.itself h.others)) b;
-      coefficients_within = λ u. unit_within (coefficient u) ms rows i row h.one_each h.is_one h.itself h.others (subst (λ (z : ℤ). FitsSigned w128 z) (sym (none u) ∙ at (coefficient u)) zero_fits);
-      bounds_within = unit_within bound_of ms rows i row h.one_each h.is_one h.itself h.others (subst (λ (z : ℤ). FitsSigned w128 z) (at bound_of) f);
+      coefficients_within = λ u. unit_within (coefficient u) ms rows i row h.one_each h.is_one h.itself h.others (subst (λ (z : ℤ). Fits z) (sym (none u) ∙ at (coefficient u)) zero_fits);
+      bounds_within = unit_within bound_of ms rows i row h.one_each h.is_one h.itself h.others (subst (λ (z : ℤ). Fits z) (at bound_of) f);
     }
 
 -- a given row as a row of the first stage
-pub given_derived : (width : ℕ) (rows : List Inequality) (i : ℕ) (made : Derived) → IsUnit (length rows) i made.multipliers → made.row ≡ combination width made.multipliers rows → made.total ≡ combination width made.multipliers rows → IsSound made.row → IsDerived width rows [] made
-given_derived width rows i made unit is total sound =
+pub given_derived : (width : ℕ) (rows : List Inequality) (i : ℕ) (made : Derived) → IsUnit (length rows) i made.multipliers → made.row ≡ combination width made.multipliers rows → made.total ≡ combination width made.multipliers rows → IsSound made.row → IsFitting made.row → IsDerived width rows [] made
+given_derived width rows i made unit is total sound fits =
     let scaled = subst (λ (r : Inequality). IsMultiple made.row r) (is ∙ sym total) (multiple_of_itself made.row) in record {
       of_stage = given i made.row made.multipliers unit is;
       is_total = total;
@@ -109,6 +107,7 @@ given_derived width rows i made unit is total sound =
       is_scaled = scaled.is_scaled;
       without = All-nil (λ (u : ℕ). coefficient u made.row ≡ pos 0);
       sound = sound;
+      fits = fits;
     }
 
 -- a given row has the form of its row of the first stage

@@ -11,7 +11,7 @@ use Rattle.std.proofs.lemmas.Map.Made.{IsDistinct-from_AllPairs}
 use Rattle.std.proofs.lemmas.Map.Steps.{length-le_from_distinct_below}
 use Rattle.std.proofs.lemmas.Map.Views.{Contains-from_any}
 use Rattle.linear_rows.specs.Inequality.{Inequality, coefficient, padded}
-use Rattle.linear_rows.specs.Closure.{IsWithout, HasSum, HasSums, IsClosed, IsCompleteElimination, IsBegun}
+use Rattle.linear_rows.specs.Closure.{IsWithout, HasSum, HasSums, IsClosed, IsElimination, IsBegun}
 use Rattle.linear_rows.specs.Elimination.{IsFound}
 use Rattle.linear_rows.specs.Closure.IsClosed.{none, next}
 use Rattle.lin_arith.specs.Stages.{IsDerived, AreBefore, IsStage, IsStageBefore, IsUnderWay, StandsIn, KeepsRows, AreParted, HasGrown, IsCaughtUp, IsLeft, NoneIsLeft}
@@ -190,21 +190,15 @@ none_left width rows elimination u c left row h w n = elim (below_or_past n widt
   | inr l ↦ get_or-past row.coefficients n (pos 0) (let w = All-contains (λ (r : Inequality). length r.coefficients ≡ width) elimination.found row u.are_found.same_width h in omega (arith, w, l))
 ]
 
--- and the elimination is complete
-pub complete : (width : ℕ) (rows : List Inequality) (elimination : Elimination) → IsUnderWay width rows elimination → IsCaughtUp width rows elimination → NoneIsLeft width elimination.live.items → IsCompleteElimination rows
-complete width rows elimination u c left = record {
-  width = width;
-  unknowns = elimination.unknowns.items;
-  found = elimination.found;
-  elimination = record {
-    within = u.within;
-    of_stages = u.are_found.of_stages;
-    different = u.are_found.different;
-    begins = c.begins;
-    closed = c.closed;
-    below_limit = u.below_limit;
-  };
-  no_unknown_left = none_left width rows elimination u c left;
+-- the elimination that has all sums
+pub eliminated : (width : ℕ) (rows : List Inequality) (elimination : Elimination) → IsUnderWay width rows elimination → IsCaughtUp width rows elimination → IsElimination width rows elimination.unknowns.items elimination.unknowns.items elimination.found
+eliminated width rows elimination u c = record {
+  within = u.within;
+  of_stages = u.are_found.of_stages;
+  different = u.are_found.different;
+  begins = c.begins;
+  closed = c.closed;
+  below_limit = u.below_limit;
 }
 
 Contains-cons_cases : {A : Type 0} (y : A) (ys : List A) (x : A) → Contains (y ∷ ys) x → (y ≡ x) ⊎ Contains ys x

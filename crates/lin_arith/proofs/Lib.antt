@@ -1,10 +1,13 @@
 pub mod BoundLemmas
 pub mod BoundsPutLemmas
 pub mod ChoiceLemmas
+pub mod ChosenLemmas
 pub mod ContradictionLemmas
+pub mod FitLemmas
 pub mod GivenLemmas
 pub mod GrowthLemmas
 pub mod KeyLemmas
+pub mod RestLemmas
 pub mod StageLemmas
 pub mod SubstitutionLemmas
 pub mod ValueLemmas

@@ -13,13 +13,13 @@ use Rattle.std.proofs.Math.IntN.{*ℤ-zero}
 use Rattle.std.proofs.lemmas.List.FromFn.{length-map-range_with_len}
 use Rattle.std.proofs.lemmas.List.Elements.{All-push, All-contains, Contains-get_or, Contains-push, Contains-append_left}
 use Rattle.std.proofs.lemmas.List.Quantifiers.{all_pairs_push}
-use Rattle.linear_rows.specs.Inequality.{Inequality, coefficient, IsWithinWidth}
-use Rattle.linear_rows.specs.Combination.{number, weighted_sum, combination}
+use Rattle.linear_rows.specs.Inequality.{Inequality, coefficient}
+use Rattle.linear_rows.specs.Combination.{number, weighted_sum, combination, CombinesWithin}
 use Rattle.linear_rows.specs.Reduction.{IsReduced}
 use Rattle.linear_rows.specs.Elimination.{IsUnit, Cancels, IsLeastMix, as_row, IsCancellingSum, IsRowOfStage, IsFound, ReachesLimit}
 use Rattle.linear_rows.specs.Elimination.IsRowOfStage.{kept, sum}
-use Rattle.lin_arith.specs.Substitution.{form_of}
-use Rattle.lin_arith.specs.Wide.{SumLeaves, IsFormOfRow, IsWide}
+use Rattle.linear_rows.specs.Fits.{IsFitting}
+use Rattle.lin_arith.specs.Wide.{SumLeaves, IsWide}
 use Rattle.lin_arith.specs.Wide.IsWide.{sum as wide}
 use Rattle.lin_arith.specs.Stages.{AreMultipliers, IsDerived, AreBefore, IsStage, IsOfStages, HasKey, key_cmp, AreFound, IsUnderWay, IsSound}
 use Rattle.lin_arith.specs.declared.elimination.Stage.{Stage}
@@ -29,6 +29,7 @@ use Rattle.linear_rows.specs.Closure.{IsWithout, IsSumOf, IsElimination, IsDue}
 use Rattle.linear_rows.specs.Closure.IsDue.{sum as due}
 use Rattle.linear_rows.proofs.ClosureLemmas.{IsMultiple, AreSummed, size_positive, multiple_of_reduced, combinations_summed, sum_of_multiples, without_in_sum, without_one_more}
 use Rattle.pv_base.proofs.WholeNumbers.{mul_not_negative, sign_of_multiple, zero_of_multiple}
+use Rattle.lin_arith.proofs.FitLemmas.{reduced_fits, combination_fits}
 use Rattle.lin_arith.proofs.KeyLemmas.{no_other_with}
 use Rattle.linear_rows.proofs.ListLemmas.{get_or-any_default}
 
@@ -238,8 +239,8 @@ sum_due width rows found unknowns unknown x y upper lower ms b cancels least = d
 })
 
 -- the sum of two rows that cancels an unknown, as a row of the next stage
-pub sum_derived : (width : ℕ) (rows found : List Inequality) (unknowns : List ℕ) (unknown x y : ℕ) (upper lower made : Derived) → AreBefore width rows found unknowns unknown upper lower → Cancels (coefficient unknown upper.total) (coefficient unknown lower.total) x y → IsLeastMix x y upper.multipliers lower.multipliers made.multipliers → made.total ≡ combination width made.multipliers rows → IsReduced made.total made.row → IsSound made.total → IsDerived width rows unknowns made
-sum_derived width rows found unknowns unknown x y upper lower made b cancels least is reduced sound =
+pub sum_derived : (width : ℕ) (rows found : List Inequality) (unknowns : List ℕ) (unknown x y : ℕ) (upper lower made : Derived) → AreBefore width rows found unknowns unknown upper lower → Cancels (coefficient unknown upper.total) (coefficient unknown lower.total) x y → IsLeastMix x y upper.multipliers lower.multipliers made.multipliers → made.total ≡ combination width made.multipliers rows → IsReduced made.total made.row → IsSound made.total → CombinesWithin width made.multipliers rows → IsDerived width rows unknowns made
+sum_derived width rows found unknowns unknown x y upper lower made b cancels least is reduced sound within =
     let u = b.upper_of_stage in
     let l = b.lower_of_stage in
     let of_sum = cancelling_sum width rows found unknowns unknown x y upper lower made.multipliers b cancels least in
@@ -255,6 +256,7 @@ sum_derived width rows found unknowns unknown x y upper lower made b cancels lea
       is_scaled = scaled.is_scaled;
       without = subst (λ (us : List ℕ). IsWithout us made.row) b.is_last (without_in_sum b.before unknown upper.row lower.row made.row is_sum u.without l.without);
       sound = sound_of_multiple made.row made.total scaled sound;
+      fits = reduced_fits made.total made.row reduced (subst (λ (r : Inequality). IsFitting r) (sym is) (combination_fits width made.multipliers rows within));
     }
 
 first_of_rest : (P : Derived → Type 0) (rest more : List Derived) (made : Derived) → All P rest → rest ≡ made ∷ more → P made
@@ -303,6 +305,7 @@ kept_derived width rows unknowns unknown made d none = record {
   is_scaled = d.is_scaled;
   without = without_one_more unknowns unknown made.row d.without (zero_of_multiple (pos d.scale) (coefficient unknown made.row) (size_positive d.scale d.positive) (d.is_scaled.coefficients unknown ∙ none));
   sound = d.sound;
+  fits = d.fits;
 }
 
 pub live_with : (width : ℕ) (rows : List Inequality) (unknowns : List ℕ) (old new : List Derived) (made : Derived) → All (IsDerived width rows unknowns) old → IsDerived width rows unknowns made → new ≡ old ++ made ∷ [] → All (IsDerived width rows unknowns) new
@@ -370,17 +373,3 @@ wide_sum width rows found unknowns unknown x y upper lower b cancels leaves =
       cancels = subst (λ (r : Inequality). Cancels (coefficient unknown (combination width upper.multipliers rows)) (coefficient unknown r) x y) l.is_total (subst (λ (r : Inequality). Cancels (coefficient unknown r) (coefficient unknown lower.total) x y) u.is_total cancels);
       leaves = leaves;
     })
-
--- the form of a row that an elimination keeps
-pub form_of_derived : (width : ℕ) (given : List Inequality) (unknowns : List ℕ) (rows : List Derived) (i : ℕ) (made : Derived) → IsWithinWidth width given → All (IsDerived width given unknowns) rows → i < length rows → made ≡ get_or rows i made → IsFormOfRow given (form_of made.row)
-form_of_derived width given unknowns rows i made within derived l is =
-    let d = subst (λ (m : Derived). IsDerived width given unknowns m) (sym is) (derived i made l) in
-    record {
-      width = width;
-      within = within;
-      unknowns = unknowns;
-      row = made.row;
-      multipliers = made.multipliers;
-      of_stage = d.of_stage;
-      is_form = refl;
-    }

@@ -7,14 +7,14 @@ use Rattle.std.proofs.Math.Seq.{take-append_seam}
 use Rattle.std.proofs.lemmas.List.{take-append-le, map-append, length-map}
 use Rattle.std.proofs.lemmas.List.Elements.{All-contains}
 use Rattle.linear_rows.specs.Inequality.{Inequality, coefficient}
-use Rattle.linear_rows.specs.Closure.{IsWithout}
+use Rattle.linear_rows.specs.Closure.{IsWithout, IsElimination}
 use Rattle.lin_arith.specs.Stages.{IsDerived, IsUnderWay, IsCaughtUp, StandsIn, AreParted, HasGrown, IsWhole, unknowns_of, AreWhole, KeepsStages, NoneIsLeft, HasAllStages}
 use Rattle.lin_arith.specs.declared.elimination.Stage.{Stage}
 use Rattle.lin_arith.specs.declared.elimination.Derived.{Derived}
 use Rattle.lin_arith.specs.declared.elimination.Elimination.{Elimination}
 use Rattle.lin_arith.proofs.BoundLemmas.{side_of}
 use Rattle.linear_rows.proofs.ClosureLemmas.{sums_stay, without_others}
-use Rattle.lin_arith.proofs.GrowthLemmas.{HaveSums, next_keeps, next_fresh, next_old, next_sums, stands_above, stands_below, none_left, complete}
+use Rattle.lin_arith.proofs.GrowthLemmas.{HaveSums, next_keeps, next_fresh, next_old, next_sums, stands_above, stands_below, none_left, eliminated}
 use Rattle.linear_rows.proofs.ListLemmas.{each-push}
 
 -- before the first stage
@@ -102,5 +102,5 @@ all_stages width rows elimination u c k left = record {
   different = subst (λ (us : List ℕ). AllPairs (λ a b. a ≢ b) us) (sym k.unknowns) c.different;
   no_unknown_left = λ row h w. none_left width rows elimination u c left row h (subst (λ (us : List ℕ). IsWithout us row) k.unknowns w);
   of_stages = u.stages;
-  complete = complete width rows elimination u c left;
+  elimination = subst (λ (us : List ℕ). IsElimination width rows us us elimination.found) (sym k.unknowns) (eliminated width rows elimination u c);
 }

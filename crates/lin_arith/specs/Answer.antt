@@ -3,9 +3,10 @@ use Rattle.std.specs.Prelude.{List, All}
 use Rattle.std.proofs.Common.{ℤ}
 use Rattle.linear_rows.specs.Inequality.{Inequality}
 use Rattle.linear_rows.specs.Combination.{IsContradiction}
-use Rattle.linear_rows.specs.Closure.{IsCompleteElimination, IsDue}
+use Rattle.linear_rows.specs.Closure.{IsDue}
 use Rattle.linear_rows.specs.Elimination.{ReachesLimit}
 use Rattle.lin_arith.specs.Substitution.{Meets, ArePositive}
+use Rattle.lin_arith.specs.Values.{AreAllChosen}
 use Rattle.lin_arith.specs.Wide.{IsWide}
 use Rattle.linear_rows.specs.declared.rows.Fraction.{Fraction}
 use Rattle.linear_rows.specs.declared.rows.LinAnswer.{LinAnswer}
@@ -48,7 +49,7 @@ pub record IsSolution (rows : List Inequality) (values : List Fraction) : Type 0
 
 -- the answer shows what it says of the rows
 abbrev pub Shows : List Inequality → LinAnswer → Type 0
-Shows rows answer = IfInfeasible answer (IsContradiction rows) × IfFeasible answer (IsSolution rows) × IfTooManyRows answer (ReachesLimit rows) × IfWide answer (IsWide rows) × IfFeasible answer (λ values. IsCompleteElimination rows) × IfInfeasible answer (IsDue rows)
+Shows rows answer = IfInfeasible answer (IsContradiction rows) × IfFeasible answer (IsSolution rows) × IfTooManyRows answer (ReachesLimit rows) × IfWide answer (IsWide rows) × IfFeasible answer (AreAllChosen rows) × IfInfeasible answer (IsDue rows)
 
 abbrev pub StopShows : List Inequality → Stop → Type 0
 StopShows rows (Answered answer) = Shows rows answer

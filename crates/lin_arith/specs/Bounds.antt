@@ -1,7 +1,9 @@
 -- Bounds of one unknown.
-use Rattle.std.specs.Prelude.{◌≢◌, List, pos, ◌*ℤ◌, ◌≤ℤ◌, ◌<ℤ◌, All, Contains, unsigned_abs, ◌^◌, ◌-◌, FitsSigned}
-use Rattle.std.specs.Int.{w128}
+use Rattle.std.specs.Prelude.{◌≡◌, ◌≢◌, ◌≤◌, List, pos, ◌*ℤ◌, ◌≤ℤ◌, ◌<ℤ◌, All, Contains, unsigned_abs, ◌^◌, ◌-◌}
+use Rattle.std.specs.Int.{IsGcd}
 use Rattle.std.proofs.Common.{ℤ}
+use Rattle.linear_rows.specs.Fits.{Fits}
+use Rattle.linear_rows.specs.declared.rows.Fraction.{Fraction}
 use Rattle.lin_arith.specs.declared.bounds.Bound.{Bound}
 use Rattle.lin_arith.specs.declared.bounds.Side.{Side}
 use Rattle.lin_arith.specs.declared.bounds.Side.TheVariants.{Upper, Lower}
@@ -40,6 +42,15 @@ IsReached b = IsOn Lower b → IsMetAt (pos (2 ^ 127 - 1)) (pos 1) b
 abbrev pub AreWithinReach : List Bound → Type 0
 AreWithinReach bounds = All IsReached bounds
 
--- no whole number of 128 bits meets it
-abbrev pub IsUnmet : Bound → Type 0
-IsUnmet b = (z : ℤ) → FitsSigned w128 z → ¬ ((b.coefficient *ℤ z) ≤ℤ b.bound)
+-- its numbers fit
+abbrev pub FitsBound : Bound → Type 0
+FitsBound b = Fits b.coefficient × Fits b.bound
+
+abbrev pub AreMet : List Bound → ℤ → Type 0
+AreMet bounds z = All (IsMetAt z (pos 1)) bounds
+
+-- where some whole number meets the bounds, the value is the one nearest to 0 that does; otherwise it is one of them, in
+-- lowest terms
+pub data IsBetween (bounds : List Bound) (value : Fraction) : Type 0 where
+  whole : value.denominator ≡ pos 1 → AreMet bounds value.numerator → ((z : ℤ) → AreMet bounds z → unsigned_abs value.numerator ≤ unsigned_abs z) → IsBetween bounds value
+  bound : ((z : ℤ) → AreMet bounds z → ⊥) → IsGcd (unsigned_abs value.numerator) (unsigned_abs value.denominator) 1 → (b : Bound) → Contains bounds b → value.numerator *ℤ b.coefficient ≡ b.bound *ℤ value.denominator → IsBetween bounds value

@@ -1,7 +1,8 @@
 -- What is left of the rows of a stage when the values chosen before are put in, and what a value makes of it.
 use Rattle.std.specs.Prelude.{◌≡◌, ◌≢◌, ℕ, List, pos, ◌*ℤ◌, ◌≤ℤ◌, Contains}
 use Rattle.std.proofs.Common.{ℤ, ◌<ℤ◌}
-use Rattle.linear_rows.specs.Inequality.{Inequality}
+use Rattle.linear_rows.specs.Inequality.{Inequality, coefficient}
+use Rattle.lin_arith.specs.Rest.{IsRest}
 use Rattle.lin_arith.specs.Stages.{StandsIn, StandsInStage}
 use Rattle.lin_arith.specs.Substitution.{LinearForm, form_of, put_in, put_in_all}
 use Rattle.lin_arith.specs.declared.bounds.Bound.{Bound}
@@ -29,11 +30,15 @@ pub record HasBound (form : LinearForm) (unknown : ℕ) (bounds : List Bound) : 
 abbrev pub HaveBounds : List Derived → List Fraction → ℕ → List Bound → Type 0
 HaveBounds rows values unknown bounds = (row : Inequality) → StandsIn rows row → (left_of values row).at unknown ≢ pos 0 → HasBound (left_of values row) unknown bounds
 
--- the bound is what is left of one of the rows
+-- the bound is what is left of one of the rows, with its numbers
 pub record IsOfRow (rows : List Derived) (values : List Fraction) (unknown : ℕ) (bound : Bound) : Type 0 where
   pub row : Inequality
   pub stands : StandsIn rows row
   pub is_bound_of : IsBoundOf (left_of values row) unknown bound
+  pub rest : Inequality
+  pub is_rest : IsRest row values rest
+  pub same_coefficient : bound.coefficient ≡ coefficient unknown rest
+  pub same_bound : bound.bound ≡ rest.bound
 
 -- in what is left of the stage's rows, each upper bound of its unknown is at least each lower one
 abbrev pub AreCompatible : Stage → List Fraction → Type 0

@@ -9,7 +9,8 @@ use Rattle.std.specs.declared.cmp.Ordering.{Ordering}
 use Rattle.std.specs.Ordering.{int_cmp}
 use Rattle.std.specs.Cmp.Lexicographic.{slice_cmp}
 use Rattle.linear_rows.specs.Inequality.{Inequality, coefficient, padded, IsWithinWidth}
-use Rattle.linear_rows.specs.Closure.{IsWithout, HasSums, IsClosed, IsElimination, IsCompleteElimination}
+use Rattle.linear_rows.specs.Closure.{IsWithout, HasSums, IsClosed, IsElimination}
+use Rattle.linear_rows.specs.Fits.{IsFitting}
 use Rattle.linear_rows.specs.Reduction.{IsTimes}
 use Rattle.linear_rows.specs.Combination.{combination}
 use Rattle.linear_rows.specs.Elimination.{IsRowOfStage, IsFound, AreDifferent}
@@ -37,6 +38,7 @@ pub record IsDerived (width : ℕ) (rows : List Inequality) (unknowns : List ℕ
   pub is_scaled : IsTimes scale made.row made.total
   pub without : IsWithout unknowns made.row
   pub sound : IsSound made.row
+  pub fits : IsFitting made.row
 
 -- two rows that an elimination has found, of the stage after these unknowns, all but the last, and the last one cancels
 -- between them
@@ -172,6 +174,11 @@ pub record IsLeft (live : List Derived) (unknown : ℕ) : Type 0 where
 abbrev pub NoneIsLeft : ℕ → List Derived → Type 0
 NoneIsLeft width live = (unknown : ℕ) → unknown < width → All (λ (made : Derived). coefficient unknown made.row ≡ pos 0) live
 
+-- each row that the stage left behind fits
+pub record IsFittingStage (stage : Stage) : Type 0 where
+  pub upper : All (λ (made : Derived). IsFitting made.row) stage.upper.items
+  pub lower : All (λ (made : Derived). IsFitting made.row) stage.lower.items
+
 -- all stages of an elimination that came to its end, and the rows that it has found
 pub record HasAllStages (width : ℕ) (rows : List Inequality) (stages : List Stage) : Type 0 where
   pub found : List Inequality
@@ -183,4 +190,4 @@ pub record HasAllStages (width : ℕ) (rows : List Inequality) (stages : List St
   pub different : AllPairs (λ first second. first ≢ second) (unknowns_of stages)
   pub no_unknown_left : (row : Inequality) → Contains found row → IsWithout (unknowns_of stages) row → (unknown : ℕ) → coefficient unknown row ≡ pos 0
   pub of_stages : All (IsOfStages width rows) stages
-  pub complete : IsCompleteElimination rows
+  pub elimination : IsElimination width rows (unknowns_of stages) (unknowns_of stages) found

@@ -1,9 +1,9 @@
 //! The choice of a value between bounds.
 
-ghost use Rattle.std.specs.Prelude.{false, ◌≡◌, ◌≢◌, pos, ◌<ℤ◌, ◌≤ℤ◌, ◌*ℤ◌, All, IfSome, IfNone, ◌↔◌, ◌⊎◌, IsTrue, ℤ, FitsSigned};
-ghost use Rattle.std.specs.Int.{w128};
+ghost use Rattle.std.specs.Prelude.{◌≡◌, ◌≤◌, unsigned_abs, ◌≢◌, pos, ◌<ℤ◌, ◌≤ℤ◌, ◌*ℤ◌, All, IfSome, IfNone, ◌↔◌, ◌⊎◌, IsTrue, ℤ, FitsSigned};
+ghost use Rattle.std.specs.Int.{IsGcd, w128};
 ghost use Rattle.lin_arith.specs.declared.bounds.Side.TheVariants.{Lower};
-ghost use Rattle.lin_arith.specs.Bounds.{IsOn, IsMetAt, IsAsTight, IsTightest, AreConsistent, AreNonzero, IsReached, IsUnmet};
+ghost use Rattle.lin_arith.specs.Bounds.{IsOn, IsMetAt, IsAsTight, IsTightest, AreConsistent, AreNonzero, IsBetween};
 
 use linear_rows::numbers::{
     exact_quotient, floor_quotient, greatest_common_divisor, is_product_less,
@@ -33,8 +33,7 @@ pub fn chosen(unknown: usize, bounds: &[Bound]) -> Option<Fraction>
     ensures positive { IfSome result (λ value. pos 0 <ℤ value.denominator) }
     ensures met { AreConsistent bounds.now
         → IfSome result (λ value. All (IsMetAt value.numerator value.denominator) bounds.now) }
-    ensures whole { (z : ℤ) → FitsSigned w128 z → All (IsMetAt z (pos 1)) bounds.now
-        → IfSome result (λ value. value.denominator ≡ pos 1) }
+    ensures between { IfSome result (IsBetween bounds.now) }
     ensures none { IfNone result ((z : ℤ) → FitsSigned w128 z → All (λ b. IsOn Lower b → IsMetAt z (pos 1) b) bounds.now → ⊥) }
 {
     let least = least_whole(bounds)?;
@@ -73,6 +72,7 @@ fn nearest_to_zero(least: i128, greatest: i128) -> i128
     requires { least ≤ℤ greatest }
     ensures least { least ≤ℤ result }
     ensures greatest { result ≤ℤ greatest }
+    ensures nearest { (z : ℤ) → least ≤ℤ z → z ≤ℤ greatest → unsigned_abs result ≤ unsigned_abs z }
 {
     if least > 0 {
         least
@@ -89,6 +89,7 @@ fn quotient(unknown: usize, upper: Bound) -> Fraction
     ensures unknown { result.unknown ≡ unknown }
     ensures positive { pos 0 <ℤ result.denominator }
     ensures value { result.numerator *ℤ upper.coefficient ≡ upper.bound *ℤ result.denominator }
+    ensures lowest { IsGcd (unsigned_abs result.numerator) (unsigned_abs result.denominator) 1 }
 {
     let common = greatest_common_divisor(
         upper.bound.unsigned_abs(),
@@ -155,13 +156,4 @@ fn is_as_tight(first: &Bound, second: &Bound) -> bool
         (false, true) => true,
         (false, false) => !is_product_less(first_bound, second_size, second_bound, first_size),
     }
-}
-
-/// Whether some whole number of 128 bits meets a bound.
-pub fn is_within_reach(bound: &Bound) -> bool
-    ensures reached { IsTrue result → IsReached bound.now }
-    ensures unmet { result ≡ false → IsUnmet bound.now }
-{
-    let Bound { coefficient, bound } = *bound;
-    coefficient != -1 || bound != i128::MIN
 }

@@ -1,22 +1,25 @@
 //! The answer to a system of rows.
 
 ghost use Rattle.std.specs.Prelude.{◌≡◌, ◌≢◌, ◌⊎◌, ◌↔◌, pos, ◌<ℤ◌, ℕ, All, Contains, IsTrue, IfOk, IfErr, OnOk, List};
-ghost use Rattle.linear_rows.specs.Inequality.{Inequality, IsWithinWidth};
-ghost use Rattle.lin_arith.specs.Stages.{IsDerived, IsOfStages, HasAllStages};
+ghost use Rattle.linear_rows.specs.Fits.{IsFitting};
+ghost use Rattle.linear_rows.specs.Inequality.{Inequality};
+ghost use Rattle.lin_arith.specs.Stages.{IsWhole, IsFittingStage, HasAllStages};
+ghost use Rattle.lin_arith.specs.Values.{IsChosen, IsChoosing, AreAllChosen};
 ghost use Rattle.lin_arith.specs.Wide.{IsWide};
 ghost use Rattle.linear_rows.specs.Combination.{IsContradiction};
 ghost use Rattle.lin_arith.specs.Bounds.{AreNonzero, AreWithinReach};
 ghost use Rattle.lin_arith.specs.Choice.{HaveBounds, IsOfRow, AreCompatible, MeetsStage};
-ghost use Rattle.linear_rows.specs.Closure.{IsCompleteElimination, IsDue};
+ghost use Rattle.linear_rows.specs.Closure.{IsDue};
+ghost use Rattle.lin_arith.specs.declared.elimination.Derived.{Derived};
 ghost use Rattle.lin_arith.specs.declared.bounds.Bound.{Bound};
 ghost use Rattle.lin_arith.specs.declared.elimination.Stage.{Stage};
 ghost use Rattle.linear_rows.specs.Elimination.{ReachesLimit};
 ghost use Rattle.lin_arith.specs.Substitution.{ArePositive};
 ghost use Rattle.lin_arith.specs.Answer.{IfInfeasible, IfFeasible, IfTooManyRows, IfWide, IsSolution, Shows, StopShows};
 
-use crate::bounds::{Bound, chosen, is_within_reach};
+use crate::bounds::{Bound, chosen};
 use crate::elimination::{Derived, Elimination, Stage};
-use crate::stop::{Stop, wide};
+use crate::stop::Stop;
 use crate::substitution::put_in_all;
 use crate::system::System;
 use linear_rows::rows::{Fraction, Fractions, LinAnswer, LinRow, Rows};
@@ -24,24 +27,25 @@ use pv_base::memory::NoMemory;
 use std::alloc::Global;
 
 /// Whether rows have a solution in fractions, with what shows it: an elimination of one unknown after
-/// another, as Fourier and Motzkin found it.
+/// another, as Fourier and Motzkin found it. A number fits 128 bits where its negation does too.
 ///
 /// `Infeasible` carries multipliers whose combination of the rows is a contradiction, with every product
 /// and sum on the way within 128 bits. `Feasible` carries values that meet every row, put in one after
-/// another. `Wide` carries two rows whose sum leaves 128 bits: two of one stage; or a row with values put
-/// in, and the next value as a row; or, twice, a row with values put in that no whole number of 128 bits
-/// meets. `TooManyRows` carries 5,000 different rows of the stages of one elimination. `NoMemory` comes
-/// where memory ran out.
+/// another: one for each unknown, chosen last unknown first, the whole number nearest to 0 that meets the
+/// bounds where there is one, else a bound. `Wide` carries two rows whose sum leaves 128 bits: two of one
+/// stage; or a row with values put in that were so chosen, and the next one as a row. `TooManyRows` carries
+/// 5,000 different rows of the stages of one elimination. `NoMemory` comes where memory ran out.
 ///
 /// `TooManyRows` comes exactly where 5,000 different rows are reached: each other answer comes with an
 /// elimination that has all rows of its stages so far, and fewer than 5,000 different ones. `Infeasible`
 /// and a `Wide` pair of one stage come where that row or sum is due next, the other answers where the
 /// elimination has come to its end.
 pub fn solve(alloc: Global, rows: &Rows) -> Result<LinAnswer, NoMemory>
+    requires { All IsFitting rows.now }
     ensures infeasible { IfOk result (λ answer. IfInfeasible answer (IsContradiction rows.now)) }
     ensures due { IfOk result (λ answer. IfInfeasible answer (IsDue rows.now)) }
     ensures feasible { IfOk result (λ answer. IfFeasible answer (IsSolution rows.now)) }
-    ensures complete { IfOk result (λ answer. IfFeasible answer (λ values. IsCompleteElimination rows.now)) }
+    ensures chosen { IfOk result (λ answer. IfFeasible answer (AreAllChosen rows.now)) }
     ensures wide { IfOk result (λ answer. IfWide answer (IsWide rows.now)) }
     ensures too_many_rows { IfOk result (λ answer. IfTooManyRows answer (ReachesLimit rows.now)) }
 {
@@ -53,6 +57,7 @@ pub fn solve(alloc: Global, rows: &Rows) -> Result<LinAnswer, NoMemory>
 }
 
 fn answered(alloc: Global, rows: &[LinRow]) -> Result<LinAnswer, Stop>
+    requires { All IsFitting rows.now }
     ensures ok { IfOk result (Shows rows.now) }
     ensures err { IfErr result (StopShows rows.now) }
 {
@@ -68,6 +73,7 @@ fn answered(alloc: Global, rows: &[LinRow]) -> Result<LinAnswer, Stop>
 fn values(alloc: Global, system: &System<'_>, stages: &[Stage]) -> Result<Vec<Fraction>, Stop>
     requires { HasAllStages system.now.width system.now.rows.now stages.now }
     ensures ok { IfOk result (λ values. IsSolution system.now.rows.now values.items) }
+    ensures chosen { IfOk result (λ values. AreAllChosen system.now.rows.now values.items) }
     ensures err { IfErr result (StopShows system.now.rows.now) }
 {
     let mut values = Vec::with_capacity(alloc, system.width)?;
@@ -98,10 +104,12 @@ fn is_kept(unknown: usize, stages: &[Stage]) -> bool
 fn value_at(alloc: Global, stage: &Stage, values: &[Fraction]) -> Result<Fraction, Stop>
     requires values { ArePositive values.now }
     requires compatible { AreCompatible stage.now values.now }
+    requires fits { IsFittingStage stage.now }
     ensures unknown { IfOk result (λ value. value.unknown ≡ stage.now.unknown) }
     ensures positive { IfOk result (λ value. pos 0 <ℤ value.denominator) }
     ensures met { IfOk result (MeetsStage stage.now values.now) }
-    ensures err { (width : ℕ) (rows : List Inequality) → IsWithinWidth width rows → IsOfStages width rows stage.now → IsCompleteElimination rows → IfErr result (StopShows rows) }
+    ensures chosen { (found : List Inequality) (before : List ℕ) → IsWhole found before stage.now → IfOk result (IsChosen found before values.now) }
+    ensures err { (rows : List Inequality) (choosing : IsChoosing rows values.now) (before : List ℕ) → IsWhole choosing.complete.found before stage.now → IfErr result (StopShows rows) }
 {
     let mut bounds = Vec::new(alloc);
     put_bounds(
@@ -133,6 +141,7 @@ fn put_bounds(
     bounds: &mut Vec<Bound>,
 ) -> Result<(), Stop>
     requires values { ArePositive values.now }
+    requires fits { All (λ (made : Derived). IsFitting made.row) rows.now }
     requires bounds { AreNonzero bounds.old.items }
     requires reached { AreWithinReach bounds.old.items }
     ensures ok { OnOk result (AreNonzero bounds.new.items) }
@@ -140,7 +149,7 @@ fn put_bounds(
     ensures kept { OnOk result ((bound : Bound) → Contains bounds.old.items bound → Contains bounds.new.items bound) }
     ensures put { OnOk result (HaveBounds rows.now values.now unknown bounds.new.items) }
     ensures from { OnOk result ((bound : Bound) → Contains bounds.new.items bound → Contains bounds.old.items bound ⊎ IsOfRow rows.now values.now unknown bound) }
-    ensures err { (width : ℕ) (given : List Inequality) (unknowns : List ℕ) → IsWithinWidth width given → All (IsDerived width given unknowns) rows.now → IsCompleteElimination given → IfErr result (StopShows given) }
+    ensures err { (given : List Inequality) (choosing : IsChoosing given values.now) → All (λ (made : Derived). Contains choosing.complete.found made.row) rows.now → IfErr result (StopShows given) }
 {
     for made in rows {
         let left = put_in_all(alloc, &made.row, values)?;
@@ -148,9 +157,6 @@ fn put_bounds(
             coefficient: left.coefficient(unknown),
             bound: left.bound(),
         };
-        if !is_within_reach(&bound) {
-            return Err(wide(alloc, &left, &left)?);
-        }
         if bound.coefficient != 0 {
             bounds.push(bound)?;
         }

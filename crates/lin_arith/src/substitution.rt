@@ -1,14 +1,16 @@
 //! Values put into rows.
 
-ghost use Rattle.std.specs.Prelude.{IfOk, IfErr, IfSome, IfNone, pos, ◌<ℤ◌, ◌≢◌, ◌≡◌, ◌==◌, ℕ, ◌*ℤ◌, ◌-ℤ◌, if◌then◌else◌, slice_index_or, List};
+ghost use Rattle.std.specs.Prelude.{IfOk, IfErr, IfSome, IfNone, pos, ◌<ℤ◌, ◌≢◌, ◌≡◌, ◌==◌, ℕ, ◌*ℤ◌, ◌-ℤ◌, if◌then◌else◌, slice_index_or, List, Contains};
+ghost use Rattle.linear_rows.specs.Fits.{Fits};
 ghost use Rattle.linear_rows.specs.Inequality.{Inequality, coefficient};
 ghost use Rattle.std.specs.Option.{SomeIff};
 ghost use Rattle.lin_arith.specs.Answer.{StopShows};
-ghost use Rattle.linear_rows.specs.Closure.{IsCompleteElimination};
-ghost use Rattle.lin_arith.specs.Substitution.{put_in, put_in_all, form_of, IsRatio, ArePositive};
-ghost use Rattle.lin_arith.specs.Wide.{DifferenceWithin, IsFormOfRow, IsValueRow, PutInLeaves, ScaledLeaves};
+ghost use Rattle.lin_arith.specs.Rest.{DifferenceWithin, IsPut, IsRest, IsValueRow, PutInLeaves, ScaledLeaves};
+ghost use Rattle.lin_arith.specs.Substitution.{ArePositive};
+ghost use Rattle.lin_arith.specs.Values.{IsChoosing};
 
 use crate::stop::Stop;
+use linear_rows::numbers;
 use linear_rows::numbers::{exact_quotient, greatest_common_divisor};
 use linear_rows::reduction::reduced;
 use linear_rows::rows::{Fraction, LinAnswer, LinRow};
@@ -19,7 +21,7 @@ use std::alloc::Global;
 /// where it leaves 128 bits.
 fn put_in(alloc: Global, row: &LinRow, value: &Fraction) -> Result<Option<LinRow>, NoMemory>
     requires { pos 0 <ℤ value.now.denominator }
-    ensures some { IfOk result (λ made. IfSome made (IsRatio (put_in (form_of row.now) value.now))) }
+    ensures some { IfOk result (λ made. IfSome made (IsPut row.now value.now)) }
     ensures none { IfOk result (λ made. IfNone made (PutInLeaves row.now value.now)) }
 {
     let common = greatest_common_divisor(
@@ -41,13 +43,13 @@ fn put_in(alloc: Global, row: &LinRow, value: &Fraction) -> Result<Option<LinRow
 fn difference(factor: i128, bound: i128, weight: i128, numerator: i128) -> Option<i128>
     ensures { SomeIff result (DifferenceWithin factor bound weight numerator) ((factor *ℤ bound) -ℤ (weight *ℤ numerator)) }
 {
-    let Some(left) = factor.checked_mul(bound) else {
+    let Some(left) = numbers::product(factor, bound) else {
         return None;
     };
-    let Some(right) = weight.checked_mul(numerator) else {
+    let Some(right) = numbers::product(weight, numerator) else {
         return None;
     };
-    left.checked_sub(right)
+    numbers::difference(left, right)
 }
 
 /// The row's coefficients times a factor, and 0 for the unknown. None where one leaves 128 bits.
@@ -58,6 +60,7 @@ fn scaled_without(
     unknown: usize,
 ) -> Result<Option<Vec<i128>>, NoMemory>
     ensures some { IfOk result (λ made. IfSome made (λ cs. (k : ℕ) → slice_index_or cs.items k (pos 0) ≡ (if k == unknown then pos 0 else (factor *ℤ coefficient k row.now)))) }
+    ensures fits { IfOk result (λ made. IfSome made (λ cs. (k : ℕ) → k ≢ unknown → Fits (factor *ℤ coefficient k row.now))) }
     ensures none { IfOk result (λ made. IfNone made (ScaledLeaves factor unknown row.now)) }
 {
     let mut coefficients = Vec::with_capacity(alloc, row.coefficients().len())?;
@@ -65,7 +68,7 @@ fn scaled_without(
         if i == unknown {
             coefficients.push(0)?;
         } else {
-            let Some(product) = factor.checked_mul(*number) else {
+            let Some(product) = numbers::product(factor, *number) else {
                 return Ok(None);
             };
             coefficients.push(product)?;
@@ -77,8 +80,8 @@ fn scaled_without(
 /// The row with all values put in, one after another.
 pub fn put_in_all(alloc: Global, row: &LinRow, values: &[Fraction]) -> Result<LinRow, Stop>
     requires { ArePositive values.now }
-    ensures ok { IfOk result (IsRatio (put_in_all (form_of row.now) values.now)) }
-    ensures err { (rows : List Inequality) → IsFormOfRow rows (form_of row.now) → IsCompleteElimination rows → IfErr result (StopShows rows) }
+    ensures ok { IfOk result (IsRest row.now values.now) }
+    ensures err { (rows : List Inequality) (choosing : IsChoosing rows values.now) → Contains choosing.complete.found row.now → IfErr result (StopShows rows) }
 {
     let mut left = row.try_clone(alloc)?;
     for value in values {

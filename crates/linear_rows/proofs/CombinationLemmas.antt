@@ -1,9 +1,9 @@
 -- Weighted sums, one row at a time.
-use Rattle.std.proofs.Common.{◌≡◌, ℕ, ◌<◌, ◌≤◌, ◌+◌, List, [], length, drop, get_or, pos, ℤ, ◌+ℤ◌, ◌*ℤ◌, FitsSigned, refl, sym, ap, ◌∙◌, subst, arith, add-one, drop-cons, ◌↔◌}
-use Rattle.std.specs.Int.{w128}
+use Rattle.std.proofs.Common.{◌≡◌, ℕ, ◌<◌, ◌≤◌, ◌+◌, List, [], length, drop, get_or, pos, ℤ, ◌+ℤ◌, ◌*ℤ◌, refl, sym, ap, ◌∙◌, subst, arith, add-one, drop-cons, ◌↔◌}
 use Rattle.std.proofs.Math.IntN.{zero-*ℤ}
 use Rattle.std.proofs.lemmas.List.{drop_all}
 use Rattle.std.proofs.lemmas.Int.{ints}
+use Rattle.linear_rows.specs.Fits.{Fits}
 use Rattle.linear_rows.specs.Inequality.{Inequality}
 use Rattle.linear_rows.specs.Combination.{IsAdded, weighted_sum, StaysWithin}
 
@@ -49,16 +49,16 @@ StaysWithin-end part ms rows i total h = subst (λ (xs : List ℤ). StaysWithin 
 zero_product : (total m z : ℤ) → m ≡ pos 0 → total ≡ total +ℤ (m *ℤ z)
 zero_product total m z e = let p : m *ℤ z ≡ pos 0 = ap (λ (x : ℤ). x *ℤ z) e ∙ zero-*ℤ z in omega (arith, ints, p)
 
-zero_is_added : (total m z : ℤ) → m ≡ pos 0 → FitsSigned w128 total → IsAdded total (m *ℤ z)
+zero_is_added : (total m z : ℤ) → m ≡ pos 0 → Fits total → IsAdded total (m *ℤ z)
 zero_is_added total m z e f =
     let p : m *ℤ z ≡ pos 0 = ap (λ (x : ℤ). x *ℤ z) e ∙ zero-*ℤ z in
-    let zero_fits : FitsSigned w128 (pos 0) = omega (arith, ints) in
-    (subst (λ (x : ℤ). FitsSigned w128 x) (sym p) zero_fits, subst (λ (x : ℤ). FitsSigned w128 x) (zero_product total m z e) f)
+    let zero_fits : Fits (pos 0) = (omega (arith, ints), omega (arith, ints)) in
+    (subst (λ (x : ℤ). Fits x) (sym p) zero_fits, subst (λ (x : ℤ). Fits x) (zero_product total m z e) f)
 
 pub weighted_sum-skip : (part : Inequality → ℤ) (ms : List ℤ) (rows : List Inequality) (i : ℕ) (row : Inequality) (total whole : ℤ) → i < length ms → i < length rows → row ≡ get_or rows i row → get_or ms i (pos 0) ≡ pos 0 → total +ℤ weighted_sum part (drop i ms) (drop i rows) ≡ whole → total +ℤ weighted_sum part (drop (i + 1) ms) (drop (i + 1) rows) ≡ whole
 weighted_sum-skip part ms rows i row total whole h k e z w =
     weighted_sum-step part ms rows i row total total whole h k e (zero_product total (get_or ms i (pos 0)) (part row) z) w
 
-pub StaysWithin-skip : (part : Inequality → ℤ) (ms : List ℤ) (rows : List Inequality) (i : ℕ) (row : Inequality) (total : ℤ) → i < length ms → i < length rows → row ≡ get_or rows i row → get_or ms i (pos 0) ≡ pos 0 → FitsSigned w128 total → StaysWithin part total (drop i ms) (drop i rows) ↔ StaysWithin part total (drop (i + 1) ms) (drop (i + 1) rows)
+pub StaysWithin-skip : (part : Inequality → ℤ) (ms : List ℤ) (rows : List Inequality) (i : ℕ) (row : Inequality) (total : ℤ) → i < length ms → i < length rows → row ≡ get_or rows i row → get_or ms i (pos 0) ≡ pos 0 → Fits total → StaysWithin part total (drop i ms) (drop i rows) ↔ StaysWithin part total (drop (i + 1) ms) (drop (i + 1) rows)
 StaysWithin-skip part ms rows i row total h k e z f =
     StaysWithin-step part ms rows i row total total h k e (zero_product total (get_or ms i (pos 0)) (part row) z) (zero_is_added total (get_or ms i (pos 0)) (part row) z f)

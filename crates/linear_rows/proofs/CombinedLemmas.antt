@@ -1,10 +1,10 @@
 -- Combinations of rows, made one row after another.
-use Rattle.std.proofs.Common.{◌≡◌, ℕ, zero, suc, ◌<◌, ◌≤◌, ◌+◌, List, length, map, drop, get_or, replicate, pos, ℤ, ◌+ℤ◌, ◌*ℤ◌, FitsSigned, sym, ap, ◌∙◌, subst, arith, ◌↔◌}
-use Rattle.std.specs.Int.{w128}
+use Rattle.std.proofs.Common.{◌≡◌, ℕ, zero, suc, ◌<◌, ◌≤◌, ◌+◌, List, length, map, drop, get_or, replicate, pos, ℤ, ◌+ℤ◌, ◌*ℤ◌, sym, ap, ◌∙◌, subst, arith, ◌↔◌}
 use Rattle.std.specs.List.{range_with_len}
 use Rattle.std.proofs.lemmas.List.{ext_get_or, get_or-replicate, length-replicate}
 use Rattle.std.proofs.lemmas.List.FromFn.{get_or-map-range_with_len, length-map-range_with_len}
 use Rattle.std.proofs.lemmas.Int.{ints}
+use Rattle.linear_rows.specs.Fits.{Fits}
 use Rattle.linear_rows.specs.Inequality.{Inequality, coefficient}
 use Rattle.linear_rows.specs.Combination.{IsAdded, weighted_sum, StaysWithin, combination, CombinesWithin, number, bound_of, IsAddedTo, AddedLeaves}
 use Rattle.linear_rows.proofs.ListLemmas.{get_or-any_default}
@@ -12,12 +12,12 @@ use Rattle.linear_rows.proofs.CombinationLemmas.{weighted_sum-step, StaysWithin-
 
 -- a total that has the products of the rows before one, in a sum of which nothing has left 128 bits so far
 pub record HasProducts (part : Inequality → ℤ) (ms : List ℤ) (rows : List Inequality) (i : ℕ) (total : ℤ) : Type 0 where
-  pub fits : FitsSigned w128 total
+  pub fits : Fits total
   pub value : total +ℤ weighted_sum part (drop i ms) (drop i rows) ≡ weighted_sum part ms rows
   pub within : StaysWithin part (pos 0) ms rows ↔ StaysWithin part total (drop i ms) (drop i rows)
 
 pub products_begin : (part : Inequality → ℤ) (ms : List ℤ) (rows : List Inequality) → HasProducts part ms rows 0 (pos 0)
-products_begin part ms rows = record { fits = omega (arith, ints); value = zero_more (weighted_sum part ms rows); within = (λ s. s, λ s. s) }
+products_begin part ms rows = record { fits = (omega (arith, ints), omega (arith, ints)); value = zero_more (weighted_sum part ms rows); within = (λ s. s, λ s. s) }
   where
     zero_more : (z : ℤ) → pos 0 +ℤ z ≡ z
     zero_more z = omega (arith, ints)
@@ -26,7 +26,7 @@ pub products_step : (part : Inequality → ℤ) (ms : List ℤ) (rows : List Ine
 products_step part ms rows i row total next h k e n a before =
     let step = StaysWithin-step part ms rows i row total next h k e n a in
     record {
-      fits = subst (λ (z : ℤ). FitsSigned w128 z) (sym n) a.1;
+      fits = subst (λ (z : ℤ). Fits z) (sym n) a.1;
       value = weighted_sum-step part ms rows i row total next (weighted_sum part ms rows) h k e n before.value;
       within = (λ s. step.0 (before.within.0 s), λ s. before.within.1 (step.1 s));
     }

@@ -1,6 +1,7 @@
 pub mod ClosureLemmas
 pub mod CombinationLemmas
 pub mod CombinedLemmas
+pub mod FitLemmas
 pub mod LeastLemmas
 pub mod ListLemmas
 pub mod NumberLemmas

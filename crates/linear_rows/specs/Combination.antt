@@ -1,9 +1,9 @@
 -- Combinations of rows: each row times a multiplier, added up in the rows' order. By Farkas' lemma rows have no
 -- solution in fractions exactly where some combination with multipliers of at least 0 is a contradiction.
-use Rattle.std.specs.Prelude.{◌≡◌, ℕ, ◌<◌, List, map, [], ◌∷◌, length, pos, ◌+ℤ◌, ◌*ℤ◌, ◌≤ℤ◌, FitsSigned, All, slice_index_or}
-use Rattle.std.specs.Int.{w128}
+use Rattle.std.specs.Prelude.{◌≡◌, ℕ, ◌<◌, List, map, [], ◌∷◌, length, pos, ◌+ℤ◌, ◌*ℤ◌, ◌≤ℤ◌, All, slice_index_or}
 use Rattle.std.specs.List.{range_with_len}
 use Rattle.std.proofs.Common.{ℤ, ◌<ℤ◌}
+use Rattle.linear_rows.specs.Fits.{Fits}
 use Rattle.linear_rows.specs.Inequality.{Inequality, coefficient}
 
 -- multipliers times a number of each row, added up
@@ -14,7 +14,7 @@ weighted_sum part (m ∷ ms) (row ∷ rows) = (m *ℤ part row) +ℤ weighted_su
 
 -- a product that is added, and the sum, stay within 128 bits
 abbrev pub IsAdded : ℤ → ℤ → Type 0
-IsAdded total product = FitsSigned w128 product × FitsSigned w128 (total +ℤ product)
+IsAdded total product = Fits product × Fits (total +ℤ product)
 
 -- with these products added to `total` one after another, each product and each sum stays within 128 bits
 abbrev pub StaysWithin : (Inequality → ℤ) → ℤ → List ℤ → List Inequality → Type 0

@@ -3,10 +3,11 @@
 -- unknown leaves to the next one its rows without the unknown, and the sums of two of its rows with multipliers that
 -- cancel the unknown. Each row of a stage carries multipliers of the given rows, whose combination is the row but for
 -- a positive factor.
-use Rattle.std.specs.Prelude.{◌≡◌, ◌≢◌, ℕ, ◌<◌, List, [], ◌∷◌, ◌++◌, length, pos, ◌+ℤ◌, ◌*ℤ◌, FitsSigned, All}
-use Rattle.std.specs.Int.{w128, IsGcd}
+use Rattle.std.specs.Prelude.{◌≡◌, ◌≢◌, ℕ, ◌<◌, List, [], ◌∷◌, ◌++◌, length, pos, ◌+ℤ◌, ◌*ℤ◌, All}
+use Rattle.std.specs.Int.{IsGcd}
 use Rattle.std.specs.List.{AllPairs}
 use Rattle.std.proofs.Common.{ℤ, ◌<ℤ◌}
+use Rattle.linear_rows.specs.Fits.{Fits}
 use Rattle.linear_rows.specs.Inequality.{Inequality, coefficient, IsWithinWidth}
 use Rattle.linear_rows.specs.Combination.{number, IsAdded, combination}
 use Rattle.linear_rows.specs.Reduction.{IsReduced}
@@ -32,9 +33,9 @@ pub record IsMix (x y : ℕ) (first second mixed : List ℤ) : Type 0 where
 
 -- x times a and y times b stay within 128 bits, as do the multipliers and the sum
 pub record MixFits (x y : ℕ) (a b : ℤ) : Type 0 where
-  pub first_multiplier : FitsSigned w128 (pos x)
-  pub second_multiplier : FitsSigned w128 (pos y)
-  pub product : FitsSigned w128 (pos x *ℤ a)
+  pub first_multiplier : Fits (pos x)
+  pub second_multiplier : Fits (pos y)
+  pub product : Fits (pos x *ℤ a)
   pub added : IsAdded (pos x *ℤ a) (pos y *ℤ b)
 
 -- some number of the sum does not

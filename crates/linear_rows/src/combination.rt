@@ -4,6 +4,7 @@ ghost use Rattle.std.specs.Prelude.{◌≡◌, ℕ, ◌<◌, length, pos, false,
 ghost use Rattle.std.specs.Option.{SomeIff};
 ghost use Rattle.linear_rows.specs.Combination.{IsAdded, combination, CombinesWithin, number, IsAddedTo, AddedLeaves};
 
+use crate::numbers::{fitting, product, sum};
 use crate::packed::Packed;
 use crate::rows::LinRow;
 use pv_base::memory::NoMemory;
@@ -14,13 +15,16 @@ pub fn plus_product(total: i128, multiplier: i128, number: i128) -> Option<i128>
     ensures { SomeIff result (IsAdded total (multiplier *ℤ number)) (total +ℤ (multiplier *ℤ number)) }
 {
     if multiplier == 0 || number == 0 {
-        return Some(total);
+        return fitting(total);
     }
     if multiplier == 1 {
-        return total.checked_add(number);
+        return match fitting(number) {
+            Some(number) => sum(total, number),
+            None => None,
+        };
     }
-    match multiplier.checked_mul(number) {
-        Some(product) => total.checked_add(product),
+    match product(multiplier, number) {
+        Some(product) => sum(total, product),
         None => None,
     }
 }

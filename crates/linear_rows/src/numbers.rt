@@ -1,8 +1,63 @@
-//! Common divisors, and quotients rounded to a side.
+//! Arithmetic within 128 bits, common divisors, and quotients rounded to a side.
 
-ghost use Rattle.std.specs.Prelude.{◌≡◌, ◌≤◌, ◌<◌, ◌^◌, pos, ◌<ℤ◌, ◌*ℤ◌, ◌*◌, ◌↔◌, IsTrue, unsigned_abs};
+ghost use Rattle.std.specs.Prelude.{All, ◌+ℤ◌, ◌-ℤ◌, ◌≡◌, ◌≤◌, ◌<◌, ◌^◌, pos, ◌<ℤ◌, ◌*ℤ◌, ◌*◌, ◌↔◌, IsTrue, unsigned_abs};
 ghost use Rattle.std.specs.Int.{IsGcd, ◌∣◌};
 ghost use Rattle.linear_rows.specs.Floor.{IsFloor};
+ghost use Rattle.linear_rows.specs.Fits.{Fits};
+ghost use Rattle.std.specs.Option.{SomeIff};
+
+/// The number. None where it is -2^127, whose negation does not fit.
+pub fn fitting(number: i128) -> Option<i128>
+    ensures { SomeIff result (Fits number) number }
+{
+    if number == i128::MIN {
+        None
+    } else {
+        Some(number)
+    }
+}
+
+/// Whether each of the numbers fits.
+pub fn are_fitting(numbers: &[i128]) -> bool
+    ensures { IsTrue result ↔ All Fits numbers.now }
+{
+    for number in numbers {
+        if *number == i128::MIN {
+            return false;
+        }
+    }
+    true
+}
+
+/// The sum of two numbers. None where it does not fit.
+pub fn sum(first: i128, second: i128) -> Option<i128>
+    ensures { SomeIff result (Fits (first +ℤ second)) (first +ℤ second) }
+{
+    match first.checked_add(second) {
+        Some(sum) => fitting(sum),
+        None => None,
+    }
+}
+
+/// The first number less the second. None where it does not fit.
+pub fn difference(first: i128, second: i128) -> Option<i128>
+    ensures { SomeIff result (Fits (first -ℤ second)) (first -ℤ second) }
+{
+    match first.checked_sub(second) {
+        Some(difference) => fitting(difference),
+        None => None,
+    }
+}
+
+/// The product of two numbers. None where it does not fit.
+pub fn product(first: i128, second: i128) -> Option<i128>
+    ensures { SomeIff result (Fits (first *ℤ second)) (first *ℤ second) }
+{
+    match first.checked_mul(second) {
+        Some(product) => fitting(product),
+        None => None,
+    }
+}
 
 /// The greatest common divisor; 0 where both numbers are 0.
 pub fn greatest_common_divisor(a: u128, b: u128) -> u128

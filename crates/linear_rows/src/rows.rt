@@ -4,8 +4,10 @@ ghost use Rattle.std.specs.Prelude.{◌≡◌, ◌∷◌, ◌++◌, [], OnOk, On
 ghost use Rattle.std.specs.List.{range_with_len};
 ghost use Rattle.std.specs.Int.{w128};
 ghost use Rattle.std.specs.Prelude.{IsTrue, ◌↔◌, All, pos, ◌<ℤ◌, ◌≤ℤ◌};
+ghost use Rattle.linear_rows.specs.Fits.{IsFitting};
 ghost use Rattle.linear_rows.specs.Inequality.{coefficient};
 
+use crate::numbers::{are_fitting, fitting};
 use pv_base::memory::NoMemory;
 use std::alloc::Global;
 use std::marker::Model;
@@ -103,6 +105,13 @@ impl Rows {
         ensures { result.now ≡ self.now }
     {
         self.items.as_slice()
+    }
+
+    /// Whether all numbers of the rows fit 128 bits, as their negations do.
+    pub fn fit(&self) -> bool
+        ensures { IsTrue result ↔ All IsFitting self.now }
+    {
+        self.items.iter().all(|row| row.fits())
     }
 
     /// Puts a row at the end. After `NoMemory` the rows are as they were.
@@ -239,6 +248,16 @@ impl LinRow {
             coefficients,
             bound,
         })
+    }
+
+    /// Whether all numbers of the row fit 128 bits, as their negations do.
+    pub fn fits(&self) -> bool
+        ensures { IsTrue result ↔ IsFitting self.now }
+    {
+        match fitting(self.bound()) {
+            Some(_) => are_fitting(self.coefficients()),
+            None => false,
+        }
     }
 
     /// Whether no unknown is left.

@@ -8,7 +8,7 @@ ghost use Rattle.linear_rows.specs.Elimination.{Cancels, IsMix, IsLeastMix, MixF
 ghost use Rattle.linear_rows.specs.Reduction.{IsReduced};
 
 use crate::combination::plus_product;
-use crate::numbers::greatest_common_divisor;
+use crate::numbers::{greatest_common_divisor, product, sum};
 use crate::packed::Packed;
 use crate::reduction::reduced;
 use crate::rows::LinRow;
@@ -53,7 +53,7 @@ pub fn mixed_number(weights: Weights, first: i128, second: i128) -> Option<i128>
     let Ok(second_weight) = i128::try_from(weights.second) else {
         return None;
     };
-    match first_weight.checked_mul(first) {
+    match product(first_weight, first) {
         Some(product) => plus_product(product, second_weight, second),
         None => None,
     }
@@ -68,7 +68,7 @@ fn mixed_at_once(weights: Weights, first: i128, second: i128) -> Option<i128>
         return Some(0);
     }
     if weights.first == 1 && weights.second == 1 {
-        return first.checked_add(second);
+        return sum(first, second);
     }
     mixed_number(weights, first, second)
 }

@@ -52,9 +52,11 @@ fn text_of(rt: &impl Abort, alloc: Global, rows: &[(&[i128], i128)]) -> String {
             .push(LinRow::new(coefficients, *bound))
             .expect(rt, "memory");
     }
-    let answer = solve(alloc, &system).expect(rt, "memory");
     let mut text = String::new(alloc);
-    write_answer(rt, &answer, &mut text);
+    if system.fit() {
+        let answer = solve(alloc, &system).expect(rt, "memory");
+        write_answer(rt, &answer, &mut text);
+    }
     text
 }
 
@@ -85,10 +87,10 @@ fn systems_of_one_unknown(rt: HostRuntime) {
     answers(
         &rt,
         a,
-        &[(&[1], i128::MIN)],
-        "feasible 0:-170141183460469231731687303715884105728/1",
+        &[(&[1], -i128::MAX)],
+        "feasible 0:-170141183460469231731687303715884105727/1",
     );
-    answers(&rt, a, &[(&[i128::MIN], i128::MIN)], "feasible 0:1/1");
+    answers(&rt, a, &[(&[-i128::MAX], -i128::MAX)], "feasible 0:1/1");
 }
 
 #[test]
@@ -111,8 +113,7 @@ fn systems_of_several_unknowns(rt: HostRuntime) {
 }
 
 // Whether bounded systems of few unknowns have a solution was worked out by trying every corner, in
-// exact fractions; the rest by hand. Where a row has the least number as a coefficient, the sum needs the
-// multiplier 2^127, which leaves 128 bits.
+// exact fractions; the rest by hand.
 #[test]
 fn twenty_systems(rt: HostRuntime) {
     let a = rt.alloc();
@@ -283,19 +284,30 @@ fn twenty_systems(rt: HostRuntime) {
         &[(&[0, 0, 1], 7), (&[1], -7), (&[0, -1], 3)],
         "feasible",
     );
-    answers_with(&rt, a, &[(&[i128::MIN], 0), (&[1], -1)], "wide");
-    answers_with(&rt, a, &[(&[-1], i128::MIN)], "wide");
-    answers_with(&rt, a, &[(&[1], i128::MIN), (&[-1], i128::MIN)], "wide");
+    answers_with(&rt, a, &[(&[-i128::MAX], 0), (&[1], -1)], "infeasible");
+    answers_with(&rt, a, &[(&[-1], -i128::MAX)], "feasible");
+    answers_with(&rt, a, &[(&[1], -i128::MAX), (&[-1], -i128::MAX)], "wide");
     answers_with(
         &rt,
         a,
-        &[(&[i128::MIN, 1], 0), (&[1, i128::MIN], -1)],
+        &[(&[-i128::MAX, 1], 0), (&[1, -i128::MAX], -1)],
         "wide",
     );
     answers_with(
         &rt,
         a,
-        &[(&[i128::MAX], i128::MAX), (&[i128::MIN], i128::MIN)],
-        "wide",
+        &[(&[i128::MAX], i128::MAX), (&[-i128::MAX], -i128::MAX)],
+        "feasible",
     );
+}
+
+// Half of the range above and below: the sum of the bounds is -2^127, which is no number that fits.
+#[test]
+fn the_least_number_of_128_bits(rt: HostRuntime) {
+    let a = rt.alloc();
+    let half = i128::MIN / 2;
+    answers_with(&rt, a, &[(&[1], half), (&[-1], half)], "wide");
+    answers_with(&rt, a, &[(&[1], half), (&[-1], half + 1)], "infeasible");
+    answers(&rt, a, &[(&[1], i128::MIN)], "");
+    answers(&rt, a, &[(&[i128::MIN], 0)], "");
 }

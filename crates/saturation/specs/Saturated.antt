@@ -3,7 +3,7 @@
 use Rattle.std.specs.Prelude.{◌≡◌, ℕ, List, slice_get, Option, Some, None, All, IfSome}
 use Rattle.pv_base.specs.TypeData.{TypeData, NumType}
 use Rattle.fol.specs.declared.operators.Comparison.TheVariants.{Eq}
-use Rattle.fol.specs.FormulaData.{TermData, FormulaData, EqFormula, IsFormula, NotFormula, CompareFormula}
+use Rattle.fol.specs.FormulaData.{TermData, FormulaData, IsFormula, NotFormula, CompareFormula}
 use Rattle.cert.specs.Axioms.{greatest, range_axiom, trichotomy_axiom, IsWhole}
 use Rattle.cert.specs.Closes.{IsFalseForm}
 use Rattle.cert.specs.Parts.{parts_of, cases_of}

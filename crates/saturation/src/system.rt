@@ -1,11 +1,12 @@
 //! The linear entries of a branch as rows of a system.
 
-ghost use Rattle.std.specs.Prelude.{◌≡◌, ◌≢◌, ◌↔◌, IsTrue, Some, None, List, [], MatchOption, slice_get, ℕ, ◌≤◌, pos, ◌-ℤ◌, length};
+ghost use Rattle.std.specs.Prelude.{All, ◌≡◌, ◌≢◌, ◌↔◌, IsTrue, Some, None, List, [], MatchOption, slice_get, ℕ, ◌≤◌, pos, ◌-ℤ◌, length};
 ghost use Rattle.std.specs.List.{AllPairs};
 ghost use Rattle.fol.specs.FormulaData.{TermData};
 ghost use Rattle.cert.specs.Linear.{row_of, row_weight};
 ghost use Rattle.cert.specs.LinearView.{row_data};
 ghost use Rattle.cert.specs.Unknowns.{EachUnknown};
+ghost use Rattle.linear_rows.specs.Fits.{IsFitting};
 ghost use Rattle.linear_rows.specs.Inequality.{Inequality, coefficient};
 ghost use Rattle.saturation.specs.System.{IsKnown, IsRowOf, AreRowsOf, IsSystemOf, turned};
 ghost use Rattle.saturation.specs.Rest.{IsAfterOne, IsAfterRow, IsAfterEntry};
@@ -16,9 +17,10 @@ use fol::operators::{Binary, Constant};
 use fol::same::same_term;
 use linear_rows::rows::{LinRow, Rows};
 
-/// Whether these are different unknowns, and the rows of the entries over them.
+/// Whether these are different unknowns, and the rows of the entries over them, whose numbers then fit.
 pub fn is_system_of(entries: &[Formula], unknowns: &[Term], rows: &Rows) -> bool
-    ensures { IsTrue result ↔ IsSystemOf entries.now unknowns.now rows.now }
+    ensures exact { IsTrue result ↔ IsSystemOf entries.now unknowns.now rows.now }
+    ensures fits { IsTrue result → All IsFitting rows.now }
 {
     are_different(unknowns) && are_rows_of(unknowns, entries, rows.as_slice())
 }

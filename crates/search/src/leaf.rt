@@ -1,6 +1,7 @@
 //! What an open branch shows.
 
-ghost use Rattle.std.specs.Prelude.{◌≡◌, ◌↔◌, IfOk, IsTrue, false};
+ghost use Rattle.std.specs.Prelude.{All, ◌≡◌, ◌↔◌, IfOk, IsTrue, false};
+ghost use Rattle.linear_rows.specs.Fits.{IsFitting};
 ghost use Rattle.search.specs.Answer.{Shows, is_spent};
 ghost use Rattle.search.specs.Leaf.{IsLeafOf};
 
@@ -67,7 +68,8 @@ pub fn outgrown(formula: &Formula, mut branch: Branch) -> Result<Answer, NoMemor
 
 // Whether nothing is left to do on the leaf's branch, and its rows are those of the branch.
 fn is_leaf_of(formula: &Formula, leaf: &Leaf) -> bool
-    ensures { IsTrue result ↔ IsLeafOf formula.now leaf.now }
+    ensures exact { IsTrue result ↔ IsLeafOf formula.now leaf.now }
+    ensures fits { IsTrue result → All IsFitting leaf.now.rows }
 {
     is_saturated(formula, &leaf.branch)
         && is_system_of(

@@ -59,6 +59,10 @@ pub fn contradiction(
     entries: &[Formula],
 ) -> Result<Option<Vec<Multiple>>, NoMemory> {
     let found = linear_entries(alloc, entries)?;
+    // No other row was put in.
+    if !found.rows.fit() {
+        return Ok(None);
+    }
     match solve(alloc, &found.rows)? {
         LinAnswer::Infeasible(multipliers) => Ok(Some(multiples(
             alloc,
@@ -164,8 +168,11 @@ fn add_row(
         constant,
     } = form;
     if let Some(bound) = constant.checked_neg() {
-        rows.push(LinRow::new(coefficients, bound))?;
-        origins.push(Origin { entry, is_negated })?;
+        let row = LinRow::new(coefficients, bound);
+        if row.fits() {
+            rows.push(row)?;
+            origins.push(Origin { entry, is_negated })?;
+        }
     }
     Ok(())
 }

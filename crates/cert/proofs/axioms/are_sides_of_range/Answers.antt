@@ -1,4 +1,4 @@
-use Rattle.std.proofs.Common.{◌≡◌, refl, sym, ap, ◌∙◌, rules}
+use Rattle.std.proofs.Common.{◌≡◌, sym, ap, ◌∙◌, rules}
 use Rattle.fol.specs.declared.operators.Junction.TheVariants.{AllOf}
 use Rattle.fol.specs.FormulaData.{TermData, JoinFormula, IffFormula, IsFormula, formulas_of}
 use Rattle.fol.specs.FormulaView.{formula_of_node}

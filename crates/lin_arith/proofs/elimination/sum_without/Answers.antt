@@ -32,7 +32,7 @@ returns-clause-ok c = λ found unknowns before.
     let k = simp to_z-of_z at c.cancelling-weights.ensures in
     let cancels : Cancels c.coefficient.result c.coefficient-2.result weights.first weights.second = k above below in
     let cancelled : Cancels (coefficient c.args.unknown upper.total) (coefficient c.args.unknown lower.total) weights.first weights.second = rw (c.coefficient.ensures, c.coefficient-2.ensures) at cancels in
-    sum_derived system.width system.rows.now found unknowns c.args.unknown weights.first weights.second upper lower _ before cancelled least total (subst (λ (r : Inequality). IsReduced r c.in_ok-reduced.field-0) c.in_ok-try_clone.ensures c.in_ok-reduced.ensures) (rw c.in-Some-2.is at c.in_ok-total.ensures.sound)
+    sum_derived system.width system.rows.now found unknowns c.args.unknown weights.first weights.second upper lower _ before cancelled least total (subst (λ (r : Inequality). IsReduced r c.in_ok-reduced.field-0) c.in_ok-try_clone.ensures c.in_ok-reduced.ensures) (rw c.in-Some-2.is at c.in_ok-total.ensures.sound) made.0
 
 pub returns-in_default-clause-err : goal.returns-in_default-clause-err
 returns-in_default-clause-err c = λ found unknowns before.

@@ -1,11 +1,11 @@
-use Rattle.std.proofs.Common.{rules, ◌≡◌, ℕ, pos, ℤ, ◌*ℤ◌, ◌-ℤ◌, get_or, FitsSigned, ap, ◌∙◌, sym, subst}
+use Rattle.std.proofs.Common.{rules, ◌≡◌, ◌≢◌, ℕ, pos, ℤ, ◌*ℤ◌, ◌-ℤ◌, get_or, FitsSigned, ap, ◌∙◌, sym, subst}
 use Rattle.std.specs.Prelude.{unsigned_abs, if◌then◌else◌, ◌==◌}
-use Rattle.std.specs.Int.{w128}
+use Rattle.std.specs.Int.{w128, IsGcd}
 use Rattle.std.proofs.lemmas.Int.{to_z-of_z}
 use Rattle.linear_rows.specs.Inequality.{Inequality, coefficient}
-use Rattle.lin_arith.specs.Wide.{DifferenceWithin, ScaledLeaves}
+use Rattle.linear_rows.specs.Fits.{Fits}
+use Rattle.lin_arith.specs.Rest.{DifferenceWithin, ScaledLeaves}
 use Rattle.linear_rows.proofs.NumberLemmas.{divisor_of_positive}
-use Rattle.lin_arith.proofs.SubstitutionLemmas.{ratio_of_put_in}
 use Rattle.lin_arith.proofs.substitution.put_in.Goals as goal
 
 pub exact_quotient-factor-requires-clause-divides : goal.exact_quotient-factor-requires-clause-divides
@@ -38,15 +38,28 @@ returns-clause-some c =
     let fb : FitsSigned w128 c.bound.result = search rules in
     let fr : FitsSigned w128 c.in-Some-difference.bound = search rules in
     let v : c.unsigned_abs-2.result ≡ unsigned_abs value.denominator = simp to_z-of_z at c.unsigned_abs-2.ensures.value in
-    let p = divisor_of_positive g c.unsigned_abs-2.result value.denominator v c.requires c.greatest_common_divisor-common.ensures.1 in
     let by_factor : pos g *ℤ factor ≡ value.denominator = simp to_z-of_z at c.exact_quotient-factor.ensures in
     let by_weight : pos g *ℤ weight ≡ c.coefficient-2.result = simp to_z-of_z at c.exact_quotient-weight.ensures in
+    let fc0 : FitsSigned w128 c.coefficient.result = search rules in
+    let size : c.unsigned_abs.result ≡ unsigned_abs c.coefficient.result = simp to_z-of_z at c.unsigned_abs.ensures.value in
+    let gcd : IsGcd (unsigned_abs (coefficient value.unknown row)) (unsigned_abs value.denominator) g = subst (λ (n : ℕ). IsGcd n (unsigned_abs value.denominator) g) (size ∙ ap unsigned_abs c.coefficient.ensures) (subst (λ (n : ℕ). IsGcd c.unsigned_abs.result n g) v c.greatest_common_divisor-common.ensures) in
     let cs0 = rw c.in-Some.is at c.in_ok-coefficients.ensures.some in
     let cs : (k : ℕ) → get_or c.in-Some.coefficients.items k (pos 0) ≡ (if k == value.unknown then pos 0 else (factor *ℤ coefficient k row)) = λ k. simp to_z-of_z at (cs0 k) in
+    let fs0 = rw c.in-Some.is at c.in_ok-coefficients.ensures.fits in
+    let fs : (k : ℕ) → k ≢ value.unknown → Fits (factor *ℤ coefficient k row) = λ k n. simp to_z-of_z at (fs0 k n) in
     let made : c.new.result ≡ record { coefficients = c.in-Some.coefficients.items; bound = c.in-Some-difference.bound } = simp to_z-of_z at c.new.ensures in
+    let w : DifferenceWithin factor c.bound.result weight value.numerator = simp to_z-of_z at c.in-Some-difference.ensures.0 in
     let d : c.in-Some-difference.bound ≡ (factor *ℤ c.bound.result) -ℤ (weight *ℤ value.numerator) = simp to_z-of_z at c.in-Some-difference.ensures.1 in
     let b : c.in-Some-difference.bound ≡ (factor *ℤ row.bound) -ℤ (weight *ℤ value.numerator) = d ∙ ap (λ (z : ℤ). (factor *ℤ z) -ℤ (weight *ℤ value.numerator)) c.bound.ensures in
-    ratio_of_put_in g row c.new.result c.in_ok-reduced.field-0 value factor weight p by_factor (by_weight ∙ c.coefficient-2.ensures) (λ k. ap (λ (r : Inequality). coefficient k r) made ∙ cs k) (ap (λ (r : Inequality). r.bound) made ∙ b) c.in_ok-reduced.ensures
+    record {
+      factor = factor;
+      weight = weight;
+      are_weights = record { divisor = g; is_gcd = gcd; is_factor = by_factor; is_weight = by_weight ∙ c.coefficient-2.ensures };
+      sum = c.new.result;
+      is_sum = record { coefficients = λ k. ap (λ (r : Inequality). coefficient k r) made ∙ cs k; bound = ap (λ (r : Inequality). r.bound) made ∙ b };
+      within = record { coefficients = fs; bound = subst (λ (z : ℤ). DifferenceWithin factor z weight value.numerator) c.bound.ensures w };
+      is_reduced = c.in_ok-reduced.ensures;
+    }
 
 pub returns-in_default-clause-none : goal.returns-in_default-clause-none
 returns-in_default-clause-none c =
@@ -60,18 +73,17 @@ returns-in_default-clause-none c =
     let ff : FitsSigned w128 factor = search rules in
     let fw : FitsSigned w128 weight = search rules in
     let v : c.unsigned_abs-2.result ≡ unsigned_abs value.denominator = simp to_z-of_z at c.unsigned_abs-2.ensures.value in
-    let p = divisor_of_positive g c.unsigned_abs-2.result value.denominator v c.requires c.greatest_common_divisor-common.ensures.1 in
     let by_factor : pos g *ℤ factor ≡ value.denominator = simp to_z-of_z at c.exact_quotient-factor.ensures in
     let by_weight : pos g *ℤ weight ≡ c.coefficient-2.result = simp to_z-of_z at c.exact_quotient-weight.ensures in
     let gone0 = rw c.in_default.is at c.in_ok-coefficients.ensures.none in
     let gone : ScaledLeaves factor value.unknown row = simp to_z-of_z at gone0 in
+    let fc0 : FitsSigned w128 c.coefficient.result = search rules in
+    let size : c.unsigned_abs.result ≡ unsigned_abs c.coefficient.result = simp to_z-of_z at c.unsigned_abs.ensures.value in
+    let gcd : IsGcd (unsigned_abs (coefficient value.unknown row)) (unsigned_abs value.denominator) g = subst (λ (n : ℕ). IsGcd n (unsigned_abs value.denominator) g) (size ∙ ap unsigned_abs c.coefficient.ensures) (subst (λ (n : ℕ). IsGcd c.unsigned_abs.result n g) v c.greatest_common_divisor-common.ensures) in
     record {
-      divisor = g;
-      positive = p;
       factor = factor;
       weight = weight;
-      is_factor = by_factor;
-      is_weight = by_weight ∙ c.coefficient-2.ensures;
+      are_weights = record { divisor = g; is_gcd = gcd; is_factor = by_factor; is_weight = by_weight ∙ c.coefficient-2.ensures };
       leaves = λ within. gone.leaves (within.coefficients gone.other gone.is_other);
     }
 
@@ -89,16 +101,15 @@ returns-in_default-difference-clause-none c =
     let fw : FitsSigned w128 weight = search rules in
     let fb : FitsSigned w128 c.bound.result = search rules in
     let v : c.unsigned_abs-2.result ≡ unsigned_abs value.denominator = simp to_z-of_z at c.unsigned_abs-2.ensures.value in
-    let p = divisor_of_positive g c.unsigned_abs-2.result value.denominator v c.requires c.greatest_common_divisor-common.ensures.1 in
     let by_factor : pos g *ℤ factor ≡ value.denominator = simp to_z-of_z at c.exact_quotient-factor.ensures in
     let by_weight : pos g *ℤ weight ≡ c.coefficient-2.result = simp to_z-of_z at c.exact_quotient-weight.ensures in
     let gone : ¬ (DifferenceWithin factor c.bound.result weight value.numerator) = simp to_z-of_z at c.in_default-difference.ensures in
+    let fc0 : FitsSigned w128 c.coefficient.result = search rules in
+    let size : c.unsigned_abs.result ≡ unsigned_abs c.coefficient.result = simp to_z-of_z at c.unsigned_abs.ensures.value in
+    let gcd : IsGcd (unsigned_abs (coefficient value.unknown row)) (unsigned_abs value.denominator) g = subst (λ (n : ℕ). IsGcd n (unsigned_abs value.denominator) g) (size ∙ ap unsigned_abs c.coefficient.ensures) (subst (λ (n : ℕ). IsGcd c.unsigned_abs.result n g) v c.greatest_common_divisor-common.ensures) in
     record {
-      divisor = g;
-      positive = p;
       factor = factor;
       weight = weight;
-      is_factor = by_factor;
-      is_weight = by_weight ∙ c.coefficient-2.ensures;
+      are_weights = record { divisor = g; is_gcd = gcd; is_factor = by_factor; is_weight = by_weight ∙ c.coefficient-2.ensures };
       leaves = λ within. gone (subst (λ (z : ℤ). DifferenceWithin factor z weight value.numerator) (sym c.bound.ensures) within.bound);
     }
