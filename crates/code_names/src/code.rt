@@ -134,6 +134,7 @@ pub fn resolve_code(
     }
 }
 
+/// What has one part.
 #[cycle(resolve_code)]
 fn resolve_one(
     context: &Context<'_>,
@@ -151,6 +152,7 @@ fn resolve_one(
     Ok(place)
 }
 
+/// What has two parts, the first of which stands before the second.
 #[cycle(resolve_code)]
 fn resolve_two(
     context: &Context<'_>,
@@ -170,6 +172,7 @@ fn resolve_two(
     Ok(place)
 }
 
+/// A condition with one branch or two.
 #[cycle(resolve_code)]
 fn resolve_if(
     context: &Context<'_>,
@@ -205,6 +208,7 @@ fn resolve_plain_if(
     resolve_two(context, into, condition, then_branch, CodeBinary::If, span)
 }
 
+/// An `if` with `else`.
 #[cycle(resolve_code)]
 fn resolve_branches(
     context: &Context<'_>,
@@ -225,6 +229,7 @@ fn resolve_branches(
     Ok(place)
 }
 
+/// `return`, maybe with a value.
 #[cycle(resolve_code)]
 fn resolve_return(
     context: &Context<'_>,
@@ -242,6 +247,7 @@ fn resolve_return(
     }
 }
 
+/// What has a list of values.
 #[cycle(resolve_code)]
 fn resolve_many(
     context: &Context<'_>,
@@ -259,6 +265,7 @@ fn resolve_many(
     Ok(place)
 }
 
+/// Values between parentheses: one stands for itself.
 #[cycle(resolve_code)]
 fn resolve_tuple(
     context: &Context<'_>,
@@ -275,6 +282,7 @@ fn resolve_tuple(
     Ok(place)
 }
 
+/// Values, one after another. Answers the numbers of their nodes.
 #[cycle(resolve_code)]
 #[tactic(auto, using(expression_tree::proofs::Smaller::expression_smaller))]
 fn resolve_values(
@@ -294,6 +302,7 @@ fn resolve_values(
     Ok(parts)
 }
 
+/// A struct, whose fields are given values.
 #[cycle(resolve_code)]
 fn resolve_pack(
     context: &Context<'_>,
@@ -311,6 +320,7 @@ fn resolve_pack(
     Ok(place)
 }
 
+/// The values of fields, one after another. Answers the numbers of their nodes.
 #[cycle(resolve_code)]
 #[tactic(auto, using(expression_tree::proofs::Smaller::field_value_smaller))]
 fn resolve_fields(
@@ -330,6 +340,7 @@ fn resolve_fields(
     Ok(parts)
 }
 
+/// The value of a field: that of its name, where none is written.
 #[cycle(resolve_code)]
 fn resolve_field(
     context: &Context<'_>,
@@ -391,6 +402,7 @@ fn resolve_parts(
     }
 }
 
+/// The items of a block, each in scope of those before it. Answers the numbers of their nodes.
 #[cycle(resolve_code)]
 #[tactic(auto, using(expression_tree::proofs::Smaller::item_smaller))]
 fn resolve_items(
@@ -410,6 +422,7 @@ fn resolve_items(
     Ok(parts)
 }
 
+/// An item of a block, whose names come into scope behind it.
 #[cycle(resolve_code)]
 fn resolve_item(context: &Context<'_>, into: &mut Building, item: &Item) -> Result<usize, NameFault>
     ensures added { IfOk result (λ place. Added (item_tree (setting context.now) into.old.scope (length into.old.locals) item.now) (spans_of_item item.now) (names_of_item item.now) into.old into.new place) }
@@ -467,6 +480,7 @@ fn resolve_let(
     Ok(bound.place)
 }
 
+/// A `let`, before its names come into scope.
 #[cycle(resolve_code)]
 fn resolve_bound(
     context: &Context<'_>,
@@ -487,6 +501,7 @@ fn resolve_bound(
     }
 }
 
+/// A `let` with a value, which reads the names before it.
 #[cycle(resolve_code)]
 fn resolve_binding(
     context: &Context<'_>,

@@ -6,6 +6,7 @@ use pv_names::types::TypePlace;
 use std::alloc::Global;
 
 /// Where a body stands: what names mean in its module, and the names of its type parameters.
+#[derive(Drop)]
 pub struct Context<'a> {
     pub alloc: Global,
     pub types: TypePlace<'a>,

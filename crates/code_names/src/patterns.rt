@@ -105,6 +105,7 @@ pub fn resolve_pattern(
     }
 }
 
+/// A pattern for a struct.
 #[cycle(resolve_pattern)]
 fn resolve_unpack(
     context: &Context<'_>,
@@ -122,6 +123,7 @@ fn resolve_unpack(
     Ok(place)
 }
 
+/// Patterns between parentheses: one stands for itself.
 #[cycle(resolve_pattern)]
 fn resolve_tuple(
     context: &Context<'_>,
@@ -138,6 +140,7 @@ fn resolve_tuple(
     Ok(place)
 }
 
+/// Patterns, one after another. Answers the numbers of their nodes.
 #[cycle(resolve_pattern)]
 #[tactic(auto, using(move_tree::proofs::Smaller::pattern_smaller))]
 fn resolve_patterns(
@@ -157,6 +160,7 @@ fn resolve_patterns(
     Ok(parts)
 }
 
+/// The patterns of fields, one after another. Answers the numbers of their nodes.
 #[cycle(resolve_pattern)]
 #[tactic(auto, using(move_tree::proofs::Smaller::field_pattern_smaller))]
 fn resolve_fields(
@@ -176,6 +180,7 @@ fn resolve_fields(
     Ok(parts)
 }
 
+/// The pattern of a field: a local of its name, where none is written.
 #[cycle(resolve_pattern)]
 fn resolve_field(
     context: &Context<'_>,
