@@ -8,3 +8,4 @@ pub mod Equivalences
 pub mod Facts
 pub mod Structs
 pub mod Axioms
+pub mod AxiomCodes
