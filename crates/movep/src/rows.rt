@@ -114,7 +114,7 @@ const SUM_REPORT: &[u8] =
 fn reports(rt: HostRuntime) {
     let alloc = rt.alloc();
     let words = words_of(&rt, alloc, &[b"a.move"]);
-    let rows: [(&[u8], &[u8], u8); 26] = [
+    let rows: [(&[u8], &[u8], u8); 29] = [
         (SUM, SUM_REPORT, 0),
         (b"", b"proved 0 of 0\n", 0),
         (b"/* a */ // b", b"proved 0 of 0\n", 0),
@@ -167,6 +167,21 @@ fn reports(rt: HostRuntime) {
         (
             b"module 0x1::m { inline fun f() {} }",
             b"refused 3 LeftOut inline a.move:1\n",
+            2,
+        ),
+        (
+            b"module 0x1::m { fun f() { 1u256 } }",
+            b"refused 3 LeftOut 1u256 a.move:1\n",
+            2,
+        ),
+        (
+            b"module 0x1::m {\nfun f() { (x as u128) + 0x1u256; b\"u256\" } }",
+            b"refused 3 LeftOut 0x1u256 a.move:2\n",
+            2,
+        ),
+        (
+            b"module 0x1::m { fun f(): u256 { x\"00\" } }",
+            b"refused 3 LeftOut u256 a.move:1\n",
             2,
         ),
         (
@@ -242,7 +257,7 @@ fn words_that_are_refused(rt: HostRuntime) {
         let sources = source_of(&rt, alloc, SUM, &[]);
         let output = b"usage: movep [FILE]...\n";
         let status = answer(&rt, alloc, &words, sources, &[], output);
-        assert_eq!(rt; status, Status::BadWords);
+        assert!(rt; status == Status::BadWords);
     }
 }
 
@@ -257,7 +272,7 @@ fn files_that_are_not_fetched(rt: HostRuntime) {
         let words = words_of(&rt, alloc, &[name]);
         let sources = source_of(&rt, alloc, SUM, fails);
         let status = answer(&rt, alloc, &words, sources, &[], output);
-        assert_eq!(rt; status, Status::Fault(Device::Source));
+        assert!(rt; status == Status::Fault(Device::Source));
     }
 }
 
@@ -270,7 +285,7 @@ fn writes_that_fail(rt: HostRuntime) {
         let sources = source_of(&rt, alloc, SUM, &[]);
         let output = &SUM_REPORT[..taken];
         let status = answer(&rt, alloc, &words, sources, &[call], output);
-        assert_eq!(rt; status, Status::Fault(Device::Sink));
+        assert!(rt; status == Status::Fault(Device::Sink));
     }
 }
 

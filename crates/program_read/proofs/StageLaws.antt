@@ -1,6 +1,6 @@
 -- The laws of each stage, and of all of them.
 use Rattle.std.proofs.Common.{◌≡◌, ℕ, List, [], Some, None, inl, inr, refl, sym, ap, ◌∙◌, arith}
-use Rattle.answers.specs.declared.rule.Rule.TheVariants.{BadToken, LeftOut, NotBuilt}
+use Rattle.answers.specs.declared.rule.Rule.TheVariants.{BadToken, NotBuilt}
 use Rattle.move_tokens.specs.Spelling.{IsBadAt, Spells}
 use Rattle.move_tokens.specs.declared.token.Token.{Token}
 use Rattle.source_tree.specs.Denoted.{IsSourceOf}
@@ -11,10 +11,10 @@ use Rattle.program_read.specs.FileFault.{IsSameStop, breaks, without_place}
 use Rattle.program_read.specs.LocalCounts.{HasFewLocals, HasManyLocals, locals_stage}
 use Rattle.program_read.specs.Modules.{HasUnbuilt, modules_stage, numbered}
 use Rattle.program_read.specs.Program.{program_stages, source_stages}
-use Rattle.program_read.specs.Sources.{Denote, DenoteNone, HasMarker, HasNoTree, source_stage}
+use Rattle.program_read.specs.Sources.{Denote, DenoteNone, HasMarker, HasNoTree, left_out, source_stage}
 use Rattle.program_read.specs.Texts.{AreTokensOf, HasBadToken, IsHeavy, IsLight, IsLong, IsShort, length_stage, nesting_stage, text_stages, tokens_stage}
 use Rattle.program_read.specs.declared.fault.FileFault.{FileFault}
-use Rattle.program_read.specs.declared.fault.FileFault.TheVariants.{Breaks, Passes}
+use Rattle.program_read.specs.declared.fault.FileFault.TheVariants.{Passes}
 use Rattle.program_read.specs.declared.fault.FileLimit.TheVariants.{Locals}
 use Rattle.program_read.proofs.ChainLaws.{Laws, behind_laws, checks_laws, makes_laws}
 use Rattle.program_read.proofs.ChainLemmas.{KeepsCount, behind_keeps, checks_keeps, makes_keeps}
@@ -50,11 +50,10 @@ denote_none_apart n tokens source fault s (inr marked) = marked.cause.0 source s
 
 none_once : (n : ℕ) (tokens : List Token) (fault other : FileFault) → DenoteNone n tokens fault → DenoteNone n tokens other → without_place fault ≡ without_place other
 none_once n tokens fault other (inl p) (inl q) = ap without_place p.fault_is ∙ sym (ap without_place q.fault_is)
-none_once n tokens fault other (inl p) (inr q) = absurd (marker_or_none tokens q.marker q.place q.cause.1 p.cause.1)
-none_once n tokens fault other (inr p) (inl q) = absurd (marker_or_none tokens p.marker p.place p.cause.1 q.cause.1)
+none_once n tokens fault other (inl p) (inr q) = absurd (marker_or_none tokens q.index q.cause.1 p.cause.1)
+none_once n tokens fault other (inr p) (inl q) = absurd (marker_or_none tokens p.index p.cause.1 q.cause.1)
 none_once n tokens fault other (inr p) (inr q) =
-    let o = marker_once tokens p.marker q.marker p.place q.place p.cause.1 q.cause.1 in
-    ap without_place (p.fault_is ∙ ap (λ m. Breaks LeftOut p.place (Some m)) o.marker ∙ ap (λ place. Breaks LeftOut place (Some q.marker)) o.place_is ∙ sym q.fault_is)
+    ap without_place (p.fault_is ∙ ap (left_out tokens) (marker_once tokens p.index q.index p.cause.1 q.cause.1) ∙ sym q.fault_is)
 
 source_laws : Known → Laws source_stage
 source_laws known = makes_laws Denote DenoteNone (λ n tokens x y p q. known.one_source tokens x y p q) denote_none_apart none_once

@@ -5,8 +5,8 @@ ghost use Rattle.program_read.specs.FileFault.{breaks};
 
 use answers::rule::Rule;
 use pv_base::memory::NoMemory;
+use pv_base::name::Name;
 use std::alloc::AllocFailed;
-use token_reading::marker::Marker;
 
 /// A limit that a file can pass.
 #[derive(Clone, Copy, Debug, PartialEq, Eq)]
@@ -20,10 +20,10 @@ pub enum FileLimit {
 }
 
 /// What is wrong with a file. Places are bytes, counted from 0.
-#[derive(Clone, Copy, Debug, PartialEq, Eq)]
+#[derive(Drop, PartialEq, Eq)]
 pub enum FileFault {
-    /// It breaks this rule: here begins what breaks it, and for `LeftOut` this is the marker.
-    Breaks(Rule, u32, Option<Marker>),
+    /// It breaks this rule: here begins what breaks it, and for `LeftOut` this is how the marker is printed.
+    Breaks(Rule, u32, Option<Name>),
     /// It passes this limit, with the count at which that is seen: for `Nesting` 201, for `Locals` that of the
     /// first function that has too many.
     Passes(FileLimit, u64),
@@ -39,7 +39,7 @@ impl FileFault {
 }
 
 /// Why no program was read.
-#[derive(Clone, Copy, Debug, PartialEq, Eq)]
+#[derive(Drop, PartialEq, Eq)]
 pub enum ProgramFault {
     /// The file of this number, counted from 0.
     InFile(u32, FileFault),

@@ -6,7 +6,6 @@ use Rattle.std.specs.FinMap as map
 use Rattle.answers.specs.Rules.{tells_place}
 use Rattle.answers.specs.declared.rule.Rule.{Rule}
 use Rattle.answers.specs.declared.rule.Rule.TheVariants.{BadToken}
-use Rattle.token_reading.specs.declared.marker.Marker.{Marker}
 use Rattle.outside.specs.Outside.{Files, HasFaulted, IsLongFile}
 use Rattle.program_read.specs.Numbered.{Each, IsFirst}
 use Rattle.program_read.specs.FileFault.{IsSameStop, without_place}
@@ -62,7 +61,7 @@ abbrev file_of_status : Status → ℕ
 file_of_status (Refused refusal) = refusal.file
 file_of_status _ = 0
 
-abbrev marker_of_status : Status → Option Marker
+abbrev marker_of_status : Status → Option (List ℕ)
 marker_of_status (Refused refusal) = refusal.marker
 marker_of_status _ = None
 
@@ -155,7 +154,7 @@ abbrev rule_of : FileFault → Rule
 rule_of (Breaks rule place marker) = rule
 rule_of (Passes limit count) = BadToken
 
-abbrev marker_of : FileFault → Option Marker
+abbrev marker_of : FileFault → Option (List ℕ)
 marker_of (Breaks rule place marker) = marker
 marker_of (Passes limit count) = None
 
@@ -164,7 +163,7 @@ breaks_one (Breaks rule place marker) = true
 breaks_one (Passes limit count) = false
 
 -- the same rule broken with the same marker, at some place
-same_rule : (fault : FileFault) (rule : Rule) (place : ℕ) (marker : Option Marker) → without_place fault ≡ without_place (Breaks rule place marker) → fault ≡ Breaks rule (place_of fault) marker
+same_rule : (fault : FileFault) (rule : Rule) (place : ℕ) (marker : Option (List ℕ)) → without_place fault ≡ without_place (Breaks rule place marker) → fault ≡ Breaks rule (place_of fault) marker
 same_rule (Breaks other at mark) rule place marker e = ap (λ r. Breaks r at mark) (ap rule_of e) ∙ ap (Breaks rule at) (ap marker_of e)
 same_rule (Passes limit count) rule place marker e = absurd (apart (ap breaks_one e))
   where
@@ -172,7 +171,7 @@ same_rule (Passes limit count) rule place marker e = absurd (apart (ap breaks_on
     apart k = absurd (cc)
 
 -- a rule that tells its place is broken at the same place
-same_place : (fault : FileFault) (rule : Rule) (place : ℕ) (marker : Option Marker) → tells_place rule ≡ true → without_place fault ≡ without_place (Breaks rule place marker) → fault ≡ Breaks rule place marker
+same_place : (fault : FileFault) (rule : Rule) (place : ℕ) (marker : Option (List ℕ)) → tells_place rule ≡ true → without_place fault ≡ without_place (Breaks rule place marker) → fault ≡ Breaks rule place marker
 same_place fault rule place marker told e =
     let f = same_rule fault rule place marker e in
     f ∙ ap (λ at. Breaks rule at marker) (ap (λ t. if t then place_of fault else 0) (sym told) ∙ ap place_of (sym (ap without_place f) ∙ e) ∙ ap (λ t. if t then place else 0) told)
@@ -186,13 +185,13 @@ same_limit (Breaks rule place marker) limit count e = absurd (apart (ap breaks_o
 same_limit (Passes other n) limit count e = e
 
 -- a refusal tells its fault
-record TellsRule (files : List (List ℕ)) (file : ℕ) (fault : FileFault) (rule : Rule) (f line : ℕ) (marker : Option Marker) : Type 0 where
+record TellsRule (files : List (List ℕ)) (file : ℕ) (fault : FileFault) (rule : Rule) (f line : ℕ) (marker : Option (List ℕ)) : Type 0 where
   place : ℕ
   file_is : file ≡ f
   fault_is : fault ≡ Breaks rule place marker
   line_is : line ≡ line_in files f place
 
-tells_rule : (files : List (List ℕ)) (file : ℕ) (fault : FileFault) (rule : Rule) (f line : ℕ) (marker : Option Marker) → stopped_status files file fault ≡ refused rule f line marker → TellsRule files file fault rule f line marker
+tells_rule : (files : List (List ℕ)) (file : ℕ) (fault : FileFault) (rule : Rule) (f line : ℕ) (marker : Option (List ℕ)) → stopped_status files file fault ≡ refused rule f line marker → TellsRule files file fault rule f line marker
 tells_rule files file (Breaks other place mark) rule f line marker e = record {
   place = place;
   file_is = ap file_of_status e;
@@ -217,7 +216,7 @@ module _ (either : (files : List (List ℕ)) (program : List SumModuleData) (fil
     at : (f : ℕ) (other : FileFault) → file ≡ f → fault ≡ other → ProgramStopped files f other
     at f other e h = subst (λ k. ProgramStopped files k other) e (subst (ProgramStopped files file) h stopped)
 
-    rule_causes : (rule : Rule) (f : ℕ) (marker : Option Marker) → IsRefused rule f marker ends ↔ BreaksRule files rule f marker
+    rule_causes : (rule : Rule) (f : ℕ) (marker : Option (List ℕ)) → IsRefused rule f marker ends ↔ BreaksRule files rule f marker
     rule_causes rule f marker = (there, back)
       where
         there : IsRefused rule f marker ends → BreaksRule files rule f marker
@@ -230,7 +229,7 @@ module _ (either : (files : List (List ℕ)) (program : List SumModuleData) (fil
               ap (λ k. stopped_status files k fault) same.file_is ∙ ap (stopped_status files f) (same_rule fault rule b.0 marker same.fault_is),
             )
 
-    line_causes : (rule : Rule) → tells_place rule ≡ true → (f line : ℕ) (marker : Option Marker) → (ends ≡ refused rule f line marker) ↔ BreaksRuleOn files rule f line marker
+    line_causes : (rule : Rule) → tells_place rule ≡ true → (f line : ℕ) (marker : Option (List ℕ)) → (ends ≡ refused rule f line marker) ↔ BreaksRuleOn files rule f line marker
     line_causes rule told f line marker = (there, back)
       where
         there : ends ≡ refused rule f line marker → BreaksRuleOn files rule f line marker

@@ -4,7 +4,6 @@ use Rattle.std.specs.List.{AllByRecursion}
 use Rattle.std.specs.FinMap as map
 use Rattle.answers.specs.Rules.{tells_place}
 use Rattle.answers.specs.declared.rule.Rule.{Rule}
-use Rattle.token_reading.specs.declared.marker.Marker.{Marker}
 use Rattle.outside.specs.Outside.{Files, HasFaulted, IsLongFile}
 use Rattle.program_read.specs.Program.{IsProgramOf, ProgramStopped}
 use Rattle.program_read.specs.declared.fault.FileFault.TheVariants.{Breaks, Passes}
@@ -26,11 +25,11 @@ UnlessFree (Fault Sink) P = Unit {0}
 UnlessFree _ P = P
 
 -- the file of this number breaks this rule on this line
-abbrev pub refused : Rule → ℕ → ℕ → Option Marker → Status
+abbrev pub refused : Rule → ℕ → ℕ → Option (List ℕ) → Status
 refused rule file line marker = Refused (record { rule = rule; file = file; line = line; marker = marker })
 
 -- it breaks this rule, on some line
-abbrev pub IsRefused : Rule → ℕ → Option Marker → Status → Type 0
+abbrev pub IsRefused : Rule → ℕ → Option (List ℕ) → Status → Type 0
 IsRefused rule file marker status = (line : ℕ) × (status ≡ refused rule file line marker)
 
 -- the run has a report
@@ -40,11 +39,11 @@ IsReported status = (status ≡ AllProved) ⊎ (status ≡ NotAllProved)
 -- ---- causes in files
 
 -- the chain of stages stops since this file breaks this rule, which this marker explains
-abbrev pub BreaksRule : List (List ℕ) → Rule → ℕ → Option Marker → Type 0
+abbrev pub BreaksRule : List (List ℕ) → Rule → ℕ → Option (List ℕ) → Type 0
 BreaksRule files rule file marker = (place : ℕ) × ProgramStopped files file (Breaks rule place marker)
 
 -- it does so on this line
-pub record BreaksRuleOn (files : List (List ℕ)) (rule : Rule) (file line : ℕ) (marker : Option Marker) : Type 0 where
+pub record BreaksRuleOn (files : List (List ℕ)) (rule : Rule) (file line : ℕ) (marker : Option (List ℕ)) : Type 0 where
   pub place : ℕ
   pub stopped : ProgramStopped files file (Breaks rule place marker)
   pub line_is : line ≡ line_in files file place
@@ -63,8 +62,8 @@ HaveProgram files = (program : List SumModuleData) × IsProgramOf files program
 -- chain of stages stops so. Of a rule that tells no place no clause says which line is named. The last part is completeness: a
 -- program has a report.
 pub record TextCauses (files : List (List ℕ)) (status : Status) : Type 0 where
-  pub rule : (rule : Rule) (file : ℕ) (marker : Option Marker) → IsRefused rule file marker status ↔ BreaksRule files rule file marker
-  pub line : (rule : Rule) → tells_place rule ≡ true → (file line : ℕ) (marker : Option Marker) → (status ≡ refused rule file line marker) ↔ BreaksRuleOn files rule file line marker
+  pub rule : (rule : Rule) (file : ℕ) (marker : Option (List ℕ)) → IsRefused rule file marker status ↔ BreaksRule files rule file marker
+  pub line : (rule : Rule) → tells_place rule ≡ true → (file line : ℕ) (marker : Option (List ℕ)) → (status ≡ refused rule file line marker) ↔ BreaksRuleOn files rule file line marker
   pub limit : (limit : FileLimit) (count : ℕ) → (status ≡ Limit (limit_kind limit) count) ↔ PassesLimit files limit count
   pub reported : IsReported status ↔ HaveProgram files
 

@@ -42,13 +42,13 @@ fn name_of(alloc: Global, names: &[Name], file: u32) -> Result<Name, NoMemory>
 }
 
 /// The line that tells why the files have no report, where there is memory for it.
-fn stop_line(alloc: Global, names: &[Name], stop: RunStop) -> Result<Bytes, NoMemory>
-    ensures { IfOk result (λ line. line ≡ stop_line names.now stop) }
+fn stop_line(alloc: Global, names: &[Name], stop: &RunStop) -> Result<Bytes, NoMemory>
+    ensures { IfOk result (λ line. line ≡ stop_line names.now stop.now) }
 {
     match stop {
-        RunStop::TooManyFiles(count) => files_limit_line(alloc, count),
-        RunStop::SourceFault(file) => source_fault_line(alloc, &name_of(alloc, names, file)?),
-        RunStop::Limit(file, kind, _) => limit_line(alloc, &name_of(alloc, names, file)?, kind),
+        RunStop::TooManyFiles(count) => files_limit_line(alloc, *count),
+        RunStop::SourceFault(file) => source_fault_line(alloc, &name_of(alloc, names, *file)?),
+        RunStop::Limit(file, kind, _) => limit_line(alloc, &name_of(alloc, names, *file)?, *kind),
         RunStop::Refused(refusal) => {
             refusal_line(alloc, &name_of(alloc, names, refusal.file)?, refusal)
         }
@@ -66,7 +66,7 @@ pub fn write_stop<W: Sink>(
 ) -> Result<Status, SinkFault>
     ensures { Writes (IsStopText names.now stop) (W.taken sink.old) (W.taken sink.new) (W.faults sink.old) (W.faults sink.new) result }
 {
-    match stop_line(alloc, names, stop) {
+    match stop_line(alloc, names, &stop) {
         Ok(line) => write_text(sink, line.as_slice(), status_of(stop)),
         Err(NoMemory) => write_text(sink, no_memory_line(), Status::NoMemory),
     }

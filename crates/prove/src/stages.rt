@@ -20,7 +20,7 @@ use sum_tree::function::SumModule;
 pub const FILES_LIMIT: usize = 64;
 
 /// Why a run has no report.
-#[derive(Clone, Copy, Debug, PartialEq, Eq)]
+#[derive(Drop)]
 pub enum RunStop {
     /// There are more than 64 files: this many.
     TooManyFiles(u64),

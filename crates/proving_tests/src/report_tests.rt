@@ -16,7 +16,6 @@ use report::writing::write_lines;
 use std::alloc::Global;
 use std::panic::Expect;
 use std::process::Abort;
-use token_reading::marker::Marker;
 
 fn condition(
     kind: ConditionKind,
@@ -185,7 +184,7 @@ fn refuses(
     alloc: Global,
     rule: Rule,
     line: u32,
-    marker: Option<Marker>,
+    marker: Option<Name>,
     text: &[u8],
 ) {
     let file = name_of(rt, alloc, b"a.move");
@@ -195,13 +194,13 @@ fn refuses(
         line,
         marker,
     };
-    let refused = refusal_line(alloc, &file, refusal).expect(rt, "memory");
+    let refused = refusal_line(alloc, &file, &refusal).expect(rt, "memory");
     assert_eq!(rt; refused.as_slice(), text);
 }
 
 #[test]
 fn refusals_have_a_line(rt: HostRuntime) {
-    let inline = Some(Marker::Inline);
+    let wide = Some(name_of(&rt, rt.alloc(), b"1u256"));
     refuses(
         &rt,
         rt.alloc(),
@@ -223,8 +222,8 @@ fn refusals_have_a_line(rt: HostRuntime) {
         rt.alloc(),
         Rule::LeftOut,
         3,
-        inline,
-        b"refused 3 LeftOut inline a.move:3\n",
+        wide,
+        b"refused 3 LeftOut 1u256 a.move:3\n",
     );
     refuses(
         &rt,

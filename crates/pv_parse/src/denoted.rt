@@ -21,7 +21,7 @@ use token_reading::explain::{ParseFault, explain};
 ///
 /// `Grammar` comes exactly where the tokens are of no file and hold no marker of a form that is left out,
 /// with the place at which reading ended; `LeftOut` exactly where they are of none and hold one, with the
-/// first marker and its place; `NoMemory` where memory ran out.
+/// index of the first marker; `NoMemory` where memory ran out.
 pub fn modules(alloc: Global, tokens: &Tokens) -> Result<File, ParseFault>
     ensures denoted { IfOk result (λ file. IsFileOf file tokens.now) }
     ensures refused { IfErr result (λ fault. IsCause tokens.now fault) }

@@ -5,19 +5,16 @@ use std::alloc::Global;
 use std::process::Abort;
 use token_reading::explain::{ParseFault, explain};
 use token_reading::fault::ReadFault;
-use token_reading::marker::{Marker, first_marker};
+use token_reading::marker::{first_marker, marker_at};
 
 /// The first marker of a text has this index, and is printed as this text.
-fn finds(rt: &impl Abort, alloc: Global, text: &[u8], marker: Marker, index: usize) {
+fn finds(rt: &impl Abort, alloc: Global, text: &[u8], marker: &[u8], index: usize) {
     assert!(rt; text.len() < 1000);
     match tokens(alloc, 0, text) {
-        Ok(found) => match first_marker(found.as_slice()) {
-            Some((first, at)) => {
-                assert_eq!(rt; first, marker);
-                assert_eq!(rt; at, index);
-            }
-            None => assert!(rt; false, "no marker"),
-        },
+        Ok(found) => {
+            assert_eq!(rt; first_marker(found.as_slice()), Some(index));
+            assert_eq!(rt; marker_at(found.as_slice(), index), marker);
+        }
         Err(fault) => assert!(rt; false, "{fault:?}"),
     }
 }
@@ -45,15 +42,17 @@ fn explains(rt: &impl Abort, alloc: Global, text: &[u8], left: usize, expected: 
 #[test]
 fn first_markers_of_texts(rt: HostRuntime) {
     let alloc = rt.alloc();
-    finds(&rt, alloc, b"public inline fun f() {}", Marker::Inline, 1);
-    finds(&rt, alloc, b"match (x) { } enum", Marker::Match, 0);
-    finds(&rt, alloc, b"aborts_with A, B;", Marker::AbortsWith, 0);
-    finds(&rt, alloc, b"assert!(a); assert a;", Marker::Assert, 6);
-    finds(&rt, alloc, b"assert", Marker::Assert, 0);
-    finds(&rt, alloc, b"let a: u256 = 1u256;", Marker::WideType, 3);
-    finds(&rt, alloc, b"1u128 + 1u256", Marker::WideNumber, 2);
-    finds(&rt, alloc, b"f(b\"inline\")", Marker::Bytes, 2);
-    finds(&rt, alloc, b"x\"00\"", Marker::HexBytes, 0);
+    finds(&rt, alloc, b"public inline fun f() {}", b"inline", 1);
+    finds(&rt, alloc, b"match (x) { } enum", b"match", 0);
+    finds(&rt, alloc, b"aborts_with A, B;", b"aborts_with", 0);
+    finds(&rt, alloc, b"assert!(a); assert a;", b"assert", 6);
+    finds(&rt, alloc, b"assert", b"assert", 0);
+    finds(&rt, alloc, b"let a: u256 = 1u256;", b"u256", 3);
+    finds(&rt, alloc, b"1u128 + 1u256", b"1u256", 2);
+    finds(&rt, alloc, b"0x1_0u256", b"0x1_0u256", 0);
+    finds(&rt, alloc, b"a, TRACE", b"TRACE", 2);
+    finds(&rt, alloc, b"f(b\"inline\")", b"b", 2);
+    finds(&rt, alloc, b"x\"00\"", b"x", 0);
     finds_none(&rt, alloc, b"");
     finds_none(&rt, alloc, b"assert!(inlined, u128, trace, 256u128)");
 }
@@ -65,20 +64,7 @@ fn faults_of_texts(rt: HostRuntime) {
     explains(&rt, alloc, b"a bc d", 0, ParseFault::Grammar(5));
     explains(&rt, alloc, b"a bc d", 9, ParseFault::Grammar(0));
     explains(&rt, alloc, b"", 0, ParseFault::Grammar(0));
-    explains(
-        &rt,
-        alloc,
-        b"a bc  emits apply",
-        3,
-        ParseFault::LeftOut(Marker::Emits, 6),
-    );
+    explains(&rt, alloc, b"a bc  emits apply", 3, ParseFault::LeftOut(2));
     let fault = explain(&[], ReadFault::NoMemory);
     assert_eq!(rt; fault, ParseFault::NoMemory);
-    for (marker, text) in [
-        (Marker::Trace, b"TRACE".as_slice()),
-        (Marker::WideNumber, b"u256".as_slice()),
-        (Marker::HexBytes, b"x".as_slice()),
-    ] {
-        assert!(rt; marker.text() == text);
-    }
 }

@@ -5,7 +5,6 @@ use pv_parse::denoted::modules;
 use std::alloc::Global;
 use std::process::Abort;
 use token_reading::explain::ParseFault;
-use token_reading::marker::Marker;
 
 /// The modules of the text have this many members in all.
 fn reads(rt: &impl Abort, alloc: Global, text: &[u8], members: usize) {
@@ -109,49 +108,49 @@ fn texts_of_no_file(rt: HostRuntime) {
         &rt,
         alloc,
         b"module 0x1::m { inline fun f() { } }",
-        ParseFault::LeftOut(Marker::Inline, 16),
+        ParseFault::LeftOut(5),
     );
     fails(
         &rt,
         alloc,
         b"script { fun f() { } }",
-        ParseFault::LeftOut(Marker::Script, 0),
+        ParseFault::LeftOut(0),
     );
     fails(
         &rt,
         alloc,
         b"module 0x1::m { fun f(x: u256) { } }",
-        ParseFault::LeftOut(Marker::WideType, 25),
+        ParseFault::LeftOut(10),
     );
     fails(
         &rt,
         alloc,
         b"module 0x1::m { fun f() { 1u256 } }",
-        ParseFault::LeftOut(Marker::WideNumber, 26),
+        ParseFault::LeftOut(10),
     );
     fails(
         &rt,
         alloc,
         b"module 0x1::m { fun f() { b\"hi\" } }",
-        ParseFault::LeftOut(Marker::Bytes, 26),
+        ParseFault::LeftOut(10),
     );
     fails(
         &rt,
         alloc,
         b"module 0x1::m { fun f() { x\"00\" } }",
-        ParseFault::LeftOut(Marker::HexBytes, 26),
+        ParseFault::LeftOut(10),
     );
     fails(
         &rt,
         alloc,
         b"module 0x1::m { fun f() { assert a } }",
-        ParseFault::LeftOut(Marker::Assert, 26),
+        ParseFault::LeftOut(10),
     );
     fails(
         &rt,
         alloc,
         b"module 0x1::m { native fun f(); inline }",
-        ParseFault::LeftOut(Marker::Native, 16),
+        ParseFault::LeftOut(5),
     );
 }
 

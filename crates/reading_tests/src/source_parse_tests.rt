@@ -7,7 +7,6 @@ use std::alloc::Global;
 use std::panic::Expect;
 use std::process::Abort;
 use token_reading::explain::ParseFault;
-use token_reading::marker::Marker;
 
 /// How many members the modules of a text have in all, or why it is no source.
 fn found(rt: &impl Abort, alloc: Global, text: &[u8]) -> Result<usize, ParseFault> {
@@ -86,16 +85,16 @@ fn texts_of_no_source(rt: HostRuntime) {
         b"module 0x1::m { spec S { requires x; } }",
         grammar,
     );
-    let axiom = Err(ParseFault::LeftOut(Marker::Axiom, 30));
+    let axiom = Err(ParseFault::LeftOut(8));
     finds(
         &rt,
         alloc,
         b"module 0x1::m { spec module { axiom true; } }",
         axiom,
     );
-    let inline = Err(ParseFault::LeftOut(Marker::Inline, 16));
+    let inline = Err(ParseFault::LeftOut(5));
     finds(&rt, alloc, b"module 0x1::m { inline fun f() {} }", inline);
-    let assume = Err(ParseFault::LeftOut(Marker::Assume, 40));
+    let assume = Err(ParseFault::LeftOut(14));
     finds(
         &rt,
         alloc,
@@ -109,7 +108,7 @@ fn texts_of_no_source(rt: HostRuntime) {
         b"module 0x1::m { fun f() { loop { spec { requires x; }; a } } }",
         no_invariant,
     );
-    let first = Err(ParseFault::LeftOut(Marker::With, 20));
+    let first = Err(ParseFault::LeftOut(6));
     finds(
         &rt,
         alloc,

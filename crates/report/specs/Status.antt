@@ -1,8 +1,6 @@
 -- The numbers of the statuses, and the line that tells of a run without a report.
 use Rattle.std.specs.Prelude.{ℕ, List, [], ◌++◌, Option, Some, None, codes}
 use Rattle.std.specs.Fmt.{decimal}
-use Rattle.token_reading.specs.declared.marker.Marker.{Marker}
-use Rattle.token_reading.specs.Markers.{marker_text}
 use Rattle.answers.specs.Rules.{rule_name, rule_number}
 use Rattle.report.specs.ReportText.{line_feed}
 use Rattle.report.specs.declared.status.Refusal.{Refusal}
@@ -28,11 +26,11 @@ limit_text Tokens = codes "tokens"
 limit_text Nesting = codes "nesting"
 limit_text Locals = codes "locals"
 
-abbrev pub marker_prefix : Option Marker → List ℕ
+abbrev pub marker_prefix : Option (List ℕ) → List ℕ
 marker_prefix None = []
-marker_prefix (Some marker) = marker_text marker ++ codes " "
+marker_prefix (Some marker) = marker ++ codes " "
 
--- `refused 18 NotBuilt a.move:1`, `refused 3 LeftOut inline a.move:1`
+-- `refused 18 NotBuilt a.move:1`, `refused 3 LeftOut 1u256 a.move:1`
 abbrev pub refusal_line : List ℕ → Refusal → List ℕ
 refusal_line file r = codes "refused " ++ decimal (rule_number r.rule) ++ codes " " ++ rule_name r.rule ++ codes " " ++ marker_prefix r.marker
     ++ file ++ codes ":" ++ decimal r.line ++ line_feed

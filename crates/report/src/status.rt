@@ -4,18 +4,18 @@ ghost use Rattle.std.specs.Prelude.{◌≡◌};
 ghost use Rattle.report.specs.Status.{code_of, limit_text};
 
 use answers::rule::Rule;
-use token_reading::marker::Marker;
+use pv_base::name::Name;
 
 /// A file that breaks a rule.
-#[derive(Clone, Copy, Debug, PartialEq, Eq)]
+#[derive(Drop, PartialEq, Eq)]
 pub struct Refusal {
     pub rule: Rule,
     /// The number of the file, counted from 0 in the order of the words.
     pub file: u32,
     /// The line on which what breaks the rule begins, counted from 1.
     pub line: u32,
-    /// The first marker, where the rule is `LeftOut`, and none else.
-    pub marker: Option<Marker>,
+    /// How the first marker is printed, where the rule is `LeftOut`, and none else.
+    pub marker: Option<Name>,
 }
 
 /// A device of the outside that can fail.
@@ -41,7 +41,7 @@ pub enum LimitKind {
 }
 
 /// How a run ended.
-#[derive(Clone, Copy, Debug, PartialEq, Eq)]
+#[derive(Drop, PartialEq, Eq)]
 pub enum Status {
     /// The report was written, and each function is proved.
     AllProved,

@@ -9,7 +9,6 @@ use pv_base::lists::Bytes;
 use pv_base::memory::NoMemory;
 use pv_base::name::Name;
 use std::alloc::Global;
-use token_reading::marker::Marker;
 
 /// What is written where the words are no words of this program.
 pub fn usage_line() -> &'static [u8]
@@ -26,19 +25,19 @@ pub fn no_memory_line() -> &'static [u8]
 }
 
 /// Puts a marker and a blank at the end, where there is one.
-fn push_marker(text: &mut Bytes, marker: Option<Marker>) -> Result<(), NoMemory>
-    ensures { OnOk result (text.new ≡ text.old ++ marker_prefix marker) }
+fn push_marker(text: &mut Bytes, marker: &Option<Name>) -> Result<(), NoMemory>
+    ensures { OnOk result (text.new ≡ text.old ++ marker_prefix marker.now) }
 {
     if let Some(marker) = marker {
-        text.extend_from_slice(marker.text())?;
+        text.extend_from_slice(marker.as_slice())?;
         text.extend_from_slice(b" ")?;
     }
     Ok(())
 }
 
 /// What is written of a file that breaks a rule.
-pub fn refusal_line(alloc: Global, file: &Name, refusal: Refusal) -> Result<Bytes, NoMemory>
-    ensures { IfOk result (λ text. text ≡ refusal_line file.now refusal) }
+pub fn refusal_line(alloc: Global, file: &Name, refusal: &Refusal) -> Result<Bytes, NoMemory>
+    ensures { IfOk result (λ text. text ≡ refusal_line file.now refusal.now) }
 {
     let mut text = Bytes::new(alloc);
     text.extend_from_slice(b"refused ")?;
@@ -46,7 +45,7 @@ pub fn refusal_line(alloc: Global, file: &Name, refusal: Refusal) -> Result<Byte
     text.extend_from_slice(b" ")?;
     text.extend_from_slice(refusal.rule.text())?;
     text.extend_from_slice(b" ")?;
-    push_marker(&mut text, refusal.marker)?;
+    push_marker(&mut text, &refusal.marker)?;
     text.extend_from_slice(file.as_slice())?;
     text.extend_from_slice(b":")?;
     push_decimal(alloc, &mut text, u64::from(refusal.line))?;

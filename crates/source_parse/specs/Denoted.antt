@@ -3,13 +3,12 @@ use Rattle.std.specs.Prelude.{List}
 use Rattle.move_tokens.specs.declared.token.Token.{Token}
 use Rattle.token_reading.specs.declared.explain.ParseFault.{ParseFault}
 use Rattle.token_reading.specs.declared.explain.ParseFault.TheVariants.{Grammar, LeftOut, NoMemory}
-use Rattle.token_reading.specs.Markers.{HoldNone}
-use Rattle.token_reading.specs.ParseFault.{HoldMarker}
+use Rattle.token_reading.specs.Markers.{HoldNone, IsFirstMarker}
 use Rattle.source_tree.specs.Denoted.{AreOfNoSource}
 
 -- `Grammar` where the tokens are of no source and hold no marker, `LeftOut` where they are of none and hold one, the
 -- first; the place of `Grammar` is where the reader stood
 abbrev pub IsCause : List Token → ParseFault → Type 0
 IsCause tokens (Grammar place) = AreOfNoSource tokens × HoldNone tokens
-IsCause tokens (LeftOut marker place) = AreOfNoSource tokens × HoldMarker tokens marker place
+IsCause tokens (LeftOut index) = AreOfNoSource tokens × IsFirstMarker tokens index
 IsCause tokens NoMemory = Unit {0}

@@ -11,5 +11,5 @@ IfNoSpec NoMemory P = Unit {0}
 
 abbrev pub fault_of : ParseFault → SpecFault
 fault_of (Grammar place) = NoTree
-fault_of (LeftOut marker place) = NoTree
+fault_of (LeftOut index) = NoTree
 fault_of want = NoMemory

@@ -41,7 +41,7 @@ fn end_of_source(alloc: Global, tokens: &[Token], file_end: u32) -> Result<u32, 
 ///
 /// `Grammar` comes exactly where the tokens are of no source and hold no marker of a form that is left out,
 /// with the place at which reading ended, in the file or in a spec block that stands before; `LeftOut` exactly
-/// where they are of none and hold one, with the first marker and its place; `NoMemory` where memory ran out.
+/// where they are of none and hold one, with the index of the first marker; `NoMemory` where memory ran out.
 pub fn source(alloc: Global, tokens: &Tokens) -> Result<Source, ParseFault>
     ensures denoted { IfOk result (λ source. IsSourceOf source tokens.now) }
     ensures refused { IfErr result (λ fault. IsCause tokens.now fault) }

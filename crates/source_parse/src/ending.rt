@@ -67,7 +67,7 @@ fn end_of_block(alloc: Global, block: &[Token], slot: Slot) -> Result<Option<u32
     match spec_block(alloc, &tokens, slot) {
         Ok(_) => Ok(None),
         Err(ParseFault::Grammar(place)) => Ok(Some(place)),
-        Err(ParseFault::LeftOut(_, _)) => Ok(None),
+        Err(ParseFault::LeftOut(_)) => Ok(None),
         Err(ParseFault::NoMemory) => Err(NoMemory),
     }
 }

@@ -43,7 +43,7 @@ pub fn fault_of(fault: ParseFault) -> SpecFault
 {
     match fault {
         ParseFault::Grammar(_) => SpecFault::NoTree,
-        ParseFault::LeftOut(_, _) => SpecFault::NoTree,
+        ParseFault::LeftOut(_) => SpecFault::NoTree,
         ParseFault::NoMemory => SpecFault::NoMemory,
     }
 }

@@ -9,8 +9,7 @@ use Rattle.spec_tree.specs.SpecExpressionSpelling.{spec_spelling}
 use Rattle.spec_tree.specs.ProperSpecExpressions.{IsProperSpec}
 use Rattle.token_reading.specs.declared.explain.ParseFault.{ParseFault}
 use Rattle.token_reading.specs.declared.explain.ParseFault.TheVariants.{Grammar, LeftOut, NoMemory}
-use Rattle.token_reading.specs.Markers.{HoldNone}
-use Rattle.token_reading.specs.ParseFault.{HoldMarker}
+use Rattle.token_reading.specs.Markers.{HoldNone, IsFirstMarker}
 
 -- the tokens are those of this spec expression, and it is one that the grammar has
 pub record IsSpecExpressionOf (expression : SpecExpressionData) (tokens : List Token) : Type 0 where
@@ -24,5 +23,5 @@ AreOfNoSpecExpression tokens = (expression : SpecExpressionData) → IsSpecExpre
 -- the first; the place of `Grammar` is where the reader stood
 abbrev pub IsCause : List Token → ParseFault → Type 0
 IsCause tokens (Grammar place) = AreOfNoSpecExpression tokens × HoldNone tokens
-IsCause tokens (LeftOut marker place) = AreOfNoSpecExpression tokens × HoldMarker tokens marker place
+IsCause tokens (LeftOut index) = AreOfNoSpecExpression tokens × IsFirstMarker tokens index
 IsCause tokens NoMemory = Unit {0}

@@ -5,12 +5,11 @@ use Rattle.clause_tree.specs.declared.slot.Slot.{Slot}
 use Rattle.clause_tree.specs.Denoted.{AreOfNoSpecBlock}
 use Rattle.token_reading.specs.declared.explain.ParseFault.{ParseFault}
 use Rattle.token_reading.specs.declared.explain.ParseFault.TheVariants.{Grammar, LeftOut, NoMemory}
-use Rattle.token_reading.specs.Markers.{HoldNone}
-use Rattle.token_reading.specs.ParseFault.{HoldMarker}
+use Rattle.token_reading.specs.Markers.{HoldNone, IsFirstMarker}
 
 -- `Grammar` where the tokens are of no spec block and hold no marker, `LeftOut` where they are of none and hold one, the
 -- first; the place of `Grammar` is where the reader stood
 abbrev pub IsCause : Slot → List Token → ParseFault → Type 0
 IsCause slot tokens (Grammar place) = AreOfNoSpecBlock slot tokens × HoldNone tokens
-IsCause slot tokens (LeftOut marker place) = AreOfNoSpecBlock slot tokens × HoldMarker tokens marker place
+IsCause slot tokens (LeftOut index) = AreOfNoSpecBlock slot tokens × IsFirstMarker tokens index
 IsCause slot tokens NoMemory = Unit {0}

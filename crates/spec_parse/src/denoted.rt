@@ -22,7 +22,7 @@ use token_reading::fault::ReadFault;
 ///
 /// `Grammar` comes exactly where the tokens are of no spec expression and hold no marker of a form that is
 /// left out, with the place at which reading ended; `LeftOut` exactly where they are of none and hold one,
-/// with the first marker and its place; `NoMemory` where memory ran out.
+/// with the index of the first marker; `NoMemory` where memory ran out.
 pub fn spec_expression(alloc: Global, tokens: &Tokens) -> Result<SpecExpression, ParseFault>
     ensures denoted { IfOk result (λ expression. IsSpecExpressionOf expression tokens.now) }
     ensures refused { IfErr result (λ fault. IsCause tokens.now fault) }

@@ -26,7 +26,7 @@ use token_reading::fault::ReadFault;
 ///
 /// `Grammar` comes exactly where the tokens are of no such block and hold no marker of a form that is left
 /// out, with the place at which reading ended; `LeftOut` exactly where they are of none and hold one, with
-/// the first marker and its place; `NoMemory` where memory ran out.
+/// the index of the first marker; `NoMemory` where memory ran out.
 pub fn spec_block(alloc: Global, tokens: &Tokens, slot: Slot) -> Result<SpecBlock, ParseFault>
     ensures denoted { IfOk result (λ block. IsSpecBlockOf slot block tokens.now) }
     ensures refused { IfErr result (λ fault. IsCause slot tokens.now fault) }

@@ -9,7 +9,6 @@ use spec_tree::spec_expression::{SpecExpression, SpecNode};
 use std::alloc::Global;
 use std::process::Abort;
 use token_reading::explain::ParseFault;
-use token_reading::marker::Marker;
 
 /// What a spec expression is as a whole.
 #[derive(Clone, Copy, Debug, PartialEq, Eq)]
@@ -61,24 +60,9 @@ fn texts_of_no_spec_expression(rt: HostRuntime) {
     fails(&rt, alloc, b"a +", ParseFault::Grammar(2));
     // A number with a suffix may stand there, and is no address.
     fails(&rt, alloc, b"0x1u8::n::g()", ParseFault::Grammar(5));
-    fails(
-        &rt,
-        alloc,
-        b"choose x: u64 : x",
-        ParseFault::LeftOut(Marker::Choose, 0),
-    );
-    fails(
-        &rt,
-        alloc,
-        b"a + 1u256",
-        ParseFault::LeftOut(Marker::WideNumber, 4),
-    );
-    fails(
-        &rt,
-        alloc,
-        b"f(b\"hi\")",
-        ParseFault::LeftOut(Marker::Bytes, 2),
-    );
+    fails(&rt, alloc, b"choose x: u64 : x", ParseFault::LeftOut(0));
+    fails(&rt, alloc, b"a + 1u256", ParseFault::LeftOut(2));
+    fails(&rt, alloc, b"f(b\"hi\")", ParseFault::LeftOut(2));
 }
 
 /// The number of clauses of a block, and 0 for a function, which has none.
@@ -146,7 +130,7 @@ fn spec_blocks_of_texts(rt: HostRuntime) {
 #[test]
 fn texts_of_no_spec_block(rt: HostRuntime) {
     let alloc = rt.alloc();
-    let axiom = Err(ParseFault::LeftOut(Marker::Axiom, 14));
+    let axiom = Err(ParseFault::LeftOut(3));
     finds(
         &rt,
         alloc,
@@ -154,7 +138,7 @@ fn texts_of_no_spec_block(rt: HostRuntime) {
         b"spec module { axiom true; }",
         axiom,
     );
-    let with = Err(ParseFault::LeftOut(Marker::With, 21));
+    let with = Err(ParseFault::LeftOut(5));
     finds(
         &rt,
         alloc,

@@ -7,12 +7,12 @@ use program_read::fault::{FileFault, FileLimit, ProgramFault};
 use program_read::program::read_program;
 use pv_base::lists::Bytes;
 use pv_base::memory::NoMemory;
+use pv_base::name::Name;
 use std::alloc::Global;
 use std::panic::Expect;
 use std::process::Abort;
 use std::test::Fail;
 use sum_tree::function::SumModule;
-use token_reading::marker::Marker;
 
 /// The bytes of a text.
 fn bytes_of(rt: &impl Abort, alloc: Global, text: &str) -> Result<Bytes, NoMemory>
@@ -47,10 +47,16 @@ fn stops(
     fault: FileFault,
 ) -> Result<(), NoMemory> {
     match read(rt, alloc, texts)? {
-        Ok(_) => assert!(rt; false, "{fault:?}"),
-        Err(found) => assert_eq!(rt; found, ProgramFault::InFile(file, fault)),
+        Ok(_) => assert!(rt; false, "a program"),
+        Err(found) => assert!(rt; found == ProgramFault::InFile(file, fault)),
     }
     Ok(())
+}
+
+/// That a file is of no source, with the first marker at this place.
+fn marked(alloc: Global, place: u32, marker: &[u8]) -> Result<FileFault, NoMemory> {
+    let marker = Name::from_slice(alloc, marker)?;
+    Ok(FileFault::Breaks(Rule::LeftOut, place, Some(marker)))
 }
 
 #[test]
@@ -67,12 +73,17 @@ fn files_of_no_program(rt: HostRuntime) -> Result<(), Fail> {
         (
             [module, "module 0x1::n { inline fun f() { } }"],
             1,
-            FileFault::Breaks(Rule::LeftOut, 16, Some(Marker::Inline)),
+            marked(alloc, 16, b"inline")?,
         ),
         (
             [module, "module 0x1::n { spec module { axiom true; } }"],
             1,
-            FileFault::Breaks(Rule::LeftOut, 30, Some(Marker::Axiom)),
+            marked(alloc, 30, b"axiom")?,
+        ),
+        (
+            [module, "module 0x1::n { fun f() { 0x1u256 } }"],
+            1,
+            marked(alloc, 26, b"0x1u256")?,
         ),
         ([module, other], 1, FileFault::breaks(Rule::NotBuilt, 16)),
         ([module, module], 1, FileFault::breaks(Rule::NotBuilt, 0)),
@@ -168,8 +179,8 @@ fn compares(
 fn modules_of(rt: &impl Abort, alloc: Global, texts: &[&str]) -> Vec<SumModule> {
     match read(rt, alloc, texts).expect(rt, "memory") {
         Ok(modules) => modules,
-        Err(fault) => {
-            assert!(rt; false, "{fault:?}");
+        Err(_) => {
+            assert!(rt; false, "no program");
             Vec::new(alloc)
         }
     }

@@ -19,33 +19,19 @@ use Rattle.move_tree.specs.NameRules.{keywords, IsName, IsCapital, IsSmall}
 use Rattle.token_reading.specs.Beginnings.{Begins}
 use Rattle.token_reading.specs.TokenReading.{Read, is_sign, is_word, is_keyword, after_sign, sign_place_at, before_sign, after_word, word_place_at, name_of, identifier_at, begins_capital, begins_small}
 use Rattle.pv_base.specs.Names.{same_name}
-use Rattle.pv_base.proofs.NameLaws.{same_name-same, same_name-other}
+use Rattle.pv_base.proofs.NameLaws.{none_of-complete, none_of-sound, same_name-same, same_name-other}
+use Rattle.pv_base.proofs.TruthValues.{both_true, either_true}
 use Rattle.token_reading.proofs.Steps.{last, if_some, if_not}
 
 -- ---- words that are names
 
-different-sound : (w : List ℕ) (ks : List (List ℕ)) → list_any (same_name w) ks ≡ false → AllByRecursion (λ k. w ≢ k) ks
-different-sound w [] e = tt
-different-sound w (k ∷ ks) e = go (same_name w k) refl e (λ h. different-sound w ks h)
-  where
-    differs : true ≡ false → ⊥
-    differs h = cc
-
-    go : (b : Bool) → same_name w k ≡ b → (b || list_any (same_name w) ks) ≡ false → (list_any (same_name w) ks ≡ false → AllByRecursion (λ k. w ≢ k) ks) → AllByRecursion (λ k. w ≢ k) (k ∷ ks)
-    go true is e more = absurd (cc)
-    go false is e more = (λ h. differs (sym (ap (same_name w) (sym h) ∙ same_name-same w) ∙ is), more e)
-
-different-complete : (w : List ℕ) (ks : List (List ℕ)) → AllByRecursion (λ k. w ≢ k) ks → list_any (same_name w) ks ≡ false
-different-complete w [] a = refl
-different-complete w (k ∷ ks) a = ap (λ b. b || list_any (same_name w) ks) (same_name-other w k a.0) ∙ different-complete w ks a.1
-
 pub is_keyword-sound : (w : List ℕ) → is_keyword w ≡ false → IsName w
 unfolding is_keyword
-is_keyword-sound w e = different-sound w keywords e
+is_keyword-sound w e = none_of-sound keywords w e
 
 pub is_keyword-complete : (w : List ℕ) → IsName w → is_keyword w ≡ false
 unfolding is_keyword
-is_keyword-complete w a = different-complete w keywords a
+is_keyword-complete w a = none_of-complete keywords w a
 
 -- a keyword is no name
 pub name_is_no_keyword : (w k : List ℕ) → is_keyword k ≡ true → IsName w → same_name w k ≡ false
@@ -56,20 +42,12 @@ name_is_no_keyword w k is n = same_name-other w k (λ h. differs (sym is ∙ ap 
 
 -- ---- how names begin
 
-both : (a b : Bool) → (a && b) ≡ true → (a ≡ true) × (b ≡ true)
-both true b e = (refl, e)
-both false b e = absurd (cc)
-
-one_of_two : (a b : Bool) → (a || b) ≡ true → (a ≡ true) ⊎ (b ≡ true)
-one_of_two true b e = inl refl
-one_of_two false b e = inr e
-
 between-complete : (low b high : ℕ) → low ≤ b → b ≤ high → (nat_le low b && nat_le b high) ≡ true
 between-complete low b high l h = ap (λ x. x && nat_le b high) (le-leb low b l) ∙ le-leb b high h
 
 pub begins_capital-sound : (w : List ℕ) → begins_capital w ≡ true → IsCapital w
 begins_capital-sound [] e = absurd (cc)
-begins_capital-sound (b ∷ bs) e = let c = both (nat_le 65 b) (nat_le b 90) e in (leb-true 65 b c.0, leb-true b 90 c.1)
+begins_capital-sound (b ∷ bs) e = let c = both_true (nat_le 65 b) (nat_le b 90) e in (leb-true 65 b c.0, leb-true b 90 c.1)
 
 pub begins_capital-complete : (w : List ℕ) → IsCapital w → begins_capital w ≡ true
 begins_capital-complete [] c = absurd c
@@ -78,8 +56,8 @@ begins_capital-complete (b ∷ bs) c = between-complete 65 b 90 c.0 c.1
 pub begins_small-sound : (w : List ℕ) → begins_small w ≡ true → IsSmall w
 begins_small-sound [] e = absurd (cc)
 begins_small-sound (b ∷ bs) e =
-    elim (one_of_two (nat_le 97 b && nat_le b 122) (b == 95) e) [
-      | inl h ↦ let c = both (nat_le 97 b) (nat_le b 122) h in inl (leb-true 97 b c.0, leb-true b 122 c.1)
+    elim (either_true (nat_le 97 b && nat_le b 122) (b == 95) e) [
+      | inl h ↦ let c = both_true (nat_le 97 b) (nat_le b 122) h in inl (leb-true 97 b c.0, leb-true b 122 c.1)
       | inr h ↦ inr (eqb-true b 95 h)
     ]
 

@@ -6,8 +6,7 @@ use Rattle.token_reading.specs.declared.fault.ReadFault.{ReadFault}
 use Rattle.token_reading.specs.declared.fault.ReadFault.TheVariants.{NoTree, NoMemory as no_memory}
 use Rattle.token_reading.specs.declared.explain.ParseFault.{ParseFault}
 use Rattle.token_reading.specs.declared.explain.ParseFault.TheVariants.{Grammar, LeftOut, NoMemory}
-use Rattle.token_reading.specs.declared.marker.Marker.{Marker}
-use Rattle.token_reading.specs.Markers.{HoldNone, IsFirst}
+use Rattle.token_reading.specs.Markers.{HoldNone, IsFirstMarker}
 
 -- where the token with this index begins
 abbrev pub start_at : List Token → ℕ → ℕ
@@ -17,16 +16,10 @@ abbrev pub at_least_one : ℕ → ℕ
 at_least_one zero = 1
 at_least_one (suc n) = suc n
 
--- the tokens hold this marker of a form that is left out, and none stands before it
-pub record HoldMarker (tokens : List Token) (marker : Marker) (place : ℕ) : Type 0 where
-  pub index : ℕ
-  pub first : IsFirst tokens marker index
-  pub at : place ≡ start_at tokens index
-
 -- why no tree was read where reading ended at this place
 abbrev pub ExplainsAt : List Token → ℕ → ParseFault → Type 0
 ExplainsAt tokens place (Grammar other) = HoldNone tokens × (other ≡ place)
-ExplainsAt tokens place (LeftOut marker other) = HoldMarker tokens marker other
+ExplainsAt tokens place (LeftOut index) = IsFirstMarker tokens index
 ExplainsAt tokens place NoMemory = ⊥
 
 -- where reading ended, the first of the last `left` tokens can't stand there

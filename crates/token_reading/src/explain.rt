@@ -4,7 +4,7 @@ ghost use Rattle.std.specs.Prelude.{◌≡◌, ◌-◌, length};
 ghost use Rattle.token_reading.specs.ParseFault.{start_at, at_least_one, Explains, ExplainsAt};
 
 use crate::fault::ReadFault;
-use crate::marker::{Marker, first_marker};
+use crate::marker::first_marker;
 use move_tokens::token::Token;
 use pv_base::memory::NoMemory;
 use std::alloc::AllocFailed;
@@ -14,8 +14,8 @@ use std::alloc::AllocFailed;
 pub enum ParseFault {
     /// The tokens are of no tree. The number is the byte at which one begins that can't stand there.
     Grammar(u32),
-    /// The tokens hold this marker of a form that is left out. The number is the byte at which it begins.
-    LeftOut(Marker, u32),
+    /// The tokens hold a marker of a form that is left out. The number is the index of the first one.
+    LeftOut(usize),
     /// Memory ran out.
     NoMemory,
 }
@@ -41,7 +41,7 @@ impl<T: Drop> From<AllocFailed<T>> for ParseFault {
 }
 
 /// The byte at which the token with this index begins, and 0 where there is no such token.
-fn start_at(tokens: &[Token], index: usize) -> u32
+pub fn start_at(tokens: &[Token], index: usize) -> u32
     ensures { result ≡ start_at tokens.now index }
 {
     match tokens.get(index) {
@@ -64,7 +64,7 @@ pub fn explain_at(tokens: &[Token], place: u32) -> ParseFault
     ensures { ExplainsAt tokens.now place result }
 {
     match first_marker(tokens) {
-        Some((marker, index)) => ParseFault::LeftOut(marker, start_at(tokens, index)),
+        Some(index) => ParseFault::LeftOut(index),
         None => ParseFault::Grammar(place),
     }
 }

@@ -45,7 +45,7 @@ const KEYWORDS: [&[u8]; 27] = [
 ];
 
 /// Whether a word is one of these words.
-fn is_among(words: &[&[u8]], word: &[u8]) -> bool
+pub fn is_among(words: &[&[u8]], word: &[u8]) -> bool
     ensures { result ≡ list_any (λ other. same_name word.now other.now) words.entry.now }
 {
     words.iter().any(|other| word == *other)
