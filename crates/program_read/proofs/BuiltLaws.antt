@@ -1,5 +1,6 @@
 -- A module is one module of sums at most, or what is not built of it begins at one place.
 use Rattle.std.proofs.Common.{◌≡◌, ℕ, List, [], ◌∷◌, ◌++◌, Some, None, refl, sym, ap, subst, ◌∙◌, append-nil, append_assoc, inl, inr}
+use Rattle.pv_base.proofs.ListEnds.{head_is, tail_is}
 use Rattle.source_tree.specs.declared.source.SourceForm.{SourceForm}
 use Rattle.source_tree.specs.declared.source.SourceForm.TheVariants.{Use, Friend, Struct, Constant, Function, Spec}
 use Rattle.source_tree.specs.SourceData.{SourceMemberData}
@@ -16,12 +17,6 @@ use Rattle.sum_module.specs.Program.{IsSumModule}
 
 some_is : {A : Type 0} {x y : A} → Some x ≡ Some y → x ≡ y
 some_is e = cc
-
-head_is : {A : Type 0} {x y : A} {xs ys : List A} → x ∷ xs ≡ y ∷ ys → x ≡ y
-head_is e = cc
-
-tail_is : {A : Type 0} {x y : A} {xs ys : List A} → x ∷ xs ≡ y ∷ ys → xs ≡ ys
-tail_is e = cc
 
 -- ---- members
 

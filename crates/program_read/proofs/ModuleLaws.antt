@@ -1,19 +1,12 @@
 -- Modules of files are one program of sums at most, or what is not built of them begins at one place.
-use Rattle.std.proofs.Common.{◌≡◌, ℕ, Bool, true, false, List, [], ◌∷◌, ◌++◌, refl, sym, ap, subst, ◌∙◌, append-nil, append_assoc, inl, inr}
+use Rattle.std.proofs.Common.{◌≡◌, ℕ, false, true, List, [], ◌∷◌, ◌++◌, refl, sym, ap, subst, ◌∙◌, append-nil, append_assoc, inl, inr}
+use Rattle.pv_base.proofs.ListEnds.{head_is, tail_is}
+use Rattle.pv_base.proofs.TruthValues.{apart}
 use Rattle.source_tree.specs.SourceModuleData.{SourceModuleData}
 use Rattle.sum_tree.specs.SumModuleData.{SumModuleData}
 use Rattle.sum_module.specs.Program.{IsSumModule}
 use Rattle.program_read.specs.Modules.{AreModules, IsFirstUnbuilt, IsUnbuiltBehind, is_taken}
 use Rattle.program_read.proofs.BuiltLaws.{built_or_not, one_module, one_place}
-
-head_is : {A : Type 0} {x y : A} {xs ys : List A} → x ∷ xs ≡ y ∷ ys → x ≡ y
-head_is e = cc
-
-tail_is : {A : Type 0} {x y : A} {xs ys : List A} → x ∷ xs ≡ y ∷ ys → xs ≡ ys
-tail_is e = cc
-
-apart : (b : Bool) → b ≡ true → b ≡ false → ⊥
-apart b t f = absurd (cc)
 
 pub one_program : (front : List SumModuleData) (modules : List (ℕ × SourceModuleData)) (xs ys : List SumModuleData) → AreModules front modules xs → AreModules front modules ys → xs ≡ ys
 one_program front [] [] [] p q = refl

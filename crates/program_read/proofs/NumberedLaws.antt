@@ -1,20 +1,11 @@
 -- There is one first item, and one list that belongs to another item by item.
 use Rattle.std.proofs.Common.{◌≡◌, ℕ, suc, ◌+◌, List, [], ◌∷◌, ◌++◌, length, refl, sym, ap, subst, ◌∙◌, arith}
-use Rattle.program_read.specs.Numbered.{Each, EachPair, IsFirst}
-
-head_is : {A : Type 0} {x y : A} {xs ys : List A} → x ∷ xs ≡ y ∷ ys → x ≡ y
-head_is e = cc
-
-tail_is : {A : Type 0} {x y : A} {xs ys : List A} → x ∷ xs ≡ y ∷ ys → xs ≡ ys
-tail_is e = cc
+use Rattle.pv_base.proofs.ListEnds.{head_is, tail_is}
+use Rattle.pv_base.proofs.PairLaws.{one_list as same_list}
+use Rattle.program_read.specs.Numbered.{Each, EachPair, IsFirst, with_numbers}
 
 pub one_list : {A B : Type 0} (R : ℕ → A → B → Type 0) (n : ℕ) (xs : List A) (ys zs : List B) → ((k : ℕ) (x : A) (y z : B) → R k x y → R k x z → y ≡ z) → EachPair R n xs ys → EachPair R n xs zs → ys ≡ zs
-one_list R n [] [] [] one p q = refl
-one_list R n [] [] (z ∷ zs) one p q = absurd q
-one_list R n [] (y ∷ ys) zs one p q = absurd p
-one_list R n (x ∷ xs) [] zs one p q = absurd p
-one_list R n (x ∷ xs) (y ∷ ys) [] one p q = absurd q
-one_list R n (x ∷ xs) (y ∷ ys) (z ∷ zs) one p q = ap (λ w. w ∷ ys) (one n x y z p.0 q.0) ∙ ap (λ ws. z ∷ ws) (one_list R (1 + n) xs ys zs one p.1 q.1)
+one_list R n xs ys zs one p q = same_list (λ k y. R k.0 k.1 y) (with_numbers n xs) ys zs (λ k y z. one k.0 k.1 y z) p q
 
 each_at : {A : Type 0} (R : ℕ → A → Type 0) (n : ℕ) (before : List A) (x : A) (back : List A) → Each R n (before ++ x ∷ back) → R (n + length before) x
 each_at R n [] x back e = subst (λ k. R k x) (from_zero n) e.0

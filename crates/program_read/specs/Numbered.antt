@@ -1,17 +1,20 @@
 -- Lists whose items have numbers, counted from 0 on.
 use Rattle.std.specs.Prelude.{◌≡◌, ℕ, ◌+◌, List, [], ◌∷◌, ◌++◌, length}
+use Rattle.pv_base.specs.Pairs.{Paired}
 
 -- something of each item and its number, the first of which is this one
 abbrev pub Each : {A : Type 0} → (ℕ → A → Type 0) → ℕ → List A → Type 0
 Each P n [] = Unit {0}
 Each P n (x ∷ xs) = P n x × Each P (1 + n) xs
 
+-- each item with its number
+abbrev pub with_numbers : {A : Type 0} → ℕ → List A → List (ℕ × A)
+with_numbers n [] = []
+with_numbers n (x ∷ xs) = (n, x) ∷ with_numbers (1 + n) xs
+
 -- the same of two lists, item by item
 abbrev pub EachPair : {A B : Type 0} → (ℕ → A → B → Type 0) → ℕ → List A → List B → Type 0
-EachPair P n [] [] = Unit {0}
-EachPair P n [] (y ∷ ys) = ⊥
-EachPair P n (x ∷ xs) [] = ⊥
-EachPair P n (x ∷ xs) (y ∷ ys) = P n x y × EachPair P (1 + n) xs ys
+EachPair P n xs ys = Paired (λ k y. P k.0 k.1 y) (with_numbers n xs) ys
 
 -- the item of this number is found to be something, and each before it is as it should be
 pub record IsFirst {A : Type 0} (Right Found : ℕ → A → Type 0) (items : List A) (number : ℕ) : Type 0 where

@@ -22,7 +22,7 @@ use Rattle.report.specs.declared.status.LimitKind.TheVariants.{Files as files_ki
 use Rattle.report.specs.declared.status.Status.{Status}
 use Rattle.report.specs.declared.status.Status.TheVariants.{AllProved, NotAllProved, Refused, Fault, BadWords, Limit, NoMemory}
 use Rattle.sum_tree.specs.SumModuleData.{SumModuleData}
-use Rattle.verify.specs.Pairs.{Paired}
+use Rattle.pv_base.specs.Pairs.{Paired}
 use Rattle.prove.specs.Causes.{AreTold, BreaksRule, BreaksRuleOn, Causes, FileCauses, HaveProgram, IsRefused, IsReported, PassesLimit, SomeIsLong, TextCauses, UnlessFree, refused}
 use Rattle.prove.specs.Outcome.{status_of}
 use Rattle.prove.specs.Run.{Ends, IsOutput, IsVerified, RunStopped, report_status}

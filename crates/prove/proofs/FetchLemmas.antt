@@ -5,7 +5,7 @@ use Rattle.outside.specs.Outside.{Files}
 use Rattle.report.specs.declared.status.LimitKind.TheVariants.{Files as files_kind, Bytes, Tokens, Nesting, Locals}
 use Rattle.program_read.specs.Numbered.{Each, IsFirst}
 use Rattle.program_read.proofs.NumberedLemmas.{first_at}
-use Rattle.verify.specs.Pairs.{Paired}
+use Rattle.pv_base.specs.Pairs.{Paired}
 use Rattle.verify.proofs.PairLemmas.{paired_more}
 use Rattle.prove.specs.Stages.{FetchStopped, HasBytes, HaveBytes, IsFetched, IsFetchStop, IsLong}
 use Rattle.prove.specs.declared.stages.RunStop.{RunStop}

@@ -13,7 +13,7 @@ use Rattle.report.specs.declared.status.LimitKind.TheVariants.{Files as files_ki
 use Rattle.report.specs.declared.status.Status.{Status}
 use Rattle.report.specs.declared.status.Status.TheVariants.{AllProved, NotAllProved, Refused, Fault, BadWords, Limit, NoMemory}
 use Rattle.sum_tree.specs.SumModuleData.{SumModuleData}
-use Rattle.verify.specs.Pairs.{Paired}
+use Rattle.pv_base.specs.Pairs.{Paired}
 use Rattle.prove.specs.Stages.{NameFiles, limit_kind, line_in}
 
 -- ---- statuses

@@ -7,7 +7,7 @@ use Rattle.report.specs.Lines.{line_of}
 use Rattle.report.specs.declared.status.LimitKind.{LimitKind}
 use Rattle.report.specs.declared.status.LimitKind.TheVariants.{Bytes, Tokens, Nesting, Locals}
 use Rattle.report.specs.declared.status.Refusal.{Refusal}
-use Rattle.verify.specs.Pairs.{Paired}
+use Rattle.pv_base.specs.Pairs.{Paired}
 use Rattle.program_read.specs.Numbered.{IsFirst}
 use Rattle.program_read.specs.Program.{ProgramStopped}
 use Rattle.program_read.specs.declared.fault.FileFault.{FileFault}

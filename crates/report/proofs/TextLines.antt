@@ -4,26 +4,18 @@ use Rattle.std.specs.List.{AllByRecursion, list_all}
 use Rattle.std.specs.Fmt.{digit_glyph, digits, digits_onto}
 use Rattle.std.specs.Prelude.{nat_lt}
 use Rattle.std.proofs.lemmas.Bool.{ne_eqb}
+use Rattle.pv_base.proofs.ListEnds.{head_is, tail_is}
+use Rattle.pv_base.proofs.TruthValues.{both_true, true_both}
 use Rattle.report.specs.Told.{HoldsNoFeed}
 use Rattle.report.specs.Writing.{joined}
-
-both : (a b : Bool) → a ≡ true → b ≡ true → (a && b) ≡ true
-both true b p q = q
-both false b p q = absurd (cc)
-
-left_of : (a b : Bool) → (a && b) ≡ true → a ≡ true
-left_of true b p = refl
-left_of false b p = absurd (cc)
-
-right_of : (a b : Bool) → (a && b) ≡ true → b ≡ true
-right_of true b p = p
-right_of false b p = absurd (cc)
 
 -- ---- texts without a line feed
 
 pub none_in : (xs ys : List ℕ) → HoldsNoFeed xs → HoldsNoFeed ys → HoldsNoFeed (xs ++ ys)
 none_in [] ys p q = q
-none_in (x ∷ xs) ys p q = both (not (x == 10)) (list_all (λ b. not (b == 10)) (xs ++ ys)) (left_of (not (x == 10)) (list_all (λ b. not (b == 10)) xs) p) (none_in xs ys (right_of (not (x == 10)) (list_all (λ b. not (b == 10)) xs) p) q)
+none_in (x ∷ xs) ys p q =
+    let h = both_true (not (x == 10)) (list_all (λ b. not (b == 10)) xs) p in
+    true_both (not (x == 10)) (list_all (λ b. not (b == 10)) (xs ++ ys)) h.0 (none_in xs ys h.1 q)
 
 glyph_above : (d : ℕ) → 48 ≤ digit_glyph false d
 glyph_above d = go (nat_lt d 10)
@@ -42,7 +34,7 @@ one_of false xs ys p q = q
 digits_hold_none : (k base n : ℕ) (written : List ℕ) → HoldsNoFeed written → HoldsNoFeed (digits_onto k base false n written)
 digits_hold_none zero base n written h = h
 digits_hold_none (suc k) base n written h =
-    let more : HoldsNoFeed (digit_glyph false (n % base) ∷ written) = both (not (digit_glyph false (n % base) == 10)) (list_all (λ b. not (b == 10)) written) (glyph_is_none (n % base)) h in
+    let more : HoldsNoFeed (digit_glyph false (n % base) ∷ written) = true_both (not (digit_glyph false (n % base) == 10)) (list_all (λ b. not (b == 10)) written) (glyph_is_none (n % base)) h in
     one_of (n / base == 0) (digit_glyph false (n % base) ∷ written) (digits_onto k base false (n / base) (digit_glyph false (n % base) ∷ written)) more (digits_hold_none k base (n / base) (digit_glyph false (n % base) ∷ written) more)
 
 pub number_holds_none : (base n : ℕ) → HoldsNoFeed (digits base false n)
@@ -60,18 +52,12 @@ pub record EndsOnce (line : List ℕ) : Type 0 where
 pub ends_once : (body : List ℕ) → HoldsNoFeed body → EndsOnce (body ++ 10 ∷ [])
 ends_once body h = record { body = body; line_is = refl; holds_none = h }
 
-head_is : {x y : ℕ} {xs ys : List ℕ} → x ∷ xs ≡ y ∷ ys → x ≡ y
-head_is e = cc
-
-tail_is : {x y : ℕ} {xs ys : List ℕ} → x ∷ xs ≡ y ∷ ys → xs ≡ ys
-tail_is e = cc
-
 record SameSplit (a b x y : List ℕ) : Type 0 where
   front : a ≡ b
   back : x ≡ y
 
 starts_without : (b : ℕ) (bs : List ℕ) → HoldsNoFeed (b ∷ bs) → b ≡ 10 → ⊥
-starts_without b bs h e = apart (sym (left_of (not (b == 10)) (list_all (λ c. not (c == 10)) bs) h) ∙ ap (λ c. not (c == 10)) e)
+starts_without b bs h e = apart (sym (both_true (not (b == 10)) (list_all (λ c. not (c == 10)) bs) h).0 ∙ ap (λ c. not (c == 10)) e)
   where
     apart : true ≡ false → ⊥
     apart k = absurd (cc)
@@ -81,7 +67,7 @@ split [] [] x y p q e = record { front = refl; back = tail_is e }
 split [] (c ∷ b) x y p q e = absurd (starts_without c b q (sym (head_is e)))
 split (d ∷ a) [] x y p q e = absurd (starts_without d a p (head_is e))
 split (d ∷ a) (c ∷ b) x y p q e =
-    let s = split a b x y (right_of (not (d == 10)) (list_all (λ k. not (k == 10)) a) p) (right_of (not (c == 10)) (list_all (λ k. not (k == 10)) b) q) (tail_is e) in
+    let s = split a b x y (both_true (not (d == 10)) (list_all (λ k. not (k == 10)) a) p).1 (both_true (not (c == 10)) (list_all (λ k. not (k == 10)) b) q).1 (tail_is e) in
     record { front = ap (λ k. k ∷ a) (head_is e) ∙ ap (λ ks. c ∷ ks) s.front; back = s.back }
 
 begins : (line : List ℕ) (rest : List ℕ) (l : EndsOnce line) → line ++ rest ≡ l.body ++ 10 ∷ rest

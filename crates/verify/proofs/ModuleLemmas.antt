@@ -6,7 +6,8 @@ use Rattle.std.proofs.lemmas.List.{append-nil, get_or-map, take_more}
 use Rattle.std.proofs.lemmas.Grind.{flat_map-append}
 use Rattle.sum_tree.specs.SumModuleData.{SumModuleData}
 use Rattle.report.specs.ReportData.{FunctionRecordData}
-use Rattle.verify.specs.Pairs.{ArePutBehind, Paired}
+use Rattle.pv_base.specs.Pairs.{Paired}
+use Rattle.verify.specs.Pairs.{ArePutBehind}
 use Rattle.verify.specs.Verified.{IsFunctionRecord, IsRecordIn, functions_of, functions_of_module}
 use Rattle.verify.proofs.PairLemmas.{paired_both, paired_map}
 

@@ -1,7 +1,9 @@
 -- Pairing grows with its lists.
 use Rattle.std.proofs.Common.{◌≡◌, ℕ, ◌+◌, ◌<◌, ◌≤◌, List, [], ◌∷◌, ◌++◌, length, take, map, get_or, sym, ap, subst, ◌∙◌}
 use Rattle.std.proofs.lemmas.List.{append_assoc, append-nil, take_all, take_more}
-use Rattle.verify.specs.Pairs.{ArePutBehind, Paired}
+use Rattle.pv_base.proofs.PairLaws.{paired_append}
+use Rattle.pv_base.specs.Pairs.{Paired}
+use Rattle.verify.specs.Pairs.{ArePutBehind}
 
 pub paired_both : {A B : Type 0} (R : A → B → Type 0) (xs : List A) (ys : List B) (zs : List A) (ws : List B) → Paired R xs ys → Paired R zs ws → Paired R (xs ++ zs) (ys ++ ws)
 paired_both R [] [] zs ws p q = q
@@ -12,7 +14,7 @@ paired_both R (v ∷ xs) (w ∷ ys) zs ws p q = (p.0, paired_both R xs ys zs ws 
 -- one more item, as at a turn of a loop over the first list
 pub paired_more : {A B : Type 0} (R : A → B → Type 0) (xs : List A) (i : ℕ) (d : A) (ys : List B) (y : B) → i < length xs → Paired R (take i xs) ys → R (get_or xs i d) y → Paired R (take (i + 1) xs) (ys ++ y ∷ [])
 paired_more R xs i d ys y h p r =
-    subst (λ zs. Paired R zs (ys ++ y ∷ [])) (sym (take_more xs i d h)) (paired_both R (take i xs) ys (get_or xs i d ∷ []) (y ∷ []) p (r, tt))
+    subst (λ zs. Paired R zs (ys ++ y ∷ [])) (sym (take_more xs i d h)) (paired_append R (take i xs) ys (get_or xs i d) y p r)
 
 -- the first items of pairs
 pub paired_map : {A B C : Type 0} (R : C → B → Type 0) (f : A → C) (xs : List A) (ys : List B) → Paired (λ x y. R (f x) y) xs ys → Paired R (map f xs) ys

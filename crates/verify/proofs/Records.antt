@@ -8,7 +8,7 @@ use Rattle.fol.specs.FormulaData.{FormulaData}
 use Rattle.fol.specs.Validity.{Valid}
 use Rattle.report.specs.declared.report.ConditionVerdict.{ConditionVerdict}
 use Rattle.report.specs.declared.report.ConditionVerdict.TheVariants.{Proved, Open, Wide, Rows, Budget, Size}
-use Rattle.verify.specs.Pairs.{Paired}
+use Rattle.pv_base.specs.Pairs.{Paired}
 use Rattle.sum_tree.specs.SpecifiedData.{SpecifiedFunctionData}
 use Rattle.sum_tree.specs.SumModuleData.{SumModuleData}
 use Rattle.report.specs.ReportData.{ParameterValueData, ConditionRecordData, FunctionRecordData}

@@ -1,11 +1,6 @@
--- Two lists whose items belong together, one by one.
-use Rattle.std.specs.Prelude.{◌≡◌, List, [], ◌∷◌, ◌++◌}
-
-abbrev pub Paired : {A B : Type 0} → (A → B → Type 0) → List A → List B → Type 0
-Paired R [] [] = Unit {0}
-Paired R [] (y ∷ ys) = ⊥
-Paired R (x ∷ xs) [] = ⊥
-Paired R (x ∷ xs) (y ∷ ys) = R x y × Paired R xs ys
+-- Lists that grow by what belongs to the items of another.
+use Rattle.std.specs.Prelude.{◌≡◌, List, ◌++◌}
+use Rattle.pv_base.specs.Pairs.{Paired}
 
 -- Behind what stood before, there stands now for each of these what belongs to it.
 pub record ArePutBehind {A B : Type 0} (R : A → B → Type 0) (xs : List A) (before after : List B) : Type 0 where

@@ -13,7 +13,7 @@ use Rattle.vc_gen.specs.Keys.{keys_of}
 use Rattle.report.specs.declared.report.ConditionVerdict.{ConditionVerdict}
 use Rattle.report.specs.declared.report.ConditionVerdict.TheVariants.{Proved, Open, Wide, Rows, Budget, Size}
 use Rattle.report.specs.Lines.{line_of}
-use Rattle.verify.specs.Pairs.{Paired}
+use Rattle.pv_base.specs.Pairs.{Paired}
 use Rattle.sum_tree.specs.SpecifiedData.{SpecifiedFunctionData}
 use Rattle.sum_tree.specs.SumModuleData.{SumModuleData}
 use Rattle.verify.specs.OpenValues.{IsOpenCondition, IsWideCondition, IsLargeCondition, IsFullCondition}

@@ -6,7 +6,8 @@ ghost use Rattle.fol.specs.Validity.{Valid};
 ghost use Rattle.report.specs.Lines.{line_feeds};
 ghost use Rattle.report.specs.ReportText.{is_proved};
 ghost use Rattle.search.specs.Answer.{Shows};
-ghost use Rattle.verify.specs.Pairs.{ArePutBehind, Paired};
+ghost use Rattle.pv_base.specs.Pairs.{Paired};
+ghost use Rattle.verify.specs.Pairs.{ArePutBehind};
 ghost use Rattle.verify.specs.Verified.{AreVerifiable, IsConditionRecord, IsFunctionRecord, IsReportOf, IsShown, IsVerifiable, are_proved, check_line_of, functions_of, functions_of_module};
 
 use crate::values::values_of;

@@ -1,5 +1,5 @@
 use Rattle.std.proofs.Common.{take}
-use Rattle.verify.specs.Pairs.{Paired}
+use Rattle.pv_base.specs.Pairs.{Paired}
 use Rattle.verify.specs.Verified.{functions_of, IsRecordIn}
 use Rattle.verify.proofs.verify.verify.Given as goal
 

@@ -1,5 +1,5 @@
 use Rattle.std.proofs.Common.{◌+◌, take, sym, subst}
-use Rattle.verify.specs.Pairs.{Paired}
+use Rattle.pv_base.specs.Pairs.{Paired}
 use Rattle.verify.specs.Verified.{IsConditionRecord}
 use Rattle.verify.proofs.PairLemmas.{paired_more}
 use Rattle.verify.proofs.verify.verify_conditions.Goals as goal

@@ -1,6 +1,6 @@
 use Rattle.std.proofs.Common.{◌≡◌, ℕ, List, take}
 use Rattle.report.specs.Lines.{line_feeds}
-use Rattle.verify.specs.Pairs.{Paired}
+use Rattle.pv_base.specs.Pairs.{Paired}
 use Rattle.verify.specs.Verified.{IsConditionRecord}
 use Rattle.verify.proofs.verify.verify_conditions.Given as goal
 

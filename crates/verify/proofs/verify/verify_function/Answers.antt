@@ -5,7 +5,7 @@ use Rattle.sum_tree.specs.SpecifiedData.{SpecifiedFunctionData}
 use Rattle.sum_tree.specs.SumModuleData.{SumModuleData}
 use Rattle.vc_gen.specs.Decided.{Decide}
 use Rattle.vc_gen.specs.Keys.{keys_of}
-use Rattle.verify.specs.Pairs.{Paired}
+use Rattle.pv_base.specs.Pairs.{Paired}
 use Rattle.verify.specs.Verified.{IsConditionRecord}
 use Rattle.verify.proofs.Records.{function_record}
 use Rattle.verify.proofs.verify.verify_function.Goals as goal
