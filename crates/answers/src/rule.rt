@@ -12,6 +12,9 @@ pub enum Rule {
     Grammar,
     /// The tokens are of no source, and hold a marker of a form that is left out.
     LeftOut,
+    /// Two declarations of one kind in one module have one name, or two parameters, type parameters or fields of one
+    /// owner; or two modules have one address and one name.
+    TwiceDeclared,
     /// The file holds a form that is not built yet.
     NotBuilt,
 }
@@ -25,6 +28,7 @@ impl Rule {
             Rule::BadToken => 1,
             Rule::Grammar => 2,
             Rule::LeftOut => 3,
+            Rule::TwiceDeclared => 6,
             Rule::NotBuilt => 18,
         }
     }
@@ -37,6 +41,7 @@ impl Rule {
             Rule::BadToken => b"BadToken",
             Rule::Grammar => b"Grammar",
             Rule::LeftOut => b"LeftOut",
+            Rule::TwiceDeclared => b"TwiceDeclared",
             Rule::NotBuilt => b"NotBuilt",
         }
     }

@@ -1,6 +1,6 @@
 //! What is declared twice in a program.
 
-ghost use Rattle.std.specs.Prelude.{◌≡◌, ◌++◌, not, None, IsTrue, IfOk, OnOk};
+ghost use Rattle.std.specs.Prelude.{◌≡◌, ◌++◌, ◌<◌, length, not, None, IsTrue, IfSome, IfOk, OnOk};
 ghost use Rattle.std.specs.List.{flat_map};
 ghost use Rattle.indexmap.specs.IndexSet.{insert_all, insert_key};
 ghost use Rattle.pv_names.specs.Builtins.{builtin_declarations};
@@ -175,7 +175,8 @@ fn twice_behind(
     sources: &[Source],
     seen: IndexSet<ModuleId>,
 ) -> Result<Option<(usize, u32)>, NoMemory>
-    ensures { IfOk result (λ found. found ≡ twice_in_sources environment.now seen.keys 0 sources.now) }
+    ensures found { IfOk result (λ found. found ≡ twice_in_sources environment.now seen.keys 0 sources.now) }
+    ensures within { IfOk result (λ found. IfSome found (λ at. at.0 < length sources.now)) }
 {
     let mut seen = seen;
     for (number, source) in sources.iter().enumerate() {
@@ -189,7 +190,8 @@ fn twice_behind(
 
 /// The first declaration of files that is there a second time: the number of its file, and the place of its first token.
 pub fn first_twice_of(alloc: Global, sources: &[Source]) -> Result<Option<(usize, u32)>, NoMemory>
-    ensures { IfOk result (λ found. found ≡ first_twice_of sources.now) }
+    ensures found { IfOk result (λ found. found ≡ first_twice_of sources.now) }
+    ensures within { IfOk result (λ found. IfSome found (λ at. at.0 < length sources.now)) }
 {
     let environment = declaring(alloc, sources)?;
     twice_behind(alloc, &environment, sources, builtin_modules(alloc)?)

@@ -212,12 +212,12 @@ fn reports(rt: HostRuntime) {
         (b"module 0x1::m { /* x", b"refused 1 BadToken a.move:1\n", 2),
         (
             b"module 0x1::m { fun f(x: u64, x: u64): u64 { x } }",
-            b"refused 18 NotBuilt a.move:1\n",
+            b"refused 6 TwiceDeclared a.move:1\n",
             2,
         ),
         (
             b"module 0x1::m { fun f(): u64 { 1 } fun f(): u64 { 2 } }",
-            b"refused 18 NotBuilt a.move:1\n",
+            b"refused 6 TwiceDeclared a.move:1\n",
             2,
         ),
         (
@@ -245,6 +245,82 @@ fn reports(rt: HostRuntime) {
         let sources = source_of(&rt, alloc, text, &[]);
         let status = answer(&rt, alloc, &words, sources, &[], output);
         assert_eq!(rt; status.code(), code);
+    }
+}
+
+/// Modules in which something is declared twice, and ones that come close to it.
+#[test]
+fn what_is_declared_twice(rt: HostRuntime) {
+    let alloc = rt.alloc();
+    let words = words_of(&rt, alloc, &[b"a.move"]);
+    let twice: [(&[u8], &[u8]); 14] = [
+        (b"module 0x1::m { fun f() {} fun f() {} }", b"1"),
+        (
+            b"module 0x1::m {\n fun f() {}\n #[test]\n public fun f() {}\n}",
+            b"4",
+        ),
+        (
+            b"module 0x1::m {\n struct S {\n a: u64,\n a: bool }\n}",
+            b"2",
+        ),
+        (b"module 0x1::m {\n struct S<T, T> {}\n}", b"2"),
+        (
+            b"module 0x1::m {\n\n const C: u8 = 1; const C: u8 = 2; }",
+            b"3",
+        ),
+        (
+            b"module 0x1::m {\n use std::vector;\n use std::vector;\n}",
+            b"3",
+        ),
+        (
+            b"module 0x1::m {\n use std::vector;\n use std::signer as vector;\n}",
+            b"3",
+        ),
+        (
+            b"module 0x1::m {\n use std::vector::{Self, push_back};\n fun push_back() {}\n}",
+            b"3",
+        ),
+        (
+            b"module 0x1::m {\n use 0x1::vector::{push_back, swap as push_back};\n}",
+            b"2",
+        ),
+        (
+            b"module 0x1::m {\n spec schema S { }\n spec schema S { }\n}",
+            b"3",
+        ),
+        (
+            b"module 0x1::m {\n spec fun g(x: u64, x: u64): u64 { x }\n}",
+            b"2",
+        ),
+        (
+            b"module 0x1::m { }\nmodule 0x2::m { }\nmodule 0x01::m { }",
+            b"3",
+        ),
+        (b"\nmodule 0x1::vector { }", b"2"),
+        (b"module std::signer { }", b"1"),
+    ];
+    for (text, line) in twice {
+        let sources = source_of(&rt, alloc, text, &[]);
+        let mut output = Vec::from_slice(alloc, b"refused 6 TwiceDeclared a.move:").expect(
+            &rt, "memory",
+        );
+        output.extend_from_slice(line).expect(&rt, "memory");
+        output.push(b'\n').expect(&rt, "memory");
+        let status = answer(&rt, alloc, &words, sources, &[], output.as_slice());
+        assert_eq!(rt; status.code(), 2);
+    }
+    let once: [&[u8]; 5] = [
+        b"module 0x1::m { struct S { } spec schema S { } }",
+        b"module 0x1::m { fun f() {} spec fun f(): u64 { 1 } }",
+        b"module 0x1::m { use std::vector; fun vector() {} }",
+        b"module 0x1::m { use std::vector::push_back as put; fun push_back() {} }",
+        b"module 0x1::m { fun f(x: u64) {} fun g(x: u64) {} } module 0x1::n { fun f() {} }",
+    ];
+    for text in once {
+        let sources = source_of(&rt, alloc, text, &[]);
+        let output = b"refused 18 NotBuilt a.move:1\n";
+        let status = answer(&rt, alloc, &words, sources, &[], output);
+        assert_eq!(rt; status.code(), 2);
     }
 }
 
@@ -346,7 +422,7 @@ fn many_files(rt: HostRuntime) {
             b"refused 2 Grammar b.move:3\n",
             2,
         ),
-        (SUM, SUM, b"refused 18 NotBuilt b.move:1\n", 2),
+        (SUM, SUM, b"refused 6 TwiceDeclared b.move:1\n", 2),
         (
             b"module 0x1::m {",
             b"/*",

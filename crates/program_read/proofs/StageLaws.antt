@@ -1,6 +1,6 @@
 -- The laws of each stage, and of all of them.
-use Rattle.std.proofs.Common.{◌≡◌, ℕ, List, [], Some, None, inl, inr, refl, sym, ap, ◌∙◌, arith}
-use Rattle.answers.specs.declared.rule.Rule.TheVariants.{BadToken, NotBuilt}
+use Rattle.std.proofs.Common.{◌≡◌, ℕ, List, length, Option, [], Some, None, inl, inr, refl, sym, ap, ◌∙◌, arith}
+use Rattle.answers.specs.declared.rule.Rule.TheVariants.{BadToken, TwiceDeclared, NotBuilt}
 use Rattle.move_tokens.specs.Spelling.{IsBadAt, Spells}
 use Rattle.move_tokens.specs.declared.token.Token.{Token}
 use Rattle.source_tree.specs.Denoted.{IsSourceOf}
@@ -10,9 +10,10 @@ use Rattle.program_read.specs.Chain.{FileStage, ◌▷◌}
 use Rattle.program_read.specs.FileFault.{IsSameStop, breaks, without_place}
 use Rattle.program_read.specs.LocalCounts.{HasFewLocals, HasManyLocals, locals_stage}
 use Rattle.program_read.specs.Modules.{HasUnbuilt, modules_stage, numbered}
-use Rattle.program_read.specs.Program.{program_stages, source_stages}
+use Rattle.program_read.specs.Program.{name_stages, program_stages, source_stages}
 use Rattle.program_read.specs.Sources.{Denote, DenoteNone, HasMarker, HasNoTree, left_out, source_stage}
 use Rattle.program_read.specs.Texts.{AreTokensOf, HasBadToken, IsHeavy, IsLight, IsLong, IsShort, length_stage, nesting_stage, text_stages, tokens_stage}
+use Rattle.program_read.specs.Twice.{HasTwice, twice_stage}
 use Rattle.program_read.specs.declared.fault.FileFault.{FileFault}
 use Rattle.program_read.specs.declared.fault.FileFault.TheVariants.{Passes}
 use Rattle.program_read.specs.declared.fault.FileLimit.TheVariants.{Locals}
@@ -60,16 +61,38 @@ source_laws known = makes_laws Denote DenoteNone (λ n tokens x y p q. known.one
 
 -- ---- locals
 
-some_is : {a b : ℕ} → Some a ≡ Some b → a ≡ b
+some_is : {A : Type 0} {a b : A} → Some a ≡ Some b → a ≡ b
 some_is e = cc
 
-none_is_some : {a : ℕ} → None ≡ Some a → ⊥
+none_is_some : {A : Type 0} {a : A} → None ≡ Some a → ⊥
 none_is_some e = absurd (cc)
 
 locals_laws : Laws locals_stage
 locals_laws =
     checks_laws HasFewLocals HasManyLocals (λ n source fault few many. none_is_some (sym few ∙ many.excess))
     (λ n source fault other p q. ap without_place (p.fault_is ∙ ap (Passes Locals) (some_is (sym p.excess ∙ q.excess)) ∙ sym q.fault_is))
+
+-- ---- names
+
+abbrev file_of : Option (ℕ × ℕ) → ℕ
+file_of None = 0
+file_of (Some at) = at.0
+
+abbrev place_of : Option (ℕ × ℕ) → ℕ
+place_of None = 0
+place_of (Some at) = at.1
+
+twice_once : (sources : List (List SourceModuleData)) (file other_file : ℕ) (fault other : FileFault) → HasTwice sources file fault → HasTwice sources other_file other → IsSameStop file other_file fault other
+twice_once sources file other_file fault other p q =
+    let same = sym p.first ∙ q.first in
+    record { file_is = ap file_of same; fault_is = ap without_place (p.fault_is ∙ ap (breaks TwiceDeclared) (ap place_of same) ∙ sym q.fault_is) }
+
+twice_laws : Laws twice_stage
+twice_laws = record {
+  one = λ sources one other p q. p.0 ∙ sym q.0;
+  either = λ sources handed file fault p stops. none_is_some (sym p.1 ∙ stops.first);
+  stop = twice_once;
+}
 
 -- ---- modules
 
@@ -93,8 +116,11 @@ text_laws known = behind_laws (tokens_stage ▷ length_stage) nesting_stage (beh
 source_chain_laws : Known → Laws source_stages
 source_chain_laws known = behind_laws (text_stages ▷ source_stage) locals_stage (behind_laws text_stages source_stage (text_laws known) (source_laws known)) locals_laws
 
+name_chain_laws : Known → Laws name_stages
+name_chain_laws known = behind_laws source_stages twice_stage (source_chain_laws known) twice_laws
+
 pub program_laws : Known → Laws program_stages
-program_laws known = behind_laws source_stages modules_stage (source_chain_laws known) modules_laws
+program_laws known = behind_laws name_stages modules_stage (name_chain_laws known) modules_laws
 
 -- ---- how many files there are
 
@@ -106,3 +132,6 @@ read_keeps = behind_keeps text_stages source_stage text_keeps (makes_keeps Denot
 
 pub source_keeps : KeepsCount source_stages
 source_keeps = behind_keeps (text_stages ▷ source_stage) locals_stage read_keeps (checks_keeps HasFewLocals HasManyLocals)
+
+pub name_keeps : KeepsCount name_stages
+name_keeps = behind_keeps source_stages twice_stage source_keeps (λ given made g. ap length g.0)

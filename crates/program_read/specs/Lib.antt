@@ -6,6 +6,7 @@ pub mod Texts
 pub mod TextReading
 pub mod Sources
 pub mod LocalCounts
+pub mod Twice
 pub mod Modules
 pub mod ModuleReading
 pub mod Program

@@ -7,3 +7,4 @@ pub mod modules;
 pub mod program;
 pub mod sources;
 pub mod texts;
+pub mod twice;

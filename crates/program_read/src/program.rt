@@ -12,6 +12,7 @@ use crate::locals::check_locals;
 use crate::modules::read_modules;
 use crate::sources::read_sources;
 use crate::texts::read_texts;
+use crate::twice::check_twice;
 use move_tokens::scanner::{one_spelling, spelled_or_bad};
 use pv_base::lists::Bytes;
 use source_parse::denoted::one_source;
@@ -23,8 +24,8 @@ use sum_tree::function::SumModule;
 /// # Errors
 ///
 /// The first of these that holds of some file, with the first file of which it holds: no tokens spell it; it has
-/// too many tokens; they nest too deep; they are of no source; a function has too many parameters and locals; a
-/// module is none of sums, or has the address and the name of one before it. `NoMemory` where memory ran out.
+/// too many tokens; they nest too deep; they are of no source; a function has too many parameters and locals;
+/// something is declared twice; a module is none of sums. `NoMemory` where memory ran out.
 pub fn read_program(alloc: Global, files: &[Bytes]) -> Result<Vec<SumModule>, ProgramFault>
     requires few { length files.now ≤ 2 ^ 32 }
     requires short { AllByRecursion (λ bytes. length bytes < 2 ^ 32) files.now }
@@ -33,6 +34,7 @@ pub fn read_program(alloc: Global, files: &[Bytes]) -> Result<Vec<SumModule>, Pr
     let texts = read_texts(alloc, files)?;
     let sources = read_sources(alloc, texts.as_slice())?;
     check_locals(alloc, sources.as_slice())?;
+    check_twice(alloc, sources.as_slice())?;
     read_modules(alloc, sources.as_slice())
 }
 

@@ -66,6 +66,7 @@ fn files_of_no_program(rt: HostRuntime) -> Result<(), Fail> {
     let comment = "module 0x1::n { } /* no end";
     let open = "module 0x1::m {";
     let other = "module 0x1::o { fun f() { } }";
+    let another = "module 0x1::p { fun f() { } }";
     for (texts, file, fault) in [
         // Each rule by itself.
         ([module, comment], 1, FileFault::breaks(Rule::BadToken, 18)),
@@ -86,14 +87,19 @@ fn files_of_no_program(rt: HostRuntime) -> Result<(), Fail> {
             marked(alloc, 26, b"0x1u256")?,
         ),
         ([module, other], 1, FileFault::breaks(Rule::NotBuilt, 16)),
-        ([module, module], 1, FileFault::breaks(Rule::NotBuilt, 0)),
+        (
+            [module, module],
+            1,
+            FileFault::breaks(Rule::TwiceDeclared, 0),
+        ),
         // An earlier rule of a later file comes first.
         ([open, comment], 1, FileFault::breaks(Rule::BadToken, 18)),
         ([other, open], 1, FileFault::breaks(Rule::Grammar, 14)),
         // Of two files that break one rule, the first.
         ([comment, comment], 0, FileFault::breaks(Rule::BadToken, 18)),
         ([open, open], 0, FileFault::breaks(Rule::Grammar, 14)),
-        ([other, other], 0, FileFault::breaks(Rule::NotBuilt, 16)),
+        ([other, another], 0, FileFault::breaks(Rule::NotBuilt, 16)),
+        ([other, other], 1, FileFault::breaks(Rule::TwiceDeclared, 0)),
     ] {
         stops(&rt, alloc, &texts, file, fault)?;
     }
