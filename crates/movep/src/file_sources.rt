@@ -3,6 +3,7 @@
 ghost use Rattle.std.specs.Prelude.{◌≡◌, ◌<◌, ◌≤◌, [], length, IfSome};
 ghost use Rattle.outside.specs.Outside.{OnTooLong, OnWhole};
 
+use outside::handed::HandedLog;
 use outside::outside::{FILE_LIMIT, Fetched, Sources};
 use pv_base::lists::Bytes;
 use pv_base::name::Name;
@@ -19,6 +20,7 @@ pub struct FileSources<'a, R> {
     files: &'a R,
     faults: u64,
     taken: usize,
+    handed: HandedLog,
 }
 
 impl<'a, R> FileSources<'a, R> {
@@ -31,6 +33,7 @@ impl<'a, R> FileSources<'a, R> {
             files,
             faults: 0,
             taken: 0,
+            handed: HandedLog::new(),
         }
     }
 }
@@ -39,6 +42,8 @@ impl<R: Files> Sources for FileSources<'_, R> {
     ghost faults = { λ s. s.faults };
 
     ghost taken = { λ s. s.taken };
+
+    ghost handed = { λ s. s.handed.files };
 
     /// Reads a file. It fails where the name is not UTF-8, or the file can't be opened or read.
     fn fetch(&mut self, name: &Name, into: &mut Bytes) -> Fetched {
@@ -51,7 +56,9 @@ impl<R: Files> Sources for FileSources<'_, R> {
         if fetched == Fetched::Failed {
             self.faults = self.faults.saturating_add(1);
         }
-        if fetched != Fetched::Whole {
+        if fetched == Fetched::Whole {
+            self.handed.note(name.as_slice(), into.as_slice());
+        } else {
             into.clear();
         }
         fetched

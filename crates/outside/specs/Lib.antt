@@ -1,4 +1,5 @@
 pub mod Outside
+pub mod Handed
 pub mod MemorySink
 pub mod MemorySources
 pub mod Writing

@@ -2,25 +2,27 @@
 use Rattle.std.specs.Prelude.{◌≡◌, ℕ, ◌⊎◌, List, None, Contains, refl}
 use Rattle.std.specs.Coded.{Coded, code_by, coded×, coded_list, coded_ℕ}
 use Rattle.std.specs.FinMap as map
+use Rattle.outside.specs.Handed.{HandedFiles}
 use Rattle.outside.specs.Outside.{Files}
 use Rattle.outside.specs.MemorySink.{counted}
 
 -- the files, the numbers of the fetches that fail, how many fetches there were and how many of them failed,
--- and how many bytes the last one took
+-- how many bytes the last one took, and what was handed over
 pub record SourcesState : Type 0 where
   pub files : Files
   pub fails : List ℕ
   pub calls : ℕ
   pub faults : ℕ
   pub taken : ℕ
+  pub handed : HandedFiles
 
 -- a state is stored as its parts
 abbrev pub state_code : Coded SourcesState
 state_code =
-    code_by (Files × (List ℕ × (ℕ × (ℕ × ℕ))))
-    (coded× (map.code (coded_list coded_ℕ) (coded_list coded_ℕ)) (coded× (coded_list coded_ℕ) (coded× coded_ℕ (coded× coded_ℕ coded_ℕ))))
-    (λ s. (s.files, (s.fails, (s.calls, (s.faults, s.taken)))))
-    (λ p. record { files = p.0; fails = p.1.0; calls = p.1.1.0; faults = p.1.1.1.0; taken = p.1.1.1.1 })
+    code_by (Files × (List ℕ × (ℕ × (ℕ × (ℕ × HandedFiles)))))
+    (coded× (map.code (coded_list coded_ℕ) (coded_list coded_ℕ)) (coded× (coded_list coded_ℕ) (coded× coded_ℕ (coded× coded_ℕ (coded× coded_ℕ (coded_list (coded× (coded_list coded_ℕ) (coded_list coded_ℕ))))))))
+    (λ s. (s.files, (s.fails, (s.calls, (s.faults, (s.taken, s.handed))))))
+    (λ p. record { files = p.0; fails = p.1.0; calls = p.1.1.0; faults = p.1.1.1.0; taken = p.1.1.1.1.0; handed = p.1.1.1.1.1 })
     (λ _. refl)
 
 -- The next fetch of this name fails: it is one of those that fail, or there is no such file.

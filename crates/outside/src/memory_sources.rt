@@ -1,11 +1,12 @@
 //! Files in memory.
 
-ghost use Rattle.std.specs.Prelude.{◌≡◌, ◌+◌, ◌≤◌, [], length};
+ghost use Rattle.std.specs.Prelude.{◌≡◌, ◌+◌, ◌≤◌, [], ◌∷◌, ◌++◌, length};
 ghost use Rattle.std.specs.FinMap as map;
 ghost use Rattle.outside.specs.MemorySink.{counted};
 ghost use Rattle.outside.specs.MemorySources.{FailsNext};
 ghost use Rattle.outside.specs.Outside.{IsLongFile, OnFetchFailed, OnTooLong, OnWhole, UnlessFetchFailed, UnlessWhole};
 
+use crate::handed::HandedLog;
 use crate::outside::{FILE_LIMIT, Fetched, Sources};
 use pv_base::lists::{Bytes, Calls, FileMap};
 use pv_base::name::Name;
@@ -19,6 +20,7 @@ pub struct MapSources {
     calls: u64,
     faults: u64,
     taken: usize,
+    handed: HandedLog,
 }
 
 impl Model for MapSources {
@@ -28,13 +30,13 @@ impl Model for MapSources {
 
     ghost coded = { state_code };
 
-    ghost view = { λ s. record { files = s.files; fails = s.fails; calls = s.calls; faults = s.faults; taken = s.taken } };
+    ghost view = { λ s. record { files = s.files; fails = s.fails; calls = s.calls; faults = s.faults; taken = s.taken; handed = s.handed.files } };
 }
 
 impl MapSources {
     /// These files. The fetches with the numbers in `fails`, counted from 1, fail.
     pub fn new(files: FileMap, fails: Calls) -> MapSources
-        ensures { result ≡ record { files = files; fails = fails; calls = 0; faults = 0; taken = 0 } }
+        ensures { result ≡ record { files = files; fails = fails; calls = 0; faults = 0; taken = 0; handed = [] } }
     {
         MapSources {
             files,
@@ -42,6 +44,7 @@ impl MapSources {
             calls: 0,
             faults: 0,
             taken: 0,
+            handed: HandedLog::new(),
         }
     }
 }
@@ -52,6 +55,8 @@ impl Sources for MapSources {
     ghost faults = { λ s. s.faults };
 
     ghost taken = { λ s. s.taken };
+
+    ghost handed = { λ s. s.handed };
 
     /// Copies a file. It fails where it is told to, and where there is no file of the name. Of a file
     /// that is too long it takes one byte more than `FILE_LIMIT`.
@@ -65,7 +70,7 @@ impl Sources for MapSources {
 
         // What the call leaves, by its answer.
         ensures failed { OnFetchFailed result (self.new ≡ record self.old { calls = counted self.old.calls; faults = counted self.old.faults; taken = 0 }) }
-        ensures took { OnWhole result (self.new ≡ record self.old { calls = counted self.old.calls; taken = length into.new }) }
+        ensures took { OnWhole result (self.new ≡ record self.old { calls = counted self.old.calls; taken = length into.new; handed = self.old.handed ++ (name.now, into.new) ∷ [] }) }
         ensures took_more { OnTooLong result (self.new ≡ record self.old { calls = counted self.old.calls; taken = FILE_LIMIT + 1 }) }
         ensures no_memory { result ≡ Fetched.NoMemory → self.new ≡ record self.old { calls = counted self.old.calls; taken = 0 } }
         ensures never_falls { self.old.faults ≤ self.new.faults }
@@ -88,6 +93,7 @@ impl Sources for MapSources {
             return Fetched::NoMemory;
         }
         self.taken = into.len();
+        self.handed.note(name.as_slice(), into.as_slice());
         Fetched::Whole
     }
 }

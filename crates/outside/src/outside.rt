@@ -1,8 +1,9 @@
 //! The outside of the verifier: where files come from, and where the report goes.
 
-ghost use Rattle.std.specs.Prelude.{◌≡◌, ℕ, ◌<◌, ◌≤◌, ◌↔◌, List, [], length, take, IfSome, Option};
+ghost use Rattle.std.specs.Prelude.{◌≡◌, ℕ, ◌<◌, ◌≤◌, ◌↔◌, List, [], ◌∷◌, ◌++◌, length, take, IfSome, Option};
 ghost use Rattle.std.specs.FinMap as map;
 ghost use Rattle.std.specs.Io.KnownBytes.{append_known};
+ghost use Rattle.outside.specs.Handed.{HandedFiles};
 ghost use Rattle.outside.specs.Outside.{HasFaulted, Files, IsLongFile, OnWhole, OnTooLong, OnFetchFailed, SaysTooLong, UnlessWhole, UnlessFetchFailed, IfTaken, OnWriteFailed};
 
 use pv_base::lists::Bytes;
@@ -35,12 +36,17 @@ pub trait Sources {
     /// The number of bytes that the last fetch took, and 0 before the first.
     ghost taken: { Self → ℕ };
 
+    /// The names and the bytes of the files that it handed over so far, in order.
+    ghost handed: { Self → HandedFiles };
+
     /// Fetches a file whole, in place of what `into` held.
     fn fetch(&mut self, name: &Name, into: &mut Bytes) -> Fetched
         ensures same_files { holds self.new ≡ holds self.old }
         ensures bytes { OnWhole result (IfSome (holds self.old) (λ files. map.get files name.now ≡ Some into.new)) }
         ensures within { OnWhole result (length into.new ≤ FILE_LIMIT) }
         ensures emptied { UnlessWhole result (into.new ≡ []) }
+        ensures hands_over { OnWhole result (handed self.new ≡ handed self.old ++ (name.now, into.new) ∷ []) }
+        ensures hands_nothing { UnlessWhole result (handed self.new ≡ handed self.old) }
         ensures failed { OnFetchFailed result (HasFaulted (faults self.old) (faults self.new)) }
         ensures no_fault { UnlessFetchFailed result (faults self.new ≡ faults self.old) }
         ensures never_falls { faults self.old ≤ faults self.new }

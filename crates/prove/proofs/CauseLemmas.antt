@@ -6,6 +6,7 @@ use Rattle.std.specs.FinMap as map
 use Rattle.answers.specs.Rules.{tells_place}
 use Rattle.answers.specs.declared.rule.Rule.{Rule}
 use Rattle.answers.specs.declared.rule.Rule.TheVariants.{BadToken}
+use Rattle.outside.specs.Handed.{HandedFiles, HandedOver}
 use Rattle.outside.specs.Outside.{Files, HasFaulted, IsLongFile}
 use Rattle.program_read.specs.Numbered.{Each, IsFirst}
 use Rattle.program_read.specs.FileFault.{IsSameStop, without_place}
@@ -23,10 +24,11 @@ use Rattle.report.specs.declared.status.Status.{Status}
 use Rattle.report.specs.declared.status.Status.TheVariants.{AllProved, NotAllProved, Refused, Fault, BadWords, Limit, NoMemory}
 use Rattle.sum_tree.specs.SumModuleData.{SumModuleData}
 use Rattle.pv_base.specs.Pairs.{Paired}
-use Rattle.prove.specs.Causes.{AreTold, BreaksRule, BreaksRuleOn, Causes, FileCauses, HaveProgram, IsRefused, IsReported, PassesLimit, SomeIsLong, TextCauses, UnlessFree, refused}
+use Rattle.prove.proofs.HandedLemmas.{handed_in_part, one_handed}
+use Rattle.prove.specs.Causes.{AreTold, BreaksRule, BreaksRuleOn, Causes, FileCauses, HandedCauses, HaveProgram, IsRefused, IsReported, PassesLimit, SomeIsLong, TextCauses, UnlessFree, refused}
 use Rattle.prove.specs.Outcome.{status_of}
 use Rattle.prove.specs.Run.{Ends, IsOutput, IsVerified, RunStopped, report_status}
-use Rattle.prove.specs.Stages.{FetchStopped, HasBytes, HaveBytes, IsFetched, IsLong, IsProgramStop, NameFiles, ReadStopped, limit_kind, line_in, stop_of}
+use Rattle.prove.specs.Stages.{FetchStopped, HandedBefore, HandedTo, HasBytes, HaveBytes, IsFetched, IsLong, IsProgramStop, NameFiles, ReadStopped, limit_kind, line_in, stop_of}
 use Rattle.prove.specs.declared.stages.RunStop.{RunStop}
 use Rattle.prove.specs.declared.stages.RunStop.TheVariants.{TooManyFiles, SourceFault, Limit as limit_stop, Refused as refused_stop, NoMemory as memory_stop}
 
@@ -316,7 +318,7 @@ module _ (either : (files : List (List ℕ)) (program : List SumModuleData) (fil
       texts = λ files are short. absurd (no_short first.before first.item first.behind files first.found (subst (λ ns. AreTold told ns files) first.parts are) short);
     }
 
-    module _ (names : List (List ℕ)) (old new : ℕ) (no_fault : HasFaulted old new → ⊥) where
+    module _ (names : List (List ℕ)) (before after : HandedFiles) (old new : ℕ) (no_fault : HasFaulted old new → ⊥) where
       abbrev OfFiles : Status → Type 0
       OfFiles s = UnlessFree s (FileCauses told names s)
 
@@ -345,27 +347,72 @@ module _ (either : (files : List (List ℕ)) (program : List SumModuleData) (fil
       read_causes files (refused_stop refusal) h r = file_stop files (refused_stop refusal) h r
       read_causes files memory_stop h r = tt
 
-      run_causes : (stop : RunStop) → length names ≤ 64 → RunStopped (Some told) names old new stop → OfFiles (status_of stop)
+      run_causes : (stop : RunStop) → length names ≤ 64 → RunStopped (Some told) before after names old new stop → OfFiles (status_of stop)
       run_causes stop few (inl m) = absurd (omega (arith, few, m.many))
       run_causes stop few (inr (inl f)) = fetch_causes stop f.stopped
       run_causes stop few (inr (inr r)) = read_causes r.files stop r.have_bytes r.stopped
 
-      report_causes : (s : Status) (report : ReportData) → IsReported s → IsVerified (Some told) names report → OfFiles s
+      report_causes : (s : Status) (report : ReportData) → IsReported s → IsVerified (Some told) before after names report → OfFiles s
       report_causes s report is v =
           unless_free s (FileCauses told names s)
           (text_causes names v.files s v.have_bytes (λ e. omega (arith, sym e ∙ six s is)) (program_causes v.files v.program s is v.is_program))
 
-      output_files : (s : Status) (text : List ℕ) → NameFiles names → length names ≤ 64 → IsOutput names (Some told) old new s text → OfFiles s
+      output_files : (s : Status) (text : List ℕ) → NameFiles names → length names ≤ 64 → IsOutput names (Some told) before after old new s text → OfFiles s
       output_files s text named few (inl u) = absurd (u.refused named)
       output_files s text named few (inr (inl t)) = subst OfFiles (sym t.status_is) (run_causes t.stop few t.stopped)
       output_files s text named few (inr (inr (inl r))) = subst OfFiles (sym r.status_is) (report_causes (report_status r.report) r.report (report_is_reported r.report) r.verified)
       output_files s text named few (inr (inr (inr w))) = subst OfFiles (sym w.status_is) tt
 
+  -- ---- the bytes that were handed over
+
+  module _ (names : List (List ℕ)) (before after : HandedFiles) where
+    abbrev OfHanded : Status → Type 0
+    OfHanded s = UnlessFree s (HandedCauses before after names s)
+
+    whole_handed : (files : List (List ℕ)) (s : Status) → HandedOver before after names files → TextCauses files s → OfHanded s
+    whole_handed files s h t = unless_free s (HandedCauses before after names s) (λ other o. subst (λ fs. TextCauses fs s) (one_handed before after names files other h o) t)
+
+    part_handed : (file : ℕ) (s : Status) → HandedBefore before after names file → OfHanded s
+    part_handed file s b = unless_free s (HandedCauses before after names s) (λ other o. absurd (handed_in_part before after names other file o b))
+
+    file_handed : (files : List (List ℕ)) (stop : RunStop) → HandedOver before after names files → IsProgramStop files stop → OfHanded (status_of stop)
+    file_handed files stop h p =
+        subst (λ k. OfHanded (status_of k)) (sym p.stop_is) (whole_handed files (stopped_status files p.file p.fault) h (stop_causes files p.file p.fault p.stopped))
+
+    read_handed : (files : List (List ℕ)) (stop : RunStop) → HandedOver before after names files → ReadStopped files stop → OfHanded (status_of stop)
+    read_handed files (TooManyFiles count) h r = file_handed files (TooManyFiles count) h r
+    read_handed files (SourceFault file) h r = file_handed files (SourceFault file) h r
+    read_handed files (limit_stop file kind count) h r = file_handed files (limit_stop file kind count) h r
+    read_handed files (refused_stop refusal) h r = file_handed files (refused_stop refusal) h r
+    read_handed files memory_stop h r = tt
+
+    module _ (holds : Option Files) (old new : ℕ) where
+      fetch_handed : (stop : RunStop) → FetchStopped holds names old new stop → HandedTo before after names stop → OfHanded (status_of stop)
+      fetch_handed (TooManyFiles count) f h = absurd f
+      fetch_handed (SourceFault file) f h = part_handed file (Fault Source) h
+      fetch_handed (limit_stop file kind count) f h = part_handed file (Limit kind count) h
+      fetch_handed (refused_stop refusal) f h = absurd f
+      fetch_handed memory_stop f h = tt
+
+      run_handed : (stop : RunStop) → length names ≤ 64 → RunStopped holds before after names old new stop → OfHanded (status_of stop)
+      run_handed stop few (inl m) = absurd (omega (arith, few, m.many))
+      run_handed stop few (inr (inl f)) = fetch_handed stop f.stopped f.handed
+      run_handed stop few (inr (inr r)) = read_handed r.files stop r.handed r.stopped
+
+      report_handed : (s : Status) (report : ReportData) → IsReported s → IsVerified holds before after names report → OfHanded s
+      report_handed s report is v = whole_handed v.files s v.handed (program_causes v.files v.program s is v.is_program)
+
+      output_handed : (s : Status) (text : List ℕ) → IsOutput names holds before after old new s text → NameFiles names → length names ≤ 64 → OfHanded s
+      output_handed s text (inl u) named few = absurd (u.refused named)
+      output_handed s text (inr (inl t)) named few = subst OfHanded (sym t.status_is) (run_handed t.stop few t.stopped)
+      output_handed s text (inr (inr (inl r))) named few = subst OfHanded (sym r.status_is) (report_handed (report_status r.report) r.report (report_is_reported r.report) r.verified)
+      output_handed s text (inr (inr (inr w))) named few = subst OfHanded (sym w.status_is) tt
+
   -- ---- the run
 
-  module _ (words : List (List ℕ)) (holds : Option Files) (old new : ℕ) where
+  module _ (words : List (List ℕ)) (holds : Option Files) (before after : HandedFiles) (old new : ℕ) where
     -- the kind of a stop: no want of words, and a limit of files where there are too many
-    stop_kind : (stop : RunStop) → RunStopped holds words old new stop → (kind_of (status_of stop) ≡ 8 → ⊥) × (kind_of (status_of stop) ≡ 12 → 64 < length words)
+    stop_kind : (stop : RunStop) → RunStopped holds before after words old new stop → (kind_of (status_of stop) ≡ 8 → ⊥) × (kind_of (status_of stop) ≡ 12 → 64 < length words)
     stop_kind stop (inl m) = subst (λ k. (kind_of (status_of k) ≡ 8 → ⊥) × (kind_of (status_of k) ≡ 12 → 64 < length words)) (sym m.stop_is) (λ e. omega (arith, e), λ _. m.many)
     stop_kind (TooManyFiles count) (inr (inl f)) = absurd f.stopped
     stop_kind (SourceFault file) (inr (inl f)) = (λ e. omega (arith, e), λ e. absurd (omega (arith, e)))
@@ -397,7 +444,7 @@ module _ (either : (files : List (List ℕ)) (program : List SumModuleData) (fil
     named_words : (s : Status) → NameFiles words → (kind_of s ≡ 8 → ⊥) → OfWords s
     named_words s named other = unless_free s ((s ≡ BadWords) ↔ (¬ NameFiles words)) (λ e. absurd (other (ap kind_of e)), λ none. absurd (none named))
 
-    words_causes : (s : Status) (text : List ℕ) → IsOutput words holds old new s text → OfWords s
+    words_causes : (s : Status) (text : List ℕ) → IsOutput words holds before after old new s text → OfWords s
     words_causes s text (inl u) = subst OfWords (sym u.status_is) (λ _. u.refused, λ _. refl)
     words_causes s text (inr (inl t)) = subst OfWords (sym t.status_is) (named_words (status_of t.stop) t.named (stop_kind t.stop t.stopped).0)
     words_causes s text (inr (inr (inl r))) = subst OfWords (sym r.status_is) (named_words (report_status r.report) r.named (λ e. omega (arith, sym e ∙ six (report_status r.report) (report_is_reported r.report))))
@@ -410,17 +457,17 @@ module _ (either : (files : List (List ℕ)) (program : List SumModuleData) (fil
     few_told : (s : Status) → length words ≤ 64 → (kind_of s ≡ 12 → ⊥) → UnlessFree s (TellsMany s)
     few_told s few other = unless_free s (TellsMany s) (λ count. (λ e. absurd (other (ap kind_of e)), λ p. absurd (omega (arith, few, p.1, p.2))))
 
-    few_stop : (stop : RunStop) (r : RunStopped holds words old new stop) → length words ≤ 64 → UnlessFree (status_of stop) (TellsMany (status_of stop))
+    few_stop : (stop : RunStop) (r : RunStopped holds before after words old new stop) → length words ≤ 64 → UnlessFree (status_of stop) (TellsMany (status_of stop))
     few_stop stop r few = few_told (status_of stop) few (λ e. omega (arith, few, (stop_kind stop r).1 e))
 
-    count_of_stop : (stop : RunStop) → NameFiles words → RunStopped holds words old new stop → UnlessFree (status_of stop) (TellsMany (status_of stop))
+    count_of_stop : (stop : RunStop) → NameFiles words → RunStopped holds before after words old new stop → UnlessFree (status_of stop) (TellsMany (status_of stop))
     count_of_stop stop named (inl m) =
         subst (λ k. UnlessFree (status_of k) (TellsMany (status_of k))) (sym m.stop_is)
         (λ count. (λ e. (named, sym (ap count_of_status e), subst (λ k. 64 < k) (ap count_of_status e) m.many), λ p. ap (Limit files_kind) (sym p.1)))
     count_of_stop stop named (inr (inl f)) = few_stop stop (inr (inl f)) f.few
     count_of_stop stop named (inr (inr r)) = few_stop stop (inr (inr r)) r.few
 
-    count_causes : (s : Status) (text : List ℕ) → IsOutput words holds old new s text → UnlessFree s (TellsMany s)
+    count_causes : (s : Status) (text : List ℕ) → IsOutput words holds before after old new s text → UnlessFree s (TellsMany s)
     count_causes s text (inl u) = subst (λ k. UnlessFree k (TellsMany k)) (sym u.status_is) (λ count. (λ e. absurd (omega (arith, ap kind_of e)), λ p. absurd (u.refused p.0)))
     count_causes s text (inr (inl t)) = subst (λ k. UnlessFree k (TellsMany k)) (sym t.status_is) (count_of_stop t.stop t.named t.stopped)
     count_causes s text (inr (inr (inl r))) =
@@ -454,28 +501,29 @@ module _ (either : (files : List (List ℕ)) (program : List SumModuleData) (fil
     fetch_fault (refused_stop refusal) f e = absurd f
     fetch_fault memory_stop f e = absurd (omega (arith, e))
 
-    stop_fault : (stop : RunStop) → RunStopped holds words old new stop → kind_of (status_of stop) ≡ 7 → HasFaulted old new
+    stop_fault : (stop : RunStop) → RunStopped holds before after words old new stop → kind_of (status_of stop) ≡ 7 → HasFaulted old new
     stop_fault stop (inl m) e = absurd (omega (arith, sym (ap (λ k. kind_of (status_of k)) m.stop_is) ∙ e))
     stop_fault stop (inr (inl f)) e = fetch_fault stop f.stopped e
     stop_fault stop (inr (inr r)) e = absurd (read_fault r.files stop r.stopped e)
 
-    fault_cause : (s : Status) (text : List ℕ) → IsOutput words holds old new s text → s ≡ Fault Source → HasFaulted old new
+    fault_cause : (s : Status) (text : List ℕ) → IsOutput words holds before after old new s text → s ≡ Fault Source → HasFaulted old new
     fault_cause s text (inl u) e = absurd (omega (arith, ap kind_of (sym u.status_is ∙ e)))
     fault_cause s text (inr (inl t)) e = stop_fault t.stop t.stopped (ap kind_of (sym t.status_is ∙ e))
     fault_cause s text (inr (inr (inl r))) e = absurd (omega (arith, sym (six (report_status r.report) (report_is_reported r.report)) ∙ ap kind_of (sym r.status_is ∙ e)))
     fault_cause s text (inr (inr (inr w))) e = absurd (omega (arith, ap kind_of (sym w.status_is ∙ e)))
 
-  told_causes : (words : List (List ℕ)) (holds : Option Files) (old new : ℕ) (s : Status) (text : List ℕ) → IsOutput words holds old new s text
+  told_causes : (words : List (List ℕ)) (holds : Option Files) (before after : HandedFiles) (old new : ℕ) (s : Status) (text : List ℕ) → IsOutput words holds before after old new s text
       → NameFiles words → length words ≤ 64 → ¬ HasFaulted old new → IfSome holds (λ told. UnlessFree s (FileCauses told words s))
-  told_causes words None old new s text o named few no_fault = tt
-  told_causes words (Some told) old new s text o named few no_fault = output_files told words old new no_fault s text named few o
+  told_causes words None before after old new s text o named few no_fault = tt
+  told_causes words (Some told) before after old new s text o named few no_fault = output_files told words before after old new no_fault s text named few o
 
-  output_causes : (words : List (List ℕ)) (holds : Option Files) (old new : ℕ) (s : Status) (text : List ℕ) → IsOutput words holds old new s text → Causes words holds old new s
-  output_causes words holds old new s text o = record {
-    bad_words = words_causes words holds old new s text o;
-    too_many = count_causes words holds old new s text o;
-    source_fault = fault_cause words holds old new s text o;
-    files = told_causes words holds old new s text o;
+  output_causes : (words : List (List ℕ)) (holds : Option Files) (before after : HandedFiles) (old new : ℕ) (s : Status) (text : List ℕ) → IsOutput words holds before after old new s text → Causes words holds before after old new s
+  output_causes words holds before after old new s text o = record {
+    bad_words = words_causes words holds before after old new s text o;
+    too_many = count_causes words holds before after old new s text o;
+    source_fault = fault_cause words holds before after old new s text o;
+    handed = output_handed words before after holds old new s text o;
+    files = told_causes words holds before after old new s text o;
   }
 
   nothing_told : (holds : Option Files) → IfSome holds (λ told. Unit {0})
@@ -483,12 +531,12 @@ module _ (either : (files : List (List ℕ)) (program : List SumModuleData) (fil
   nothing_told (Some told) = tt
 
   -- what a run ends with tells the causes of its status
-  pub causes_of_ends : (words : List (List ℕ)) (holds : Option Files) (old new : ℕ) (taken taken' : Option (List ℕ)) (faults faults' : ℕ) (s : Status) → Ends (IsOutput words holds old new) taken taken' faults faults' s → Causes words holds old new s
-  causes_of_ends words holds old new taken taken' faults faults' (Fault Sink) w = record { bad_words = tt; too_many = tt; source_fault = λ e. absurd (sink_is_no_source e); files = λ named few no_fault. nothing_told holds }
-  causes_of_ends words holds old new taken taken' faults faults' (Fault Source) w = output_causes words holds old new (Fault Source) w.text w.output
-  causes_of_ends words holds old new taken taken' faults faults' AllProved w = output_causes words holds old new AllProved w.text w.output
-  causes_of_ends words holds old new taken taken' faults faults' NotAllProved w = output_causes words holds old new NotAllProved w.text w.output
-  causes_of_ends words holds old new taken taken' faults faults' (Refused refusal) w = output_causes words holds old new (Refused refusal) w.text w.output
-  causes_of_ends words holds old new taken taken' faults faults' BadWords w = output_causes words holds old new BadWords w.text w.output
-  causes_of_ends words holds old new taken taken' faults faults' (Limit kind count) w = output_causes words holds old new (Limit kind count) w.text w.output
-  causes_of_ends words holds old new taken taken' faults faults' NoMemory w = output_causes words holds old new NoMemory w.text w.output
+  pub causes_of_ends : (words : List (List ℕ)) (holds : Option Files) (before after : HandedFiles) (old new : ℕ) (taken taken' : Option (List ℕ)) (faults faults' : ℕ) (s : Status) → Ends (IsOutput words holds before after old new) taken taken' faults faults' s → Causes words holds before after old new s
+  causes_of_ends words holds before after old new taken taken' faults faults' (Fault Sink) w = record { bad_words = tt; too_many = tt; source_fault = λ e. absurd (sink_is_no_source e); handed = λ named few. tt; files = λ named few no_fault. nothing_told holds }
+  causes_of_ends words holds before after old new taken taken' faults faults' (Fault Source) w = output_causes words holds before after old new (Fault Source) w.text w.output
+  causes_of_ends words holds before after old new taken taken' faults faults' AllProved w = output_causes words holds before after old new AllProved w.text w.output
+  causes_of_ends words holds before after old new taken taken' faults faults' NotAllProved w = output_causes words holds before after old new NotAllProved w.text w.output
+  causes_of_ends words holds before after old new taken taken' faults faults' (Refused refusal) w = output_causes words holds before after old new (Refused refusal) w.text w.output
+  causes_of_ends words holds before after old new taken taken' faults faults' BadWords w = output_causes words holds before after old new BadWords w.text w.output
+  causes_of_ends words holds before after old new taken taken' faults faults' (Limit kind count) w = output_causes words holds before after old new (Limit kind count) w.text w.output
+  causes_of_ends words holds before after old new taken taken' faults faults' NoMemory w = output_causes words holds before after old new NoMemory w.text w.output

@@ -1,5 +1,6 @@
 pub mod CauseLemmas
 pub mod FetchLemmas
+pub mod HandedLemmas
 pub mod Placed
 pub mod ReportLemmas
 pub mod RunLemmas

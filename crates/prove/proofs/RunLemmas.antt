@@ -8,6 +8,7 @@ use Rattle.report.specs.declared.status.Status.TheVariants.{AllProved, NotAllPro
 use Rattle.report.specs.declared.status.Device.TheVariants.{Source, Sink}
 use Rattle.outside.specs.declared.writing.SinkFault.{SinkFault}
 use Rattle.prove.specs.Outcome.{status_of}
+use Rattle.outside.specs.Handed.{HandedFiles}
 use Rattle.outside.specs.Outside.{Files}
 use Rattle.report.specs.ReportData.{ReportData}
 use Rattle.report.specs.ReportText.{is_proved}
@@ -21,15 +22,15 @@ pub writes_as : (P Q : Status → List ℕ → Type 0) (old new : Option (List �
 writes_as P Q old new old_faults new_faults (Ok status) h w = record { text = w.text; output = h status w.text w.output; taken = w.taken }
 writes_as P Q old new old_faults new_faults (Err fault) h w = record { status = w.status; text = w.text; output = h w.status w.text w.output; taken = w.taken; fault = w.fault }
 
-module _ (words : List (List ℕ)) (holds : Option Files) (old new : ℕ) where
-  pub usage_output : ¬ NameFiles words → (status : Status) (text : List ℕ) → IsJust BadWords usage_line status text → IsOutput words holds old new status text
+module _ (words : List (List ℕ)) (holds : Option Files) (before after : HandedFiles) (old new : ℕ) where
+  pub usage_output : ¬ NameFiles words → (status : Status) (text : List ℕ) → IsJust BadWords usage_line status text → IsOutput words holds before after old new status text
   usage_output h status text e = inl (record { refused = h; status_is = e.0; text_is = e.1 })
 
-  pub stop_output : (stop : RunStop) → NameFiles words → RunStopped holds words old new stop → (status : Status) (text : List ℕ) → IsStopText words stop status text → IsOutput words holds old new status text
+  pub stop_output : (stop : RunStop) → NameFiles words → RunStopped holds before after words old new stop → (status : Status) (text : List ℕ) → IsStopText words stop status text → IsOutput words holds before after old new status text
   stop_output stop named stopped status text (inl e) = inr (inl (record { named = named; stop = stop; stopped = stopped; status_is = e.0; text_is = e.1 }))
   stop_output stop named stopped status text (inr e) = inr (inr (inr e))
 
-  pub report_output : (report : ReportData) → NameFiles words → IsVerified holds words report → (status : Status) (text : List ℕ) → IsReportText report status text → IsOutput words holds old new status text
+  pub report_output : (report : ReportData) → NameFiles words → IsVerified holds before after words report → (status : Status) (text : List ℕ) → IsReportText report status text → IsOutput words holds before after old new status text
   report_output report named verified status text (inl e) = inr (inr (inl (record { named = named; report = report; verified = verified; status_is = e.0; text_is = e.1 })))
   report_output report named verified status text (inr e) = inr (inr (inr e))
 
@@ -45,13 +46,13 @@ module _ (words : List (List ℕ)) (holds : Option Files) (old new : ℕ) where
   not_of_report true e = cc
   not_of_report false e = cc
 
-  no_sink_output : (text : List ℕ) → IsOutput words holds old new (Fault Sink) text → ⊥
+  no_sink_output : (text : List ℕ) → IsOutput words holds before after old new (Fault Sink) text → ⊥
   no_sink_output text (inl u) = let e = u.status_is in cc
   no_sink_output text (inr (inl s)) = not_of_stop s.stop s.status_is
   no_sink_output text (inr (inr (inl r))) = not_of_report (list_all (λ f. is_proved f.verdict) r.report.functions) r.status_is
   no_sink_output text (inr (inr (inr w))) = let e = w.status_is in cc
 
-  pub ends_whole : (taken taken' : Option (List ℕ)) (faults faults' : ℕ) (status : Status) → WroteAll (IsOutput words holds old new) taken taken' status → Ends (IsOutput words holds old new) taken taken' faults faults' status
+  pub ends_whole : (taken taken' : Option (List ℕ)) (faults faults' : ℕ) (status : Status) → WroteAll (IsOutput words holds before after old new) taken taken' status → Ends (IsOutput words holds before after old new) taken taken' faults faults' status
   ends_whole taken taken' faults faults' (Fault Sink) w = absurd (no_sink_output w.text w.output)
   ends_whole taken taken' faults faults' (Fault Source) w = w
   ends_whole taken taken' faults faults' AllProved w = w

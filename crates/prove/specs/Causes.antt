@@ -4,6 +4,7 @@ use Rattle.std.specs.List.{AllByRecursion}
 use Rattle.std.specs.FinMap as map
 use Rattle.answers.specs.Rules.{tells_place}
 use Rattle.answers.specs.declared.rule.Rule.{Rule}
+use Rattle.outside.specs.Handed.{HandedFiles, HandedOver}
 use Rattle.outside.specs.Outside.{Files, HasFaulted, IsLongFile}
 use Rattle.program_read.specs.Program.{IsProgramOf, ProgramStopped}
 use Rattle.program_read.specs.declared.fault.FileFault.TheVariants.{Breaks, Passes}
@@ -80,10 +81,16 @@ pub record FileCauses (told : Files) (names : List (List ℕ)) (status : Status)
   pub too_long : (count : ℕ) → (status ≡ Limit Bytes count) ↔ ((count ≡ 1048577) × SomeIsLong told names)
   pub texts : (files : List (List ℕ)) → AreTold told names files → AllByRecursion (λ bytes. length bytes ≤ 1048576) files → TextCauses files status
 
--- Of a run; the numbers are the source's counts of faults before and after. The last part speaks of a source that
--- tells its files, and of runs in which it did not fail.
-pub record Causes (words : List (List ℕ)) (holds : Option Files) (old new : ℕ) (status : Status) : Type 0 where
+-- Of the bytes that the source handed over, a file for each name. That all of them were is a premise: where one was too long, or
+-- the source failed, fewer were.
+abbrev pub HandedCauses : HandedFiles → HandedFiles → List (List ℕ) → Status → Type 0
+HandedCauses before after names status = (files : List (List ℕ)) → HandedOver before after names files → TextCauses files status
+
+-- Of a run; the lists are what the source handed over before and after, and the numbers its counts of faults. The part `handed`
+-- holds of every source; `files` speaks of one that tells its files, and of runs in which it did not fail.
+pub record Causes (words : List (List ℕ)) (holds : Option Files) (before after : HandedFiles) (old new : ℕ) (status : Status) : Type 0 where
   pub bad_words : UnlessFree status ((status ≡ BadWords) ↔ (¬ NameFiles words))
   pub too_many : UnlessFree status ((count : ℕ) → (status ≡ Limit files_kind count) ↔ (NameFiles words × (count ≡ length words) × (64 < count)))
   pub source_fault : status ≡ Fault Source → HasFaulted old new
+  pub handed : NameFiles words → length words ≤ 64 → UnlessFree status (HandedCauses before after words status)
   pub files : NameFiles words → length words ≤ 64 → ¬ HasFaulted old new → IfSome holds (λ told. UnlessFree status (FileCauses told words status))

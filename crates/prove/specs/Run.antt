@@ -1,6 +1,7 @@
 -- What a whole run writes, and with which status it ends: the main theorem's words.
 use Rattle.std.specs.Prelude.{◌≡◌, ℕ, ◌<◌, ◌≤◌, ◌⊎◌, if◌then◌else◌, List, length, Option}
 use Rattle.std.specs.List.{list_all}
+use Rattle.outside.specs.Handed.{HandedFiles, HandedOver}
 use Rattle.outside.specs.Outside.{Files}
 use Rattle.program_read.specs.Program.{IsProgramOf}
 use Rattle.report.specs.ReportData.{ReportData}
@@ -13,7 +14,7 @@ use Rattle.report.specs.declared.status.Status.TheVariants.{AllProved, NotAllPro
 use Rattle.sum_tree.specs.SumModuleData.{SumModuleData}
 use Rattle.verify.specs.Verified.{IsReportOf}
 use Rattle.prove.specs.Outcome.{status_of, stop_line}
-use Rattle.prove.specs.Stages.{FetchStopped, HaveBytes, NameFiles, ReadStopped}
+use Rattle.prove.specs.Stages.{FetchStopped, HandedTo, HaveBytes, NameFiles, ReadStopped}
 use Rattle.prove.specs.declared.stages.RunStop.{RunStop}
 use Rattle.prove.specs.declared.stages.RunStop.TheVariants.{TooManyFiles}
 
@@ -24,30 +25,34 @@ pub record IsTooMany (names : List (List ℕ)) (stop : RunStop) : Type 0 where
   pub many : 64 < length names
   pub stop_is : stop ≡ TooManyFiles (length names)
 
--- The files were fetched, and are of no program.
-pub record StoppedAtProgram (holds : Option Files) (names : List (List ℕ)) (stop : RunStop) : Type 0 where
+-- The files were fetched and handed over, and are of no program.
+pub record StoppedAtProgram (holds : Option Files) (before after : HandedFiles) (names : List (List ℕ)) (stop : RunStop) : Type 0 where
   pub few : length names ≤ 64
   pub files : List (List ℕ)
   pub have_bytes : HaveBytes holds names files
+  pub handed : HandedOver before after names files
   pub stopped : ReadStopped files stop
 
 -- A file was not fetched.
-pub record StoppedAtFetch (holds : Option Files) (names : List (List ℕ)) (old new : ℕ) (stop : RunStop) : Type 0 where
+pub record StoppedAtFetch (holds : Option Files) (before after : HandedFiles) (names : List (List ℕ)) (old new : ℕ) (stop : RunStop) : Type 0 where
   pub few : length names ≤ 64
   pub stopped : FetchStopped holds names old new stop
+  pub handed : HandedTo before after names stop
 
--- Why a run has no report; the numbers are the source's counts of faults before and after.
-abbrev pub RunStopped : Option Files → List (List ℕ) → ℕ → ℕ → RunStop → Type 0
-RunStopped holds names old new stop =
-    IsTooMany names stop ⊎ (StoppedAtFetch holds names old new stop ⊎ StoppedAtProgram holds names stop)
+-- Why a run has no report; the lists are what the source handed over before and after, and the numbers its counts of faults.
+abbrev pub RunStopped : Option Files → HandedFiles → HandedFiles → List (List ℕ) → ℕ → ℕ → RunStop → Type 0
+RunStopped holds before after names old new stop =
+    IsTooMany names stop ⊎ (StoppedAtFetch holds before after names old new stop ⊎ StoppedAtProgram holds before after names stop)
 
 -- ---- runs with a report
 
--- The files are of one program, and the report is that of the program.
-pub record IsVerified (holds : Option Files) (names : List (List ℕ)) (report : ReportData) : Type 0 where
+-- The files are of one program, and the report is that of the program. They are those that the source tells, where it tells
+-- them, and in any case those that it handed over in this run.
+pub record IsVerified (holds : Option Files) (before after : HandedFiles) (names : List (List ℕ)) (report : ReportData) : Type 0 where
   pub few : length names ≤ 64
   pub files : List (List ℕ)
   pub have_bytes : HaveBytes holds names files
+  pub handed : HandedOver before after names files
   pub program : List SumModuleData
   pub is_program : IsProgramOf files program
   pub is_report : IsReportOf names files program report
@@ -64,18 +69,18 @@ pub record IsUsage (words : List (List ℕ)) (status : Status) (text : List ℕ)
   pub text_is : text ≡ usage_line
 
 -- the line that tells why the run has no report
-pub record IsStopLine (words : List (List ℕ)) (holds : Option Files) (old new : ℕ) (status : Status) (text : List ℕ) : Type 0 where
+pub record IsStopLine (words : List (List ℕ)) (holds : Option Files) (before after : HandedFiles) (old new : ℕ) (status : Status) (text : List ℕ) : Type 0 where
   pub named : NameFiles words
   pub stop : RunStop
-  pub stopped : RunStopped holds words old new stop
+  pub stopped : RunStopped holds before after words old new stop
   pub status_is : status ≡ status_of stop
   pub text_is : text ≡ stop_line words stop
 
 -- the whole report
-pub record IsReport (words : List (List ℕ)) (holds : Option Files) (status : Status) (text : List ℕ) : Type 0 where
+pub record IsReport (words : List (List ℕ)) (holds : Option Files) (before after : HandedFiles) (status : Status) (text : List ℕ) : Type 0 where
   pub named : NameFiles words
   pub report : ReportData
-  pub verified : IsVerified holds words report
+  pub verified : IsVerified holds before after words report
   pub status_is : status ≡ report_status report
   pub text_is : text ≡ report_text report
 
@@ -92,9 +97,9 @@ abbrev pub IsReportText : ReportData → Status → List ℕ → Type 0
 IsReportText report status text = ((status ≡ report_status report) × (text ≡ report_text report)) ⊎ IsWant status text
 
 -- With this status goes this text.
-abbrev pub IsOutput : List (List ℕ) → Option Files → ℕ → ℕ → Status → List ℕ → Type 0
-IsOutput words holds old new status text =
-    IsUsage words status text ⊎ (IsStopLine words holds old new status text ⊎ (IsReport words holds status text ⊎ IsWant status text))
+abbrev pub IsOutput : List (List ℕ) → Option Files → HandedFiles → HandedFiles → ℕ → ℕ → Status → List ℕ → Type 0
+IsOutput words holds before after old new status text =
+    IsUsage words status text ⊎ (IsStopLine words holds before after old new status text ⊎ (IsReport words holds before after status text ⊎ IsWant status text))
 
 -- How a run ends: after a fault of the sink a prefix of the output was written, and with every other status the whole.
 abbrev pub Ends : (Status → List ℕ → Type 0) → Option (List ℕ) → Option (List ℕ) → ℕ → ℕ → Status → Type 0

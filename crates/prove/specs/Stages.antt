@@ -1,7 +1,8 @@
 -- What each stage of a run demands, and why it stops.
-use Rattle.std.specs.Prelude.{◌≡◌, ℕ, ◌<◌, ◌≤◌, Bool, true, false, not, ◌==◌, List, [], ◌∷◌, length, slice_index_or, Option, Some, None, Result, Err, IfSome}
+use Rattle.std.specs.Prelude.{◌≡◌, ℕ, ◌<◌, ◌≤◌, Bool, true, false, not, ◌==◌, List, [], ◌∷◌, length, take, slice_index_or, Option, Some, None, Result, Err, IfSome}
 use Rattle.std.specs.List.{list_all}
 use Rattle.std.specs.FinMap as map
+use Rattle.outside.specs.Handed.{HandedFiles, HandedOver}
 use Rattle.outside.specs.Outside.{Files, HasFaulted, IsLongFile}
 use Rattle.report.specs.Lines.{line_of}
 use Rattle.report.specs.declared.status.LimitKind.{LimitKind}
@@ -65,6 +66,18 @@ FetchStopped holds names old new (SourceFault file) = HasFaulted old new × IsFi
 FetchStopped holds names old new (Limit file Bytes count) = (count ≡ 1048577) × IsFirst (IsFetched holds) (IsLong holds) names file
 FetchStopped holds names old new NoMemory = Unit {0}
 FetchStopped holds names old new _ = ⊥
+
+-- The files before this one were handed over, and no others.
+pub record HandedBefore (before after : HandedFiles) (names : List (List ℕ)) (file : ℕ) : Type 0 where
+  pub within : file < length names
+  pub files : List (List ℕ)
+  pub handed : HandedOver before after (take file names) files
+
+-- What was handed over where the fetches stopped at a file.
+abbrev pub HandedTo : HandedFiles → HandedFiles → List (List ℕ) → RunStop → Type 0
+HandedTo before after names (SourceFault file) = HandedBefore before after names file
+HandedTo before after names (Limit file kind count) = HandedBefore before after names file
+HandedTo before after names _ = Unit {0}
 
 -- ---- programs
 

@@ -1,9 +1,10 @@
 //! The stages of a run before its functions are verified: the words, the fetches, the program.
 
-ghost use Rattle.std.specs.Prelude.{◌≡◌, ◌≤◌, ℕ, [], length, slice_index_or, IfOk, IfErr, MatchOption};
+ghost use Rattle.std.specs.Prelude.{◌≡◌, ◌≤◌, ℕ, [], ◌∷◌, ◌++◌, length, slice_index_or, IfOk, IfErr, MatchOption};
 ghost use Rattle.std.specs.List.{AllByRecursion};
+ghost use Rattle.outside.specs.Handed.{HandedOver};
 ghost use Rattle.program_read.specs.Program.{IsProgramOf};
-ghost use Rattle.prove.specs.Stages.{FetchStopped, HasBytes, HaveBytes, IsFetchStop, NameFiles, ReadStopped, UnlessSourceFault, begins_with_dash, limit_kind, name_files, stop_of};
+ghost use Rattle.prove.specs.Stages.{FetchStopped, HandedTo, HasBytes, HaveBytes, IsFetchStop, NameFiles, ReadStopped, UnlessSourceFault, begins_with_dash, limit_kind, name_files, stop_of};
 
 use outside::outside::{FILE_LIMIT, Fetched, Sources};
 use program_read::fault::{FileFault, FileLimit, ProgramFault};
@@ -88,6 +89,8 @@ fn fetch<S: Sources>(
 ) -> Result<Bytes, RunStop>
     ensures same_files { S.holds sources.new ≡ S.holds sources.old }
     ensures bytes { IfOk result (HasBytes (S.holds sources.old) name.now) }
+    ensures handed { IfOk result (λ bytes. S.handed sources.new ≡ S.handed sources.old ++ (name.now, bytes) ∷ []) }
+    ensures handed_none { IfErr result (λ _. S.handed sources.new ≡ S.handed sources.old) }
     ensures no_fault { UnlessSourceFault result (S.faults sources.new ≡ S.faults sources.old) }
     ensures stopped { IfErr result (IsFetchStop (S.holds sources.old) number name.now (S.faults sources.old) (S.faults sources.new)) }
 {
@@ -109,6 +112,8 @@ pub fn fetch_all<S: Sources>(
     requires { length names.now ≤ FILES_LIMIT }
     ensures same_files { S.holds sources.new ≡ S.holds sources.old }
     ensures bytes { IfOk result (λ files. HaveBytes (S.holds sources.old) names.now files.items) }
+    ensures handed { IfOk result (λ files. HandedOver (S.handed sources.old) (S.handed sources.new) names.now files.items) }
+    ensures handed_before { IfErr result (HandedTo (S.handed sources.old) (S.handed sources.new) names.now) }
     ensures no_fault { UnlessSourceFault result (S.faults sources.new ≡ S.faults sources.old) }
     ensures stopped { IfErr result (FetchStopped (S.holds sources.old) names.now (S.faults sources.old) (S.faults sources.new)) }
 {

@@ -3,6 +3,7 @@
 ghost use Rattle.std.specs.Prelude.{◌≡◌, ℕ, List, Option, IfOk, IfErr};
 ghost use Rattle.std.specs.List.{list_all};
 ghost use Rattle.prove.specs.Causes.{Causes};
+ghost use Rattle.outside.specs.Handed.{HandedFiles};
 ghost use Rattle.outside.specs.Outside.{Files};
 ghost use Rattle.report.specs.ReportText.{is_proved};
 ghost use Rattle.report.specs.declared.status.Status.{Status};
@@ -34,8 +35,8 @@ fn report_of<S: Sources, L: Ledger>(
     sources: &mut S,
     steps: &mut Steps<L>,
 ) -> Result<Report, RunStop>
-    ensures verified { IfOk result (IsVerified (S.holds sources.old) names.now) }
-    ensures stopped { IfErr result (RunStopped (S.holds sources.old) names.now (S.faults sources.old) (S.faults sources.new)) }
+    ensures verified { IfOk result (IsVerified (S.holds sources.old) (S.handed sources.old) (S.handed sources.new) names.now) }
+    ensures stopped { IfErr result (RunStopped (S.holds sources.old) (S.handed sources.old) (S.handed sources.new) names.now (S.faults sources.old) (S.faults sources.new)) }
 {
     if names.len() > FILES_LIMIT {
         return Err(RunStop::TooManyFiles(names.len() as u64));
@@ -83,7 +84,7 @@ fn run<S: Sources, W: Sink, L: Ledger>(
     sink: &mut W,
     steps: &mut Steps<L>,
 ) -> Result<Status, SinkFault>
-    ensures { Writes (IsOutput words.now (S.holds sources.old) (S.faults sources.old) (S.faults sources.new)) (W.taken sink.old) (W.taken sink.new) (W.faults sink.old) (W.faults sink.new) result }
+    ensures { Writes (IsOutput words.now (S.holds sources.old) (S.handed sources.old) (S.handed sources.new) (S.faults sources.old) (S.faults sources.new)) (W.taken sink.old) (W.taken sink.new) (W.faults sink.old) (W.faults sink.new) result }
 {
     match file_names(words) {
         Some(names) => match report_of(alloc, names, sources, steps) {
@@ -96,8 +97,8 @@ fn run<S: Sources, W: Sink, L: Ledger>(
 
 /// A law: how a run ends tells the causes of its status in both directions, since they exclude each other.
 fn causes_of_ends()
-    ensures { (words : List (List ℕ)) (told : Option Files) (counted counted_after : ℕ) (taken taken_after : Option (List ℕ)) (failed failed_after : ℕ) (status : Status)
-        → Ends (IsOutput words told counted counted_after) taken taken_after failed failed_after status → Causes words told counted counted_after status }
+    ensures { (words : List (List ℕ)) (told : Option Files) (handed handed_after : HandedFiles) (counted counted_after : ℕ) (taken taken_after : Option (List ℕ)) (failed failed_after : ℕ) (status : Status)
+        → Ends (IsOutput words told handed handed_after counted counted_after) taken taken_after failed failed_after status → Causes words told handed handed_after counted counted_after status }
 {
     one_outcome();
 }
@@ -105,9 +106,9 @@ fn causes_of_ends()
 /// Verifies the files that the words name, and writes the report, or in one line why there is none.
 ///
 /// The words are those of the command line after the program's name. The status says how the run ended,
-/// and what was written goes with it. Where the source tells its files and does not fail, each status comes
-/// exactly where its cause holds, unless memory runs out or the sink fails. The steps of searches are counted
-/// in `steps`.
+/// and what was written goes with it. Each status comes exactly where its cause holds in the bytes that the
+/// source handed over, and, where it tells its files and does not fail, in those files, unless memory runs out
+/// or the sink fails. The steps of searches are counted in `steps`.
 pub fn movep<S: Sources, W: Sink, L: Ledger>(
     alloc: Global,
     words: &Words,
@@ -115,8 +116,8 @@ pub fn movep<S: Sources, W: Sink, L: Ledger>(
     sink: &mut W,
     steps: &mut Steps<L>,
 ) -> Status
-    ensures ends { Ends (IsOutput words.now (S.holds sources.old) (S.faults sources.old) (S.faults sources.new)) (W.taken sink.old) (W.taken sink.new) (W.faults sink.old) (W.faults sink.new) result }
-    ensures causes { Causes words.now (S.holds sources.old) (S.faults sources.old) (S.faults sources.new) result }
+    ensures ends { Ends (IsOutput words.now (S.holds sources.old) (S.handed sources.old) (S.handed sources.new) (S.faults sources.old) (S.faults sources.new)) (W.taken sink.old) (W.taken sink.new) (W.faults sink.old) (W.faults sink.new) result }
+    ensures causes { Causes words.now (S.holds sources.old) (S.handed sources.old) (S.handed sources.new) (S.faults sources.old) (S.faults sources.new) result }
 {
     causes_of_ends();
     match run(alloc, words, sources, sink, steps) {

@@ -5,6 +5,6 @@ use Rattle.prove.proofs.top.run.Goals as goal
 
 pub returns-in-Ok : goal.returns-in-Ok
 returns-in-Ok g c =
-    writes_as (IsReportText c.in-Ok.report) (IsOutput c.args.words.now (g.S.Sources.holds c.args.sources.now) (g.S.Sources.faults c.args.sources.now) (g.S.Sources.faults c.report_of.new.sources)) (g.W.Sink.taken c.args.sink.now) (g.W.Sink.taken c.write_report.new.sink) (g.W.Sink.faults c.args.sink.now) (g.W.Sink.faults c.write_report.new.sink) c.write_report.result
-    (report_output c.args.words.now (g.S.Sources.holds c.args.sources.now) (g.S.Sources.faults c.args.sources.now) (g.S.Sources.faults c.report_of.new.sources) c.in-Ok.report c.in-Some.ensures.1 (subst (λ names. IsVerified (g.S.Sources.holds c.args.sources.now) names c.in-Ok.report) c.in-Some.ensures.0 c.in-Ok.ensures.verified))
+    writes_as (IsReportText c.in-Ok.report) (IsOutput c.args.words.now (g.S.Sources.holds c.args.sources.now) (g.S.Sources.handed c.args.sources.now) (g.S.Sources.handed c.report_of.new.sources) (g.S.Sources.faults c.args.sources.now) (g.S.Sources.faults c.report_of.new.sources)) (g.W.Sink.taken c.args.sink.now) (g.W.Sink.taken c.write_report.new.sink) (g.W.Sink.faults c.args.sink.now) (g.W.Sink.faults c.write_report.new.sink) c.write_report.result
+    (report_output c.args.words.now (g.S.Sources.holds c.args.sources.now) (g.S.Sources.handed c.args.sources.now) (g.S.Sources.handed c.report_of.new.sources) (g.S.Sources.faults c.args.sources.now) (g.S.Sources.faults c.report_of.new.sources) c.in-Ok.report c.in-Some.ensures.1 (subst (λ names. IsVerified (g.S.Sources.holds c.args.sources.now) (g.S.Sources.handed c.args.sources.now) (g.S.Sources.handed c.report_of.new.sources) names c.in-Ok.report) c.in-Some.ensures.0 c.in-Ok.ensures.verified))
     c.write_report.ensures
