@@ -17,7 +17,7 @@ use Rattle.source_tree.specs.SourceData.{SourceMemberData}
 use Rattle.source_tree.specs.SourceModuleData.{SourceModuleData}
 use Rattle.sum_tree.specs.declared.sum.Operator.{Operator}
 use Rattle.sum_tree.specs.SumData.{SumData, NumberSum, WordSum, JoinedSum}
-use Rattle.sum_tree.specs.FunctionData.{FunctionData}
+use Rattle.sum_tree.specs.SumFunctionData.{SumFunctionData}
 use Rattle.sum_tree.specs.SpecifiedData.{SpecifiedFunctionData}
 use Rattle.sum_tree.specs.SumModuleData.{SumModuleData}
 use Rattle.sum_read.specs.Sums.{is_absent, joined, literal_sum, number_sum, only_sum, operator_of, sum_of, word_sum}
@@ -105,7 +105,7 @@ body_fits (BlockOf place None NoItems NoExpression) s e = absurd (none_is_some e
 body_fits (BlockOf place None (MoreItems one more) value) s e = absurd (none_is_some e)
 body_fits (BlockOf place (Some spec) items value) s e = absurd (none_is_some e)
 
-function_fits : (f : FunctionTree) (g : FunctionData) → function_of f ≡ Some g → Fits g.body
+function_fits : (f : FunctionTree) (g : SumFunctionData) → function_of f ≡ Some g → Fits g.body
 function_fits f g e = go (is_plain f) (inputs_of f.inputs) (value_of f.body) refl e
   where
     go : (b : Bool) (i : Option (List (List ℕ))) (v : Option SumData) → value_of f.body ≡ v
@@ -113,7 +113,7 @@ function_fits f g e = go (is_plain f) (inputs_of f.inputs) (value_of f.body) ref
     go false i v is e = absurd (none_is_some e)
     go true None v is e = absurd (none_is_some e)
     go true (Some ps) None is e = absurd (none_is_some e)
-    go true (Some ps) (Some s) is e = subst Fits (ap (λ (h : FunctionData). h.body) (some_is e)) (body_fits f.body s is)
+    go true (Some ps) (Some s) is e = subst Fits (ap (λ (h : SumFunctionData). h.body) (some_is e)) (body_fits f.body s is)
 
 -- ---- functions that may be verified
 
@@ -124,7 +124,7 @@ closed_sum parameters (JoinedSum left operator right) known fits =
     let k = and_parts (knows_sum parameters Body left) (knows_sum parameters Body right) known in
     (closed_sum parameters left k.0 fits.0, closed_sum parameters right k.1 fits.1)
 
-verifiable : (f : FunctionTree) (g : FunctionData) → function_of f ≡ Some g → is_closed g ≡ true → IsVerifiable g
+verifiable : (f : FunctionTree) (g : SumFunctionData) → function_of f ≡ Some g → is_closed g ≡ true → IsVerifiable g
 verifiable f g e closed =
     let c = and_parts (are_parameters g.parameters) (knows_sum g.parameters Body g.body) closed in
     let p = and_parts _ (all_differ g.parameters) c.0 in
@@ -138,7 +138,7 @@ member_verifiable members before (Constant c) x m = absurd m
 member_verifiable members before (Function f) x m = subst (λ y. AllByRecursion IsVerifiable (functions_of_member y)) (sym m.found_is) (verifiable f m.function m.read m.closed, tt)
 member_verifiable members before (Spec s) x m = subst (λ y. AllByRecursion IsVerifiable (functions_of_member y)) (sym m.found_is) tt
 
-all_append : (xs ys : List FunctionData) → AllByRecursion IsVerifiable xs → AllByRecursion IsVerifiable ys → AllByRecursion IsVerifiable (xs ++ ys)
+all_append : (xs ys : List SumFunctionData) → AllByRecursion IsVerifiable xs → AllByRecursion IsVerifiable ys → AllByRecursion IsVerifiable (xs ++ ys)
 all_append [] ys a b = b
 all_append (x ∷ xs) ys a b = (a.0, all_append xs ys a.1 b)
 
@@ -149,7 +149,7 @@ members_verifiable members before (m ∷ ms) [] a = absurd a
 members_verifiable members before (m ∷ ms) (x ∷ xs) a =
     all_append (functions_of_member x) (functions_in xs) (member_verifiable members before m.form x a.0) (members_verifiable members (before ++ m ∷ []) ms xs a.1)
 
-each_specified : (members : List SumMember) (fs : List FunctionData) → AllByRecursion IsVerifiable fs → (k : ℕ) (d : SpecifiedFunctionData) → k < length (map (specified members) fs) → IsVerifiable (get_or (map (specified members) fs) k d).function
+each_specified : (members : List SumMember) (fs : List SumFunctionData) → AllByRecursion IsVerifiable fs → (k : ℕ) (d : SpecifiedFunctionData) → k < length (map (specified members) fs) → IsVerifiable (get_or (map (specified members) fs) k d).function
 each_specified members [] h k d l = absurd (omega arith)
 each_specified members (f ∷ fs) h zero d l = h.0
 each_specified members (f ∷ fs) h (suc k) d l = each_specified members fs h.1 k d (omega arith)

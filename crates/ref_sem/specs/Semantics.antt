@@ -16,8 +16,8 @@ use Rattle.sum_tree.specs.declared.clause.Condition.{Condition}
 use Rattle.sum_tree.specs.declared.clause.Condition.TheVariants.{True, False, Compares}
 use Rattle.sum_tree.specs.declared.clause.ClauseKind.{ClauseKind}
 use Rattle.sum_tree.specs.declared.clause.ClauseKind.TheVariants.{Requires, Ensures, AbortsIf}
-use Rattle.sum_tree.specs.declared.clause.Clause.{Clause}
-use Rattle.sum_tree.specs.FunctionData.{FunctionData}
+use Rattle.sum_tree.specs.declared.clause.SumClause.{SumClause}
+use Rattle.sum_tree.specs.SumFunctionData.{SumFunctionData}
 
 -- ---- runs
 
@@ -69,7 +69,7 @@ Holds names False = ⊥
 Holds names (Compares left comparison right) = ComparesBy comparison (sum_number names left) (sum_number names right)
 
 -- A parameter's name means its value. Where no parameter has the name, `MAX_U64` and `result` mean what they say.
-abbrev pub names_of : FunctionData → Arguments → ℕ → Names
+abbrev pub names_of : SumFunctionData → Arguments → ℕ → Names
 names_of f arguments result name =
     if list_any (same_name name) f.parameters then pos (arguments name)
     else (if same_name name (codes "MAX_U64") then pos (2 ^ 64 - 1)
@@ -78,32 +78,32 @@ names_of f arguments result name =
 -- ---- contracts
 
 -- each clause of the kind holds
-abbrev pub AllHold : ClauseKind → Names → List Clause → Type 0
+abbrev pub AllHold : ClauseKind → Names → List SumClause → Type 0
 AllHold kind names [] = Unit {0}
 AllHold kind names (c ∷ cs) = (c.kind ≡ kind → Holds names c.condition) × AllHold kind names cs
 
 -- some clause of the kind holds
-abbrev pub SomeHolds : ClauseKind → Names → List Clause → Type 0
+abbrev pub SomeHolds : ClauseKind → Names → List SumClause → Type 0
 SomeHolds kind names [] = ⊥
 SomeHolds kind names (c ∷ cs) = ((c.kind ≡ kind) × Holds names c.condition) ⊎ SomeHolds kind names cs
 
 -- there is a clause of the kind
-abbrev pub HasKind : ClauseKind → List Clause → Type 0
+abbrev pub HasKind : ClauseKind → List SumClause → Type 0
 HasKind kind [] = ⊥
 HasKind kind (c ∷ cs) = (c.kind ≡ kind) ⊎ HasKind kind cs
 
 -- A run that returns meets each `ensures`, and no `aborts_if` held at its start. Where a run aborts, some `aborts_if`
 -- held at its start, unless the function has none.
-abbrev pub MeetsClauses : FunctionData → List Clause → Arguments → Option ℕ → Type 0
+abbrev pub MeetsClauses : SumFunctionData → List SumClause → Arguments → Option ℕ → Type 0
 MeetsClauses f clauses arguments (Some result) =
     AllHold Ensures (names_of f arguments result) clauses × (SomeHolds AbortsIf (names_of f arguments 0) clauses → ⊥)
 MeetsClauses f clauses arguments None = HasKind AbortsIf clauses → SomeHolds AbortsIf (names_of f arguments 0) clauses
 
 -- The function keeps its contract: each run meets the clauses that starts with u64 arguments that meet each `requires`.
-pub record KeepsContract (f : FunctionData) (clauses : List Clause) : Type 0 where
+pub record KeepsContract (f : SumFunctionData) (clauses : List SumClause) : Type 0 where
   pub each_run : (arguments : Arguments) → AreU64 arguments → AllHold Requires (names_of f arguments 0) clauses → MeetsClauses f clauses arguments (run_sum arguments f.body)
 
 -- The same, read classically: where a property either holds of all values or fails of one, which a test of all values
 -- that answers right says. No program can test all values, and to a classical reader there is just one such test.
-abbrev pub Keeps : FunctionData → List Clause → Type 0
+abbrev pub Keeps : SumFunctionData → List SumClause → Type 0
 Keeps f clauses = (all : (Val → Bool) → Bool) → AnswersRight all → KeepsContract f clauses

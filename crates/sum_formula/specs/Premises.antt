@@ -10,16 +10,16 @@ use Rattle.sum_tree.specs.declared.sum.Operator.{Operator}
 use Rattle.sum_tree.specs.declared.sum.Operator.TheVariants.{Plus, Minus}
 use Rattle.sum_tree.specs.declared.clause.ClauseKind.{ClauseKind}
 use Rattle.sum_tree.specs.declared.clause.ClauseKind.TheVariants.{Requires, Ensures, AbortsIf}
-use Rattle.sum_tree.specs.declared.clause.Clause.{Clause}
+use Rattle.sum_tree.specs.declared.clause.SumClause.{SumClause}
 use Rattle.sum_tree.specs.SumData.{SumData, NumberSum, WordSum, JoinedSum}
-use Rattle.sum_tree.specs.FunctionData.{FunctionData}
+use Rattle.sum_tree.specs.SumFunctionData.{SumFunctionData}
 use Rattle.sum_formula.specs.Translation.{zero_term, greatest_term, word_term, operator_term, sum_term, condition_formula}
 
 -- each parameter has a value of its type
 abbrev pub argument_formula : List (List ℕ) → List ℕ → FormulaData
 argument_formula parameters name = IsFormula (IntType U64) (word_term parameters zero_term name)
 
-abbrev pub arguments_formula : FunctionData → FormulaData
+abbrev pub arguments_formula : SumFunctionData → FormulaData
 arguments_formula f = AllOfFormula (formulas_of (map (argument_formula f.parameters) f.parameters))
 
 abbrev pub is_kind : ClauseKind → ClauseKind → Bool
@@ -29,14 +29,14 @@ is_kind AbortsIf AbortsIf = true
 is_kind _ _ = false
 
 -- the formula of a clause of this kind, and none of another clause
-abbrev pub formula_if : ClauseKind → List (List ℕ) → TermData → Clause → List FormulaData
+abbrev pub formula_if : ClauseKind → List (List ℕ) → TermData → SumClause → List FormulaData
 formula_if kind parameters returned c = if is_kind c.kind kind then condition_formula parameters returned c.condition ∷ [] else []
 
 -- the formulas of the clauses of this kind, which speak of the entry
-abbrev pub entry_formulas : ClauseKind → FunctionData → List Clause → List FormulaData
+abbrev pub entry_formulas : ClauseKind → SumFunctionData → List SumClause → List FormulaData
 entry_formulas kind f clauses = flat_map (formula_if kind f.parameters zero_term) clauses
 
-abbrev pub requires_formula : FunctionData → List Clause → FormulaData
+abbrev pub requires_formula : SumFunctionData → List SumClause → FormulaData
 requires_formula f clauses = AllOfFormula (formulas_of (entry_formulas Requires f clauses))
 
 -- What is made of u64 values is from 0 on where they were added, and at most the greatest where one was taken away: so
@@ -54,19 +54,19 @@ range_formulas parameters (JoinedSum left operator right) =
     ++ range_formula operator (operator_term operator (sum_term parameters zero_term left) (sum_term parameters zero_term right)) ∷ [])
 
 -- the body's run returns
-abbrev pub returns_formula : FunctionData → FormulaData
+abbrev pub returns_formula : SumFunctionData → FormulaData
 returns_formula f = AllOfFormula (formulas_of (range_formulas f.parameters f.body))
 
 -- what it returns
-abbrev pub returned_term : FunctionData → TermData
+abbrev pub returned_term : SumFunctionData → TermData
 returned_term f = sum_term f.parameters zero_term f.body
 
 abbrev pub all_three : FormulaData → FormulaData → FormulaData → FormulaData
 all_three p q r = AllOfFormula (MoreFormulas p (MoreFormulas q (MoreFormulas r NoFormulas)))
 
 -- from a start with arguments of their types that meets each `requires`, the run returns, or aborts
-abbrev pub at_return : FunctionData → List Clause → FormulaData
+abbrev pub at_return : SumFunctionData → List SumClause → FormulaData
 at_return f clauses = all_three (arguments_formula f) (requires_formula f clauses) (returns_formula f)
 
-abbrev pub at_abort : FunctionData → List Clause → FormulaData
+abbrev pub at_abort : SumFunctionData → List SumClause → FormulaData
 at_abort f clauses = all_three (arguments_formula f) (requires_formula f clauses) (NotFormula (returns_formula f))

@@ -17,8 +17,8 @@ use pv_base::memory::NoMemory;
 use pv_base::name::Name;
 use pv_base::types::{TypeNode, TypeTerm, Width};
 use std::alloc::Global;
-use sum_tree::clause::{Clause, ClauseKind};
-use sum_tree::function::Function;
+use sum_tree::clause::{ClauseKind, SumClause};
+use sum_tree::function::SumFunction;
 use sum_tree::sum::{Operator, Sum, SumNode};
 
 /// That each parameter has a value of its type.
@@ -42,7 +42,7 @@ fn push_if_kind(
     alloc: Global,
     kind: ClauseKind,
     parameters: &[Name],
-    clause: &Clause,
+    clause: &SumClause,
     formulas: &mut Vec<Formula>,
 ) -> Result<(), NoMemory>
     requires { length parameters.now ≤ 2 ^ 32 }
@@ -58,8 +58,8 @@ fn push_if_kind(
 pub fn entry_conditions(
     alloc: Global,
     kind: ClauseKind,
-    function: &Function,
-    clauses: &[Clause],
+    function: &SumFunction,
+    clauses: &[SumClause],
 ) -> Result<Vec<Formula>, NoMemory>
     requires { length function.now.parameters ≤ 2 ^ 32 }
     ensures { IfOk result (λ made. made.items ≡ entry_formulas kind function.now clauses.now) }
@@ -117,7 +117,7 @@ fn push_ranges(
 }
 
 /// That the body's run returns.
-pub fn returns(alloc: Global, function: &Function) -> Result<Formula, NoMemory>
+pub fn returns(alloc: Global, function: &SumFunction) -> Result<Formula, NoMemory>
     requires { length function.now.parameters ≤ 2 ^ 32 }
     ensures { IfOk result (λ made. made ≡ returns_formula function.now) }
 {
@@ -134,8 +134,8 @@ pub fn returns(alloc: Global, function: &Function) -> Result<Formula, NoMemory>
 /// That the function starts as it may, and that its run ends so.
 pub fn start(
     alloc: Global,
-    function: &Function,
-    clauses: &[Clause],
+    function: &SumFunction,
+    clauses: &[SumClause],
     outcome: Box<Formula>,
 ) -> Result<Formula, NoMemory>
     requires { length function.now.parameters ≤ 2 ^ 32 }
@@ -164,8 +164,8 @@ pub fn implication(alloc: Global, premise: &Formula, claim: Formula) -> Result<F
 /// What the conditions at returns suppose.
 pub fn premise_at_return(
     alloc: Global,
-    function: &Function,
-    clauses: &[Clause],
+    function: &SumFunction,
+    clauses: &[SumClause],
     returns: &Formula,
 ) -> Result<Box<Formula>, NoMemory>
     requires few { length function.now.parameters ≤ 2 ^ 32 }
@@ -178,7 +178,7 @@ pub fn premise_at_return(
 }
 
 /// What the body's run returns.
-pub fn returned_sum(alloc: Global, function: &Function) -> Result<Box<Term>, NoMemory>
+pub fn returned_sum(alloc: Global, function: &SumFunction) -> Result<Box<Term>, NoMemory>
     requires { length function.now.parameters ≤ 2 ^ 32 }
     ensures { IfOk result (λ made. made.value ≡ returned_term function.now) }
 {

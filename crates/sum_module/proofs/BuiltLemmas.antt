@@ -9,7 +9,7 @@ use Rattle.source_tree.specs.declared.source.SourceForm.TheVariants.{Use, Friend
 use Rattle.source_tree.specs.SourceData.{SourceMemberData}
 use Rattle.source_tree.specs.SourceModuleData.{SourceModuleData}
 use Rattle.sum_tree.specs.SumData.{SumData}
-use Rattle.sum_tree.specs.FunctionData.{FunctionData}
+use Rattle.sum_tree.specs.SumFunctionData.{SumFunctionData}
 use Rattle.sum_read.specs.Functions.{is_plain, inputs_of, value_of, function_of}
 use Rattle.sum_module.specs.declared.member.SumMember.{SumMember}
 use Rattle.sum_module.specs.BuiltModuleData.{BuiltModuleData}
@@ -21,10 +21,10 @@ use Rattle.sum_module.specs.ClauseTable.{names_among}
 use Rattle.sum_module.proofs.NameLemmas.{all_differ-push}
 use Rattle.sum_module.proofs.ClauseTableLemmas.{names_append}
 
-name_is : (f : FunctionTree) (g : FunctionData) → function_of f ≡ Some g → g.name ≡ f.name.text
+name_is : (f : FunctionTree) (g : SumFunctionData) → function_of f ≡ Some g → g.name ≡ f.name.text
 name_is f g e = go (is_plain f) (inputs_of f.inputs) (value_of f.body) e
   where
-    inside : (x y : FunctionData) → ◌≡◌ {A = Option FunctionData} (Some x) (Some y) → x ≡ y
+    inside : (x y : SumFunctionData) → ◌≡◌ {A = Option SumFunctionData} (Some x) (Some y) → x ≡ y
     inside x y e = cc
 
     go : (b : Bool) (i : Option (List (List ℕ))) (v : Option SumData)
@@ -32,7 +32,7 @@ name_is f g e = go (is_plain f) (inputs_of f.inputs) (value_of f.body) e
     go false i v e = absurd (cc)
     go true None v e = absurd (cc)
     go true (Some ps) None e = absurd (cc)
-    go true (Some ps) (Some s) e = ap (λ (h : FunctionData). h.name) (sym (inside _ g e))
+    go true (Some ps) (Some s) e = ap (λ (h : SumFunctionData). h.name) (sym (inside _ g e))
 
 -- the name of a member's function is that of its tree
 names_of_one : (members before : List SourceMemberData) (form : SourceForm) (x : SumMember) → IsMember members before form x → names_among (functions_of_member x) ≡ name_of_form form

@@ -1,5 +1,5 @@
 pub mod Scope
-pub mod SpecData
+pub mod SumSpecData
 pub mod BuiltModuleData
 pub mod Parameters
 pub mod Members

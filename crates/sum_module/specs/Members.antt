@@ -9,12 +9,12 @@ use Rattle.file_tree.specs.declared.member.Function.{Function as FunctionTree}
 use Rattle.source_tree.specs.declared.source.SourceForm.{SourceForm}
 use Rattle.source_tree.specs.declared.source.SourceForm.TheVariants.{Use, Friend, Struct, Constant, Function, Spec}
 use Rattle.source_tree.specs.SourceData.{SourceMemberData}
-use Rattle.sum_tree.specs.FunctionData.{FunctionData}
+use Rattle.sum_tree.specs.SumFunctionData.{SumFunctionData}
 use Rattle.sum_read.specs.Clauses.{clauses_of}
 use Rattle.sum_read.specs.Functions.{function_of}
 use Rattle.sum_module.specs.declared.member.SumMember.{SumMember}
 use Rattle.sum_module.specs.declared.member.SumMember.TheVariants.{Function as function_member, Spec as spec_member}
-use Rattle.sum_module.specs.SpecData.{SpecData}
+use Rattle.sum_module.specs.SumSpecData.{SumSpecData}
 use Rattle.sum_module.specs.Scope.{is_closed, knows_clause}
 use Rattle.pv_base.specs.Names.{is_one_of}
 use Rattle.sum_module.specs.Parameters.{parameters_in}
@@ -38,7 +38,7 @@ functions_of members = flat_map name_of_member members
 
 -- the function is this one over sums, its words are its parameters, and no function before it has its name
 pub record IsFunction (before : List SourceMemberData) (f : FunctionTree) (found : SumMember) : Type 0 where
-  pub function : FunctionData
+  pub function : SumFunctionData
   pub found_is : found ≡ function_member function
   pub read : function_of f ≡ Some function
   pub closed : is_closed function ≡ true
@@ -46,14 +46,14 @@ pub record IsFunction (before : List SourceMemberData) (f : FunctionTree) (found
 
 -- ---- specs
 
-abbrev pub spec_of : SpecTree → Option SpecData
+abbrev pub spec_of : SpecTree → Option SumSpecData
 spec_of (Named place name clauses) = option_map (λ cs. record { target = name.text; clauses = cs }) (clauses_of clauses)
 spec_of _ = None
 
 -- the block is one of these clauses over sums, its name is that of a function of the module, and their words are that
 -- function's parameters, or stand for something else
 pub record IsSpec (members : List SourceMemberData) (tree : SpecTree) (found : SumMember) : Type 0 where
-  pub spec : SpecData
+  pub spec : SumSpecData
   pub found_is : found ≡ spec_member spec
   pub read : spec_of tree ≡ Some spec
   pub parameters : List (List ℕ)

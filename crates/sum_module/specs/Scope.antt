@@ -4,12 +4,12 @@ use Rattle.sum_tree.specs.declared.clause.Condition.{Condition}
 use Rattle.sum_tree.specs.declared.clause.Condition.TheVariants.{True, False, Compares}
 use Rattle.sum_tree.specs.declared.clause.ClauseKind.{ClauseKind}
 use Rattle.sum_tree.specs.declared.clause.ClauseKind.TheVariants.{Requires, Ensures, AbortsIf}
-use Rattle.sum_tree.specs.declared.clause.Clause.{Clause}
+use Rattle.sum_tree.specs.declared.clause.SumClause.{SumClause}
 use Rattle.sum_module.specs.declared.scope.Place.{Place}
 use Rattle.sum_module.specs.declared.scope.Place.TheVariants.{Body, InClause}
 use Rattle.pv_base.specs.Names.{same_name, is_one_of}
 use Rattle.sum_tree.specs.SumData.{SumData, NumberSum, WordSum, JoinedSum}
-use Rattle.sum_tree.specs.FunctionData.{FunctionData}
+use Rattle.sum_tree.specs.SumFunctionData.{SumFunctionData}
 
 -- no name stands twice
 abbrev pub all_differ : List (List ℕ) → Bool
@@ -39,7 +39,7 @@ knows_condition parameters place False = true
 knows_condition parameters place (Compares left comparison right) = knows_sum parameters place left && knows_sum parameters place right
 
 -- the clause may stand in a spec of a function with these parameters
-abbrev pub knows_clause : List (List ℕ) → Clause → Bool
+abbrev pub knows_clause : List (List ℕ) → SumClause → Bool
 knows_clause parameters c = knows_condition parameters (InClause c.kind) c.condition
 
 -- at most 8 parameters, each with a name of its own
@@ -47,5 +47,5 @@ abbrev pub are_parameters : List (List ℕ) → Bool
 are_parameters names = nat_le (length names) 8 && all_differ names
 
 -- a function of such parameters, with no other words in its body
-abbrev pub is_closed : FunctionData → Bool
+abbrev pub is_closed : SumFunctionData → Bool
 is_closed f = are_parameters f.parameters && knows_sum f.parameters Body f.body

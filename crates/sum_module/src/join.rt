@@ -7,29 +7,29 @@ ghost use Rattle.sum_module.specs.Scope.{all_differ};
 ghost use Rattle.sum_module.specs.ClauseTable.{clauses_at, entry_at, names_among, with_clauses};
 ghost use Rattle.sum_module.specs.Joined.{clauses_among, clauses_of_spec, functions_in, module_of, specs_in};
 
-use crate::member::{Spec, SumMember};
+use crate::member::{SumMember, SumSpec};
 use crate::module::BuiltModule;
 use pv_base::memory::NoMemory;
 use pv_base::name::Name;
 use std::alloc::Global;
 use std::collections::BTreeMap;
 use std::marker::Model;
-use sum_tree::clause::Clause;
-use sum_tree::function::{Function, SpecifiedFunction, SumModule};
+use sum_tree::clause::SumClause;
+use sum_tree::function::{SpecifiedFunction, SumFunction, SumModule};
 
 /// Clauses, in order.
 #[derive(Drop)]
 struct Clauses {
-    items: Vec<Clause>,
+    items: Vec<SumClause>,
 }
 
 impl Model for Clauses {
     ghost use Rattle.std.specs.Coded.{codes};
     ghost use Rattle.std.specs.Prelude.{List};
     ghost use Rattle.sum_tree.specs.SumData.{coded_sum};
-    ghost use Rattle.sum_tree.specs.declared.clause.Clause.{Clause};
+    ghost use Rattle.sum_tree.specs.declared.clause.SumClause.{SumClause};
 
-    ghost Value = { List Clause };
+    ghost Value = { List SumClause };
 
     ghost coded = { Prim.hlevel (codes, coded_sum) };
 
@@ -47,7 +47,7 @@ impl Clauses {
     }
 
     /// Puts these clauses at the end.
-    fn add(&mut self, more: Vec<Clause>) -> Result<(), NoMemory>
+    fn add(&mut self, more: Vec<SumClause>) -> Result<(), NoMemory>
         ensures { OnOk result (self.new ≡ self.old ++ more.items) }
     {
         let mut more = more;
@@ -56,7 +56,7 @@ impl Clauses {
     }
 
     /// The clauses, in order.
-    fn into_vec(self) -> Vec<Clause>
+    fn into_vec(self) -> Vec<SumClause>
         ensures { result.items ≡ self }
     {
         self.items
@@ -67,7 +67,7 @@ impl Clauses {
 fn take_apart(
     alloc: Global,
     members: Vec<SumMember>,
-) -> Result<(Vec<Function>, Vec<Spec>), NoMemory>
+) -> Result<(Vec<SumFunction>, Vec<SumSpec>), NoMemory>
     ensures functions { IfOk result (λ parts. parts.0.items ≡ functions_in members.items) }
     ensures specs { IfOk result (λ parts. parts.1.items ≡ specs_in members.items) }
 {
@@ -94,7 +94,11 @@ fn take_clauses(alloc: Global, name: &Name, table: &mut BTreeMap<Name, Clauses>)
 }
 
 /// Puts the clauses of a spec block behind those that the table has at its name.
-fn add_spec(alloc: Global, spec: Spec, table: &mut BTreeMap<Name, Clauses>) -> Result<(), NoMemory>
+fn add_spec(
+    alloc: Global,
+    spec: SumSpec,
+    table: &mut BTreeMap<Name, Clauses>,
+) -> Result<(), NoMemory>
     ensures { OnOk result ((name : List ℕ) → clauses_at table.new name ≡ clauses_at table.old name ++ clauses_of_spec name «spec») }
 {
     let mut clauses = take_clauses(alloc, &spec.target, table);
@@ -104,7 +108,7 @@ fn add_spec(alloc: Global, spec: Spec, table: &mut BTreeMap<Name, Clauses>) -> R
 }
 
 /// The clauses of spec blocks by the names of their functions.
-fn table_of(alloc: Global, specs: Vec<Spec>) -> Result<BTreeMap<Name, Clauses>, NoMemory>
+fn table_of(alloc: Global, specs: Vec<SumSpec>) -> Result<BTreeMap<Name, Clauses>, NoMemory>
     ensures { IfOk result (λ table. (name : List ℕ) → clauses_at table name ≡ clauses_among name specs.items) }
 {
     let mut table = BTreeMap::new(alloc);
@@ -117,7 +121,7 @@ fn table_of(alloc: Global, specs: Vec<Spec>) -> Result<BTreeMap<Name, Clauses>, 
 /// Each function with the clauses that the table has at its name.
 fn specify_each(
     alloc: Global,
-    functions: Vec<Function>,
+    functions: Vec<SumFunction>,
     table: BTreeMap<Name, Clauses>,
 ) -> Result<Vec<SpecifiedFunction>, NoMemory>
     requires { all_differ (names_among functions.items) ≡ true }

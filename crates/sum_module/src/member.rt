@@ -20,22 +20,22 @@ use std::marker::Model;
 use sum_read::clause::read_clauses;
 use sum_read::fault::FormFault;
 use sum_read::function::read_function;
-use sum_tree::clause::Clause;
-use sum_tree::function::Function;
+use sum_tree::clause::SumClause;
+use sum_tree::function::SumFunction;
 
 /// Clauses over sums of a function, by its name.
 #[derive(Drop)]
-pub struct Spec {
+pub struct SumSpec {
     pub target: Name,
-    pub clauses: Vec<Clause>,
+    pub clauses: Vec<SumClause>,
 }
 
-impl Model for Spec {
+impl Model for SumSpec {
     ghost use Rattle.std.specs.Coded.{codes};
     ghost use Rattle.sum_tree.specs.SumData.{coded_sum};
-    ghost use Rattle.sum_module.specs.SpecData.{SpecData};
+    ghost use Rattle.sum_module.specs.SumSpecData.{SumSpecData};
 
-    ghost Value = { SpecData };
+    ghost Value = { SumSpecData };
 
     ghost coded = { Prim.hlevel (codes, coded_sum) };
 
@@ -45,8 +45,8 @@ impl Model for Spec {
 /// A member that is built.
 #[derive(Drop)]
 pub enum SumMember {
-    Function(Function),
-    Spec(Spec),
+    Function(SumFunction),
+    Spec(SumSpec),
 }
 
 /// The function over sums that a function is, behind functions with the names that were seen.
@@ -69,13 +69,13 @@ fn read_function_member(
 }
 
 /// The clauses over sums that a spec block has, and the name of what it is of.
-fn read_spec(alloc: Global, tree: &SpecTree) -> Result<Spec, FormFault>
+fn read_spec(alloc: Global, tree: &SpecTree) -> Result<SumSpec, FormFault>
     ensures { MatchResult result (λ spec. spec_of tree.now ≡ Some spec) (λ fault. IfNotBuilt fault (spec_of tree.now ≡ None)) }
 {
     match tree {
         SpecTree::Named { name, clauses, .. } => {
             let clauses = read_clauses(alloc, clauses.items.as_slice())?;
-            Ok(Spec {
+            Ok(SumSpec {
                 target: name.text.try_clone(alloc)?,
                 clauses,
             })

@@ -6,8 +6,8 @@ ghost use Rattle.sum_module.specs.Scope.{all_differ, are_parameters, is_closed, 
 ghost use Rattle.pv_base.specs.Names.{is_one_of};
 
 use pv_base::name::Name;
-use sum_tree::clause::{Clause, ClauseKind, Condition};
-use sum_tree::function::Function;
+use sum_tree::clause::{ClauseKind, Condition, SumClause};
+use sum_tree::function::SumFunction;
 use sum_tree::sum::{Sum, SumNode};
 
 /// Where a word stands.
@@ -86,7 +86,7 @@ fn knows_condition(parameters: &[Name], place: Place, condition: &Condition) -> 
 
 /// Whether a clause may stand in a spec of a function with these parameters: whether each of its words is a
 /// parameter or `MAX_U64`, or in an `ensures` `result`.
-pub fn knows_clause(parameters: &[Name], clause: &Clause) -> bool
+pub fn knows_clause(parameters: &[Name], clause: &SumClause) -> bool
     ensures { result ≡ knows_clause parameters.now clause.now }
 {
     let place = Place::InClause(clause.kind);
@@ -94,7 +94,7 @@ pub fn knows_clause(parameters: &[Name], clause: &Clause) -> bool
 }
 
 /// Whether each clause may stand in a spec of a function with these parameters.
-pub fn knows_clauses(parameters: &[Name], clauses: &[Clause]) -> bool
+pub fn knows_clauses(parameters: &[Name], clauses: &[SumClause]) -> bool
     ensures { result ≡ list_all (knows_clause parameters.now) clauses.now }
 {
     clauses
@@ -110,7 +110,7 @@ fn are_parameters(parameters: &[Name]) -> bool
 }
 
 /// Whether a function has at most 8 parameters, each with a name of its own, and no other words in its body.
-pub fn is_closed(function: &Function) -> bool
+pub fn is_closed(function: &SumFunction) -> bool
     ensures { result ≡ is_closed function.now }
 {
     let parameters = function.parameters.as_slice();

@@ -20,7 +20,7 @@ use Rattle.sum_tree.specs.declared.clause.Condition.{Condition}
 use Rattle.sum_tree.specs.declared.clause.Condition.TheVariants.{True, False, Compares}
 use Rattle.sum_tree.specs.declared.clause.ClauseKind.{ClauseKind}
 use Rattle.sum_tree.specs.declared.clause.ClauseKind.TheVariants.{Requires, Ensures, AbortsIf}
-use Rattle.sum_tree.specs.declared.clause.Clause.{Clause}
+use Rattle.sum_tree.specs.declared.clause.SumClause.{SumClause}
 use Rattle.sum_read.specs.Each.{each}
 use Rattle.sum_read.specs.Sums.{spec_sum_of}
 
@@ -59,20 +59,20 @@ condition_of _ = None
 -- ---- clauses
 
 -- a clause of this kind, whose first byte is at this place
-abbrev pub clause_at : ClauseKind → ℕ → SpecExpressionData → Option Clause
+abbrev pub clause_at : ClauseKind → ℕ → SpecExpressionData → Option SumClause
 clause_at kind start e = option_map (λ c. record { kind = kind; condition = c; start = start }) (condition_of e)
 
-abbrev pub bare_clause : AbortCode → Option Clause → Option Clause
+abbrev pub bare_clause : AbortCode → Option SumClause → Option SumClause
 bare_clause Bare c = c
 bare_clause Failure c = None
 bare_clause (Code e) c = None
 
-abbrev pub clause_of : ClauseTree → Option Clause
+abbrev pub clause_of : ClauseTree → Option SumClause
 clause_of (requires_clause place e) = clause_at Requires place.start e
 clause_of (ensures_clause place e) = clause_at Ensures place.start e
 clause_of (aborts_if_clause place e code) = bare_clause code (clause_at AbortsIf place.start e)
 clause_of _ = None
 
 -- all of them, where each is one
-abbrev pub clauses_of : List ClauseTree → Option (List Clause)
+abbrev pub clauses_of : List ClauseTree → Option (List SumClause)
 clauses_of clauses = each clause_of clauses

@@ -12,7 +12,7 @@ use Rattle.file_tree.specs.declared.member.Visibility.TheVariants.{Module, Publi
 use Rattle.file_tree.specs.declared.member.Function.{Function}
 use Rattle.pv_base.specs.Names.{same_name}
 use Rattle.sum_tree.specs.SumData.{SumData}
-use Rattle.sum_tree.specs.FunctionData.{FunctionData}
+use Rattle.sum_tree.specs.SumFunctionData.{SumFunctionData}
 use Rattle.sum_read.specs.Each.{each}
 use Rattle.sum_read.specs.Sums.{sum_of}
 
@@ -50,7 +50,7 @@ is_private (Friends place) = false
 abbrev pub is_plain : Function → Bool
 is_plain f = is_private f.visibility && (is_none f.entry && (is_none f.parameters && (is_none f.acquires && is_result f.result)))
 
-abbrev pub function_of : Function → Option FunctionData
+abbrev pub function_of : Function → Option SumFunctionData
 function_of f =
     if is_plain f then
     option_and_then (λ parameters. option_map (λ body. record { name = f.name.text; parameters = parameters; body = body; start = f.place.start }) (value_of f.body)) (inputs_of f.inputs)

@@ -10,7 +10,7 @@ use clause_tree::clause::{AbortCode, Clause as ClauseTree};
 use pv_base::span::Span;
 use spec_tree::spec_expression::SpecExpression;
 use std::alloc::Global;
-use sum_tree::clause::{Clause, ClauseKind};
+use sum_tree::clause::{ClauseKind, SumClause};
 
 /// A clause of this kind at this place.
 fn read_at(
@@ -18,11 +18,11 @@ fn read_at(
     kind: ClauseKind,
     place: Span,
     condition: &SpecExpression,
-) -> Result<Clause, FormFault>
+) -> Result<SumClause, FormFault>
     ensures { MatchResult result (λ clause. clause_at kind place.start condition.now ≡ Some clause) (λ fault. IfNotBuilt fault (clause_at kind place.start condition.now ≡ None)) }
 {
     let condition = read_condition(alloc, condition)?;
-    Ok(Clause {
+    Ok(SumClause {
         kind,
         condition,
         start: place.start,
@@ -30,7 +30,7 @@ fn read_at(
 }
 
 /// The clause over sums that a clause is.
-fn read_clause(alloc: Global, clause: &ClauseTree) -> Result<Clause, FormFault>
+fn read_clause(alloc: Global, clause: &ClauseTree) -> Result<SumClause, FormFault>
     ensures { MatchResult result (λ read. clause_of clause.now ≡ Some read) (λ fault. IfNotBuilt fault (clause_of clause.now ≡ None)) }
 {
     match clause {
@@ -63,7 +63,7 @@ fn read_clause(alloc: Global, clause: &ClauseTree) -> Result<Clause, FormFault>
 /// # Errors
 ///
 /// `NotBuilt` exactly where one of them is none.
-pub fn read_clauses(alloc: Global, clauses: &[ClauseTree]) -> Result<Vec<Clause>, FormFault>
+pub fn read_clauses(alloc: Global, clauses: &[ClauseTree]) -> Result<Vec<SumClause>, FormFault>
     ensures { MatchResult result (λ read. clauses_of clauses.now ≡ Some read.items) (λ fault. IfNotBuilt fault (clauses_of clauses.now ≡ None)) }
 {
     let mut read = Vec::new(alloc);

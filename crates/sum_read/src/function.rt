@@ -12,7 +12,7 @@ use move_tree::path::Path;
 use move_tree::types::{SourceType, SourceTypeNode};
 use pv_base::name::Name;
 use std::alloc::Global;
-use sum_tree::function::Function;
+use sum_tree::function::SumFunction;
 use sum_tree::sum::Sum;
 
 /// Whether a type is `u64`.
@@ -117,7 +117,7 @@ fn is_plain(function: &FunctionTree) -> bool
 /// # Errors
 ///
 /// `NotBuilt` exactly where it is none.
-pub fn read_function(alloc: Global, function: &FunctionTree) -> Result<Function, FormFault>
+pub fn read_function(alloc: Global, function: &FunctionTree) -> Result<SumFunction, FormFault>
     ensures { MatchResult result (λ read. function_of function.now ≡ Some read) (λ fault. IfNotBuilt fault (function_of function.now ≡ None)) }
 {
     if !is_plain(function) {
@@ -125,7 +125,7 @@ pub fn read_function(alloc: Global, function: &FunctionTree) -> Result<Function,
     }
     let parameters = inputs_of(alloc, &function.inputs)?;
     let body = value_of(alloc, &function.body)?;
-    Ok(Function {
+    Ok(SumFunction {
         name: function.name.text.try_clone(alloc)?,
         parameters,
         body: Box::into_inner(body),

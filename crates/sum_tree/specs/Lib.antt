@@ -1,6 +1,6 @@
 pub mod SumData
 pub mod SumView
 pub mod SumFalls
-pub mod FunctionData
+pub mod SumFunctionData
 pub mod SpecifiedData
 pub mod SumModuleData

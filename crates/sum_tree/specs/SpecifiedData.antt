@@ -1,8 +1,8 @@
 -- A function with the clauses of its spec blocks, as contracts see it.
 use Rattle.std.specs.Prelude.{List}
-use Rattle.sum_tree.specs.FunctionData.{FunctionData}
-use Rattle.sum_tree.specs.declared.clause.Clause.{Clause}
+use Rattle.sum_tree.specs.SumFunctionData.{SumFunctionData}
+use Rattle.sum_tree.specs.declared.clause.SumClause.{SumClause}
 
 pub record SpecifiedFunctionData : Type 0 where
-  pub function : FunctionData
-  pub clauses : List Clause
+  pub function : SumFunctionData
+  pub clauses : List SumClause

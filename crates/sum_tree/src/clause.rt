@@ -32,7 +32,7 @@ pub enum ClauseKind {
 }
 
 /// A clause of a spec.
-pub struct Clause {
+pub struct SumClause {
     pub kind: ClauseKind,
     pub condition: Condition,
     /// The place of its first byte, counted from 0 in its file.
@@ -40,9 +40,9 @@ pub struct Clause {
 }
 
 // Its own, so that letting one go is a call wherever it is done, and not the cases of all forms below it.
-impl Drop for Clause {
+impl Drop for SumClause {
     fn drop(self) {
-        let Clause {
+        let SumClause {
             kind: _,
             condition,
             start: _,

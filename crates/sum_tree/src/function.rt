@@ -1,13 +1,13 @@
 //! Functions that return sums, with their clauses, and modules of them.
 
-use crate::clause::Clause;
+use crate::clause::SumClause;
 use crate::sum::Sum;
 use pv_base::name::Name;
 use std::marker::Model;
 
 /// A function of u64 parameters that returns a sum.
 #[derive(Drop)]
-pub struct Function {
+pub struct SumFunction {
     pub name: Name,
     pub parameters: Vec<Name>,
     pub body: Sum,
@@ -15,12 +15,12 @@ pub struct Function {
     pub start: u32,
 }
 
-impl Model for Function {
+impl Model for SumFunction {
     ghost use Rattle.std.specs.Coded.{codes};
     ghost use Rattle.sum_tree.specs.SumData.{coded_sum};
-    ghost use Rattle.sum_tree.specs.FunctionData.{FunctionData};
+    ghost use Rattle.sum_tree.specs.SumFunctionData.{SumFunctionData};
 
-    ghost Value = { FunctionData };
+    ghost Value = { SumFunctionData };
 
     ghost coded = { Prim.hlevel (codes, coded_sum) };
 
@@ -30,8 +30,8 @@ impl Model for Function {
 /// A function, and the clauses of its spec blocks in their order.
 #[derive(Drop)]
 pub struct SpecifiedFunction {
-    pub function: Function,
-    pub clauses: Vec<Clause>,
+    pub function: SumFunction,
+    pub clauses: Vec<SumClause>,
 }
 
 impl Model for SpecifiedFunction {

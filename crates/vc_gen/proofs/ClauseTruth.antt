@@ -13,8 +13,8 @@ use Rattle.sum_tree.specs.declared.clause.Condition.{Condition}
 use Rattle.sum_tree.specs.declared.clause.Condition.TheVariants.{True, False, Compares}
 use Rattle.sum_tree.specs.declared.clause.ClauseKind.{ClauseKind}
 use Rattle.sum_tree.specs.declared.clause.ClauseKind.TheVariants.{Requires, Ensures, AbortsIf}
-use Rattle.sum_tree.specs.declared.clause.Clause.{Clause}
-use Rattle.sum_tree.specs.FunctionData.{FunctionData}
+use Rattle.sum_tree.specs.declared.clause.SumClause.{SumClause}
+use Rattle.sum_tree.specs.SumFunctionData.{SumFunctionData}
 use Rattle.pv_base.proofs.TruthValues.{both_true, true_both, either_true, true_either}
 use Rattle.ref_sem.specs.Semantics.{Arguments, Names, names_of, sum_number, ComparesBy, Holds, AllHold, SomeHolds, HasKind}
 use Rattle.sum_formula.specs.Translation.{sum_term, comparison_formula, condition_formula}
@@ -46,7 +46,7 @@ above_true v w a b e g = subst (λ x. (not (at_most x w) ≡ true) ↔ (b <ℤ a
 
 -- ---- conditions
 
-module _ (m : Interpretation) (s : Assignment) (f : FunctionData) (arguments : Arguments) (agrees : Agrees m s f.parameters arguments) (returned : TermData) (r : ℕ) (returns : value_of m returned s ≡ NumberValue (pos r)) where
+module _ (m : Interpretation) (s : Assignment) (f : SumFunctionData) (arguments : Arguments) (agrees : Agrees m s f.parameters arguments) (returned : TermData) (r : ℕ) (returns : value_of m returned s ≡ NumberValue (pos r)) where
   abbrev names : Names
   names = names_of f arguments r
 
@@ -87,7 +87,7 @@ same-is_kind a b e = subst (λ x. is_kind a x ≡ true) e (is_kind_itself a)
 pub not_kind : (a b : ClauseKind) → is_kind a b ≡ false → a ≡ b → ⊥
 not_kind a b e h = let g = same-is_kind a b h in absurd (cc)
 
-pub has_kind-true : (kind : ClauseKind) (clauses : List Clause) → HasKind kind clauses → has_kind kind clauses ≡ true
+pub has_kind-true : (kind : ClauseKind) (clauses : List SumClause) → HasKind kind clauses → has_kind kind clauses ≡ true
 has_kind-true kind [] h = absurd h
 has_kind-true kind (c ∷ cs) (inl e) = (λ i. same-is_kind c.kind kind e i || has_kind kind cs)
 has_kind-true kind (c ∷ cs) (inr h) = either (is_kind c.kind kind) (has_kind-true kind cs h)
@@ -96,7 +96,7 @@ has_kind-true kind (c ∷ cs) (inr h) = either (is_kind c.kind kind) (has_kind-t
     either true e = refl
     either false e = e
 
-pub true-has_kind : (kind : ClauseKind) (clauses : List Clause) → has_kind kind clauses ≡ true → HasKind kind clauses
+pub true-has_kind : (kind : ClauseKind) (clauses : List SumClause) → has_kind kind clauses ≡ true → HasKind kind clauses
 true-has_kind kind [] e = absurd (cc)
 true-has_kind kind (c ∷ cs) e = go (true-has_kind kind cs) (is_kind c.kind kind) refl
   where
@@ -106,11 +106,11 @@ true-has_kind kind (c ∷ cs) e = go (true-has_kind kind cs) (is_kind c.kind kin
 
 -- ---- the formulas of the clauses of a kind
 
-module _ (m : Interpretation) (s : Assignment) (f : FunctionData) (arguments : Arguments) (agrees : Agrees m s f.parameters arguments) (returned : TermData) (r : ℕ) (returns : value_of m returned s ≡ NumberValue (pos r)) (kind : ClauseKind) where
-  abbrev of_kind : List Clause → List FormulaData
+module _ (m : Interpretation) (s : Assignment) (f : SumFunctionData) (arguments : Arguments) (agrees : Agrees m s f.parameters arguments) (returned : TermData) (r : ℕ) (returns : value_of m returned s ≡ NumberValue (pos r)) (kind : ClauseKind) where
+  abbrev of_kind : List SumClause → List FormulaData
   of_kind clauses = flat_map (formula_if kind f.parameters returned) clauses
 
-  abbrev truth : Clause → Bool
+  abbrev truth : SumClause → Bool
   truth c = truth_of m (condition_formula f.parameters returned c.condition) s
 
   all_if : (b : Bool) (p : FormulaData) (ps : List FormulaData) → all_true m (formulas_of ((if b then p ∷ [] else []) ++ ps)) s ≡ (if b then truth_of m p s && all_true m (formulas_of ps) s else all_true m (formulas_of ps) s)
@@ -121,7 +121,7 @@ module _ (m : Interpretation) (s : Assignment) (f : FunctionData) (arguments : A
   any_if true p ps = refl
   any_if false p ps = refl
 
-  pub all_hold : (clauses : List Clause) → (all_true m (formulas_of (of_kind clauses)) s ≡ true) ↔ AllHold kind (names_of f arguments r) clauses
+  pub all_hold : (clauses : List SumClause) → (all_true m (formulas_of (of_kind clauses)) s ≡ true) ↔ AllHold kind (names_of f arguments r) clauses
   all_hold [] = (λ _. tt, λ _. refl)
   all_hold (c ∷ cs) = go (all_hold cs) (is_kind c.kind kind) refl
     where
@@ -143,7 +143,7 @@ module _ (m : Interpretation) (s : Assignment) (f : FunctionData) (arguments : A
         λ h. split false e ∙ rest.1 h.1,
       )
 
-  pub some_holds : (clauses : List Clause) → (any_true m (formulas_of (of_kind clauses)) s ≡ true) ↔ SomeHolds kind (names_of f arguments r) clauses
+  pub some_holds : (clauses : List SumClause) → (any_true m (formulas_of (of_kind clauses)) s ≡ true) ↔ SomeHolds kind (names_of f arguments r) clauses
   some_holds [] = (λ e. absurd (cc), λ h. absurd h)
   some_holds (c ∷ cs) = go (some_holds cs) (is_kind c.kind kind) refl
     where
@@ -180,11 +180,11 @@ module _ (m : Interpretation) (s : Assignment) (f : FunctionData) (arguments : A
 -- ---- the conditions of the clauses of a kind
 
 -- a fact of the condition of each clause of the kind
-abbrev pub EachOfKind : ClauseKind → (Clause → Type 0) → List Clause → Type 0
+abbrev pub EachOfKind : ClauseKind → (SumClause → Type 0) → List SumClause → Type 0
 EachOfKind kind P [] = Unit {0}
 EachOfKind kind P (c ∷ cs) = (c.kind ≡ kind → P c) × EachOfKind kind P cs
 
-pub each_of_kind : (kind : ClauseKind) (make : Clause → VerificationCondition) (P : VerificationCondition → Type 0) (clauses : List Clause) → AllByRecursion P (flat_map (condition_if kind make) clauses) ↔ EachOfKind kind (λ c. P (make c)) clauses
+pub each_of_kind : (kind : ClauseKind) (make : SumClause → VerificationCondition) (P : VerificationCondition → Type 0) (clauses : List SumClause) → AllByRecursion P (flat_map (condition_if kind make) clauses) ↔ EachOfKind kind (λ c. P (make c)) clauses
 each_of_kind kind make P [] = (λ _. tt, λ _. tt)
 each_of_kind kind make P (c ∷ cs) = go (each_of_kind kind make P cs) (is_kind c.kind kind) refl
   where

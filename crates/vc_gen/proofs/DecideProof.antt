@@ -14,8 +14,8 @@ use Rattle.fol.specs.Truth.{Interpretation, Assignment, value_of, truth_of, all_
 use Rattle.fol.specs.Validity.{Reads, Valid}
 use Rattle.sum_tree.specs.declared.clause.ClauseKind.{ClauseKind}
 use Rattle.sum_tree.specs.declared.clause.ClauseKind.TheVariants.{Requires, Ensures, AbortsIf}
-use Rattle.sum_tree.specs.declared.clause.Clause.{Clause}
-use Rattle.sum_tree.specs.FunctionData.{FunctionData}
+use Rattle.sum_tree.specs.declared.clause.SumClause.{SumClause}
+use Rattle.sum_tree.specs.SumFunctionData.{SumFunctionData}
 use Rattle.pv_base.specs.Names.{same_name}
 use Rattle.ref_sem.specs.Semantics.{Arguments, Names, AreU64, names_of, Holds, AllHold, SomeHolds, HasKind, MeetsClauses, Keeps, run_sum}
 use Rattle.vc_gen.specs.declared.condition.VerificationCondition.{VerificationCondition}
@@ -154,32 +154,32 @@ module _ (m : Interpretation) (s : Assignment) (parameters : List (List ℕ)) (t
 -- ---- facts of the clauses of a kind
 
 module _ (kind : ClauseKind) where
-  all_from_each : (P : Clause → Type 0) (names : Names) → ((c : Clause) → P c → Holds names c.condition) → (cs : List Clause) → EachOfKind kind P cs → AllHold kind names cs
+  all_from_each : (P : SumClause → Type 0) (names : Names) → ((c : SumClause) → P c → Holds names c.condition) → (cs : List SumClause) → EachOfKind kind P cs → AllHold kind names cs
   all_from_each P names h [] e = tt
   all_from_each P names h (c ∷ cs) e = (λ k. h c (e.0 k), all_from_each P names h cs e.1)
 
-  none_from_each : (P : Clause → Type 0) (names : Names) → ((c : Clause) → P c → Holds names c.condition → ⊥) → (cs : List Clause) → EachOfKind kind P cs → SomeHolds kind names cs → ⊥
+  none_from_each : (P : SumClause → Type 0) (names : Names) → ((c : SumClause) → P c → Holds names c.condition → ⊥) → (cs : List SumClause) → EachOfKind kind P cs → SomeHolds kind names cs → ⊥
   none_from_each P names h [] e k = k
   none_from_each P names h (c ∷ cs) e (inl k) = h c (e.0 k.0) k.1
   none_from_each P names h (c ∷ cs) e (inr k) = none_from_each P names h cs e.1 k
 
-  each_from_all : (P : Clause → Type 0) (names : Names) → ((c : Clause) → Holds names c.condition → P c) → (cs : List Clause) → AllHold kind names cs → EachOfKind kind P cs
+  each_from_all : (P : SumClause → Type 0) (names : Names) → ((c : SumClause) → Holds names c.condition → P c) → (cs : List SumClause) → AllHold kind names cs → EachOfKind kind P cs
   each_from_all P names h [] e = tt
   each_from_all P names h (c ∷ cs) e = (λ k. h c (e.0 k), each_from_all P names h cs e.1)
 
-  each_from_none : (P : Clause → Type 0) (names : Names) → ((c : Clause) → (Holds names c.condition → ⊥) → P c) → (cs : List Clause) → (SomeHolds kind names cs → ⊥) → EachOfKind kind P cs
+  each_from_none : (P : SumClause → Type 0) (names : Names) → ((c : SumClause) → (Holds names c.condition → ⊥) → P c) → (cs : List SumClause) → (SomeHolds kind names cs → ⊥) → EachOfKind kind P cs
   each_from_none P names h [] e = tt
   each_from_none P names h (c ∷ cs) e = (λ k. h c (λ g. e (inl (k, g))), each_from_none P names h cs (λ g. e (inr g)))
 
-  each : (P : Clause → Type 0) → ((c : Clause) → P c) → (cs : List Clause) → EachOfKind kind P cs
+  each : (P : SumClause → Type 0) → ((c : SumClause) → P c) → (cs : List SumClause) → EachOfKind kind P cs
   each P h [] = tt
   each P h (c ∷ cs) = (λ _. h c, each P h cs)
 
-  each_mapped : (P Q : Clause → Type 0) → ((c : Clause) → P c → Q c) → (cs : List Clause) → EachOfKind kind P cs → EachOfKind kind Q cs
+  each_mapped : (P Q : SumClause → Type 0) → ((c : SumClause) → P c → Q c) → (cs : List SumClause) → EachOfKind kind P cs → EachOfKind kind Q cs
   each_mapped P Q h [] e = tt
   each_mapped P Q h (c ∷ cs) e = (λ k. h c (e.0 k), each_mapped P Q h cs e.1)
 
-  each_for_all : {I : Type 0} (Q : I → Clause → Type 0) → (cs : List Clause) → ((i : I) → EachOfKind kind (Q i) cs) → EachOfKind kind (λ c. (i : I) → Q i c) cs
+  each_for_all : {I : Type 0} (Q : I → SumClause → Type 0) → (cs : List SumClause) → ((i : I) → EachOfKind kind (Q i) cs) → EachOfKind kind (λ c. (i : I) → Q i c) cs
   each_for_all Q [] e = tt
   each_for_all Q (c ∷ cs) e = (λ k i. (e i).0 k, each_for_all Q cs (λ i. (e i).1))
 
@@ -191,7 +191,7 @@ when_true : {X : Type 0} (P : X → Type 0) (x : X) (b : Bool) → AllByRecursio
 when_true P x true h e = h.0
 when_true P x false h e = absurd (cc)
 
-module _ (f : FunctionData) (clauses : List Clause) where
+module _ (f : SumFunctionData) (clauses : List SumClause) where
   -- a condition is true at some values
   abbrev IsTrueAt : Interpretation → Assignment → VerificationCondition → Type 0
   IsTrueAt m s c = truth_of m c.formula s ≡ true
@@ -354,11 +354,11 @@ module _ (f : FunctionData) (clauses : List Clause) where
   decide body = record { sound = sound body; complete = λ keeps shapes. complete body keeps shapes }
 
 -- the same of conditions that a call made
-pub decide_made : {V E : Type 0} (items : V → List VerificationCondition) (f : FunctionData) (clauses : List Clause) (r : Result V E) → IfOk r (λ made. items made ≡ conditions_of f clauses) → HasU64Body f → IfOk r (λ made. Decide f clauses (items made))
+pub decide_made : {V E : Type 0} (items : V → List VerificationCondition) (f : SumFunctionData) (clauses : List SumClause) (r : Result V E) → IfOk r (λ made. items made ≡ conditions_of f clauses) → HasU64Body f → IfOk r (λ made. Decide f clauses (items made))
 decide_made items f clauses (Ok made) e body = subst (λ conditions. Decide f clauses conditions) (sym e) (decide f clauses body)
 decide_made items f clauses (Err error) e body = tt
 
 -- conditions under equal premises are the same
-pub made_under : {V E : Type 0} (items : V → List VerificationCondition) (f : FunctionData) (clauses : List Clause) (r : Result V E) (p q : FormulaData) (t u : TermData) → p ≡ q → t ≡ u → IfOk r (λ made. items made ≡ conditions_under f clauses p t) → IfOk r (λ made. items made ≡ conditions_under f clauses q u)
+pub made_under : {V E : Type 0} (items : V → List VerificationCondition) (f : SumFunctionData) (clauses : List SumClause) (r : Result V E) (p q : FormulaData) (t u : TermData) → p ≡ q → t ≡ u → IfOk r (λ made. items made ≡ conditions_under f clauses p t) → IfOk r (λ made. items made ≡ conditions_under f clauses q u)
 made_under items f clauses (Ok made) p q t u e g h = h ∙ (λ i. conditions_under f clauses (e i) (g i))
 made_under items f clauses (Err error) p q t u e g h = tt

@@ -7,10 +7,10 @@ use Rattle.answers.specs.declared.condition.ConditionKey.{ConditionKey}
 use Rattle.answers.specs.declared.condition.ConditionKind.{ConditionKind}
 use Rattle.answers.specs.declared.condition.ConditionKind.TheVariants.{Ensures as of_ensures, AbortsIf as of_aborts_if, Aborts as of_aborts}
 use Rattle.sum_formula.specs.Premises.{is_kind, at_return, returned_term}
-use Rattle.sum_tree.specs.declared.clause.Clause.{Clause}
+use Rattle.sum_tree.specs.declared.clause.SumClause.{SumClause}
 use Rattle.sum_tree.specs.declared.clause.ClauseKind.{ClauseKind}
 use Rattle.sum_tree.specs.declared.clause.ClauseKind.TheVariants.{Ensures, AbortsIf}
-use Rattle.sum_tree.specs.FunctionData.{FunctionData}
+use Rattle.sum_tree.specs.SumFunctionData.{SumFunctionData}
 use Rattle.vc_gen.specs.Conditions.{aborts_condition, at_each_return, at_no_return, condition_if, conditions_at_return, conditions_of}
 use Rattle.vc_gen.specs.Keys.{has_kind, key_at, key_if, keys_of}
 use Rattle.vc_gen.specs.declared.condition.VerificationCondition.{VerificationCondition}
@@ -22,7 +22,7 @@ of_clause : (b : Bool) (condition : VerificationCondition) → map key_of (if b 
 of_clause true condition = refl
 of_clause false condition = refl
 
-of_clauses : (kind : ClauseKind) (of : ConditionKind) (make : Clause → VerificationCondition) → ((c : Clause) → (make c).key ≡ key_at of c.start) → (clauses : List Clause)
+of_clauses : (kind : ClauseKind) (of : ConditionKind) (make : SumClause → VerificationCondition) → ((c : SumClause) → (make c).key ≡ key_at of c.start) → (clauses : List SumClause)
     → map key_of (flat_map (condition_if kind make) clauses) ≡ flat_map (key_if kind of) clauses
 of_clauses kind of make is [] = refl
 of_clauses kind of make is (c ∷ cs) =
@@ -30,7 +30,7 @@ of_clauses kind of make is (c ∷ cs) =
     ∙ ap (λ front. front ++ map key_of (flat_map (condition_if kind make) cs)) (of_clause (is_kind c.kind kind) (make c) ∙ ap (λ (k : ConditionKey). if is_kind c.kind kind then k ∷ [] else []) (is c))
     ∙ ap (λ back. key_if kind of c ++ back) (of_clauses kind of make is cs)
 
-keys_are : (f : FunctionData) (clauses : List Clause) → map key_of (conditions_of f clauses) ≡ keys_of f clauses
+keys_are : (f : SumFunctionData) (clauses : List SumClause) → map key_of (conditions_of f clauses) ≡ keys_of f clauses
 keys_are f clauses =
     let ensured = flat_map (condition_if Ensures (at_each_return f (at_return f clauses) (returned_term f))) clauses in
     let refused = flat_map (condition_if AbortsIf (at_no_return f (at_return f clauses))) clauses in
@@ -42,6 +42,6 @@ keys_are f clauses =
     ∙ ap (λ back. (flat_map (key_if Ensures of_ensures) clauses ++ flat_map (key_if AbortsIf of_aborts_if) clauses) ++ back) (of_clause (has_kind AbortsIf clauses) (aborts_condition f clauses))
 
 -- the same of conditions that a call made
-pub keys_made : {V E : Type 0} (items : V → List VerificationCondition) (f : FunctionData) (clauses : List Clause) (r : Result V E) → IfOk r (λ made. items made ≡ conditions_of f clauses) → IfOk r (λ made. map key_of (items made) ≡ keys_of f clauses)
+pub keys_made : {V E : Type 0} (items : V → List VerificationCondition) (f : SumFunctionData) (clauses : List SumClause) (r : Result V E) → IfOk r (λ made. items made ≡ conditions_of f clauses) → IfOk r (λ made. map key_of (items made) ≡ keys_of f clauses)
 keys_made items f clauses (Ok made) e = ap (map key_of) e ∙ keys_are f clauses
 keys_made items f clauses (Err error) e = tt

@@ -8,7 +8,7 @@ use Rattle.fol.specs.Truth.{Interpretation, Assignment, value_of}
 use Rattle.sum_tree.specs.declared.sum.Operator.{Operator}
 use Rattle.sum_tree.specs.declared.sum.Operator.TheVariants.{Plus, Minus}
 use Rattle.sum_tree.specs.SumData.{SumData, NumberSum, WordSum, JoinedSum}
-use Rattle.sum_tree.specs.FunctionData.{FunctionData}
+use Rattle.sum_tree.specs.SumFunctionData.{SumFunctionData}
 use Rattle.pv_base.specs.Names.{same_name}
 use Rattle.ref_sem.specs.Semantics.{Arguments, Names, names_of, operator_number, sum_number}
 use Rattle.sum_formula.specs.Translation.{zero_term, greatest_term, term_at, word_term, operator_term, sum_term}
@@ -24,7 +24,7 @@ chosen m s true b t u v x y z e g h = e
 chosen m s false true t u v x y z e g h = g
 chosen m s false false t u v x y z e g h = h
 
-module _ (m : Interpretation) (s : Assignment) (f : FunctionData) (arguments : Arguments) (agrees : Agrees m s f.parameters arguments) where
+module _ (m : Interpretation) (s : Assignment) (f : SumFunctionData) (arguments : Arguments) (agrees : Agrees m s f.parameters arguments) where
   -- the term of what is returned has this value
   module _ (returned : TermData) (r : ℕ) (returns : value_of m returned s ≡ NumberValue (pos r)) where
     abbrev names : Names

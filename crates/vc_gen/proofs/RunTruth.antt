@@ -9,7 +9,7 @@ use Rattle.fol.specs.Operators.{number_of}
 use Rattle.fol.specs.Truth.{Interpretation, Assignment, value_of, truth_of, all_true}
 use Rattle.sum_tree.specs.declared.sum.Operator.{Operator}
 use Rattle.sum_tree.specs.declared.sum.Operator.TheVariants.{Plus, Minus}
-use Rattle.sum_tree.specs.FunctionData.{FunctionData}
+use Rattle.sum_tree.specs.SumFunctionData.{SumFunctionData}
 use Rattle.sum_tree.specs.SumData.{SumData, NumberSum, WordSum, JoinedSum}
 use Rattle.pv_base.proofs.TruthValues.{true_both}
 use Rattle.ref_sem.specs.Semantics.{Arguments, AreU64, operator_result, run_sum}
@@ -73,7 +73,7 @@ first_fails a b e = ap (λ c. c && b) e
 second_fails : (a b : Bool) → a ≡ true → b ≡ false → (a && b) ≡ false
 second_fails a b e g = ap (λ c. c && b) e ∙ g
 
-module _ (m : Interpretation) (s : Assignment) (f : FunctionData) (arguments : Arguments) (agrees : Agrees m s f.parameters arguments) (u64s : AreU64 arguments) where
+module _ (m : Interpretation) (s : Assignment) (f : SumFunctionData) (arguments : Arguments) (agrees : Agrees m s f.parameters arguments) (u64s : AreU64 arguments) where
   step_agrees : (op : Operator) (t u : TermData) (a b : ℕ) → value_of m t s ≡ NumberValue (pos a) → value_of m u s ≡ NumberValue (pos b) → a < 2 ^ 64 → StepAgrees (operator_result op a b) (truth_of m (range_formula op (operator_term op t u)) s) (number_of (value_of m (operator_term op t u) s))
   step_agrees Plus t u a b e g h =
       subst (λ z. StepAgrees (operator_result Plus a b) (int_le z (pos (2 ^ 64 - 1))) z) (λ i. number_of (sym e i) +ℤ number_of (sym g i)) (plus_agrees a b (nat_lt (a + b) (2 ^ 64)) refl)

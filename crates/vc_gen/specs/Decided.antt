@@ -4,14 +4,14 @@ use Rattle.std.specs.List.{AllByRecursion}
 use Rattle.fol.specs.declared.shapes.Shape.{Shape}
 use Rattle.fol.specs.Validity.{Valid}
 use Rattle.ref_sem.specs.Semantics.{Keeps}
-use Rattle.sum_tree.specs.declared.clause.Clause.{Clause}
-use Rattle.sum_tree.specs.FunctionData.{FunctionData}
+use Rattle.sum_tree.specs.declared.clause.SumClause.{SumClause}
+use Rattle.sum_tree.specs.SumFunctionData.{SumFunctionData}
 use Rattle.vc_gen.specs.declared.condition.VerificationCondition.{VerificationCondition}
 
 abbrev pub AreValid : List Shape → List VerificationCondition → Type 0
 AreValid shapes conditions = AllByRecursion (λ c. Valid shapes c.formula) conditions
 
 -- All of these formulas are valid, whatever structs there are, exactly where the function keeps its contract.
-pub record Decide (f : FunctionData) (clauses : List Clause) (conditions : List VerificationCondition) : Type 0 where
+pub record Decide (f : SumFunctionData) (clauses : List SumClause) (conditions : List VerificationCondition) : Type 0 where
   pub sound : (shapes : List Shape) → AreValid shapes conditions → Keeps f clauses
   pub complete : Keeps f clauses → (shapes : List Shape) → AreValid shapes conditions

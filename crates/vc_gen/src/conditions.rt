@@ -19,8 +19,8 @@ use sum_formula::premises::{
     entry_conditions, implication, premise_at_return, returned_sum, returns, start,
 };
 use sum_formula::translation::{condition, zero};
-use sum_tree::clause::{Clause, ClauseKind};
-use sum_tree::function::Function;
+use sum_tree::clause::{ClauseKind, SumClause};
+use sum_tree::function::SumFunction;
 
 /// The condition that a premise implies a claim.
 fn condition_that(
@@ -41,10 +41,10 @@ fn condition_that(
 /// The condition of an `ensures` clause; none of another clause.
 fn push_if_ensures(
     alloc: Global,
-    function: &Function,
+    function: &SumFunction,
     premise: &Formula,
     returned: &Term,
-    clause: &Clause,
+    clause: &SumClause,
     conditions: &mut Vec<VerificationCondition>,
 ) -> Result<(), NoMemory>
     requires { length function.now.parameters ≤ 2 ^ 32 }
@@ -67,9 +67,9 @@ fn push_if_ensures(
 /// The condition of an `aborts_if` clause at returns; none of another clause.
 fn push_if_aborts_if(
     alloc: Global,
-    function: &Function,
+    function: &SumFunction,
     premise: &Formula,
-    clause: &Clause,
+    clause: &SumClause,
     conditions: &mut Vec<VerificationCondition>,
 ) -> Result<(), NoMemory>
     requires { length function.now.parameters ≤ 2 ^ 32 }
@@ -93,8 +93,8 @@ fn push_if_aborts_if(
 /// The conditions of the `ensures` clauses.
 fn push_ensures(
     alloc: Global,
-    function: &Function,
-    clauses: &[Clause],
+    function: &SumFunction,
+    clauses: &[SumClause],
     premise: &Formula,
     returned: &Term,
     conditions: &mut Vec<VerificationCondition>,
@@ -111,8 +111,8 @@ fn push_ensures(
 /// The conditions of the `aborts_if` clauses at returns.
 fn push_aborts_if(
     alloc: Global,
-    function: &Function,
-    clauses: &[Clause],
+    function: &SumFunction,
+    clauses: &[SumClause],
     premise: &Formula,
     conditions: &mut Vec<VerificationCondition>,
 ) -> Result<(), NoMemory>
@@ -128,8 +128,8 @@ fn push_aborts_if(
 /// The condition that there are no aborts but those of the `aborts_if` clauses.
 fn aborts(
     alloc: Global,
-    function: &Function,
-    clauses: &[Clause],
+    function: &SumFunction,
+    clauses: &[SumClause],
     returns: Box<Formula>,
 ) -> Result<VerificationCondition, NoMemory>
     requires few { length function.now.parameters ≤ 2 ^ 32 }
@@ -152,8 +152,8 @@ fn aborts(
 /// The conditions of the `ensures` and of the `aborts_if` clauses under a premise.
 fn under_premise(
     alloc: Global,
-    function: &Function,
-    clauses: &[Clause],
+    function: &SumFunction,
+    clauses: &[SumClause],
     premise: &Formula,
     returned: &Term,
 ) -> Result<Vec<VerificationCondition>, NoMemory>
@@ -169,8 +169,8 @@ fn under_premise(
 /// The conditions of the `ensures` and of the `aborts_if` clauses.
 fn at_returns(
     alloc: Global,
-    function: &Function,
-    clauses: &[Clause],
+    function: &SumFunction,
+    clauses: &[SumClause],
     returns: &Formula,
 ) -> Result<Vec<VerificationCondition>, NoMemory>
     requires few { length function.now.parameters ≤ 2 ^ 32 }
@@ -183,7 +183,7 @@ fn at_returns(
 }
 
 /// Whether there is an `aborts_if` clause.
-fn has_aborts_if(clauses: &[Clause]) -> bool
+fn has_aborts_if(clauses: &[SumClause]) -> bool
     ensures { result ≡ has_kind ClauseKind.AbortsIf clauses.now }
 {
     clauses
@@ -194,8 +194,8 @@ fn has_aborts_if(clauses: &[Clause]) -> bool
 /// The conditions of a function with the clauses of its spec.
 fn generate(
     alloc: Global,
-    function: &Function,
-    clauses: &[Clause],
+    function: &SumFunction,
+    clauses: &[SumClause],
 ) -> Result<Vec<VerificationCondition>, NoMemory>
     requires { length function.now.parameters ≤ 2 ^ 32 }
     ensures { IfOk result (λ made. made.items ≡ conditions_of function.now clauses.now) }
@@ -212,8 +212,8 @@ fn generate(
 /// exactly where the function keeps its contract. A function has at most 2^32 parameters.
 pub fn conditions(
     alloc: Global,
-    function: &Function,
-    clauses: &[Clause],
+    function: &SumFunction,
+    clauses: &[SumClause],
 ) -> Result<Vec<VerificationCondition>, NoMemory>
     requires { length function.now.parameters ≤ 2 ^ 32 }
     ensures keys { IfOk result (λ made. map (λ (c : VerificationCondition). c.key) made.items ≡ keys_of function.now clauses.now) }

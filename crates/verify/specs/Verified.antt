@@ -4,7 +4,7 @@ use Rattle.fol.specs.FormulaData.{FormulaData}
 use Rattle.std.specs.List.{flat_map, list_all}
 use Rattle.std.specs.Option.{option_map}
 use Rattle.fol.specs.Validity.{Valid}
-use Rattle.sum_tree.specs.FunctionData.{FunctionData}
+use Rattle.sum_tree.specs.SumFunctionData.{SumFunctionData}
 use Rattle.ref_sem.specs.Semantics.{Keeps}
 use Rattle.ref_sem.specs.Bodies.{HasU64Body}
 use Rattle.vc_gen.specs.declared.condition.VerificationCondition.{VerificationCondition}
@@ -89,7 +89,7 @@ pub record IsReportOf (names files : List (List ℕ)) (program : List SumModuleD
   pub functions : Paired (IsRecordIn files) (functions_of program) report.functions
 
 -- A function may be verified: it has at most 8 parameters, and its body is over u64 values and parameters alone.
-pub record IsVerifiable (f : FunctionData) : Type 0 where
+pub record IsVerifiable (f : SumFunctionData) : Type 0 where
   pub few : length f.parameters ≤ 8
   pub body : HasU64Body f
 

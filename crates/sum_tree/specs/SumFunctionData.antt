@@ -3,7 +3,7 @@ use Rattle.std.specs.Prelude.{ℕ, List}
 use Rattle.sum_tree.specs.SumData.{SumData}
 
 -- a function of u64 parameters whose body is a sum; `start` is the place of its first byte
-pub record FunctionData : Type 0 where
+pub record SumFunctionData : Type 0 where
   pub name : List ℕ
   pub parameters : List (List ℕ)
   pub body : SumData

@@ -1,7 +1,7 @@
 -- A spec block of a function, with clauses over sums, as contracts see it.
 use Rattle.std.specs.Prelude.{ℕ, List}
-use Rattle.sum_tree.specs.declared.clause.Clause.{Clause}
+use Rattle.sum_tree.specs.declared.clause.SumClause.{SumClause}
 
-pub record SpecData : Type 0 where
+pub record SumSpecData : Type 0 where
   pub target : List ℕ
-  pub clauses : List Clause
+  pub clauses : List SumClause
