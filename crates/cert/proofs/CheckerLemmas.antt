@@ -5,11 +5,13 @@ use Rattle.std.specs.Prelude.{IsTrue}
 use Rattle.std.proofs.lemmas.List.{take_more}
 use Rattle.std.proofs.Math.ListN.{drop_of_length-le}
 use Rattle.pv_base.proofs.TruthValues.{true_is, not_true, fails}
-use Rattle.fol.specs.FormulaData.{FormulaData, AllOfFormula, AnyOfFormula, formulas_of}
-use Rattle.cert.specs.CertData.{StepData, CertData, CertTree, EndData, SplitEnd, LinearEnd, ClashEnd, FalseEnd, as_cases, first_of}
+use Rattle.pv_base.specs.TypeData.{NumType}
+use Rattle.fol.specs.FormulaData.{TermData, IsFormula, FormulaData, AllOfFormula, AnyOfFormula, formulas_of}
+use Rattle.cert.specs.CertData.{StepData, CertData, CertTree, EndData, SplitEnd, CutEnd, BoundEnd, LinearEnd, ClashEnd, FalseEnd, as_cases, first_of}
 use Rattle.cert.specs.Parts.{cases_of}
 use Rattle.cert.specs.Closes.{most_entries, IsEntry, IsFalseForm, IsFalseNegated, added, IsAllowed, AreAllowed, after_steps, formulas_in, Closes, EndCloses, EachCloses}
 use Rattle.cert.specs.Branch.{entries_added}
+use Rattle.cert.specs.Quantified.{AreCut, AreBounds}
 
 -- a test that failed, of what can't be
 failed : (a : Bool) → a ≡ false → (P : Type 0) → (P → ⊥) → IsTrue a ↔ P
@@ -81,6 +83,8 @@ allowed_end entries steps i h from = (
 -- a branch that closes is no longer than a branch may be
 within : (e : EndData) (entries : List FormulaData) → EndCloses entries e → length entries ≤ most_entries
 within (SplitEnd i cases) entries h = h.0
+within (CutEnd cases) entries h = h.0
+within (BoundEnd i cases) entries h = h.0
 within (LinearEnd ms) entries h = h.0
 within (ClashEnd i j) entries h = h.0
 within (FalseEnd i) entries h = h.0
@@ -122,6 +126,34 @@ same_cases entries cs ds b e test = subst (λ xs. IsTrue b ↔ EachCloses entrie
 pub no_split_closes : (entries : List FormulaData) (end : EndData) (i : ℕ) (cs : List (FormulaData × CertData)) (a : Bool) → SplitEnd i (as_cases cs) ≡ end → IsTrue a ↔ ((p : FormulaData) × IsEntry entries i p × (cases_of p ≡ Some (map first_of cs))) → a ≡ false → IsTrue a ↔ EndCloses entries end
 no_split_closes entries end i cs a stored split e =
     subst (λ (t : EndData). IsTrue a ↔ EndCloses entries t) stored (failed a e (EndCloses entries (SplitEnd i (as_cases cs))) (λ h. not_true a e (split.1 (h.1.0, h.1.1, h.1.2 ∙ ap Some (formulas_in-as_cases cs)))))
+
+-- ---- cuts and bounds
+
+pub cut_closes : (entries : List FormulaData) (end : EndData) (cs : List (FormulaData × CertData)) (a b : Bool) → CutEnd (as_cases cs) ≡ end → length entries ≤ most_entries → IsTrue a ↔ AreCut (map first_of cs) → a ≡ true → IsTrue b ↔ EachCloses entries (as_cases cs) → IsTrue b ↔ EndCloses entries end
+cut_closes entries end cs a b stored short cut e each =
+    subst (λ (t : EndData). IsTrue b ↔ EndCloses entries t) stored (
+      λ h. (short, subst AreCut (sym (formulas_in-as_cases cs)) (cut.0 (true_is a e)), each.0 h),
+      λ h. each.1 h.2,
+    )
+
+pub no_cut_closes : (entries : List FormulaData) (end : EndData) (cs : List (FormulaData × CertData)) (a : Bool) → CutEnd (as_cases cs) ≡ end → IsTrue a ↔ AreCut (map first_of cs) → a ≡ false → IsTrue a ↔ EndCloses entries end
+no_cut_closes entries end cs a stored cut e =
+    subst (λ (t : EndData). IsTrue a ↔ EndCloses entries t) stored (failed a e (EndCloses entries (CutEnd (as_cases cs))) (λ h. not_true a e (cut.1 (subst AreCut (formulas_in-as_cases cs) h.1))))
+
+-- the entry says that a term is a whole number, and the formulas bound the term
+abbrev pub Bounding : List FormulaData → ℕ → List FormulaData → Type 0
+Bounding entries i ps = (t : TermData) × IsEntry entries i (IsFormula NumType t) × AreBounds t ps
+
+pub bound_closes : (entries : List FormulaData) (end : EndData) (i : ℕ) (cs : List (FormulaData × CertData)) (a b : Bool) → BoundEnd i (as_cases cs) ≡ end → length entries ≤ most_entries → IsTrue a ↔ Bounding entries i (map first_of cs) → a ≡ true → IsTrue b ↔ EachCloses entries (as_cases cs) → IsTrue b ↔ EndCloses entries end
+bound_closes entries end i cs a b stored short bound e each =
+    subst (λ (t : EndData). IsTrue b ↔ EndCloses entries t) stored (
+      λ h. (short, subst (Bounding entries i) (sym (formulas_in-as_cases cs)) (bound.0 (true_is a e)), each.0 h),
+      λ h. each.1 h.2,
+    )
+
+pub no_bound_closes : (entries : List FormulaData) (end : EndData) (i : ℕ) (cs : List (FormulaData × CertData)) (a : Bool) → BoundEnd i (as_cases cs) ≡ end → IsTrue a ↔ Bounding entries i (map first_of cs) → a ≡ false → IsTrue a ↔ EndCloses entries end
+no_bound_closes entries end i cs a stored bound e =
+    subst (λ (t : EndData). IsTrue a ↔ EndCloses entries t) stored (failed a e (EndCloses entries (BoundEnd i (as_cases cs))) (λ h. not_true a e (bound.1 (subst (Bounding entries i) (formulas_in-as_cases cs) h.1))))
 
 -- ---- forms that can't be true
 

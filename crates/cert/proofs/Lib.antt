@@ -10,3 +10,5 @@ pub mod AxiomLemmas
 pub mod LinearLemmas
 pub mod CheckerLemmas
 pub mod KeptLemmas
+pub mod QuantifiedLemmas
+pub mod RewritingLemmas

@@ -1,19 +1,30 @@
 -- A formula that has a certificate is valid.
-use Rattle.std.proofs.Common.{◌≡◌, zero, suc, List, [], ◌∷◌, ◌++◌, map, Some, Bool, true, false, not, ◌&&◌, ◌||◌, refl, ap, subst}
-use Rattle.std.specs.Prelude.{IsTrue}
+use Rattle.std.proofs.Common.{◌≡◌, ℕ, ℤ, pos, ◌+ℤ◌, zero, suc, List, [], ◌∷◌, ◌++◌, map, Some, Bool, true, false, not, cond, inl, inr, ◌&&◌, ◌||◌, ◌==◌, slice_get, refl, sym, ap, ◌∙◌, subst, arith}
+use Rattle.std.specs.Prelude.{IsTrue, int_le}
+use Rattle.std.proofs.lemmas.Bool.{eqb-true}
+use Rattle.std.proofs.lemmas.Int.{ints}
 use Rattle.fol.specs.declared.operators.Comparison.TheVariants.{Eq}
 use Rattle.fol.specs.declared.operators.Connective.TheVariants.{Iff, Implies}
 use Rattle.fol.specs.declared.operators.Constant.TheVariants.{False}
 use Rattle.fol.specs.declared.operators.Junction.TheVariants.{AllOf, AnyOf}
-use Rattle.fol.specs.FormulaData.{FormulaData, HoldsFormula, NotFormula, FormulasData, NoFormulas, MoreFormulas, list_of_formulas, CompareFormula, ConnectFormula, ConstantTerm, JoinFormula}
+use Rattle.fol.specs.declared.operators.Quantifier.{Quantifier}
+use Rattle.fol.specs.declared.operators.Quantifier.TheVariants.{ForAll, Exists}
+use Rattle.fol.specs.FormulaData.{TermData, VarTerm, TriggersData, QuantifyFormula, FormulaData, HoldsFormula, NotFormula, FormulasData, NoFormulas, MoreFormulas, list_of_formulas, CompareFormula, ConnectFormula, ConstantTerm, JoinFormula}
 use Rattle.fol.specs.declared.shapes.Shape.{Shape}
-use Rattle.fol.specs.Validity.{Valid}
-use Rattle.fol.specs.Val.{same_value, same_value_itself}
-use Rattle.fol.specs.Truth.{Interpretation, Assignment, value_of, truth_of, all_true, any_true, same_truth}
-use Rattle.cert.specs.CertData.{StepData, PartsStep, AxiomStep, CertData, CertTree, EndData, SplitEnd, LinearEnd, ClashEnd, FalseEnd, CasesData, NoCases, MoreCases}
+use Rattle.fol.specs.Validity.{AnswersRight, Reads, Valid}
+use Rattle.fol.specs.Operators.{number_of}
+use Rattle.fol.specs.Val.{Val, same_value, same_value_itself, same_value-equal}
+use Rattle.fol.specs.Truth.{Interpretation, Assignment, set_var, value_of, truth_of, all_true, any_true, same_truth}
+use Rattle.cert.specs.CertData.{StepData, PartsStep, AxiomStep, InstanceStep, NameStep, RewriteStep, CertData, CertTree, EndData, SplitEnd, CutEnd, BoundEnd, LinearEnd, ClashEnd, FalseEnd, CasesData, NoCases, MoreCases}
 use Rattle.cert.specs.Parts.{parts_of, parts_of_negated, cases_of, cases_of_negated, both_of}
 use Rattle.cert.specs.Closes.{AreAllowed, after_steps, IsFalseForm, formulas_in, Closes, EndCloses, EachCloses, Certifies}
-use Rattle.pv_base.proofs.TruthValues.{both_true, not_either, not_not, true_is, never_both, either_false}
+use Rattle.cert.specs.Quantified.{IsBodyWith, IsNegatedBodyWith, IsNew}
+use Rattle.cert.specs.Rewriting.{IsReplaced, IsRewriting}
+use Rattle.substitution.specs.Free.{free_in, free_in_triggers}
+use Rattle.substitution.specs.Instances.{IsInstance}
+use Rattle.substitution.proofs.FreeLaws.{eqb_itself, same_truth_of}
+use Rattle.substitution.proofs.InstanceTruth.{instance_truth}
+use Rattle.pv_base.proofs.TruthValues.{both_true, not_either, not_not, true_not, true_is, never, never_both, apart, either_false}
 use Rattle.cert.proofs.RowTruth.{AreTrue, contradiction_false}
 use Rattle.cert.proofs.AxiomTruth.{instance_true}
 
@@ -137,41 +148,170 @@ module _ (m : Interpretation) (s : Assignment) where
       never_both (same_value (value_of m t s) (value_of m u s)) (subst (λ x. same_value (value_of m t s) (value_of m x s) ≡ true) h (same_value_itself (value_of m t s))) e
   false_form p h e = absurd h
 
-  steps_true : (entries : List FormulaData) (steps : List StepData) → AreAllowed entries steps → EachTrue entries → EachTrue (after_steps entries steps)
-  steps_true entries [] h t = t
-  steps_true entries (PartsStep i ps ∷ steps) h t =
+-- ---- quantified entries
+
+excluded : (a : Bool) → a || (not a || false) ≡ true
+excluded true = refl
+excluded false = refl
+
+two_ways : (a k : ℤ) (l g : Bool) → int_le a k ≡ l → int_le (k +ℤ pos 1) a ≡ g → l || (g || false) ≡ true
+two_ways a k true g e f = refl
+two_ways a k false true e f = refl
+two_ways a k false false e f = absurd (two a k e f)
+  where
+    two : (a k : ℤ) → int_le a k ≡ false → int_le (k +ℤ pos 1) a ≡ false → ⊥
+    two a k e f = grind (arith, ints)
+
+-- another value for a variable that is not free in a formula
+same_truth_without : (m : Interpretation) (p : FormulaData) (s : Assignment) (v : ℕ) (x : Val) → free_in v p ≡ false → truth_of m p (set_var s v x) ≡ truth_of m p s
+same_truth_without m p s v x fresh = same_truth_of m p (set_var s v x) s (λ n e. go n e (n == v) refl)
+  where
+    go : (n : ℕ) → free_in n p ≡ true → (b : Bool) → n == v ≡ b → set_var s v x n ≡ s n
+    go n e true t = absurd (apart (free_in n p) e (ap (λ j. free_in j p) (eqb-true n v t) ∙ fresh))
+    go n e false t = ap (λ b. cond b x (s n)) t
+
+-- a variable that is not free in the quantified formula may have the value of the one that is bound
+named_alike : (m : Interpretation) (o : Quantifier) (body : FormulaData) (ts : TriggersData) (s : Assignment) (v n : ℕ) (x : Val) → free_in v (QuantifyFormula o n ts body) ≡ false → truth_of m body (set_var (set_var s v x) n x) ≡ truth_of m body (set_var s n x)
+named_alike m o body ts s v n x fresh = same_truth_of m body (set_var (set_var s v x) n x) (set_var s n x) (λ k e. go k e (k == n) refl (k == v) refl)
+  where
+    free : (a b c : Bool) → not a && (b || c) ≡ false → a ≡ false → c ≡ true → ⊥
+    free true b c e f t = absurd (cc)
+    free false true c e f t = absurd (cc)
+    free false false c e f t = apart c t e
+
+    go : (k : ℕ) → free_in k body ≡ true → (b : Bool) → k == n ≡ b → (c : Bool) → k == v ≡ c → set_var (set_var s v x) n x k ≡ set_var s n x k
+    go k e true t c u = ap (λ b. cond b x (set_var s v x k)) t ∙ sym (ap (λ b. cond b x (s k)) t)
+    go k e false t false u = ap (λ b. cond b x (set_var s v x k)) t ∙ ap (λ b. cond b x (s k)) u ∙ sym (ap (λ b. cond b x (s k)) t)
+    go k e false t true u =
+        let same : k ≡ v = eqb-true k v u in
+        absurd (free (v == n) (free_in_triggers v ts) (free_in v body) fresh (ap (λ j. j == n) (sym same) ∙ t) (ap (λ j. free_in j body) (sym same) ∙ e))
+
+module _ (m : Interpretation) (right : AnswersRight m.all) where
+  each_of : (f : Val → Bool) → m.all f ≡ true → (x : Val) → f x ≡ true
+  each_of f e x = is_true_of (f x) ((right f).0 (true_is (m.all f) e) x)
+    where
+      is_true_of : (b : Bool) → IsTrue b → b ≡ true
+      is_true_of true h = refl
+      is_true_of false h = absurd (never h)
+
+  all_of : (f : Val → Bool) → ((x : Val) → f x ≡ true) → m.all f ≡ true
+  all_of f h = is_true_of (m.all f) ((right f).1 (λ x. true_is (f x) (h x)))
+    where
+      is_true_of : (b : Bool) → IsTrue b → b ≡ true
+      is_true_of true h = refl
+      is_true_of false h = absurd (never h)
+
+  -- what holds of all values holds of that of a term
+  negated_body_true : (s : Assignment) (t : TermData) (q p : FormulaData) → IsNegatedBodyWith Exists t q p → not (truth_of m q s) ≡ true → truth_of m p s ≡ true
+  negated_body_true s t (QuantifyFormula ForAll n ts body) (NotFormula p) h e = absurd (let w = h.0 in cc)
+  negated_body_true s t (QuantifyFormula Exists n ts body) (NotFormula p) h e =
+      let f = λ (x : Val). not (truth_of m body (set_var s n x)) in
+      ap not ((instance_truth n t body p h.1).truth m s) ∙ each_of f (not_not (m.all f) e) (value_of m t s)
+  negated_body_true s t q p h e = absurd h
+
+  body_true : (s : Assignment) (t : TermData) (q p : FormulaData) → IsBodyWith ForAll t q p → truth_of m q s ≡ true → truth_of m p s ≡ true
+  body_true s t (QuantifyFormula ForAll n ts body) p h e =
+      (instance_truth n t body p h.1).truth m s ∙ each_of (λ (x : Val). truth_of m body (set_var s n x)) e (value_of m t s)
+  body_true s t (QuantifyFormula Exists n ts body) p h e = absurd (let w = h.0 in cc)
+  body_true s t (NotFormula q) p h e = negated_body_true s t q p h e
+  body_true s t q p h e = absurd h
+
+  -- what holds of some value does not fail of each value of a new variable
+  named : (s : Assignment) (v n : ℕ) (o : Quantifier) (ts : TriggersData) (body p : FormulaData) (x : Val) → free_in v (QuantifyFormula o n ts body) ≡ false → IsInstance n (VarTerm v) body p → truth_of m p (set_var s v x) ≡ truth_of m body (set_var s n x)
+  named s v n o ts body p x fresh h =
+      let itself : set_var s v x v ≡ x = ap (λ b. cond b x (s v)) (eqb_itself v) in
+      (instance_truth n (VarTerm v) body p h).truth m (set_var s v x) ∙ ap (λ (y : Val). truth_of m body (set_var (set_var s v x) n y)) itself ∙ named_alike m o body ts s v n x fresh
+
+  negated_name_false : (s : Assignment) (v : ℕ) (q p : FormulaData) → IsNegatedBodyWith ForAll (VarTerm v) q p → free_in v q ≡ false → not (truth_of m q s) ≡ true → ((x : Val) → truth_of m p (set_var s v x) ≡ true → ⊥) → ⊥
+  negated_name_false s v (QuantifyFormula Exists n ts body) (NotFormula p) h fresh e f = absurd (let w = h.0 in cc)
+  negated_name_false s v (QuantifyFormula ForAll n ts body) (NotFormula p) h fresh e f =
+      let g = λ (x : Val). truth_of m body (set_var s n x) in
+      never_both (m.all g) (all_of g (λ x. sym (named s v n ForAll ts body p x fresh h.1) ∙ not_not (truth_of m p (set_var s v x)) (true_not (not (truth_of m p (set_var s v x))) (f x)))) e
+  negated_name_false s v q p h fresh e f = absurd h
+
+  name_false : (s : Assignment) (v : ℕ) (q p : FormulaData) → IsBodyWith Exists (VarTerm v) q p → free_in v q ≡ false → truth_of m q s ≡ true → ((x : Val) → truth_of m p (set_var s v x) ≡ true → ⊥) → ⊥
+  name_false s v (QuantifyFormula ForAll n ts body) p h fresh e f = absurd (let w = h.0 in cc)
+  name_false s v (QuantifyFormula Exists n ts body) p h fresh e f =
+      let g = λ (x : Val). not (truth_of m body (set_var s n x)) in
+      never_both (m.all g) (all_of g (λ x. ap not (sym (named s v n Exists ts body p x fresh h.1)) ∙ true_not (truth_of m p (set_var s v x)) (f x))) e
+  name_false s v (NotFormula q) p h fresh e f = negated_name_false s v q p h fresh e f
+  name_false s v q p h fresh e f = absurd h
+
+  -- equals for equals
+  replaced_true : (s : Assignment) (x : ℕ) (c : FormulaData) (t u : TermData) (q p : FormulaData) → IsReplaced x c t u q p → value_of m t s ≡ value_of m u s → truth_of m q s ≡ true → truth_of m p s ≡ true
+  replaced_true s x c t u q p h same e =
+      (instance_truth x u c p h.1).truth m s ∙ ap (λ (v : Val). truth_of m c (set_var s x v)) (sym same) ∙ sym ((instance_truth x t c q h.0).truth m s) ∙ e
+
+  rewriting_true : (s : Assignment) (x : ℕ) (c e q p : FormulaData) → IsRewriting x c e q p → truth_of m e s ≡ true → truth_of m q s ≡ true → truth_of m p s ≡ true
+  rewriting_true s x c (CompareFormula Eq t u) q p (inl h) e f = replaced_true s x c t u q p h (same_value-equal (value_of m t s) (value_of m u s) e) f
+  rewriting_true s x c (CompareFormula Eq t u) q p (inr h) e f = replaced_true s x c u t q p h (sym (same_value-equal (value_of m t s) (value_of m u s) e)) f
+  rewriting_true s x c e q p h a f = absurd h
+
+  -- a new variable is free in no entry, and the entries stay true whatever its value is
+  rest_new : (v : ℕ) (p : FormulaData) (ps : List FormulaData) → IsNew v (p ∷ ps) → IsNew v ps
+  rest_new v p ps h k d l = h (suc k) d (omega (arith, l))
+
+  new_at : (v : ℕ) (ps : List FormulaData) (i : ℕ) (q : FormulaData) → IsNew v ps → slice_get ps i ≡ Some q → free_in v q ≡ false
+  new_at v [] i q h e = absurd (cc)
+  new_at v (p ∷ ps) zero q h e = let same : p ≡ q = cc in subst (λ x. free_in v x ≡ false) same (h 0 p (omega arith))
+  new_at v (p ∷ ps) (suc i) q h e = new_at v ps i q (rest_new v p ps h) e
+
+  stays_true : (s : Assignment) (v : ℕ) (x : Val) (ps : List FormulaData) → IsNew v ps → EachTrue m s ps → EachTrue m (set_var s v x) ps
+  stays_true s v x [] h t = tt
+  stays_true s v x (p ∷ ps) h t = (same_truth_without m p s v x (h 0 p (omega arith)) ∙ t.0, stays_true s v x ps (rest_new v p ps h) t.1)
+
+  steps_false : (steps : List StepData) (entries : List FormulaData) → AreAllowed entries steps → ((s : Assignment) → EachTrue m s (after_steps entries steps) → ⊥) → (s : Assignment) → EachTrue m s entries → ⊥
+  steps_false [] entries h f s t = f s t
+  steps_false (PartsStep i ps ∷ steps) entries h f s t =
       let allowed = h.0 in
-      steps_true (entries ++ ps) steps h.1 (each_true-append entries ps t (parts_true allowed.0 ps allowed.2 (each_true-get entries t i allowed.0 allowed.1)))
-  steps_true entries (AxiomStep name p ∷ steps) h t =
-      steps_true (entries ++ p ∷ []) steps h.1 (each_true-append entries (p ∷ []) t (instance_true m s name p h.0, tt))
+      steps_false steps (entries ++ ps) h.1 f s (each_true-append m s entries ps t (parts_true m s allowed.0 ps allowed.2 (each_true-get m s entries t i allowed.0 allowed.1)))
+  steps_false (AxiomStep name p ∷ steps) entries h f s t =
+      steps_false steps (entries ++ p ∷ []) h.1 f s (each_true-append m s entries (p ∷ []) t (instance_true m s name p h.0, tt))
+  steps_false (InstanceStep i u p ∷ steps) entries h f s t =
+      let allowed = h.0 in
+      steps_false steps (entries ++ p ∷ []) h.1 f s (each_true-append m s entries (p ∷ []) t (body_true s u allowed.0 p allowed.2 (each_true-get m s entries t i allowed.0 allowed.1), tt))
+  steps_false (RewriteStep i j x c p ∷ steps) entries h f s t =
+      let allowed = h.0 in
+      let equation = each_true-get m s entries t i allowed.0 allowed.2 in
+      let entry = each_true-get m s entries t j allowed.1 allowed.3 in
+      steps_false steps (entries ++ p ∷ []) h.1 f s (each_true-append m s entries (p ∷ []) t (rewriting_true s x c allowed.0 allowed.1 p allowed.4 equation entry, tt))
+  steps_false (NameStep i v p ∷ steps) entries h f s t =
+      let body = h.0.0 in
+      let new = h.0.1 in
+      name_false s v body.0 p body.2 (new_at v entries i body.0 new body.1) (each_true-get m s entries t i body.0 body.1) (λ x e. steps_false steps (entries ++ p ∷ []) h.1 f (set_var s v x) (each_true-append m (set_var s v x) entries (p ∷ []) (stays_true s v x entries new t) (e, tt)))
 
   mutual
     -- what a certificate closes is not all true
-    pub closes_false : (c : CertData) (entries : List FormulaData) → Closes entries c → EachTrue entries → ⊥
-    closes_false (CertTree steps end) entries h t =
-        end_false end (after_steps entries steps) h.1 (steps_true entries steps h.0 t)
+    pub closes_false : (c : CertData) (entries : List FormulaData) → Closes entries c → (s : Assignment) → EachTrue m s entries → ⊥
+    closes_false (CertTree steps end) entries h s t = steps_false steps entries h.0 (end_false end (after_steps entries steps) h.1) s t
 
-    end_false : (e : EndData) (entries : List FormulaData) → EndCloses entries e → EachTrue entries → ⊥
-    end_false (SplitEnd i cases) entries h t =
+    end_false : (e : EndData) (entries : List FormulaData) → EndCloses entries e → (s : Assignment) → EachTrue m s entries → ⊥
+    end_false (SplitEnd i cases) entries h s t =
         let split = h.1 in
-        cases_false cases entries h.2 t (cases_true split.0 (formulas_in cases) split.2 (each_true-get entries t i split.0 split.1))
-    end_false (LinearEnd ms) entries h t = contradiction_false m s entries ms (each_true-get entries t) h.1
-    end_false (ClashEnd i j) entries h t =
+        cases_false cases entries h.2 s t (cases_true m s split.0 (formulas_in cases) split.2 (each_true-get m s entries t i split.0 split.1))
+    end_false (CutEnd cases) entries h s t =
+        let cut = h.1 in
+        cases_false cases entries h.2 s t (subst (λ ps. some_true m s ps ≡ true) (sym cut.1) (excluded (truth_of m cut.0 s)))
+    end_false (BoundEnd i cases) entries h s t =
+        let bound = h.1.2 in
+        cases_false cases entries h.2 s t (subst (λ ps. some_true m s ps ≡ true) (sym bound.1) (two_ways (number_of (value_of m h.1.0 s)) bound.0 _ _ refl refl))
+    end_false (LinearEnd ms) entries h s t = contradiction_false m s entries ms (each_true-get m s entries t) h.1
+    end_false (ClashEnd i j) entries h s t =
         let clash = h.1 in
-        never_both (truth_of m clash.0 s) (each_true-get entries t i clash.0 clash.1) (each_true-get entries t j (NotFormula clash.0) clash.2)
-    end_false (FalseEnd i) entries h t =
+        never_both (truth_of m clash.0 s) (each_true-get m s entries t i clash.0 clash.1) (each_true-get m s entries t j (NotFormula clash.0) clash.2)
+    end_false (FalseEnd i) entries h s t =
         let form = h.1 in
-        false_form form.0 form.2 (each_true-get entries t i form.0 form.1)
+        false_form m s form.0 form.2 (each_true-get m s entries t i form.0 form.1)
 
-    cases_false : (cs : CasesData) (entries : List FormulaData) → EachCloses entries cs → EachTrue entries → some_true (formulas_in cs) ≡ true → ⊥
-    cases_false NoCases entries h t e = absurd (cc)
-    cases_false (MoreCases p c cs) entries h t e =
-        either_false (truth_of m p s) (some_true (formulas_in cs)) e (λ f. closes_false c (entries ++ p ∷ []) h.0 (each_true-append entries (p ∷ []) t (f, tt))) (cases_false cs entries h.1 t)
+    cases_false : (cs : CasesData) (entries : List FormulaData) → EachCloses entries cs → (s : Assignment) → EachTrue m s entries → some_true m s (formulas_in cs) ≡ true → ⊥
+    cases_false NoCases entries h s t e = absurd (cc)
+    cases_false (MoreCases p c cs) entries h s t e =
+        either_false (truth_of m p s) (some_true m s (formulas_in cs)) e (λ f. closes_false c (entries ++ p ∷ []) h.0 s (each_true-append m s entries (p ∷ []) t (f, tt))) (cases_false cs entries h.1 s t)
 
 -- a formula that has a certificate is valid under any shapes
 pub certified_valid : (shapes : List Shape) (cert : CertData) (p : FormulaData) → Certifies cert p → Valid shapes p
-certified_valid shapes cert p h = record { holds = λ m reads s. by_cases m s (truth_of m p s) refl }
+certified_valid shapes cert p h = record { holds = λ m reads s. by_cases m reads s (truth_of m p s) refl }
   where
-    by_cases : (m : Interpretation) (s : Assignment) (b : Bool) → truth_of m p s ≡ b → IsTrue (truth_of m p s)
-    by_cases m s true e = true_is _ e
-    by_cases m s false e = absurd (closes_false m s cert (NotFormula p ∷ []) h (ap not e, tt))
+    by_cases : (m : Interpretation) → Reads shapes m → (s : Assignment) (b : Bool) → truth_of m p s ≡ b → IsTrue (truth_of m p s)
+    by_cases m reads s true e = true_is _ e
+    by_cases m reads s false e = absurd (closes_false m reads.answers_right cert (NotFormula p ∷ []) h s (ap not e, tt))

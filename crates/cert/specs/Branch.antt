@@ -1,9 +1,10 @@
 -- What a branch on the stack stands for: the list of its entries.
-use Rattle.std.specs.Prelude.{◌≡◌, List, [], ◌∷◌, ◌++◌, length}
+use Rattle.std.specs.Prelude.{◌≡◌, ℕ, List, [], ◌∷◌, ◌++◌, length}
 use Rattle.std.specs.List.{flat_map}
 use Rattle.fol.specs.FormulaData.{FormulaData, NotFormula}
 use Rattle.cert.specs.CertData.{StepData}
 use Rattle.cert.specs.Closes.{added}
+use Rattle.cert.specs.Quantified.{IsNew}
 use Rattle.cert.specs.declared.branch.Branch.{Branch, Root, Steps', Case'}
 use Rattle.cert.specs.declared.branch.Entry.{Entry}
 use Rattle.cert.specs.declared.branch.Entry.TheVariants.{Negated, Plain}
@@ -16,6 +17,10 @@ abbrev pub entries_of : Branch → List FormulaData
 entries_of (Root p) = NotFormula p.now ∷ []
 entries_of (Steps' at before start steps) = entries_of before ++ entries_added steps.now
 entries_of (Case' at before start p) = entries_of before ++ p.now ∷ []
+
+-- the variable is free in none of the formulas that the step adds
+abbrev pub AddsNew : ℕ → StepData → Type 0
+AddsNew v step = IsNew v (added step)
 
 -- each number of a first entry is right
 abbrev pub IsCounted : Branch → Type 0

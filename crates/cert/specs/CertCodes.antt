@@ -6,9 +6,9 @@ use Rattle.std.specs.Coded.{Coded, code_by}
 use Rattle.std.proofs.Common.{ap}
 use Rattle.pv_base.specs.Codes.{pick}
 use Rattle.fol.specs.FormulaData.{FormulaData}
-use Rattle.fol.specs.FormulaCodes.{formula_code, formula_back, formula_back-code}
+use Rattle.fol.specs.FormulaCodes.{term_code, term_back, term_back-code, formula_code, formula_back, formula_back-code}
 use Rattle.fol.specs.OperatorCodes.{head, tail, tree, whole_code, whole_back, whole_back-code}
-use Rattle.cert.specs.CertData.{StepData, PartsStep, AxiomStep, CertData, CertTree, EndData, SplitEnd, LinearEnd, ClashEnd, FalseEnd, CasesData, NoCases, MoreCases}
+use Rattle.cert.specs.CertData.{StepData, PartsStep, AxiomStep, InstanceStep, NameStep, RewriteStep, CertData, CertTree, EndData, SplitEnd, CutEnd, BoundEnd, LinearEnd, ClashEnd, FalseEnd, CasesData, NoCases, MoreCases}
 use Rattle.cert.specs.declared.certificate.Axiom.{Axiom}
 use Rattle.cert.specs.declared.certificate.Axiom.TheVariants.{Range, Whole, Trichotomy}
 use Rattle.cert.specs.declared.certificate.Multiple.{Multiple}
@@ -43,15 +43,21 @@ axiom_back-code Trichotomy = refl
 abbrev pub step_code : StepData → Gv
 step_code (PartsStep i ps) = tree 0 (gnum i) (list_code formula_code ps) gnil
 step_code (AxiomStep name p) = tree 1 (axiom_code name) (formula_code p) gnil
+step_code (InstanceStep i t p) = tree 2 (gnum i) (term_code t) (formula_code p)
+step_code (NameStep i v p) = tree 3 (gnum i) (gnum v) (formula_code p)
+step_code (RewriteStep i j x c p) = tree 4 (gcons (gnum i) (gcons (gnum j) (gnum x))) (formula_code c) (formula_code p)
 
 abbrev pub step_back : Gv → StepData
 step_back (gcons (gnum n) (gcons a (gcons b c))) =
-    pick n (PartsStep 0 []) (PartsStep (num a) (list_back formula_back b) ∷ AxiomStep (axiom_back a) (formula_back b) ∷ [])
+    pick n (PartsStep 0 []) (PartsStep (num a) (list_back formula_back b) ∷ AxiomStep (axiom_back a) (formula_back b) ∷ InstanceStep (num a) (term_back b) (formula_back c) ∷ NameStep (num a) (num b) (formula_back c) ∷ RewriteStep (num (head a)) (num (head (tail a))) (num (tail (tail a))) (formula_back b) (formula_back c) ∷ [])
 step_back _ = PartsStep 0 []
 
 pub step_back-code : (s : StepData) → step_back (step_code s) ≡ s
 step_back-code (PartsStep i ps) = ap (PartsStep i) (list_back-code formula_code formula_back formula_back-code ps)
 step_back-code (AxiomStep name p) = λ i. AxiomStep (axiom_back-code name i) (formula_back-code p i)
+step_back-code (InstanceStep k t p) = λ i. InstanceStep k (term_back-code t i) (formula_back-code p i)
+step_back-code (NameStep k v p) = ap (NameStep k v) (formula_back-code p)
+step_back-code (RewriteStep k l x c p) = λ i. RewriteStep k l x (formula_back-code c i) (formula_back-code p i)
 
 abbrev pub coded_step : Coded StepData
 coded_step = code_by Gv itself step_code step_back step_back-code
@@ -74,6 +80,8 @@ abbrev mutual
   end_code (LinearEnd ms) = tree 1 (list_code multiple_code ms) gnil gnil
   end_code (ClashEnd i j) = tree 2 (gnum i) (gnum j) gnil
   end_code (FalseEnd i) = tree 3 (gnum i) gnil gnil
+  end_code (CutEnd cases) = tree 4 (cases_code cases) gnil gnil
+  end_code (BoundEnd i cases) = tree 5 (gnum i) (cases_code cases) gnil
 
   pub cases_code : CasesData → Gv
   cases_code NoCases = gnil
@@ -87,7 +95,7 @@ abbrev mutual
 
   pub end_back : Gv → EndData
   end_back (gcons (gnum n) (gcons a (gcons b c))) =
-      pick n (FalseEnd 0) (SplitEnd (num a) (cases_back b) ∷ LinearEnd (list_back multiple_back a) ∷ ClashEnd (num a) (num b) ∷ FalseEnd (num a) ∷ [])
+      pick n (FalseEnd 0) (SplitEnd (num a) (cases_back b) ∷ LinearEnd (list_back multiple_back a) ∷ ClashEnd (num a) (num b) ∷ FalseEnd (num a) ∷ CutEnd (cases_back a) ∷ BoundEnd (num a) (cases_back b) ∷ [])
   end_back _ = FalseEnd 0
 
   pub cases_back : Gv → CasesData
@@ -103,6 +111,8 @@ mutual
   end_back-code (LinearEnd ms) = ap LinearEnd (list_back-code multiple_code multiple_back multiple_back-code ms)
   end_back-code (ClashEnd i j) = refl
   end_back-code (FalseEnd i) = refl
+  end_back-code (CutEnd cases) = ap CutEnd (cases_back-code cases)
+  end_back-code (BoundEnd i cases) = ap (BoundEnd i) (cases_back-code cases)
 
   pub cases_back-code : (cs : CasesData) → cases_back (cases_code cs) ≡ cs
   cases_back-code NoCases = refl

@@ -1,6 +1,6 @@
 -- Certificates as pure data, as contracts see them.
 use Rattle.std.specs.Prelude.{ℕ, ◌+◌, List, [], ◌∷◌}
-use Rattle.fol.specs.FormulaData.{FormulaData}
+use Rattle.fol.specs.FormulaData.{TermData, FormulaData}
 use Rattle.cert.specs.declared.certificate.Axiom.{Axiom}
 use Rattle.cert.specs.declared.certificate.Multiple.{Multiple}
 
@@ -8,6 +8,9 @@ use Rattle.cert.specs.declared.certificate.Multiple.{Multiple}
 pub data StepData : Type 0 where
   PartsStep : ℕ → List FormulaData → StepData
   AxiomStep : Axiom → FormulaData → StepData
+  InstanceStep : ℕ → TermData → FormulaData → StepData
+  NameStep : ℕ → ℕ → FormulaData → StepData
+  RewriteStep : ℕ → ℕ → ℕ → FormulaData → FormulaData → StepData
 
 mutual
   pub data CertData : Type 0 where
@@ -15,6 +18,8 @@ mutual
 
   pub data EndData : Type 0 where
     SplitEnd : ℕ → CasesData → EndData
+    CutEnd : CasesData → EndData
+    BoundEnd : ℕ → CasesData → EndData
     LinearEnd : List Multiple → EndData
     ClashEnd : ℕ → ℕ → EndData
     FalseEnd : ℕ → EndData
@@ -35,6 +40,8 @@ abbrev mutual
 
   pub end_size : EndData → ℕ
   end_size (SplitEnd i cases) = 1 + cases_size cases
+  end_size (CutEnd cases) = 1 + cases_size cases
+  end_size (BoundEnd i cases) = 1 + cases_size cases
   end_size (LinearEnd multiples) = 1
   end_size (ClashEnd i j) = 1
   end_size (FalseEnd i) = 1

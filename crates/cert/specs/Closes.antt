@@ -1,14 +1,19 @@
 -- When a certificate closes a branch: a closed analytic tableau (R. Smullyan, First-Order Logic, chapter II), with
--- instances of axioms and contradictions of linear arithmetic.
+-- names and instances of quantified formulas (chapter V), equals for equals, cuts, instances of axioms, and contradictions of linear
+-- arithmetic.
 use Rattle.std.specs.Prelude.{◌≡◌, ℕ, ◌≤◌, List, [], ◌∷◌, ◌++◌, length, slice_get, Some}
 use Rattle.fol.specs.declared.operators.Comparison.TheVariants.{Eq}
 use Rattle.fol.specs.declared.operators.Constant.TheVariants.{False}
 use Rattle.fol.specs.declared.operators.Junction.TheVariants.{AllOf, AnyOf}
-use Rattle.fol.specs.FormulaData.{FormulaData, HoldsFormula, NotFormula, NoFormulas, CompareFormula, ConstantTerm, JoinFormula}
-use Rattle.cert.specs.CertData.{StepData, PartsStep, AxiomStep, CertData, CertTree, EndData, SplitEnd, LinearEnd, ClashEnd, FalseEnd, CasesData, NoCases, MoreCases}
+use Rattle.pv_base.specs.TypeData.{NumType}
+use Rattle.fol.specs.declared.operators.Quantifier.TheVariants.{ForAll, Exists}
+use Rattle.fol.specs.FormulaData.{TermData, VarTerm, IsFormula, FormulaData, HoldsFormula, NotFormula, NoFormulas, CompareFormula, ConstantTerm, JoinFormula}
+use Rattle.cert.specs.CertData.{StepData, PartsStep, AxiomStep, InstanceStep, NameStep, RewriteStep, CertData, CertTree, EndData, SplitEnd, CutEnd, BoundEnd, LinearEnd, ClashEnd, FalseEnd, CasesData, NoCases, MoreCases}
 use Rattle.cert.specs.Parts.{parts_of, cases_of}
 use Rattle.cert.specs.Axioms.{IsInstanceOf}
 use Rattle.cert.specs.Linear.{IsContradiction}
+use Rattle.cert.specs.Quantified.{IsBodyWith, IsNew, AreCut, AreBounds}
+use Rattle.cert.specs.Rewriting.{IsRewriting}
 
 -- the greatest number of entries of a branch
 abbrev pub most_entries : ℕ
@@ -22,11 +27,17 @@ IsEntry entries i p = slice_get entries i ≡ Some p
 abbrev pub added : StepData → List FormulaData
 added (PartsStep i ps) = ps
 added (AxiomStep name p) = p ∷ []
+added (InstanceStep i t p) = p ∷ []
+added (NameStep i v p) = p ∷ []
+added (RewriteStep i j x c p) = p ∷ []
 
 -- a straight step is allowed on a branch
 abbrev pub IsAllowed : List FormulaData → StepData → Type 0
 IsAllowed entries (PartsStep i ps) = (p : FormulaData) × IsEntry entries i p × (parts_of p ≡ Some ps)
 IsAllowed entries (AxiomStep name p) = IsInstanceOf name p
+IsAllowed entries (InstanceStep i t p) = (q : FormulaData) × IsEntry entries i q × IsBodyWith ForAll t q p
+IsAllowed entries (NameStep i v p) = ((q : FormulaData) × IsEntry entries i q × IsBodyWith Exists (VarTerm v) q p) × IsNew v entries
+IsAllowed entries (RewriteStep i j x c p) = (e : FormulaData) × (q : FormulaData) × IsEntry entries i e × IsEntry entries j q × IsRewriting x c e q p
 
 -- straight steps are allowed, one after another
 abbrev pub AreAllowed : List FormulaData → List StepData → Type 0
@@ -64,6 +75,9 @@ abbrev mutual
   pub EndCloses : List FormulaData → EndData → Type 0
   EndCloses entries (SplitEnd i cases) =
       (length entries ≤ most_entries) × ((p : FormulaData) × IsEntry entries i p × (cases_of p ≡ Some (formulas_in cases))) × EachCloses entries cases
+  EndCloses entries (CutEnd cases) = (length entries ≤ most_entries) × AreCut (formulas_in cases) × EachCloses entries cases
+  EndCloses entries (BoundEnd i cases) =
+      (length entries ≤ most_entries) × ((t : TermData) × IsEntry entries i (IsFormula NumType t) × AreBounds t (formulas_in cases)) × EachCloses entries cases
   EndCloses entries (LinearEnd ms) = (length entries ≤ most_entries) × IsContradiction entries ms
   EndCloses entries (ClashEnd i j) =
       (length entries ≤ most_entries) × ((p : FormulaData) × IsEntry entries i p × IsEntry entries j (NotFormula p))

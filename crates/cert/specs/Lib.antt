@@ -5,6 +5,8 @@ pub mod StepView
 pub mod CertFalls
 pub mod Parts
 pub mod Axioms
+pub mod Quantified
+pub mod Rewriting
 pub mod Linear
 pub mod Closes
 pub mod Branch

@@ -83,5 +83,8 @@ pub fn added_by(step: &Step) -> &[Formula]
     match &step.node {
         StepNode::Parts(_, formulas) => formulas.as_slice(),
         StepNode::Axiom(_, formula) => std::slice::from_ref(formula),
+        StepNode::Instance(_, _, formula) => std::slice::from_ref(formula),
+        StepNode::Name(_, _, formula) => std::slice::from_ref(formula),
+        StepNode::Rewrite(_, _, _, _, formula) => std::slice::from_ref(formula),
     }
 }

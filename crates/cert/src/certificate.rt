@@ -4,7 +4,7 @@
 //! the certified formula; each step adds entries at its end. These are analytic tableaux (R. Smullyan,
 //! First-Order Logic, chapter II), with linear arithmetic at the leaves.
 
-use fol::formula::Formula;
+use fol::formula::{Formula, Term};
 use std::marker::Model;
 
 /// A certificate: straight steps, one after another, and what stands at their end.
@@ -44,6 +44,15 @@ pub enum StepNode {
     Parts(u32, Vec<Formula>),
     /// An instance of the axiom joins the branch.
     Axiom(Axiom, Formula),
+    /// The entry with this number holds of all values; what it says of the value of a term joins the
+    /// branch.
+    Instance(u32, Term, Formula),
+    /// The entry with this number holds of some value; what it says of a variable that is free in no
+    /// entry joins the branch, and the variable names the value.
+    Name(u32, u32, Formula),
+    /// The first entry is an equation of two terms. The second is a pattern with one of them for a
+    /// variable, and the formula, which joins the branch, is the same pattern with the other.
+    Rewrite(u32, u32, u32, Formula, Formula),
 }
 
 /// The axioms of which a step may take an instance.
@@ -64,6 +73,11 @@ pub enum Axiom {
 pub enum End {
     /// The entry with this number is a disjunction; the branch goes on with each of its cases.
     Split(u32, Vec<Case>),
+    /// Two cases of which one negates the other: a formula holds or its negation does.
+    Cut(Vec<Case>),
+    /// The entry with this number says that a term is a whole number; the two cases say that it is at
+    /// most some number, or at least 1 more.
+    Bound(u32, Vec<Case>),
     /// A combination of entries, read as rows over whole numbers, says that a positive number is at most 0.
     Linear(Vec<Multiple>),
     /// The second entry is the negation of the first.

@@ -1,7 +1,11 @@
 //! The checker of certificates, which takes no memory.
 
 ghost use Rattle.std.specs.Prelude.{◌≡◌, ◌↔◌, ◌+◌, ◌<◌, ◌≤◌, length, map, IsTrue, Some, MatchOption};
-ghost use Rattle.fol.specs.FormulaData.{FormulaData, NotFormula};
+ghost use Rattle.pv_base.specs.TypeData.{NumType};
+ghost use Rattle.fol.specs.FormulaData.{FormulaData, TermData, VarTerm, IsFormula, NotFormula};
+ghost use Rattle.fol.specs.declared.operators.Quantifier.TheVariants.{Exists};
+ghost use Rattle.cert.specs.Rewriting.{IsRewriting};
+ghost use Rattle.cert.specs.Quantified.{IsBodyWith, IsNew, AreBounds};
 ghost use Rattle.fol.specs.Validity.{Valid};
 ghost use Rattle.cert.specs.Branch.{entries_of, entries_added, IsCounted};
 ghost use Rattle.cert.specs.CertData.{as_cases, first_of};
@@ -10,11 +14,14 @@ ghost use Rattle.cert.specs.CertView.{end_of_node};
 ghost use Rattle.cert.specs.Closes.{most_entries, IsEntry, IsFalseForm, AreAllowed, IsAllowed, Closes, EndCloses, EachCloses, Certifies};
 
 use crate::axioms::is_instance;
-use crate::branch::{Branch, added_by, entry_at};
+use crate::branch::{Branch, Entry, added_by, entry_at};
 use crate::certificate::{Case, Cert, End, Step, StepNode};
 use crate::linear::is_contradiction;
-use crate::tableau::{are_cases, are_parts, is_false, negates};
-use fol::formula::Formula;
+use crate::quantified::{is_body_with, is_new};
+use crate::rewriting::{Pattern, is_rewriting};
+use crate::tableau::{are_bounds_of, are_cases, are_cut, are_parts, is_false, negates};
+use fol::formula::{Formula, Term, TermNode};
+use fol::operators::Quantifier;
 use fol::shapes::Shapes;
 
 /// The greatest number of entries of a branch.
@@ -56,6 +63,11 @@ fn end_closes<'a>(branch: &'a Branch<'a>, count: usize, end: &'a End) -> bool
     match end {
         End::Split(index, cases) => {
             splits(branch, *index, cases.as_slice()) && each_closes(branch, count, cases.as_slice())
+        }
+        End::Cut(cases) => are_cut(cases.as_slice())
+            && each_closes(branch, count, cases.as_slice()),
+        End::Bound(index, cases) => {
+            bounds(branch, *index, cases.as_slice()) && each_closes(branch, count, cases.as_slice())
         }
         End::Linear(multiples) => is_contradiction(branch, multiples.as_slice()),
         End::Clash(index, negation) => clash(branch, *index, *negation),
@@ -121,6 +133,68 @@ fn is_allowed(branch: &Branch<'_>, step: &Step) -> bool
     match &step.node {
         StepNode::Parts(index, formulas) => are_parts_at(branch, *index, formulas.as_slice()),
         StepNode::Axiom(name, formula) => is_instance(*name, formula),
+        StepNode::Instance(index, term, formula) => {
+            says_at(branch, *index, Quantifier::ForAll, term, formula)
+        }
+        StepNode::Rewrite(equation, index, variable, formula, made) => {
+            let pattern = Pattern {
+                variable: *variable,
+                formula,
+            };
+            rewrites(branch, *equation, *index, pattern, made)
+        }
+        StepNode::Name(index, variable, formula) => names(branch, *index, *variable, formula),
+    }
+}
+
+// Whether the formula is what an entry says of the term.
+fn says_at(
+    branch: &Branch<'_>,
+    index: u32,
+    quantifier: Quantifier,
+    term: &Term,
+    formula: &Formula,
+) -> bool
+    requires { IsCounted branch.now }
+    ensures { IsTrue result
+        ↔ ((q : FormulaData) × IsEntry (entries_of branch.now) index q × IsBodyWith quantifier term.now q formula.now) }
+{
+    match entry_at(branch, index as usize) {
+        Some(entry) => is_body_with(quantifier, entry, term, formula),
+        None => false,
+    }
+}
+
+fn names(branch: &Branch<'_>, index: u32, variable: u32, formula: &Formula) -> bool
+    requires { IsCounted branch.now }
+    ensures { IsTrue result
+        ↔ (((q : FormulaData) × IsEntry (entries_of branch.now) index q × IsBodyWith Exists (VarTerm variable) q formula.now) × IsNew variable (entries_of branch.now)) }
+{
+    let term = Term {
+        node: TermNode::Var(variable),
+    };
+    says_at(branch, index, Quantifier::Exists, &term, formula) && is_new(branch, variable)
+}
+
+// Whether an entry is the pattern with one side of another, which is an equation, and the formula with the
+// other side.
+fn rewrites(
+    branch: &Branch<'_>,
+    equation: u32,
+    index: u32,
+    pattern: Pattern<'_>,
+    formula: &Formula,
+) -> bool
+    requires { IsCounted branch.now }
+    ensures { IsTrue result
+        ↔ ((e : FormulaData) × (q : FormulaData) × IsEntry (entries_of branch.now) equation e × IsEntry (entries_of branch.now) index q × IsRewriting pattern.entry.variable pattern.entry.formula.now e q formula.now) }
+{
+    match entry_at(branch, equation as usize) {
+        Some(equation) => match entry_at(branch, index as usize) {
+            Some(entry) => is_rewriting(pattern, equation, entry, formula),
+            None => false,
+        },
+        None => false,
     }
 }
 
@@ -143,6 +217,17 @@ fn splits(branch: &Branch<'_>, index: u32, cases: &[Case]) -> bool
     match entry_at(branch, index as usize) {
         Some(entry) => are_cases(entry, cases),
         None => false,
+    }
+}
+
+fn bounds(branch: &Branch<'_>, index: u32, cases: &[Case]) -> bool
+    requires { IsCounted branch.now }
+    ensures { IsTrue result
+        ↔ ((t : TermData) × IsEntry (entries_of branch.now) index (IsFormula NumType t) × AreBounds t (map first_of cases.now)) }
+{
+    match entry_at(branch, index as usize) {
+        Some(Entry::Plain(of)) => are_bounds_of(of, cases),
+        _ => false,
     }
 }
 

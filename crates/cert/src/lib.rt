@@ -6,4 +6,6 @@ pub mod branch;
 pub mod certificate;
 pub mod checker;
 pub mod linear;
+pub mod quantified;
+pub mod rewriting;
 pub mod tableau;

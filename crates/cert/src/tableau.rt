@@ -1,8 +1,10 @@
 //! Whether formulas are the parts or the cases of an entry. Nothing is built for it: a negation is
 //! compared by what it negates.
 
-ghost use Rattle.std.specs.Prelude.{◌≡◌, ◌↔◌, IsTrue, Some, map, [], ◌∷◌};
-ghost use Rattle.fol.specs.FormulaData.{NotFormula};
+ghost use Rattle.std.specs.Prelude.{◌≡◌, ◌↔◌, IsTrue, Some, map, [], ◌∷◌, MatchOption, ℤ};
+ghost use Rattle.pv_base.specs.TypeData.{NumType};
+ghost use Rattle.fol.specs.FormulaData.{TermData, NumTerm, LeFormula, IsFormula, NotFormula};
+ghost use Rattle.cert.specs.Quantified.{AreCut, AreBounds};
 ghost use Rattle.cert.specs.Branch.{entry_formula};
 ghost use Rattle.cert.specs.CertData.{first_of};
 ghost use Rattle.cert.specs.Closes.{IsFalseForm, IsFalseNegated};
@@ -10,9 +12,11 @@ ghost use Rattle.cert.specs.Parts.{parts_of, parts_of_negated, cases_of, cases_o
 
 use crate::branch::Entry;
 use crate::certificate::Case;
-use fol::formula::{Formula, FormulaNode, TermNode};
+use crate::linear::numeral_of;
+use fol::formula::{Formula, FormulaNode, Term, TermNode};
 use fol::operators::{Comparison, Connective, Constant, Junction};
 use fol::same::{same_formula, same_formulas, same_term};
+use pv_base::types::TypeNode;
 
 /// Whether these formulas are the parts of the entry.
 pub fn are_parts(entry: Entry<'_>, formulas: &[Formula]) -> bool
@@ -111,6 +115,71 @@ fn are_entries(formulas: &[Formula], left: Entry<'_>, right: Entry<'_>) -> bool
     formulas.len() == 2 && is_entry(&formulas[0], left) && is_entry(&formulas[1], right)
 }
 
+/// Whether the formulas of these cases are one and its negation.
+pub fn are_cut(cases: &[Case]) -> bool
+    ensures { IsTrue result ↔ AreCut (map first_of cases.now) }
+{
+    match cases {
+        [first, second] => {
+            let formula = formula_of(first);
+            let negation = formula_of(second);
+            is_negation(negation, formula)
+        }
+        _ => false,
+    }
+}
+
+/// Whether a formula says that a term is a whole number, and the cases bound the term by a number.
+pub fn are_bounds_of(of: &Formula, cases: &[Case]) -> bool
+    ensures { IsTrue result ↔ ((t : TermData) × (of.now ≡ IsFormula NumType t) × AreBounds t (map first_of cases.now)) }
+{
+    match &of.node {
+        FormulaNode::Is(kind, term) => {
+            matches!(&kind.node, TypeNode::Num) && are_bounds(term, cases)
+        }
+        _ => false,
+    }
+}
+
+fn are_bounds(term: &Term, cases: &[Case]) -> bool
+    ensures { IsTrue result ↔ AreBounds term.now (map first_of cases.now) }
+{
+    match cases {
+        [first, second] => match (
+            upper_bound(term, &first.formula),
+            lower_bound(term, &second.formula),
+        ) {
+            (Some(most), Some(least)) => most.checked_add(1) == Some(least),
+            _ => false,
+        },
+        _ => false,
+    }
+}
+
+// The number that the formula says the term to be at most.
+fn upper_bound(term: &Term, formula: &Formula) -> Option<i128>
+    ensures { MatchOption result ((k : ℤ) → formula.now ≡ LeFormula term.now (NumTerm k) → ⊥) (λ k. formula.now ≡ LeFormula term.now (NumTerm k)) }
+{
+    match &formula.node {
+        FormulaNode::Compare(Comparison::Le, left, right) if same_term(left, term) => numeral_of(
+            right,
+        ),
+        _ => None,
+    }
+}
+
+// The number that the formula says the term to be at least.
+fn lower_bound(term: &Term, formula: &Formula) -> Option<i128>
+    ensures { MatchOption result ((k : ℤ) → formula.now ≡ LeFormula (NumTerm k) term.now → ⊥) (λ k. formula.now ≡ LeFormula (NumTerm k) term.now) }
+{
+    match &formula.node {
+        FormulaNode::Compare(Comparison::Le, left, right) if same_term(right, term) => numeral_of(
+            left,
+        ),
+        _ => None,
+    }
+}
+
 /// Whether the formulas of these cases are the cases of the entry.
 pub fn are_cases(entry: Entry<'_>, cases: &[Case]) -> bool
     ensures { IsTrue result ↔ (cases_of (entry_formula entry.entry) ≡ Some (map first_of cases.now)) }
@@ -158,17 +227,17 @@ fn are_cases_of_negated(of: &Formula, cases: &[Case]) -> bool
         FormulaNode::Join(junction, parts) => {
             *junction == Junction::AllOf && negate(cases, parts.as_slice())
         }
-        FormulaNode::Connect(Connective::Iff, left, right) => {
+        FormulaNode::Connect(Connective::Iff, one, other) => {
             cases.len() == 2
                 && is_both_of(
                     formula_of(&cases[0]),
-                    Entry::Plain(left),
-                    Entry::Negated(right),
+                    Entry::Plain(one),
+                    Entry::Negated(other),
                 )
                 && is_both_of(
                     formula_of(&cases[1]),
-                    Entry::Negated(left),
-                    Entry::Plain(right),
+                    Entry::Negated(one),
+                    Entry::Plain(other),
                 )
         }
         _ => false,

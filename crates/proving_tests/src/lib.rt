@@ -14,4 +14,6 @@ mod saturation_tests;
 #[cfg(test)]
 mod search_tests;
 #[cfg(test)]
+mod step_tests;
+#[cfg(test)]
 mod substitution_tests;

@@ -197,7 +197,7 @@ fn add_instances<L: Ledger>(
 fn add_instance(alloc: Global, branch: &mut Branch, step: &Step) -> Result<(), NoMemory> {
     match &step.node {
         StepNode::Axiom(name, formula) => grow(alloc, branch, formula, Origin::Axiom(*name)),
-        StepNode::Parts(_, _) => Ok(()),
+        _ => Ok(()),
     }
 }
 
