@@ -2,6 +2,8 @@
 #![tactic(auto)]
 
 #[cfg(test)]
+mod code_names_tests;
+#[cfg(test)]
 mod name_tests;
 #[cfg(test)]
 mod program_tests;
