@@ -2,6 +2,8 @@
 #![tactic(auto)]
 
 #[cfg(test)]
+mod axioms_tests;
+#[cfg(test)]
 mod cert_tests;
 #[cfg(test)]
 mod lin_arith_tests;
