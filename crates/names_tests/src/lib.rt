@@ -4,6 +4,8 @@
 #[cfg(test)]
 mod code_names_tests;
 #[cfg(test)]
+mod declaration_tests;
+#[cfg(test)]
 mod name_tests;
 #[cfg(test)]
 mod program_tests;
