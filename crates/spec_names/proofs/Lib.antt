@@ -1,0 +1,5 @@
+pub mod AddedLaws
+pub mod JoinedLaws
+pub mod Listings
+pub mod OuterLaws
+pub mod RemainsLaws

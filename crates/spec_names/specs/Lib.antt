@@ -1,0 +1,9 @@
+pub mod Added
+pub mod Forms
+pub mod OuterNames
+pub mod Places
+pub mod Resolved
+pub mod Setting
+pub mod SpecNames
+pub mod SpecSpans
+pub mod SpecTrees

@@ -1,0 +1,13 @@
+//! Spec expressions whose names are resolved: from source trees to lists of nodes.
+#![tactic(auto)]
+
+pub mod building;
+pub mod context;
+pub mod expression;
+mod fields;
+pub mod forms;
+pub mod outer;
+mod places;
+pub mod spec;
+mod triggers;
+mod values;
