@@ -1,0 +1,69 @@
+-- Numbers on circles are those that have a target with their own label.
+use Rattle.std.proofs.Common.{◌≡◌, ℕ, ◌<◌, ◌≤◌, ◌+◌, List, [], length, get_or, false, Option, None, refl, sym, ◌∙◌, ap, subst, arith}
+use Rattle.std.specs.Bool.{IsTrue}
+use Rattle.std.proofs.lemmas.List.{get_or_read}
+use Rattle.circles.specs.declared.walk.Mark.{Mark}
+use Rattle.circles.specs.Circles.{IsEdge, IsOnCircle, AreMirrored}
+use Rattle.circles.specs.Walking.{IsSeen, IsWalk}
+use Rattle.circles.specs.Labelling.{label, NoneIsOpen, IsLabelling}
+use Rattle.circles.proofs.ReachLemmas.{targets_are}
+use Rattle.circles.proofs.CircleLemmas.{same_root, circle_root}
+
+-- one of these targets has the label of i
+abbrev pub HasLabel : List ℕ → List (Option ℕ) → Option ℕ → Type 0
+HasLabel targets labels own = (k : ℕ) × (k < length targets) × (label labels (get_or targets k 0) ≡ own)
+
+module _ (graph sources : List (List ℕ)) (marks : List Mark) (order : List ℕ) (labels : List (Option ℕ)) (mirrored : AreMirrored graph sources) (walk : IsWalk graph marks order []) (seen : (i : ℕ) → i < length graph → IsSeen marks i) (labelling : IsLabelling sources order 0 labels [] NoneIsOpen) (i : ℕ) (targets : List ℕ) (are : targets ≡ get_or graph i []) (own : Option ℕ) (is : own ≡ label labels i) where
+  pub has_circle : HasLabel targets labels own → IsOnCircle graph i
+  has_circle h =
+      let e : IsEdge graph i (get_or targets h.0 0) = subst (λ (xs : List ℕ). (k : ℕ) × (k < length xs) × (get_or xs k 0 ≡ get_or targets h.0 0)) are (h.0, h.1, refl) in
+      (get_or targets h.0 0, e, same_root graph sources marks order labels mirrored walk seen labelling i (get_or targets h.0 0) e (h.2 ∙ is))
+
+  pub circle_has : IsOnCircle graph i → HasLabel targets labels own
+  circle_has o =
+      let r = circle_root graph sources marks order labels mirrored walk seen labelling i o.0 o.1 o.2 in
+      let e = subst (λ (xs : List ℕ). (k : ℕ) × (k < length xs) × (get_or xs k 0 ≡ o.0)) (sym are) o.1 in
+      (e.0, e.1, ap (λ (x : ℕ). label labels x) e.2 ∙ r ∙ sym is)
+
+-- ---- the same of what the code reads
+
+pub less_or : (j i : ℕ) → j < i + 1 → (j ≡ i → ⊥) → j < i
+less_or j i l d = omega arith
+
+pub not_true : IsTrue false → ⊥
+not_true h = cc
+
+pub below_same : (i a b : ℕ) → a ≡ b → i < b → i < a
+below_same i a b e l = omega arith
+
+pub below_all : (i a b k : ℕ) → a ≡ b → i < b → a ≤ k → i < k
+below_all i a b k e l m = omega arith
+
+module _ (graph g sources : List (List ℕ)) (marks : List Mark) (order o : List ℕ) (labels ls : List (Option ℕ)) (same : g ≡ graph) (mirrored : AreMirrored graph sources) (walk : IsWalk g marks order []) (seen : (i : ℕ) → i < length g → IsSeen marks i) (ordered : o ≡ order) (labelling : IsLabelling sources o 0 labels [] NoneIsOpen) (valued : ls ≡ labels) (i : ℕ) (inside : i < length g) (read slice : List ℕ) (reads : read ≡ get_or g i read) (sliced : slice ≡ read) (own : Option ℕ) (owned : own ≡ get_or labels i own) where
+  walk_read : IsWalk graph marks order []
+  walk_read = subst (λ (x : List (List ℕ)). IsWalk x marks order []) same walk
+
+  seen_read : (k : ℕ) → k < length graph → IsSeen marks k
+  seen_read = subst (λ (x : List (List ℕ)). (k : ℕ) → k < length x → IsSeen marks k) same seen
+
+  labelling_read : IsLabelling sources order 0 ls [] NoneIsOpen
+  labelling_read =
+      subst (λ (x : List (Option ℕ)). IsLabelling sources order 0 x [] NoneIsOpen) (sym valued)
+      (subst (λ (x : List ℕ). IsLabelling sources x 0 labels [] NoneIsOpen) ordered labelling)
+
+  slice_is : slice ≡ get_or graph i []
+  slice_is = targets_are g i read slice inside reads sliced ∙ ap (λ (x : List (List ℕ)). get_or x i []) same
+
+  own_is : own ≡ label ls i
+  own_is =
+      let long = labelling.long in
+      let size = mirrored.same in
+      let q = ap (λ (x : List (List ℕ)). length x) same in
+      let within : i < length labels = omega arith in
+      get_or_read labels i own within owned None ∙ ap (λ (x : List (Option ℕ)). label x i) (sym valued)
+
+  pub read_circle : HasLabel slice ls own → IsOnCircle graph i
+  read_circle = has_circle graph sources marks order ls mirrored walk_read seen_read labelling_read i slice slice_is own own_is
+
+  pub circle_read : IsOnCircle graph i → HasLabel slice ls own
+  circle_read = circle_has graph sources marks order ls mirrored walk_read seen_read labelling_read i slice slice_is own own_is

@@ -1,0 +1,34 @@
+-- Graphs over the numbers below a length: for each number a list of those that it has an edge to.
+use Rattle.std.specs.Prelude.{◌≡◌, ℕ, ◌<◌, List, [], length, slice_index, slice_index_or}
+
+-- there is an edge from i to j
+abbrev pub IsEdge : List (List ℕ) → ℕ → ℕ → Type 0
+IsEdge graph i j = (k : ℕ) × (k < length (slice_index_or graph i [])) × (slice_index (slice_index_or graph i []) k ≡ j)
+
+-- edges lead from i to j, one after another, or i is j
+pub data Reaches (graph : List (List ℕ)) : ℕ → ℕ → Type 0 where
+  Here : {i : ℕ} → Reaches graph i i
+  Along : {i j k : ℕ} → IsEdge graph i j → Reaches graph j k → Reaches graph i k
+
+-- edges lead from i to j, at least one: the transitive closure
+abbrev pub Leads : List (List ℕ) → ℕ → ℕ → Type 0
+Leads graph i j = (k : ℕ) × IsEdge graph i k × Reaches graph k j
+
+-- i leads back to itself
+abbrev pub IsOnCircle : List (List ℕ) → ℕ → Type 0
+IsOnCircle graph i = Leads graph i i
+
+-- i leads back to itself, and no smaller number does
+abbrev pub IsFirstOnCircle : List (List ℕ) → ℕ → Type 0
+IsFirstOnCircle graph i = IsOnCircle graph i × ((j : ℕ) → j < i → ¬ IsOnCircle graph j)
+
+-- each edge leads to a number of the graph
+abbrev pub IsWithin : List (List ℕ) → Type 0
+IsWithin graph = (i j : ℕ) → IsEdge graph i j → j < length graph
+
+-- two graphs over the same numbers, the edges of one being those of the other turned round
+pub record AreMirrored (graph sources : List (List ℕ)) : Type 0 where
+  pub same : length sources ≡ length graph
+  pub within : IsWithin graph
+  pub turned : (i j : ℕ) → IsEdge graph i j → IsEdge sources j i
+  pub back : (i j : ℕ) → IsEdge sources j i → IsEdge graph i j
