@@ -2,7 +2,8 @@
 
 ghost use Rattle.std.specs.Prelude.{◌≡◌, ◌↔◌, ◌++◌, ◌∷◌, [], if◌then◌else◌, length, None, IsTrue, IfOk, OnOk, OnErr, slice_get};
 ghost use Rattle.std.specs.Option.{option_copied, option_map};
-ghost use Rattle.std.specs.Map.{lookup};
+ghost use Rattle.std.specs.Map.{keys_of, lookup};
+ghost use Rattle.std.specs.List.{position};
 ghost use Rattle.std.specs.Map.Iter.{deref_pair};
 
 use indexmap::IndexMap;
@@ -47,6 +48,13 @@ impl<K: Eq + Hash + Drop, T: Drop> Table<K, T> {
         ensures { option_copied result ≡ lookup (K.eq name.now) self.now }
     {
         self.map.get(name)
+    }
+
+    /// The number of the declaration with this name: how many stand before it.
+    pub fn number(&self, name: &K) -> Option<usize>
+        ensures { result ≡ position (K.eq name.now) (keys_of self.now) }
+    {
+        self.map.get_index_of(name)
     }
 
     /// The name and the declaration with this number.
