@@ -4,6 +4,7 @@ use Rattle.std.specs.Prelude.{codes, is_some, option_and_then}
 use Rattle.std.specs.Option.{option_map}
 use Rattle.std.specs.Cmp.Lexicographic.{same_text}
 use Rattle.pv_base.specs.declared.span.Span.{Span}
+use Rattle.pv_base.proofs.TruthValues.{both_true}
 use Rattle.move_tokens.specs.declared.token.Token.{Token}
 use Rattle.move_tokens.specs.declared.token.TokenKind.{TokenKind}
 use Rattle.move_tokens.specs.declared.token.TokenKind.TheVariants.{Word, Number, ByteString, Punctuation}
@@ -191,10 +192,6 @@ assert_place_at-path place ts rest b h =
     ∙ ap (option_map (λ rest. (place, rest))) h
 
 -- ---- glued signs
-
-pub both_true : (a b : Bool) → (a && b) ≡ true → (a ≡ true) × (b ≡ true)
-both_true true b e = (refl, e)
-both_true false b e = absurd (cc)
 
 -- a sign that is glued to the token before it
 abbrev pub glued : Sign → Lexeme

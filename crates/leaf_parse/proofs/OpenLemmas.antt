@@ -1,6 +1,7 @@
 -- How expressions begin.
 use Rattle.std.proofs.Common.{◌≡◌, ℕ, ◌≤◌, Bool, true, false, cond, ◌||◌, List, [], ◌∷◌, ◌++◌, Some, None, refl, sym, ap, ◌∙◌, arith}
 use Rattle.std.specs.Prelude.{codes}
+use Rattle.pv_base.proofs.TruthValues.{or_true}
 use Rattle.move_tokens.specs.declared.token.Token.{Token}
 use Rattle.move_tokens.specs.declared.token.TokenKind.{TokenKind}
 use Rattle.move_tokens.specs.declared.token.TokenKind.TheVariants.{Word, Number, ByteString, Punctuation}
@@ -44,10 +45,6 @@ begins_term (Punctuation LeftParenthesis) = true
 begins_term (Punctuation LeftBrace) = true
 begins_term (Punctuation AtSign) = true
 begins_term (Punctuation _) = false
-
-or_true : (a : Bool) → (a || true) ≡ true
-or_true true = refl
-or_true false = refl
 
 pub name_begins_term : (w : List ℕ) → IsName w → begins_term (Word w) ≡ true
 name_begins_term w n =

@@ -37,7 +37,8 @@ use Rattle.leaf_parse.specs.PathReading.{address_at}
 use Rattle.leaf_parse.specs.LeafReading.{number_at, plain_literal_at}
 use Rattle.leaf_parse.proofs.PathLemmas.{path_opens, opens_no_word, address_at-sound, address_at-complete}
 use Rattle.spec_expression_parse.specs.LeafReading.{address_literal_at, opens_bind, quantifier_word_at, quantifier_at, pack_opened}
-use Rattle.leaf_parse.proofs.LeafLemmas.{both_true as both, number_at-other, number_at-path, plain_none}
+use Rattle.pv_base.proofs.TruthValues.{both_true as both}
+use Rattle.leaf_parse.proofs.LeafLemmas.{number_at-other, number_at-path, plain_none}
 
 -- ---- literals
 

@@ -19,7 +19,7 @@ use Rattle.token_reading.proofs.Steps.{step, last, if_read, if_not, bind_some, m
 use Rattle.token_reading.proofs.BeginLemmas.{Begins-append, Begins-split, Begins-first, length-Begins}
 use Rattle.token_reading.proofs.TokenLemmas.{after_sign-sound, after_sign-complete}
 use Rattle.token_reading.proofs.RepeatLemmas.{repeat_at-sound, repeat_at-complete}
-use Rattle.leaf_parse.proofs.LeafLemmas.{both_true as both}
+use Rattle.pv_base.proofs.TruthValues.{both_true as both}
 use Rattle.spec_parse.specs.ClauseReading.{clause_at}
 use Rattle.spec_parse.specs.BlockReading.{may_hold, may_hold_all, before_clause, clauses_at, block_at}
 use Rattle.spec_parse.proofs.ClauseLemmas.{clause_at-sound, clause_at-complete, clause_no_sign, clause_some}

@@ -5,9 +5,9 @@ use clause_tree::slot::Slot;
 use move_tree::lexeme::Lexemes;
 use spec_parse::denoted::spec_expression;
 use spec_parse::denoted_block::spec_block;
+use spec_spelling::spell_clause::spell;
+use spec_spelling::spell_spec_expression::spell_spec_expression;
 use spec_tree::spec_expression::{SpecExpression, SpecNode};
-use spelling::spell_clause::spell;
-use spelling::spell_spec_expression::spell_spec_expression;
 use std::alloc::Global;
 use std::process::Abort;
 

@@ -5,11 +5,6 @@ use Rattle.std.proofs.Common.{map, ◌≡◌, List, [], ◌∷◌, ◌++◌, ref
 use Rattle.std.specs.List.{flat_map}
 use Rattle.move_tree.specs.Lexemes.{sign, after_commas, comma_list, last_comma}
 
--- what three steps put behind a list
-pub three_parts : {A : Type 0} (a0 x y z : List A) {a1 a2 a3 w : List A} → a1 ≡ a0 ++ x → a2 ≡ a1 ++ y → a3 ≡ a2 ++ z → w ≡ x ++ y ++ z → a3 ≡ a0 ++ w
-three_parts a0 x y z e1 e2 e3 e4 =
-    e3 ∙ ap (λ l. l ++ z) (e2 ∙ ap (λ l. l ++ y) e1) ∙ append_assoc (a0 ++ x) y z ∙ append_assoc a0 x (y ++ z) ∙ ap (λ l. a0 ++ l) (sym (append_assoc x y z) ∙ sym e4)
-
 mapped_after_commas : {A : Type 0} (f : A → List Lexeme) (xs : List A) → after_commas (map f xs) ≡ flat_map (λ x. sign Comma ∷ f x) xs
 mapped_after_commas f [] = refl
 mapped_after_commas f (x ∷ xs) = ap (λ more. sign Comma ∷ f x ++ more) (mapped_after_commas f xs)

@@ -7,11 +7,6 @@ use Rattle.move_tree.specs.PatternData.{PatternData, patterns_of, FieldPatternDa
 use Rattle.move_tree.specs.TypeSpelling.{type_spelling, type_spellings, type_after_comma}
 use Rattle.move_tree.specs.PatternSpelling.{pattern_spelling, pattern_spellings, pattern_after_comma, field_pattern_spelling, field_pattern_spellings, field_pattern_after_comma}
 
--- what three steps put behind a list
-pub three_parts : {A : Type 0} (a0 x y z : List A) {a1 a2 a3 w : List A} → a1 ≡ a0 ++ x → a2 ≡ a1 ++ y → a3 ≡ a2 ++ z → w ≡ x ++ y ++ z → a3 ≡ a0 ++ w
-three_parts a0 x y z e1 e2 e3 e4 =
-    e3 ∙ ap (λ l. l ++ z) (e2 ∙ ap (λ l. l ++ y) e1) ∙ append_assoc (a0 ++ x) y z ∙ append_assoc a0 x (y ++ z) ∙ ap (λ l. a0 ++ l) (sym (append_assoc x y z) ∙ sym e4)
-
 pub types_after_commas : (xs : List SourceTypeData) → after_commas (type_spellings (source_types_of xs)) ≡ flat_map type_after_comma xs
 types_after_commas [] = refl
 types_after_commas (x ∷ xs) = ap (λ more. type_after_comma x ++ more) (types_after_commas xs)

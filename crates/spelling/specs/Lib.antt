@@ -1,2 +1,1 @@
 pub mod MemberAfterCommas
-pub mod ClauseAfterCommas

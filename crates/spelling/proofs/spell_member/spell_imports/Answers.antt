@@ -1,5 +1,6 @@
 use Rattle.file_tree.specs.MemberSpelling.{import_spelling}
-use Rattle.spelling.proofs.MemberCommas.{mapped_comma_list, three_parts}
+use Rattle.spelling.proofs.MemberCommas.{mapped_comma_list}
+use Rattle.spelling.proofs.Steps.{three_parts}
 use Rattle.spelling.proofs.spell_member.spell_imports.Goals as goal
 
 pub returns : goal.returns

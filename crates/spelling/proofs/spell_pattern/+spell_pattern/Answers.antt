@@ -1,4 +1,5 @@
-use Rattle.spelling.proofs.PatternCommas.{patterns_comma_list, field_patterns_comma_list, three_parts}
+use Rattle.spelling.proofs.PatternCommas.{patterns_comma_list, field_patterns_comma_list}
+use Rattle.spelling.proofs.Steps.{three_parts}
 use Rattle.spelling.proofs.spell_pattern.+spell_pattern.Goals as goal
 
 pub spell_patterns-returns : goal.spell_patterns-returns

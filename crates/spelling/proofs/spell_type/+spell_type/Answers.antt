@@ -1,4 +1,5 @@
-use Rattle.spelling.proofs.PatternCommas.{types_comma_list, three_parts}
+use Rattle.spelling.proofs.PatternCommas.{types_comma_list}
+use Rattle.spelling.proofs.Steps.{three_parts}
 use Rattle.spelling.proofs.spell_type.+spell_type.Goals as goal
 
 pub spell_types-returns : goal.spell_types-returns

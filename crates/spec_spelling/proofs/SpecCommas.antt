@@ -5,11 +5,6 @@ use Rattle.move_tree.specs.Lexemes.{after_commas, comma_list, last_comma}
 use Rattle.spec_tree.specs.SpecExpressionData.{SpecExpressionData, spec_expressions_of, BindData, binds_of, TriggerData, triggers_of, SpecFieldData, spec_fields_of}
 use Rattle.spec_tree.specs.SpecExpressionSpelling.{spec_spelling, spec_spellings, spec_after_comma, bind_spelling, bind_spellings, bind_after_comma, trigger_spelling, triggers_spelling, spec_field_spelling, spec_field_spellings, spec_field_after_comma}
 
--- what three steps put behind a list
-pub three_parts : {A : Type 0} (a0 x y z : List A) {a1 a2 a3 w : List A} → a1 ≡ a0 ++ x → a2 ≡ a1 ++ y → a3 ≡ a2 ++ z → w ≡ x ++ y ++ z → a3 ≡ a0 ++ w
-three_parts a0 x y z e1 e2 e3 e4 =
-    e3 ∙ ap (λ l. l ++ z) (e2 ∙ ap (λ l. l ++ y) e1) ∙ append_assoc (a0 ++ x) y z ∙ append_assoc a0 x (y ++ z) ∙ ap (λ l. a0 ++ l) (sym (append_assoc x y z) ∙ sym e4)
-
 -- the triggers are spelled one behind the other
 pub triggers_taken : (xs : List TriggerData) (i : ℕ) → length xs ≤ i → flat_map trigger_spelling (take i xs) ≡ triggers_spelling (triggers_of xs)
 triggers_taken [] zero h = refl

@@ -3,12 +3,12 @@
 ghost use Rattle.std.specs.Prelude.{◌≡◌, ◌++◌, OnOk};
 ghost use Rattle.spec_tree.specs.SpecOperatorSpelling.{spec_operator_spelling, quantifier_spelling};
 
-use crate::spell_operator::spell_operator;
 use move_tokens::token::Punctuation;
 use move_tree::lexeme::Lexemes;
 use pv_base::memory::NoMemory;
 use pv_base::span::Span;
 use spec_tree::spec_operator::{Quantifier, SpecOperator};
+use spelling::spell_operator::spell_operator;
 use std::alloc::Global;
 
 /// The tokens of an operator between two spec expressions, of which the first ends in a path or not.

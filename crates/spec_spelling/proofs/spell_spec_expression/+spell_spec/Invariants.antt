@@ -2,7 +2,7 @@ use Rattle.std.proofs.Common.{◌≡◌, ◌+◌, ◌*◌, ◌++◌, take}
 use Rattle.std.specs.List.{flat_map}
 use Rattle.spec_tree.specs.SpecExpressionData.{spec_expression_size, spec_expressions_size, spec_expressions_of, bind_size, binds_size, binds_of, trigger_size, triggers_size, triggers_of, spec_field_size, spec_fields_size, spec_fields_of}
 use Rattle.spec_tree.specs.SpecExpressionSpelling.{spec_after_comma, bind_after_comma, spec_field_after_comma, trigger_spelling}
-use Rattle.spelling.proofs.spell_spec_expression.+spell_spec.Given as goal
+use Rattle.spec_spelling.proofs.spell_spec_expression.+spell_spec.Given as goal
 
 abbrev pub decreases-spell_spec_expression : goal.decreases-spell_spec_expression
 decreases-spell_spec_expression l = 4 * spec_expression_size l.expression.now

@@ -1,6 +1,7 @@
-use Rattle.spelling.proofs.MemberCommas.{mapped_comma_list, three_parts}
+use Rattle.spelling.proofs.MemberCommas.{mapped_comma_list}
+use Rattle.spelling.proofs.Steps.{three_parts}
 use Rattle.clause_tree.specs.ClauseSpelling.{pragma_spelling}
-use Rattle.spelling.proofs.spell_clause.spell_pragma_list.Goals as goal
+use Rattle.spec_spelling.proofs.spell_clause.spell_pragma_list.Goals as goal
 
 pub returns : goal.returns
 returns c =

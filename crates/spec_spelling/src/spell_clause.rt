@@ -4,14 +4,11 @@ ghost use Rattle.std.specs.Prelude.{◌≡◌, [], ◌∷◌, ◌++◌, OnOk, If
 ghost use Rattle.std.specs.List.{flat_map};
 ghost use Rattle.move_tree.specs.Lexemes.{comma_list};
 ghost use Rattle.clause_tree.specs.ClauseSpelling.{requires_word, ensures_word, aborts_if_word, modifies_word, invariant_word, include_word, failure_word, truth_spelling, pragma_value_spelling, pragma_spelling, pragmas_spelling, code_spelling, targets_spelling, update_spelling, post_spelling, bindings_spelling, include_spelling, condition_spelling, clause_spelling, clauses_spelling, clause_block_spelling, schema_spelling, spec_function_head_spelling, spec_function_body_spelling, spec_function_spelling, spec_tree_spelling};
-ghost use Rattle.spelling.specs.ClauseAfterCommas.{pragma_after_comma};
+ghost use Rattle.spec_spelling.specs.ClauseAfterCommas.{pragma_after_comma};
 
-use crate::spell_member::{spell_inputs, spell_parameters, spell_typed_name};
-use crate::spell_path::{spell_identifier, spell_numeral, spell_path};
 use crate::spell_spec_expression::{
     spell_spec_expression, spell_spec_expressions, spell_spec_fields,
 };
-use crate::spell_type::{spell_maybe_arguments, spell_type};
 use clause_tree::clause::{
     AbortCode, Bindings, Clause, Include, Pragma, PragmaValue, Pragmas, Schema, Spec, SpecFunction,
     Targets,
@@ -21,6 +18,9 @@ use move_tree::lexeme::Lexemes;
 use pv_base::memory::NoMemory;
 use pv_base::span::Span;
 use spec_tree::spec_expression::SpecExpression;
+use spelling::spell_member::{spell_inputs, spell_parameters, spell_typed_name};
+use spelling::spell_path::{spell_identifier, spell_numeral, spell_path};
+use spelling::spell_type::{spell_maybe_arguments, spell_type};
 use std::alloc::Global;
 
 #[tactic(auto, unfolding(clause_tree::specs::ClauseSpelling::requires_word))]

@@ -7,15 +7,15 @@ ghost use Rattle.move_tree.specs.Lexemes.{sign, comma_list};
 ghost use Rattle.spec_tree.specs.SpecExpressionData.{spec_expressions_of, binds_of, triggers_of, spec_fields_of};
 ghost use Rattle.spec_tree.specs.SpecExpressionSpelling.{ends_in_path, spec_spelling, bind_spelling, trigger_spelling, spec_field_spelling, spec_spellings, bind_spellings, triggers_spelling, spec_field_spellings, spec_after_comma, bind_after_comma, spec_field_after_comma};
 
-use crate::spell_literal::spell_literal;
-use crate::spell_path::{spell_identifier, spell_path};
 use crate::spell_spec_operator::{spell_quantifier, spell_spec_operator};
-use crate::spell_type::{spell_maybe_arguments, spell_type};
 use move_tokens::token::Punctuation;
 use move_tree::lexeme::Lexemes;
 use pv_base::memory::NoMemory;
 use spec_tree::ending::is_path_last;
 use spec_tree::spec_expression::{Bind, Domain, SpecExpression, SpecField, SpecNode, Trigger};
+use spelling::spell_literal::spell_literal;
+use spelling::spell_path::{spell_identifier, spell_path};
+use spelling::spell_type::{spell_maybe_arguments, spell_type};
 use std::alloc::Global;
 
 /// The tokens of a spec expression.

@@ -1,6 +1,7 @@
 use Rattle.std.proofs.Common.{◌++◌, ◌∙◌, ap}
-use Rattle.spelling.proofs.SpecCommas.{triggers_taken, spec_expressions_comma_list, binds_comma_list, spec_fields_comma_list, three_parts}
-use Rattle.spelling.proofs.spell_spec_expression.+spell_spec.Goals as goal
+use Rattle.spec_spelling.proofs.SpecCommas.{triggers_taken, spec_expressions_comma_list, binds_comma_list, spec_fields_comma_list}
+use Rattle.spelling.proofs.Steps.{three_parts}
+use Rattle.spec_spelling.proofs.spell_spec_expression.+spell_spec.Goals as goal
 
 pub spell_triggers-returns : goal.spell_triggers-returns
 spell_triggers-returns t c = c.loop-one.invariant ∙ ap (λ more. c.args.into.now ++ more) (triggers_taken c.args.triggers.now c.loop-one.one-index c.loop-one-test.false)
