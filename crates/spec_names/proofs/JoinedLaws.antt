@@ -1,7 +1,7 @@
 -- Trees before others.
 use Rattle.std.proofs.Common.{◌≡◌, ℕ, ◌+◌, List, [], ◌∷◌, ◌++◌, length, sym, ap, ◌∙◌, arith, length-append, append_assoc, append-nil}
 use Rattle.pv_base.specs.declared.span.Span.{Span}
-use Rattle.spec_tree.specs.SpecExpressionData.{SpecExpressionData, TriggersData}
+use Rattle.spec_tree.specs.SpecExpressionData.{SpecExpressionData, SpecFieldsData, TriggersData}
 use Rattle.pv_types.specs.Trees.{NoTrees, MoreTrees}
 use Rattle.pv_types.specs.Listed.{AreSound, inner, inner_all, before, places, nodes_from, nodes_from_all}
 use Rattle.pv_names.specs.declared.scope.InScope.{InScope}
@@ -10,7 +10,7 @@ use Rattle.pv_names.specs.declared.fault.NameFault.TheVariants.{Unknown, NoMemor
 use Rattle.pv_names.specs.Meanings.{IfUnknown}
 use Rattle.spec_names.specs.declared.building.Building.{Building}
 use Rattle.spec_names.specs.Forms.{SpecScope, SpecTree, SpecTrees}
-use Rattle.spec_names.specs.SpecTrees.{spec_tree, trigger_trees, joined}
+use Rattle.spec_names.specs.SpecTrees.{spec_tree, trigger_trees, field_trees, joined}
 use Rattle.spec_names.specs.Added.{Added, AddedAll}
 
 size_more : (t : SpecTree) (ts : SpecTrees) → length (inner_all (MoreTrees t ts)) ≡ (before t + 1) + length (inner_all ts)
@@ -101,3 +101,6 @@ same-spec w x e f = λ i. spec_tree w (e i) (f i) x
 
 pub same-triggers : (w : SpecScope) {s s' : List InScope} {n n' : ℕ} (x : TriggersData) → s ≡ s' → n ≡ n' → trigger_trees w s n x ≡ trigger_trees w s' n' x
 same-triggers w x e f = λ i. trigger_trees w (e i) (f i) x
+
+pub same-fields : (w : SpecScope) {s s' : List InScope} {n n' : ℕ} (x : SpecFieldsData) → s ≡ s' → n ≡ n' → field_trees w s n x ≡ field_trees w s' n' x
+same-fields w x e f = λ i. field_trees w (e i) (f i) x

@@ -1,5 +1,5 @@
 pub mod AddedLaws
 pub mod JoinedLaws
 pub mod Listings
-pub mod OuterLaws
+pub mod NameListLaws
 pub mod RemainsLaws

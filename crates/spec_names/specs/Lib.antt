@@ -1,5 +1,6 @@
 pub mod Added
 pub mod Forms
+pub mod NameLists
 pub mod OuterNames
 pub mod Places
 pub mod Resolved

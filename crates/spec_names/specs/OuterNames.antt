@@ -14,3 +14,9 @@ or_name None other = other
 abbrev pub outer_meaning : List OuterName → List ℕ → Option SpecName
 outer_meaning [] name = None
 outer_meaning (one ∷ inside) name = or_name (outer_meaning inside name) (if same_name one.name name then Some one.meaning else None)
+
+-- names with what each of them means
+abbrev pub with_meanings : List (List ℕ) → List SpecName → List OuterName
+with_meanings [] meanings = []
+with_meanings (name ∷ names) [] = []
+with_meanings (name ∷ names) (meaning ∷ meanings) = record { name = name; meaning = meaning } ∷ with_meanings names meanings

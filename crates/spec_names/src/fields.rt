@@ -20,8 +20,8 @@ use pv_types::spec::SpecMany;
 use spec_tree::spec_expression::SpecField;
 use std::alloc::Global;
 
-/// The field that is given a value.
-fn field_of(field: &SpecField) -> &Name
+/// The field, or the variable, that is given a value.
+pub fn field_of(field: &SpecField) -> &Name
     ensures { result.now ≡ field_of_value field.now }
 {
     &field.name.text

@@ -4,8 +4,9 @@
 pub mod building;
 pub mod context;
 pub mod expression;
-mod fields;
+pub mod fields;
 pub mod forms;
+pub mod name_list;
 pub mod outer;
 mod places;
 pub mod spec;

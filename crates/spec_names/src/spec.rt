@@ -237,7 +237,7 @@ fn resolve_pack(
 /// The values of fields, one after another. Puts the numbers of their nodes behind `parts`.
 #[cycle(resolve_spec)]
 #[tactic(auto, using(spec_tree::proofs::Smaller::spec_field_smaller))]
-fn resolve_fields(
+pub fn resolve_fields(
     context: &Context<'_>,
     into: &mut Building,
     parts: &mut Sequence<usize>,

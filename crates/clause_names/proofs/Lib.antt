@@ -1,0 +1,5 @@
+pub mod AroundLaws
+pub mod ClauseLaws
+pub mod ListLaws
+pub mod PragmaLaws
+pub mod VariableLaws

@@ -1,0 +1,30 @@
+-- Where the clauses of specifications stand.
+use Rattle.std.specs.Prelude.{ℕ, Bool, List, ◌&&◌, ◌==◌, Option}
+use Rattle.std.specs.Map.{lookup}
+use Rattle.pv_base.specs.Names.{same_name}
+use Rattle.pv_types.specs.declared.program.SchemaId.{SchemaId}
+use Rattle.pv_names.specs.TypeMeanings.{TypeScope}
+use Rattle.spec_names.specs.Forms.{SpecScope}
+use Rattle.spec_names.specs.declared.outer.OuterName.{OuterName}
+use Rattle.clause_names.specs.declared.place.ClausePlace.{ClausePlace}
+
+-- what types mean there, and the names of the variables of each schema, in their order
+pub record ClauseScope : Type 0 where
+  pub types : TypeScope
+  pub schemas : List (SchemaId × List (List ℕ))
+
+abbrev pub scope_of : ClausePlace → ClauseScope
+scope_of p = record {
+  types = record { environment = p.types.environment.now; parameters = p.types.parameters.now; is_spec = p.types.is_spec };
+  schemas = p.schemas.now;
+}
+
+-- an expression there, around which these names are
+abbrev pub around : ClauseScope → List OuterName → SpecScope
+around w outer = record { types = w.types; outer = outer }
+
+abbrev pub same_schema : SchemaId → SchemaId → Bool
+same_schema x y = (x.address == y.address) && (same_name x.«module» y.«module» && same_name x.name y.name)
+
+abbrev pub variables_of_schema : ClauseScope → SchemaId → Option (List (List ℕ))
+variables_of_schema w schema = lookup (same_schema schema) w.schemas

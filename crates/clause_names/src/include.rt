@@ -1,0 +1,103 @@
+//! Schemas that are included.
+
+ghost use Rattle.std.specs.Prelude.{◌≡◌, IfOk, IfErr, Some};
+ghost use Rattle.pv_types.specs.Listed.{places};
+ghost use Rattle.pv_names.specs.Meanings.{IfUnknown};
+ghost use Rattle.spec_names.specs.Setting.{setting};
+ghost use Rattle.clause_names.specs.ClauseForms.{IsMadeOf, IsUnknown};
+ghost use Rattle.clause_names.specs.Includes.{GivesNothing, IsGiven, include_form, include_spans, include_trees};
+ghost use Rattle.clause_names.specs.Setting.{scope_of};
+
+use crate::bindings::{are_variables, bindings_of, complete, given_names, places_of};
+use crate::place::ClausePlace;
+use clause_tree::clause::Include as IncludeTree;
+use pv_base::span::Span;
+use pv_names::fault::NameFault;
+use pv_names::types::type_arguments;
+use pv_types::clause::{Clause, ClauseForm};
+use pv_types::sequence::Sequence;
+use pv_types::spec::SpecBody;
+use spec_names::context::Context;
+use spec_names::expression::{ResolvedSpecs, resolve_bindings};
+use spec_names::name_list::NameList;
+use spec_names::outer::Outer;
+use spec_tree::spec_expression::SpecField;
+
+/// What stands for the variables of a schema.
+#[derive(Drop)]
+pub struct Given {
+    /// The place of what stands for each variable, in their order.
+    pub places: Sequence<usize>,
+    pub body: SpecBody,
+}
+
+/// What stands for these variables at this place, where these bindings are written.
+fn give(
+    context: &Context<'_>,
+    place: Span,
+    variables: &NameList,
+    bindings: &[SpecField],
+) -> Result<Given, NameFault>
+    ensures given { IfOk result (λ given. IsGiven (setting context.now) place variables.now bindings.now given) }
+    ensures unknown { IfErr result (λ fault. IfUnknown fault (GivesNothing (setting context.now) place variables.now bindings.now)) }
+{
+    let mut names = given_names(context.alloc, bindings)?;
+    if !are_variables(variables, names.as_slice()) {
+        return Err(NameFault::Unknown);
+    }
+    let implied = complete(context.alloc, place, variables.as_slice(), &mut names)?;
+    let ResolvedSpecs {
+        body,
+        places,
+        variables: quantified,
+    } = resolve_bindings(context, bindings, implied.as_slice())?;
+    drop(quantified);
+    let places = places_of(
+        context.alloc,
+        &names,
+        places.as_slice(),
+        variables.as_slice(),
+    )?;
+    Ok(Given { places, body })
+}
+
+/// An include of a schema.
+pub fn resolve_include(
+    place: &ClausePlace<'_>,
+    outer: &Outer,
+    block: Span,
+    tree: &IncludeTree,
+) -> Result<Clause, NameFault>
+    ensures resolved { IfOk result (IsMadeOf (include_trees (scope_of place.now) outer.now tree.now) (include_spans (scope_of place.now) tree.now) (include_form (scope_of place.now) tree.now (places 0 (include_trees (scope_of place.now) outer.now tree.now))) block tree.now.place) }
+    ensures unknown { IfErr result (λ fault. IfUnknown fault (IsUnknown (include_trees (scope_of place.now) outer.now tree.now) (include_form (scope_of place.now) tree.now (places 0 (include_trees (scope_of place.now) outer.now tree.now))))) }
+{
+    let context = Context {
+        alloc: place.alloc,
+        types: place.types,
+        outer,
+    };
+    let schema = place
+        .types
+        .environment
+        .schema_named(place.alloc, &tree.schema)?;
+    let Some(variables) = place.schemas.get(&schema) else {
+        return Err(NameFault::Unknown);
+    };
+    let types = type_arguments(place.alloc, &place.types, &tree.arguments)?;
+    let Given { places, body } = give(
+        &context,
+        tree.place,
+        variables,
+        bindings_of(&tree.bindings),
+    )?;
+    Ok(Clause {
+        block,
+        place: tree.place,
+        form: ClauseForm::Include {
+            schema,
+            types,
+            given: places,
+        },
+        body,
+    })
+}
