@@ -1,0 +1,2 @@
+pub mod LoopScopes
+pub mod Passed
