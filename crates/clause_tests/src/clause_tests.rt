@@ -153,8 +153,9 @@ fn schemas_of(
                 module: own.name.try_clone(alloc).expect(rt, "memory"),
                 name: schema.name.text.try_clone(alloc).expect(rt, "memory"),
             };
-            let variables =
-                schema_variables(alloc, schema.clauses.items.as_slice()).expect(rt, "memory");
+            let variables = schema_variables(alloc, schema.clauses.items.as_slice()).expect(
+                rt, "memory",
+            );
             let _is_new = schemas.put(id, variables).expect(rt, "memory");
         }
     }
@@ -195,8 +196,9 @@ fn around(
             SourceForm::Function(function) => {
                 if function.name.text.as_slice() == name {
                     let result_type = result_of(rt, alloc, environment, function);
-                    return around_function(alloc, &result_type, &function.inputs.items)
-                        .expect(rt, "memory");
+                    return around_function(alloc, &result_type, &function.inputs.items).expect(
+                        rt, "memory",
+                    );
                 }
             }
             SourceForm::Struct(owner) => {
@@ -220,11 +222,13 @@ fn clauses_for<'a>(form: &'a SourceForm, name: &[u8]) -> Option<(Span, &'a [Clau
                 None
             }
         }
-        SourceForm::Spec(Spec::Named {
-            place,
-            name: word,
-            clauses,
-        }) => {
+        SourceForm::Spec(
+            Spec::Named {
+                place,
+                name: word,
+                clauses,
+            },
+        ) => {
             if word.text.as_slice() == name {
                 Some((*place, clauses.items.as_slice()))
             } else {
@@ -527,10 +531,7 @@ fn pragmas_in(rt: &impl Abort, alloc: Global, text: &str, wanted: [bool; 4]) {
 fn pragmas_of_functions(rt: HostRuntime) -> Result<(), Fail> {
     let alloc = rt.alloc();
     for (text, wanted) in [
-        (
-            "module 0x1::m { fun f() {} }",
-            [true, false, false, false],
-        ),
+        ("module 0x1::m { fun f() {} }", [true, false, false, false]),
         (
             "module 0x1::m { fun f() {} spec f { pragma opaque, verify = false; pragma aborts_if_is_partial = 3; } spec module { pragma aborts_if_is_strict; } }",
             [false, true, false, true],
@@ -581,9 +582,7 @@ fn names_around_loops(rt: HostRuntime) -> Result<(), Fail> {
     let mut locals = Vec::new(alloc);
     for (number, word) in ["x", "i", "x"].iter().enumerate() {
         let name = Name::from_slice(alloc, word.as_bytes()).expect(&rt, "memory");
-        locals
-            .push(InScope { name, number })
-            .expect(&rt, "memory");
+        locals.push(InScope { name, number }).expect(&rt, "memory");
     }
     let result_type = TypeTerm {
         node: TypeNode::Bool,
