@@ -1,14 +1,13 @@
-pub mod Entries
 pub mod Sums
 pub mod Contradiction
 pub mod RowTruth
-pub mod AxiomTruth
 pub mod Sound
 pub mod Pointwise
 pub mod TableauLemmas
-pub mod AxiomLemmas
 pub mod LinearLemmas
 pub mod CheckerLemmas
 pub mod KeptLemmas
 pub mod QuantifiedLemmas
 pub mod RewritingLemmas
+pub mod BranchLemmas
+pub mod OpenLemmas

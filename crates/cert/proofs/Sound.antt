@@ -15,9 +15,11 @@ use Rattle.fol.specs.Validity.{AnswersRight, Reads, Valid}
 use Rattle.fol.specs.Operators.{number_of}
 use Rattle.fol.specs.Val.{Val, same_value, same_value_itself, same_value-equal}
 use Rattle.fol.specs.Truth.{Interpretation, Assignment, set_var, value_of, truth_of, all_true, any_true, same_truth}
-use Rattle.cert.specs.CertData.{StepData, PartsStep, AxiomStep, InstanceStep, NameStep, RewriteStep, CertData, CertTree, EndData, SplitEnd, CutEnd, BoundEnd, LinearEnd, ClashEnd, FalseEnd, CasesData, NoCases, MoreCases}
+use Rattle.cert.specs.CertData.{StepData, PartsStep, AxiomStep, InstanceStep, NameStep, RewriteStep, CloseData, LinearClose, ClashClose, FalseClose, MoveData, StraightMove, ForkedMove, ClosedMove}
+use Rattle.cert.specs.declared.certificate.Cause.{Cause}
+use Rattle.cert.specs.declared.certificate.Cause.TheVariants.{Split, Cut, Bound}
 use Rattle.cert.specs.Parts.{parts_of, parts_of_negated, cases_of, cases_of_negated, both_of}
-use Rattle.cert.specs.Closes.{AreAllowed, after_steps, IsFalseForm, formulas_in, Closes, EndCloses, EachCloses, Certifies}
+use Rattle.cert.specs.Closes.{added, IsAllowed, IsFork, IsClose, OpenData, IsMove, left_of, IsFalseForm, Closes, Certifies}
 use Rattle.cert.specs.Quantified.{IsBodyWith, IsNegatedBodyWith, IsNew}
 use Rattle.cert.specs.Rewriting.{IsReplaced, IsRewriting}
 use Rattle.substitution.specs.Free.{free_in, free_in_triggers}
@@ -25,8 +27,10 @@ use Rattle.substitution.specs.Instances.{IsInstance}
 use Rattle.substitution.proofs.FreeLaws.{eqb_itself, same_truth_of}
 use Rattle.substitution.proofs.InstanceTruth.{instance_truth}
 use Rattle.pv_base.proofs.TruthValues.{both_true, not_either, not_not, true_not, true_is, never, never_both, apart, either_false}
+use Rattle.axioms.specs.Axioms.{IsAxiom}
+use Rattle.axioms.specs.declared.axiom.Axiom.{Axiom}
+use Rattle.axioms.proofs.AxiomTruth.{axiom_valid}
 use Rattle.cert.proofs.RowTruth.{AreTrue, contradiction_false}
-use Rattle.cert.proofs.AxiomTruth.{instance_true}
 
 module _ (m : Interpretation) (s : Assignment) where
   -- each formula of a list is true
@@ -260,58 +264,83 @@ module _ (m : Interpretation) (right : AnswersRight m.all) where
   stays_true s v x [] h t = tt
   stays_true s v x (p ∷ ps) h t = (same_truth_without m p s v x (h 0 p (omega arith)) ∙ t.0, stays_true s v x ps (rest_new v p ps h) t.1)
 
-  steps_false : (steps : List StepData) (entries : List FormulaData) → AreAllowed entries steps → ((s : Assignment) → EachTrue m s (after_steps entries steps) → ⊥) → (s : Assignment) → EachTrue m s entries → ⊥
-  steps_false [] entries h f s t = f s t
-  steps_false (PartsStep i ps ∷ steps) entries h f s t =
-      let allowed = h.0 in
-      steps_false steps (entries ++ ps) h.1 f s (each_true-append m s entries ps t (parts_true m s allowed.0 ps allowed.2 (each_true-get m s entries t i allowed.0 allowed.1)))
-  steps_false (AxiomStep name p ∷ steps) entries h f s t =
-      steps_false steps (entries ++ p ∷ []) h.1 f s (each_true-append m s entries (p ∷ []) t (instance_true m s name p h.0, tt))
-  steps_false (InstanceStep i u p ∷ steps) entries h f s t =
-      let allowed = h.0 in
-      steps_false steps (entries ++ p ∷ []) h.1 f s (each_true-append m s entries (p ∷ []) t (body_true s u allowed.0 p allowed.2 (each_true-get m s entries t i allowed.0 allowed.1), tt))
-  steps_false (RewriteStep i j x c p ∷ steps) entries h f s t =
-      let allowed = h.0 in
-      let equation = each_true-get m s entries t i allowed.0 allowed.2 in
-      let entry = each_true-get m s entries t j allowed.1 allowed.3 in
-      steps_false steps (entries ++ p ∷ []) h.1 f s (each_true-append m s entries (p ∷ []) t (rewriting_true s x c allowed.0 allowed.1 p allowed.4 equation entry, tt))
-  steps_false (NameStep i v p ∷ steps) entries h f s t =
-      let body = h.0.0 in
-      let new = h.0.1 in
-      name_false s v body.0 p body.2 (new_at v entries i body.0 new body.1) (each_true-get m s entries t i body.0 body.1) (λ x e. steps_false steps (entries ++ p ∷ []) h.1 f (set_var s v x) (each_true-append m (set_var s v x) entries (p ∷ []) (stays_true s v x entries new t) (e, tt)))
+-- ---- branches that can't be true
 
-  mutual
-    -- what a certificate closes is not all true
-    pub closes_false : (c : CertData) (entries : List FormulaData) → Closes entries c → (s : Assignment) → EachTrue m s entries → ⊥
-    closes_false (CertTree steps end) entries h s t = steps_false steps entries h.0 (end_false end (after_steps entries steps) h.1) s t
+-- the entries are not all true
+pub record IsRefuted (m : Interpretation) (b : List FormulaData) : Type 0 where
+  pub none : (s : Assignment) → EachTrue m s b → ⊥
 
-    end_false : (e : EndData) (entries : List FormulaData) → EndCloses entries e → (s : Assignment) → EachTrue m s entries → ⊥
-    end_false (SplitEnd i cases) entries h s t =
-        let split = h.1 in
-        cases_false cases entries h.2 s t (cases_true m s split.0 (formulas_in cases) split.2 (each_true-get m s entries t i split.0 split.1))
-    end_false (CutEnd cases) entries h s t =
-        let cut = h.1 in
-        cases_false cases entries h.2 s t (subst (λ ps. some_true m s ps ≡ true) (sym cut.1) (excluded (truth_of m cut.0 s)))
-    end_false (BoundEnd i cases) entries h s t =
-        let bound = h.1.2 in
-        cases_false cases entries h.2 s t (subst (λ ps. some_true m s ps ≡ true) (sym bound.1) (two_ways (number_of (value_of m h.1.0 s)) bound.0 _ _ refl refl))
-    end_false (LinearEnd ms) entries h s t = contradiction_false m s entries ms (each_true-get m s entries t) h.1
-    end_false (ClashEnd i j) entries h s t =
-        let clash = h.1 in
-        never_both (truth_of m clash.0 s) (each_true-get m s entries t i clash.0 clash.1) (each_true-get m s entries t j (NotFormula clash.0) clash.2)
-    end_false (FalseEnd i) entries h s t =
-        let form = h.1 in
-        false_form m s form.0 form.2 (each_true-get m s entries t i form.0 form.1)
+abbrev AreRefuted : Interpretation → OpenData → Type 0
+AreRefuted m [] = Unit {0}
+AreRefuted m (b ∷ bs) = IsRefuted m b × AreRefuted m bs
 
-    cases_false : (cs : CasesData) (entries : List FormulaData) → EachCloses entries cs → (s : Assignment) → EachTrue m s entries → some_true m s (formulas_in cs) ≡ true → ⊥
-    cases_false NoCases entries h s t e = absurd (cc)
-    cases_false (MoreCases p c cs) entries h s t e =
-        either_false (truth_of m p s) (some_true m s (formulas_in cs)) e (λ f. closes_false c (entries ++ p ∷ []) h.0 s (each_true-append m s entries (p ∷ []) t (f, tt))) (cases_false cs entries h.1 s t)
+module _ (shapes : List Shape) (m : Interpretation) (reads : Reads shapes m) where
+  axiom_true : (s : Assignment) (name : Axiom) (p : FormulaData) → IsAxiom shapes name p → truth_of m p s ≡ true
+  axiom_true s name p h = is_true (truth_of m p s) ((axiom_valid shapes name p h).holds m reads s)
+    where
+      is_true : (b : Bool) → IsTrue b → b ≡ true
+      is_true true h = refl
+      is_true false h = absurd (never h)
 
--- a formula that has a certificate is valid under any shapes
-pub certified_valid : (shapes : List Shape) (cert : CertData) (p : FormulaData) → Certifies cert p → Valid shapes p
-certified_valid shapes cert p h = record { holds = λ m reads s. by_cases m reads s (truth_of m p s) refl }
+  -- a branch with what a step adds is refuted: so is the branch
+  step_false : (b : List FormulaData) (step : StepData) → IsAllowed shapes b step → IsRefuted m (b ++ added step) → (s : Assignment) → EachTrue m s b → ⊥
+  step_false b (PartsStep i ps) allowed f s t =
+      f.none s (each_true-append m s b ps t (parts_true m s allowed.0 ps allowed.2 (each_true-get m s b t i allowed.0 allowed.1)))
+  step_false b (AxiomStep name p) allowed f s t =
+      f.none s (each_true-append m s b (p ∷ []) t (axiom_true s name p allowed, tt))
+  step_false b (InstanceStep i u p) allowed f s t =
+      f.none s (each_true-append m s b (p ∷ []) t (body_true m reads.answers_right s u allowed.0 p allowed.2 (each_true-get m s b t i allowed.0 allowed.1), tt))
+  step_false b (RewriteStep i j x c p) allowed f s t =
+      let equation = each_true-get m s b t i allowed.0 allowed.2 in
+      let entry = each_true-get m s b t j allowed.1 allowed.3 in
+      f.none s (each_true-append m s b (p ∷ []) t (rewriting_true m reads.answers_right s x c allowed.0 allowed.1 p allowed.4 equation entry, tt))
+  step_false b (NameStep i v p) allowed f s t =
+      let body = allowed.0 in
+      let new = allowed.1 in
+      name_false m reads.answers_right s v body.0 p body.2 (new_at m reads.answers_right v b i body.0 new body.1) (each_true-get m s b t i body.0 body.1) (λ x e. f.none (set_var s v x) (each_true-append m (set_var s v x) b (p ∷ []) (stays_true m reads.answers_right s v x b new t) (e, tt)))
+
+  -- the branches of a fork are refuted: so no case is true where the branch is
+  cases_false : (b ps : List FormulaData) (bs : OpenData) → AreRefuted m (map (λ p. b ++ p ∷ []) ps ++ bs) → (s : Assignment) → EachTrue m s b → some_true m s ps ≡ true → ⊥
+  cases_false b [] bs f s t e = absurd (cc)
+  cases_false b (p ∷ ps) bs f s t e =
+      either_false (truth_of m p s) (some_true m s ps) e (λ h. f.0.none s (each_true-append m s b (p ∷ []) t (h, tt))) (cases_false b ps bs f.1 s t)
+
+  behind_cases : (b ps : List FormulaData) (bs : OpenData) → AreRefuted m (map (λ p. b ++ p ∷ []) ps ++ bs) → AreRefuted m bs
+  behind_cases b [] bs f = f
+  behind_cases b (p ∷ ps) bs f = behind_cases b ps bs f.1
+
+  -- one of the cases of a fork is true where the branch is
+  fork_true : (b : List FormulaData) (cause : Cause) (ps : List FormulaData) → IsFork b cause ps → (s : Assignment) → EachTrue m s b → some_true m s ps ≡ true
+  fork_true b (Split i) ps split s t = cases_true m s split.0 ps split.2 (each_true-get m s b t i split.0 split.1)
+  fork_true b Cut ps cut s t = subst (λ qs. some_true m s qs ≡ true) (sym cut.1) (excluded (truth_of m cut.0 s))
+  fork_true b (Bound i) ps bound s t =
+      let two = bound.2 in
+      subst (λ qs. some_true m s qs ≡ true) (sym two.1) (two_ways (number_of (value_of m bound.0 s)) two.0 _ _ refl refl)
+
+  close_false : (b : List FormulaData) (by : CloseData) → IsClose b by → (s : Assignment) → EachTrue m s b → ⊥
+  close_false b (LinearClose ms) h s t = contradiction_false m s b ms (each_true-get m s b t) h
+  close_false b (ClashClose i j) clash s t =
+      never_both (truth_of m clash.0 s) (each_true-get m s b t i clash.0 clash.1) (each_true-get m s b t j (NotFormula clash.0) clash.2)
+  close_false b (FalseClose i) form s t = false_form m s form.0 form.2 (each_true-get m s b t i form.0 form.1)
+
+  -- the branches that a move leaves are refuted: so is the branch
+  move_false : (b : List FormulaData) (move : MoveData) (bs : OpenData) → IsMove shapes b move → AreRefuted m (left_of b move ++ bs) → AreRefuted m (b ∷ bs)
+  move_false b (StraightMove step) bs h f = (record { none = step_false b step h.allowed f.0 }, f.1)
+  move_false b (ForkedMove cause ps) bs h f =
+      (record { none = λ s t. cases_false b ps bs f s t (fork_true b cause ps h.allowed s t) }, behind_cases b ps bs f)
+  move_false b (ClosedMove by) bs h f = (record { none = close_false b by h }, f)
+
+  -- what moves close is refuted
+  closes_false : (moves : List MoveData) (bs : OpenData) → Closes shapes bs moves → AreRefuted m bs
+  closes_false [] bs h = subst (AreRefuted m) (sym h) tt
+  closes_false (move ∷ moves) [] h = absurd h.0
+  closes_false (move ∷ moves) (b ∷ bs) h = move_false b move bs h.0.0 (closes_false moves (left_of b move ++ bs) h.1)
+
+-- a formula that has a certificate is valid under the shapes
+pub certified_valid : (shapes : List Shape) (moves : List MoveData) (p : FormulaData) → Certifies shapes moves p → Valid shapes p
+certified_valid shapes moves p h = record { holds = λ m reads s. by_cases m reads s (truth_of m p s) refl }
   where
     by_cases : (m : Interpretation) → Reads shapes m → (s : Assignment) (b : Bool) → truth_of m p s ≡ b → IsTrue (truth_of m p s)
     by_cases m reads s true e = true_is _ e
-    by_cases m reads s false e = absurd (closes_false m reads.answers_right cert (NotFormula p ∷ []) h s (ap not e, tt))
+    by_cases m reads s false e =
+        absurd ((closes_false shapes m reads moves ((NotFormula p ∷ []) ∷ []) h).0.none s (ap not e, tt))

@@ -5,12 +5,12 @@ use Rattle.std.specs.Prelude.{◌≡◌, List, [], ◌∷◌, refl}
 use Rattle.std.specs.Coded.{Coded, code_by}
 use Rattle.std.proofs.Common.{ap}
 use Rattle.pv_base.specs.Codes.{pick}
-use Rattle.fol.specs.FormulaData.{FormulaData}
+use Rattle.axioms.specs.AxiomCodes.{axiom_code, axiom_back, axiom_back-code}
 use Rattle.fol.specs.FormulaCodes.{term_code, term_back, term_back-code, formula_code, formula_back, formula_back-code}
 use Rattle.fol.specs.OperatorCodes.{head, tail, tree, whole_code, whole_back, whole_back-code}
-use Rattle.cert.specs.CertData.{StepData, PartsStep, AxiomStep, InstanceStep, NameStep, RewriteStep, CertData, CertTree, EndData, SplitEnd, CutEnd, BoundEnd, LinearEnd, ClashEnd, FalseEnd, CasesData, NoCases, MoreCases}
-use Rattle.cert.specs.declared.certificate.Axiom.{Axiom}
-use Rattle.cert.specs.declared.certificate.Axiom.TheVariants.{Range, Whole, Trichotomy}
+use Rattle.cert.specs.CertData.{StepData, PartsStep, AxiomStep, InstanceStep, NameStep, RewriteStep, CloseData, LinearClose, ClashClose, FalseClose, MoveData, StraightMove, ForkedMove, ClosedMove}
+use Rattle.cert.specs.declared.certificate.Cause.{Cause}
+use Rattle.cert.specs.declared.certificate.Cause.TheVariants.{Split, Cut, Bound}
 use Rattle.cert.specs.declared.certificate.Multiple.{Multiple}
 
 -- a list, by a code of its elements
@@ -26,19 +26,6 @@ list_back b (gcons x xs) = b x ∷ list_back b xs
 pub list_back-code : {A : Type 0} (c : A → Gv) (b : Gv → A) → ((x : A) → b (c x) ≡ x) → (xs : List A) → list_back b (list_code c xs) ≡ xs
 list_back-code c b e [] = refl
 list_back-code c b e (x ∷ xs) = λ i. e x i ∷ list_back-code c b e xs i
-
-abbrev axiom_code : Axiom → Gv
-axiom_code Range = gnum 0
-axiom_code Whole = gnum 1
-axiom_code Trichotomy = gnum 2
-
-abbrev pub axiom_back : Gv → Axiom
-axiom_back g = pick (num g) Range (Range ∷ Whole ∷ Trichotomy ∷ [])
-
-pub axiom_back-code : (a : Axiom) → axiom_back (axiom_code a) ≡ a
-axiom_back-code Range = refl
-axiom_back-code Whole = refl
-axiom_back-code Trichotomy = refl
 
 abbrev pub step_code : StepData → Gv
 step_code (PartsStep i ps) = tree 0 (gnum i) (list_code formula_code ps) gnil
@@ -71,64 +58,57 @@ multiple_back g = record { entry = num (head g); multiplier = whole_back (tail g
 pub multiple_back-code : (m : Multiple) → multiple_back (multiple_code m) ≡ m
 multiple_back-code m = λ i. record { entry = m.entry; multiplier = whole_back-code m.multiplier i }
 
-abbrev mutual
-  pub cert_code : CertData → Gv
-  cert_code (CertTree steps end) = gcons (list_code step_code steps) (end_code end)
+abbrev close_code : CloseData → Gv
+close_code (LinearClose ms) = tree 0 (list_code multiple_code ms) gnil gnil
+close_code (ClashClose i j) = tree 1 (gnum i) (gnum j) gnil
+close_code (FalseClose i) = tree 2 (gnum i) gnil gnil
 
-  pub end_code : EndData → Gv
-  end_code (SplitEnd i cases) = tree 0 (gnum i) (cases_code cases) gnil
-  end_code (LinearEnd ms) = tree 1 (list_code multiple_code ms) gnil gnil
-  end_code (ClashEnd i j) = tree 2 (gnum i) (gnum j) gnil
-  end_code (FalseEnd i) = tree 3 (gnum i) gnil gnil
-  end_code (CutEnd cases) = tree 4 (cases_code cases) gnil gnil
-  end_code (BoundEnd i cases) = tree 5 (gnum i) (cases_code cases) gnil
+abbrev pub close_back : Gv → CloseData
+close_back (gcons (gnum n) (gcons a (gcons b c))) =
+    pick n (FalseClose 0) (LinearClose (list_back multiple_back a) ∷ ClashClose (num a) (num b) ∷ FalseClose (num a) ∷ [])
+close_back _ = FalseClose 0
 
-  pub cases_code : CasesData → Gv
-  cases_code NoCases = gnil
-  cases_code (MoreCases p cert cases) = gcons (gcons (formula_code p) (cert_code cert)) (cases_code cases)
+pub close_back-code : (c : CloseData) → close_back (close_code c) ≡ c
+close_back-code (LinearClose ms) = ap LinearClose (list_back-code multiple_code multiple_back multiple_back-code ms)
+close_back-code (ClashClose i j) = refl
+close_back-code (FalseClose i) = refl
 
-abbrev mutual
-  pub cert_back : Gv → CertData
-  cert_back gnil = CertTree [] (FalseEnd 0)
-  cert_back (gnum n) = CertTree [] (FalseEnd 0)
-  cert_back (gcons a b) = CertTree (list_back step_back a) (end_back b)
+abbrev cause_code : Cause → Gv
+cause_code (Split i) = gcons (gnum 0) (gnum i)
+cause_code Cut = gcons (gnum 1) gnil
+cause_code (Bound i) = gcons (gnum 2) (gnum i)
 
-  pub end_back : Gv → EndData
-  end_back (gcons (gnum n) (gcons a (gcons b c))) =
-      pick n (FalseEnd 0) (SplitEnd (num a) (cases_back b) ∷ LinearEnd (list_back multiple_back a) ∷ ClashEnd (num a) (num b) ∷ FalseEnd (num a) ∷ CutEnd (cases_back a) ∷ BoundEnd (num a) (cases_back b) ∷ [])
-  end_back _ = FalseEnd 0
+abbrev pub cause_back : Gv → Cause
+cause_back g = pick (num (head g)) Cut (Split (num (tail g)) ∷ Cut ∷ Bound (num (tail g)) ∷ [])
 
-  pub cases_back : Gv → CasesData
-  cases_back (gcons (gcons a b) c) = MoreCases (formula_back a) (cert_back b) (cases_back c)
-  cases_back _ = NoCases
+pub cause_back-code : (c : Cause) → cause_back (cause_code c) ≡ c
+cause_back-code (Split i) = refl
+cause_back-code Cut = refl
+cause_back-code (Bound i) = refl
 
-mutual
-  pub cert_back-code : (c : CertData) → cert_back (cert_code c) ≡ c
-  cert_back-code (CertTree steps end) = λ i. CertTree (list_back-code step_code step_back step_back-code steps i) (end_back-code end i)
+abbrev move_code : MoveData → Gv
+move_code (StraightMove s) = tree 0 (step_code s) gnil gnil
+move_code (ForkedMove c ps) = tree 1 (cause_code c) (list_code formula_code ps) gnil
+move_code (ClosedMove c) = tree 2 (close_code c) gnil gnil
 
-  pub end_back-code : (e : EndData) → end_back (end_code e) ≡ e
-  end_back-code (SplitEnd i cases) = ap (SplitEnd i) (cases_back-code cases)
-  end_back-code (LinearEnd ms) = ap LinearEnd (list_back-code multiple_code multiple_back multiple_back-code ms)
-  end_back-code (ClashEnd i j) = refl
-  end_back-code (FalseEnd i) = refl
-  end_back-code (CutEnd cases) = ap CutEnd (cases_back-code cases)
-  end_back-code (BoundEnd i cases) = ap (BoundEnd i) (cases_back-code cases)
+abbrev pub move_back : Gv → MoveData
+move_back (gcons (gnum n) (gcons a (gcons b c))) =
+    pick n (ClosedMove (FalseClose 0)) (StraightMove (step_back a) ∷ ForkedMove (cause_back a) (list_back formula_back b) ∷ ClosedMove (close_back a) ∷ [])
+move_back _ = ClosedMove (FalseClose 0)
 
-  pub cases_back-code : (cs : CasesData) → cases_back (cases_code cs) ≡ cs
-  cases_back-code NoCases = refl
-  cases_back-code (MoreCases p cert cases) = λ i. MoreCases (formula_back-code p i) (cert_back-code cert i) (cases_back-code cases i)
+pub move_back-code : (m : MoveData) → move_back (move_code m) ≡ m
+move_back-code (StraightMove s) = ap StraightMove (step_back-code s)
+move_back-code (ForkedMove c ps) = λ i. ForkedMove (cause_back-code c i) (list_back-code formula_code formula_back formula_back-code ps i)
+move_back-code (ClosedMove c) = ap ClosedMove (close_back-code c)
 
-abbrev pub coded_cert : Coded CertData
-coded_cert = code_by Gv itself cert_code cert_back cert_back-code
+abbrev pub coded_move : Coded MoveData
+coded_move = code_by Gv itself move_code move_back move_back-code
 
-abbrev case_code : FormulaData × CertData → Gv
-case_code c = gcons (formula_code c.0) (cert_code c.1)
+abbrev cert_code : List MoveData → Gv
+cert_code = list_code move_code
 
-abbrev pub case_back : Gv → FormulaData × CertData
-case_back g = (formula_back (head g), cert_back (tail g))
+abbrev pub cert_back : Gv → List MoveData
+cert_back = list_back move_back
 
-pub case_back-code : (c : FormulaData × CertData) → case_back (case_code c) ≡ c
-case_back-code c = λ i. (formula_back-code c.0 i, cert_back-code c.1 i)
-
-abbrev pub coded_case : Coded (FormulaData × CertData)
-coded_case = code_by Gv itself case_code case_back case_back-code
+abbrev pub coded_cert : Coded (List MoveData)
+coded_cert = code_by Gv itself cert_code cert_back (list_back-code move_code move_back move_back-code)

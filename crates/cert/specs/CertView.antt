@@ -1,12 +1,25 @@
--- One level of a step and of a certificate, with what stands below as pure data.
-use Rattle.cert.specs.CertData.{EndData, SplitEnd, CutEnd, BoundEnd, LinearEnd, ClashEnd, FalseEnd, as_cases}
-use Rattle.cert.specs.declared.certificate.End.{End}
-use Rattle.cert.specs.declared.certificate.End.TheVariants.{Split, Cut, Bound, Linear, Clash, False}
+-- One level of a step and of a move, with what stands below as pure data.
+use Rattle.cert.specs.CertData.{StepData, PartsStep, AxiomStep, InstanceStep, NameStep, RewriteStep, CloseData, LinearClose, ClashClose, FalseClose, MoveData, StraightMove, ForkedMove, ClosedMove}
+use Rattle.cert.specs.declared.certificate.StepNode.{StepNode}
+use Rattle.cert.specs.declared.certificate.StepNode.TheVariants.{Parts, Axiom, Instance, Name, Rewrite}
+use Rattle.cert.specs.declared.certificate.Close.{Close}
+use Rattle.cert.specs.declared.certificate.Close.TheVariants.{Linear, Clash, False}
+use Rattle.cert.specs.declared.certificate.MoveNode.{MoveNode}
+use Rattle.cert.specs.declared.certificate.MoveNode.TheVariants.{Straight, Forked, Closed}
 
-abbrev pub end_of_node : End → EndData
-end_of_node (Split i cases) = SplitEnd i (as_cases cases.items)
-end_of_node (Cut cases) = CutEnd (as_cases cases.items)
-end_of_node (Bound i cases) = BoundEnd i (as_cases cases.items)
-end_of_node (Linear multiples) = LinearEnd multiples.items
-end_of_node (Clash i j) = ClashEnd i j
-end_of_node (False i) = FalseEnd i
+abbrev pub step_of_node : StepNode → StepData
+step_of_node (Parts i ps) = PartsStep i ps.items
+step_of_node (Axiom name p) = AxiomStep name p
+step_of_node (Instance i t p) = InstanceStep i t p
+step_of_node (Name i v p) = NameStep i v p
+step_of_node (Rewrite i j x c p) = RewriteStep i j x c p
+
+abbrev pub close_of_node : Close → CloseData
+close_of_node (Linear multiples) = LinearClose multiples.items
+close_of_node (Clash i j) = ClashClose i j
+close_of_node (False i) = FalseClose i
+
+abbrev pub move_of_node : MoveNode → MoveData
+move_of_node (Straight step) = StraightMove step
+move_of_node (Forked cause cases) = ForkedMove cause cases.items
+move_of_node (Closed by) = ClosedMove (close_of_node by)

@@ -1,16 +1,20 @@
 -- When a certificate closes a branch: a closed analytic tableau (R. Smullyan, First-Order Logic, chapter II), with
 -- names and instances of quantified formulas (chapter V), equals for equals, cuts, instances of axioms, and contradictions of linear
 -- arithmetic.
-use Rattle.std.specs.Prelude.{◌≡◌, ℕ, ◌≤◌, List, [], ◌∷◌, ◌++◌, length, slice_get, Some}
+use Rattle.std.specs.Prelude.{◌≡◌, ℕ, ◌+◌, ◌≤◌, List, [], ◌∷◌, ◌++◌, length, map, slice_get, Some, All}
+use Rattle.axioms.specs.Axioms.{IsAxiom}
+use Rattle.pv_base.specs.TypeData.{NumType}
 use Rattle.fol.specs.declared.operators.Comparison.TheVariants.{Eq}
 use Rattle.fol.specs.declared.operators.Constant.TheVariants.{False}
 use Rattle.fol.specs.declared.operators.Junction.TheVariants.{AllOf, AnyOf}
-use Rattle.pv_base.specs.TypeData.{NumType}
 use Rattle.fol.specs.declared.operators.Quantifier.TheVariants.{ForAll, Exists}
+use Rattle.fol.specs.declared.shapes.Shape.{Shape}
+use Rattle.fol.specs.Depth.{term_depth, formula_depth}
 use Rattle.fol.specs.FormulaData.{TermData, VarTerm, IsFormula, FormulaData, HoldsFormula, NotFormula, NoFormulas, CompareFormula, ConstantTerm, JoinFormula}
-use Rattle.cert.specs.CertData.{StepData, PartsStep, AxiomStep, InstanceStep, NameStep, RewriteStep, CertData, CertTree, EndData, SplitEnd, CutEnd, BoundEnd, LinearEnd, ClashEnd, FalseEnd, CasesData, NoCases, MoreCases}
+use Rattle.cert.specs.CertData.{StepData, PartsStep, AxiomStep, InstanceStep, NameStep, RewriteStep, CloseData, LinearClose, ClashClose, FalseClose, MoveData, StraightMove, ForkedMove, ClosedMove}
+use Rattle.cert.specs.declared.certificate.Cause.{Cause}
+use Rattle.cert.specs.declared.certificate.Cause.TheVariants.{Split, Cut, Bound}
 use Rattle.cert.specs.Parts.{parts_of, cases_of}
-use Rattle.cert.specs.Axioms.{IsInstanceOf}
 use Rattle.cert.specs.Linear.{IsContradiction}
 use Rattle.cert.specs.Quantified.{IsBodyWith, IsNew, AreCut, AreBounds}
 use Rattle.cert.specs.Rewriting.{IsRewriting}
@@ -19,9 +23,18 @@ use Rattle.cert.specs.Rewriting.{IsRewriting}
 abbrev pub most_entries : ℕ
 most_entries = 4000
 
+-- how deep a formula or term may be that a step names
+abbrev pub most_deep : ℕ
+most_deep = 2000
+
+abbrev pub IsWithin : ℕ → FormulaData → Type 0
+IsWithin limit p = formula_depth p ≤ limit
+
 -- the entry with this number
 abbrev pub IsEntry : List FormulaData → ℕ → FormulaData → Type 0
 IsEntry entries i p = slice_get entries i ≡ Some p
+
+-- ---- straight steps
 
 -- what a straight step adds
 abbrev pub added : StepData → List FormulaData
@@ -32,22 +45,39 @@ added (NameStep i v p) = p ∷ []
 added (RewriteStep i j x c p) = p ∷ []
 
 -- a straight step is allowed on a branch
-abbrev pub IsAllowed : List FormulaData → StepData → Type 0
-IsAllowed entries (PartsStep i ps) = (p : FormulaData) × IsEntry entries i p × (parts_of p ≡ Some ps)
-IsAllowed entries (AxiomStep name p) = IsInstanceOf name p
-IsAllowed entries (InstanceStep i t p) = (q : FormulaData) × IsEntry entries i q × IsBodyWith ForAll t q p
-IsAllowed entries (NameStep i v p) = ((q : FormulaData) × IsEntry entries i q × IsBodyWith Exists (VarTerm v) q p) × IsNew v entries
-IsAllowed entries (RewriteStep i j x c p) = (e : FormulaData) × (q : FormulaData) × IsEntry entries i e × IsEntry entries j q × IsRewriting x c e q p
+abbrev pub IsAllowed : List Shape → List FormulaData → StepData → Type 0
+IsAllowed shapes entries (PartsStep i ps) = (p : FormulaData) × IsEntry entries i p × (parts_of p ≡ Some ps)
+IsAllowed shapes entries (AxiomStep name p) = IsAxiom shapes name p
+IsAllowed shapes entries (InstanceStep i t p) = (q : FormulaData) × IsEntry entries i q × IsBodyWith ForAll t q p
+IsAllowed shapes entries (NameStep i v p) =
+    ((q : FormulaData) × IsEntry entries i q × IsBodyWith Exists (VarTerm v) q p) × IsNew v entries
+IsAllowed shapes entries (RewriteStep i j x c p) =
+    (e : FormulaData) × (q : FormulaData) × IsEntry entries i e × IsEntry entries j q × IsRewriting x c e q p
 
--- straight steps are allowed, one after another
-abbrev pub AreAllowed : List FormulaData → List StepData → Type 0
-AreAllowed entries [] = Unit {0}
-AreAllowed entries (step ∷ steps) = IsAllowed entries step × AreAllowed (entries ++ added step) steps
+-- what a straight step names beside what it adds is no deeper than it may be
+abbrev pub NamesWithin : StepData → Type 0
+NamesWithin (PartsStep i ps) = Unit {0}
+NamesWithin (AxiomStep name p) = Unit {0}
+NamesWithin (InstanceStep i t p) = term_depth t ≤ most_deep
+NamesWithin (NameStep i v p) = Unit {0}
+NamesWithin (RewriteStep i j x c p) = IsWithin most_deep c
 
--- the branch after straight steps
-abbrev pub after_steps : List FormulaData → List StepData → List FormulaData
-after_steps entries [] = entries
-after_steps entries (step ∷ steps) = after_steps (entries ++ added step) steps
+-- ---- forks
+
+-- one of the cases is true where the branch is
+abbrev pub IsFork : List FormulaData → Cause → List FormulaData → Type 0
+IsFork entries (Split i) ps = (p : FormulaData) × IsEntry entries i p × (cases_of p ≡ Some ps)
+IsFork entries Cut ps = AreCut ps
+IsFork entries (Bound i) ps = (t : TermData) × IsEntry entries i (IsFormula NumType t) × AreBounds t ps
+
+-- how deep the cases may be: a split names them; a cut names what its second case negates, and a bound the term that
+-- its cases compare, and these stand one level below
+abbrev pub most_deep_of : Cause → ℕ
+most_deep_of (Split i) = most_deep
+most_deep_of Cut = most_deep + 1
+most_deep_of (Bound i) = most_deep + 1
+
+-- ---- steps that close a branch
 
 -- an entry that can't be true by its form
 abbrev pub IsFalseNegated : FormulaData → Type 0
@@ -61,33 +91,56 @@ IsFalseForm (HoldsFormula (ConstantTerm False)) = Unit {0}
 IsFalseForm (NotFormula p) = IsFalseNegated p
 IsFalseForm _ = ⊥
 
--- the formulas of cases
-abbrev pub formulas_in : CasesData → List FormulaData
-formulas_in NoCases = []
-formulas_in (MoreCases p cert cases) = p ∷ formulas_in cases
+abbrev pub IsClose : List FormulaData → CloseData → Type 0
+IsClose entries (LinearClose ms) = IsContradiction entries ms
+IsClose entries (ClashClose i j) = (p : FormulaData) × IsEntry entries i p × IsEntry entries j (NotFormula p)
+IsClose entries (FalseClose i) = (p : FormulaData) × IsEntry entries i p × IsFalseForm p
 
--- the certificate closes the branch
-abbrev mutual
-  pub Closes : List FormulaData → CertData → Type 0
-  Closes entries (CertTree steps end) = AreAllowed entries steps × EndCloses (after_steps entries steps) end
+-- ---- moves
 
-  -- the end of a certificate closes the branch, which is no longer than a branch may be
-  pub EndCloses : List FormulaData → EndData → Type 0
-  EndCloses entries (SplitEnd i cases) =
-      (length entries ≤ most_entries) × ((p : FormulaData) × IsEntry entries i p × (cases_of p ≡ Some (formulas_in cases))) × EachCloses entries cases
-  EndCloses entries (CutEnd cases) = (length entries ≤ most_entries) × AreCut (formulas_in cases) × EachCloses entries cases
-  EndCloses entries (BoundEnd i cases) =
-      (length entries ≤ most_entries) × ((t : TermData) × IsEntry entries i (IsFormula NumType t) × AreBounds t (formulas_in cases)) × EachCloses entries cases
-  EndCloses entries (LinearEnd ms) = (length entries ≤ most_entries) × IsContradiction entries ms
-  EndCloses entries (ClashEnd i j) =
-      (length entries ≤ most_entries) × ((p : FormulaData) × IsEntry entries i p × IsEntry entries j (NotFormula p))
-  EndCloses entries (FalseEnd i) = (length entries ≤ most_entries) × ((p : FormulaData) × IsEntry entries i p × IsFalseForm p)
+-- the branches that are open, the first of which is worked on
+abbrev pub OpenData : Type 0
+OpenData = List (List FormulaData)
 
-  -- each case closes the branch with its formula at the end
-  pub EachCloses : List FormulaData → CasesData → Type 0
-  EachCloses entries NoCases = Unit {0}
-  EachCloses entries (MoreCases p cert cases) = Closes (entries ++ p ∷ []) cert × EachCloses entries cases
+-- a straight step with what it names and adds no deeper than it may be
+pub record IsStep (shapes : List Shape) (entries : List FormulaData) (step : StepData) : Type 0 where
+  pub shallow : All (IsWithin most_deep) (added step)
+  pub names : NamesWithin step
+  pub allowed : IsAllowed shapes entries step
+
+-- a fork with its cases no deeper than they may be
+pub record IsForkWithin (entries : List FormulaData) (cause : Cause) (ps : List FormulaData) : Type 0 where
+  pub shallow : All (IsWithin (most_deep_of cause)) ps
+  pub allowed : IsFork entries cause ps
+
+abbrev pub IsMove : List Shape → List FormulaData → MoveData → Type 0
+IsMove shapes entries (StraightMove step) = IsStep shapes entries step
+IsMove shapes entries (ForkedMove cause ps) = IsForkWithin entries cause ps
+IsMove shapes entries (ClosedMove by) = IsClose entries by
+
+-- the branches with which a branch goes on after a move
+abbrev pub left_of : List FormulaData → MoveData → OpenData
+left_of entries (StraightMove step) = (entries ++ added step) ∷ []
+left_of entries (ForkedMove cause ps) = map (λ p. entries ++ p ∷ []) ps
+left_of entries (ClosedMove by) = []
+
+abbrev pub IsShort : List FormulaData → Type 0
+IsShort entries = length entries ≤ most_entries
+
+-- the move is allowed on the branch that is worked on, and leaves none that is too long
+abbrev pub IsMoveIn : List Shape → OpenData → MoveData → Type 0
+IsMoveIn shapes [] move = ⊥
+IsMoveIn shapes (b ∷ bs) move = IsMove shapes b move × All IsShort (left_of b move)
+
+abbrev pub after : OpenData → MoveData → OpenData
+after [] move = []
+after (b ∷ bs) move = left_of b move ++ bs
+
+-- the moves close all branches, one move after another
+abbrev pub Closes : List Shape → OpenData → List MoveData → Type 0
+Closes shapes bs [] = bs ≡ []
+Closes shapes bs (move ∷ moves) = IsMoveIn shapes bs move × Closes shapes (after bs move) moves
 
 -- a certificate of a formula closes the branch that begins with the formula's negation
-abbrev pub Certifies : CertData → FormulaData → Type 0
-Certifies cert p = Closes (NotFormula p ∷ []) cert
+abbrev pub Certifies : List Shape → List MoveData → FormulaData → Type 0
+Certifies shapes moves p = Closes shapes ((NotFormula p ∷ []) ∷ []) moves

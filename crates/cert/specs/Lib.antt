@@ -1,10 +1,7 @@
 pub mod CertData
 pub mod CertCodes
 pub mod CertView
-pub mod StepView
-pub mod CertFalls
 pub mod Parts
-pub mod Axioms
 pub mod Quantified
 pub mod Rewriting
 pub mod Linear
@@ -12,3 +9,5 @@ pub mod Closes
 pub mod Branch
 pub mod Unknowns
 pub mod LinearView
+pub mod Waiting
+pub mod Open

@@ -1,24 +1,16 @@
-//! Branches, as a chain on the stack: the checker takes no memory.
+//! A branch, in an array on the stack: the checker takes no memory, and finds an entry at once.
 
-ghost use Rattle.std.specs.Prelude.{◌≡◌, slice_get};
+ghost use Rattle.std.specs.Prelude.{◌≡◌, ◌↔◌, ◌+◌, ◌<◌, ◌≤◌, ◌∷◌, [], ◌++◌, IsTrue, true, length, take, slice_get};
 ghost use Rattle.std.specs.Option.{option_map};
-ghost use Rattle.cert.specs.Branch.{entries_of, entry_formula, entries_added, IsCounted};
-ghost use Rattle.cert.specs.Closes.{added};
+ghost use Rattle.fol.specs.FormulaData.{NotFormula};
+ghost use Rattle.cert.specs.Branch.{entries_of, entry_formula, IsCounted};
+ghost use Rattle.cert.specs.Closes.{added, most_entries};
 
 use crate::certificate::{Step, StepNode};
 use fol::formula::Formula;
 
-/// A branch: the negation of the certified formula, and what was added since. `usize` is the number
-/// of the first entry that was added.
-#[derive(Clone, Copy)]
-pub enum Branch<'a> {
-    /// The negation of this formula.
-    Root(&'a Formula),
-    /// What these straight steps add.
-    Steps(&'a Branch<'a>, usize, &'a [Step]),
-    /// The case of a split.
-    Case(&'a Branch<'a>, usize, &'a Formula),
-}
+/// The greatest number of entries of a branch.
+pub const MOST_ENTRIES: usize = 4_000;
 
 /// An entry of a branch, not built where it is a negation.
 #[derive(Clone, Copy)]
@@ -29,51 +21,84 @@ pub enum Entry<'a> {
     Plain(&'a Formula),
 }
 
+/// A branch: the entries in the first places, and behind them any.
+#[derive(Drop)]
+pub struct Branch<'a> {
+    places: [Entry<'a>; MOST_ENTRIES],
+    count: usize,
+}
+
+impl<'a> Branch<'a> {
+    /// The branch whose only entry is the negation of the formula.
+    pub fn begun(formula: &'a Formula) -> Branch<'a>
+        ensures counted { IsCounted result }
+        ensures entries { entries_of result ≡ NotFormula formula.now ∷ [] }
+    {
+        Branch {
+            places: [Entry::Negated(formula); MOST_ENTRIES],
+            count: 1,
+        }
+    }
+
+    /// The number of entries.
+    pub fn len(&self) -> usize
+        requires { IsCounted self.now }
+        ensures { result ≡ length (entries_of self.now) }
+    {
+        self.count
+    }
+
+    /// Adds an entry at the end.
+    pub fn push(&mut self, formula: &'a Formula)
+        requires counted { IsCounted self.old }
+        requires room { length (entries_of self.old) < most_entries }
+        ensures counted { IsCounted self.new }
+        ensures entries { entries_of self.new ≡ entries_of self.old ++ formula.now ∷ [] }
+    {
+        let count = self.count;
+        let places = &mut self.places[..];
+        places[count] = Entry::Plain(formula);
+        self.count += 1;
+    }
+
+    /// Takes the entries from this number on away.
+    pub fn truncate(&mut self, count: usize)
+        requires counted { IsCounted self.old }
+        requires within { count ≤ length (entries_of self.old) }
+        ensures counted { IsCounted self.new }
+        ensures entries { entries_of self.new ≡ take count (entries_of self.old) }
+    {
+        self.count = count;
+    }
+}
+
 /// The entry with this number.
 pub fn entry_at<'a>(branch: &Branch<'a>, index: usize) -> Option<Entry<'a>>
     requires { IsCounted branch.now }
     ensures { option_map entry_formula result ≡ slice_get (entries_of branch.now) index }
 {
-    match branch {
-        Branch::Root(formula) => {
-            if index == 0 {
-                Some(Entry::Negated(formula))
-            } else {
-                None
-            }
-        }
-        Branch::Steps(before, start, steps) => {
-            if index < *start {
-                entry_at(before, index)
-            } else {
-                entry_in(steps, index - *start)
-            }
-        }
-        Branch::Case(before, start, formula) => {
-            if index < *start {
-                entry_at(before, index)
-            } else if index == *start {
-                Some(Entry::Plain(formula))
-            } else {
-                None
-            }
-        }
+    if index < branch.count {
+        let places = &branch.places[..];
+        Some(places[index])
+    } else {
+        None
     }
 }
 
-// The formula with this number among those that the steps add.
-fn entry_in<'a>(steps: &'a [Step], index: usize) -> Option<Entry<'a>>
-    ensures { option_map entry_formula result ≡ slice_get (entries_added steps.now) index }
+/// Adds entries at the end; false where the branch would be longer than a branch may be.
+pub fn extend<'a>(branch: &mut Branch<'a>, formulas: &'a [Formula]) -> bool
+    requires counted { IsCounted branch.old }
+    ensures exact { IsTrue result ↔ (length (entries_of branch.old) + length formulas.now ≤ most_entries) }
+    ensures counted { IsCounted branch.new }
+    ensures entries { result ≡ true → entries_of branch.new ≡ entries_of branch.old ++ formulas.now }
 {
-    let mut left = index;
-    for step in steps {
-        let formulas = added_by(step);
-        if left < formulas.len() {
-            return Some(Entry::Plain(&formulas[left]));
-        }
-        left -= formulas.len();
+    if formulas.len() > MOST_ENTRIES - branch.len() {
+        return false;
     }
-    None
+    for formula in formulas {
+        branch.push(formula);
+    }
+    true
 }
 
 /// The formulas that a straight step adds.

@@ -1,27 +1,49 @@
-//! Certificates: trees of steps that close every branch of a formula's negation.
+//! Certificates: texts of moves that close every branch of a formula's negation.
 //!
 //! A branch is a list of formulas, called entries and counted from 0. It begins with the negation of
 //! the certified formula; each step adds entries at its end. These are analytic tableaux (R. Smullyan,
 //! First-Order Logic, chapter II), with linear arithmetic at the leaves.
 
+use axioms::axiom::Axiom;
 use fol::formula::{Formula, Term};
 use std::marker::Model;
 
-/// A certificate: straight steps, one after another, and what stands at their end.
-#[cycle(certificate)]
+/// A certificate: the moves of a tableau, in the order in which one meets them who follows the first
+/// case of each fork until its branch is closed, and then goes on with the next case.
 pub struct Cert {
-    pub steps: Vec<Step>,
-    pub end: End,
+    pub moves: Vec<Move>,
 }
 
 // Its own, so that letting one go is a call wherever it is done, and not the cases of all forms below it.
 impl Drop for Cert {
-    #[cycle(drop_certificate)]
     fn drop(self) {
-        let Cert { steps, end } = self;
-        drop(steps);
-        drop(end);
+        let Cert { moves } = self;
+        drop(moves);
     }
+}
+
+/// A move on the branch that is worked on.
+pub struct Move {
+    pub node: MoveNode,
+}
+
+// Its own, so that letting one go is a call wherever it is done, and not the cases of all forms below it.
+impl Drop for Move {
+    fn drop(self) {
+        let Move { node } = self;
+        drop(node);
+    }
+}
+
+/// The kinds of moves.
+#[derive(Drop)]
+pub enum MoveNode {
+    /// The branch goes on with what the step adds.
+    Straight(Step),
+    /// The branch goes on with each of these cases in its own way.
+    Forked(Cause, Vec<Formula>),
+    /// The branch is closed.
+    Closed(Close),
 }
 
 /// A step that goes on with one branch.
@@ -55,43 +77,27 @@ pub enum StepNode {
     Rewrite(u32, u32, u32, Formula, Formula),
 }
 
-/// The axioms of which a step may take an instance.
+/// Why one of the cases of a fork is true.
 #[derive(Clone, Copy, Debug, PartialEq, Eq)]
-pub enum Axiom {
-    /// A term has an integer type, or the type of addresses or signers, exactly where it is a whole
-    /// number from 0 to the greatest of the type.
-    Range,
-    /// Numerals, lengths, arithmetic and operations on bits are whole numbers.
-    Whole,
-    /// Of two whole numbers either they are equal or one of them is at least 1 less than the other.
-    Trichotomy,
-}
-
-/// What stands at the end of the straight steps: a split into branches, or a step that closes.
-#[cycle(certificate)]
-#[derive(Drop)]
-pub enum End {
-    /// The entry with this number is a disjunction; the branch goes on with each of its cases.
-    Split(u32, Vec<Case>),
-    /// Two cases of which one negates the other: a formula holds or its negation does.
-    Cut(Vec<Case>),
+pub enum Cause {
+    /// The entry with this number is a disjunction, and these are its cases.
+    Split(u32),
+    /// There are two cases, of which the second negates the first.
+    Cut,
     /// The entry with this number says that a term is a whole number; the two cases say that it is at
     /// most some number, or at least 1 more.
-    Bound(u32, Vec<Case>),
+    Bound(u32),
+}
+
+/// A step that closes its branch.
+#[derive(Drop)]
+pub enum Close {
     /// A combination of entries, read as rows over whole numbers, says that a positive number is at most 0.
     Linear(Vec<Multiple>),
     /// The second entry is the negation of the first.
     Clash(u32, u32),
     /// The entry can't be true by its form.
     False(u32),
-}
-
-/// A case of a split, and the certificate that closes its branch.
-#[cycle(certificate)]
-#[derive(Drop)]
-pub struct Case {
-    pub formula: Formula,
-    pub cert: Cert,
 }
 
 /// An entry, by its number on the branch, and its multiplier in a combination.
@@ -109,41 +115,32 @@ impl Model for Step {
 
     ghost coded = { coded_step };
 
-    ghost use Rattle.cert.specs.StepView.{step_of_node};
+    ghost use Rattle.cert.specs.CertView.{step_of_node};
 
     ghost view = { λ a. step_of_node a.node };
 }
 
+impl Model for Move {
+    ghost use Rattle.cert.specs.CertData.{MoveData};
+    ghost use Rattle.cert.specs.CertCodes.{coded_move};
+
+    ghost Value = { MoveData };
+
+    ghost coded = { coded_move };
+
+    ghost use Rattle.cert.specs.CertView.{move_of_node};
+
+    ghost view = { λ a. move_of_node a.node };
+}
+
 impl Model for Cert {
-    ghost use Rattle.cert.specs.CertData.{CertData, CertTree, cert_size};
+    ghost use Rattle.std.specs.Prelude.{List};
+    ghost use Rattle.cert.specs.CertData.{MoveData};
     ghost use Rattle.cert.specs.CertCodes.{coded_cert};
 
-    ghost Value = { CertData };
+    ghost Value = { List MoveData };
 
     ghost coded = { coded_cert };
 
-    ghost use Rattle.cert.specs.CertView.{end_of_node};
-
-    ghost view = { λ a. CertTree a.steps.items (end_of_node a.end) };
-
-    ghost size = { cert_size };
-
-    ghost use Rattle.cert.specs.CertFalls.{cert_falls};
-
-    ghost size_decreases = { λ a h. cert_falls a.end };
-}
-
-impl Model for Case {
-    ghost use Rattle.fol.specs.FormulaData.{FormulaData};
-    ghost use Rattle.cert.specs.CertData.{CertData, cert_size};
-    ghost use Rattle.cert.specs.CertCodes.{coded_case};
-    ghost use Rattle.std.specs.Prelude.{◌+◌};
-
-    ghost Value = { FormulaData × CertData };
-
-    ghost coded = { coded_case };
-
-    ghost view = { λ a. (a.formula, a.cert) };
-
-    ghost size = { λ c. cert_size c.1 + 1 };
+    ghost view = { λ a. a.moves.items };
 }

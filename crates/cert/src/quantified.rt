@@ -1,13 +1,13 @@
 //! Steps on quantified entries: what an entry says of the value of a term, and variables that are new on a
 //! branch.
 
-ghost use Rattle.std.specs.Prelude.{◌≡◌, ◌↔◌, IsTrue, false, All};
+ghost use Rattle.std.specs.Prelude.{◌≡◌, ◌↔◌, ◌<◌, IsTrue, false, length, get_or};
+ghost use Rattle.fol.specs.FormulaData.{FormulaData};
 ghost use Rattle.substitution.specs.Free.{free_in};
-ghost use Rattle.cert.specs.Branch.{entries_of, entry_formula, AddsNew};
+ghost use Rattle.cert.specs.Branch.{entries_of, entry_formula, IsCounted};
 ghost use Rattle.cert.specs.Quantified.{dual, IsBodyWith, IsNegatedBodyWith, IsNew};
 
-use crate::branch::{Branch, Entry, added_by};
-use crate::certificate::Step;
+use crate::branch::{Branch, Entry, entry_at};
 use fol::formula::{Formula, FormulaNode, Term};
 use fol::operators::Quantifier;
 use substitution::free::is_free_in;
@@ -68,43 +68,34 @@ fn is_negated_body_with(
 
 /// Whether the variable is free in no entry of the branch.
 pub fn is_new(branch: &Branch<'_>, variable: u32) -> bool
+    requires { IsCounted branch.now }
     ensures { IsTrue result ↔ IsNew variable (entries_of branch.now) }
 {
-    match branch {
-        Branch::Root(formula) => is_without(variable, formula),
-        Branch::Steps(before, _, steps) => {
-            is_new(before, variable) && are_without(variable, steps)
-        }
-        Branch::Case(before, _, formula) => {
-            is_new(before, variable) && is_without(variable, formula)
-        }
-    }
-}
-
-fn are_without(variable: u32, steps: &[Step]) -> bool
-    ensures { IsTrue result ↔ All (AddsNew variable) steps.now }
-{
-    for step in steps {
-        if !adds_without(variable, added_by(step)) {
+    for index in 0..branch.len() {
+        if !is_new_at(branch, variable, index) {
             return false;
         }
     }
     true
 }
 
-fn adds_without(variable: u32, formulas: &[Formula]) -> bool
-    ensures { IsTrue result ↔ IsNew variable formulas.now }
+// Whether the variable is not free in the entry with this number.
+fn is_new_at(branch: &Branch<'_>, variable: u32, index: usize) -> bool
+    requires counted { IsCounted branch.now }
+    requires within { index < length (entries_of branch.now) }
+    ensures { (p : FormulaData) → IsTrue result ↔ (free_in variable (get_or (entries_of branch.now) index p) ≡ false) }
 {
-    for formula in formulas {
-        if !is_without(variable, formula) {
-            return false;
-        }
+    match entry_at(branch, index) {
+        Some(entry) => is_without(variable, entry),
+        None => false,
     }
-    true
 }
 
-fn is_without(variable: u32, formula: &Formula) -> bool
-    ensures { IsTrue result ↔ (free_in variable formula.now ≡ false) }
+fn is_without(variable: u32, entry: Entry<'_>) -> bool
+    ensures { IsTrue result ↔ (free_in variable (entry_formula entry.entry) ≡ false) }
 {
-    !is_free_in(variable, formula)
+    match entry {
+        Entry::Negated(formula) => !is_free_in(variable, formula),
+        Entry::Plain(formula) => !is_free_in(variable, formula),
+    }
 }

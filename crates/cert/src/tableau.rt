@@ -6,12 +6,10 @@ ghost use Rattle.pv_base.specs.TypeData.{NumType};
 ghost use Rattle.fol.specs.FormulaData.{TermData, NumTerm, LeFormula, IsFormula, NotFormula};
 ghost use Rattle.cert.specs.Quantified.{AreCut, AreBounds};
 ghost use Rattle.cert.specs.Branch.{entry_formula};
-ghost use Rattle.cert.specs.CertData.{first_of};
 ghost use Rattle.cert.specs.Closes.{IsFalseForm, IsFalseNegated};
 ghost use Rattle.cert.specs.Parts.{parts_of, parts_of_negated, cases_of, cases_of_negated, both_of};
 
 use crate::branch::Entry;
-use crate::certificate::Case;
 use crate::linear::numeral_of;
 use fol::formula::{Formula, FormulaNode, Term, TermNode};
 use fol::operators::{Comparison, Connective, Constant, Junction};
@@ -115,23 +113,19 @@ fn are_entries(formulas: &[Formula], left: Entry<'_>, right: Entry<'_>) -> bool
     formulas.len() == 2 && is_entry(&formulas[0], left) && is_entry(&formulas[1], right)
 }
 
-/// Whether the formulas of these cases are one and its negation.
-pub fn are_cut(cases: &[Case]) -> bool
-    ensures { IsTrue result ↔ AreCut (map first_of cases.now) }
+/// Whether these cases are a formula and its negation.
+pub fn are_cut(cases: &[Formula]) -> bool
+    ensures { IsTrue result ↔ AreCut cases.now }
 {
     match cases {
-        [first, second] => {
-            let formula = formula_of(first);
-            let negation = formula_of(second);
-            is_negation(negation, formula)
-        }
+        [first, second] => is_negation(second, first),
         _ => false,
     }
 }
 
 /// Whether a formula says that a term is a whole number, and the cases bound the term by a number.
-pub fn are_bounds_of(of: &Formula, cases: &[Case]) -> bool
-    ensures { IsTrue result ↔ ((t : TermData) × (of.now ≡ IsFormula NumType t) × AreBounds t (map first_of cases.now)) }
+pub fn are_bounds_of(of: &Formula, cases: &[Formula]) -> bool
+    ensures { IsTrue result ↔ ((t : TermData) × (of.now ≡ IsFormula NumType t) × AreBounds t cases.now) }
 {
     match &of.node {
         FormulaNode::Is(kind, term) => {
@@ -141,13 +135,13 @@ pub fn are_bounds_of(of: &Formula, cases: &[Case]) -> bool
     }
 }
 
-fn are_bounds(term: &Term, cases: &[Case]) -> bool
-    ensures { IsTrue result ↔ AreBounds term.now (map first_of cases.now) }
+fn are_bounds(term: &Term, cases: &[Formula]) -> bool
+    ensures { IsTrue result ↔ AreBounds term.now cases.now }
 {
     match cases {
         [first, second] => match (
-            upper_bound(term, &first.formula),
-            lower_bound(term, &second.formula),
+            upper_bound(term, first),
+            lower_bound(term, second),
         ) {
             (Some(most), Some(least)) => most.checked_add(1) == Some(least),
             _ => false,
@@ -180,9 +174,9 @@ fn lower_bound(term: &Term, formula: &Formula) -> Option<i128>
     }
 }
 
-/// Whether the formulas of these cases are the cases of the entry.
-pub fn are_cases(entry: Entry<'_>, cases: &[Case]) -> bool
-    ensures { IsTrue result ↔ (cases_of (entry_formula entry.entry) ≡ Some (map first_of cases.now)) }
+/// Whether these are the cases of the entry.
+pub fn are_cases(entry: Entry<'_>, cases: &[Formula]) -> bool
+    ensures { IsTrue result ↔ (cases_of (entry_formula entry.entry) ≡ Some cases.now) }
 {
     match entry {
         Entry::Negated(of) => are_cases_of_negated(of, cases),
@@ -190,27 +184,27 @@ pub fn are_cases(entry: Entry<'_>, cases: &[Case]) -> bool
     }
 }
 
-fn are_cases_of(of: &Formula, cases: &[Case]) -> bool
-    ensures { IsTrue result ↔ (cases_of of.now ≡ Some (map first_of cases.now)) }
+fn are_cases_of(of: &Formula, cases: &[Formula]) -> bool
+    ensures { IsTrue result ↔ (cases_of of.now ≡ Some cases.now) }
 {
     match &of.node {
         FormulaNode::Join(junction, parts) => {
-            *junction == Junction::AnyOf && are_formulas(cases, parts.as_slice())
+            *junction == Junction::AnyOf && same_formulas(parts.as_slice(), cases)
         }
         FormulaNode::Connect(Connective::Implies, left, right) => {
             cases.len() == 2
-                && is_negation(formula_of(&cases[0]), left)
-                && same_formula(formula_of(&cases[1]), right)
+                && is_negation(&cases[0], left)
+                && same_formula(&cases[1], right)
         }
         FormulaNode::Connect(Connective::Iff, left, right) => {
             cases.len() == 2
                 && is_both_of(
-                    formula_of(&cases[0]),
+                    &cases[0],
                     Entry::Plain(left),
                     Entry::Plain(right),
                 )
                 && is_both_of(
-                    formula_of(&cases[1]),
+                    &cases[1],
                     Entry::Negated(left),
                     Entry::Negated(right),
                 )
@@ -220,65 +214,28 @@ fn are_cases_of(of: &Formula, cases: &[Case]) -> bool
     }
 }
 
-fn are_cases_of_negated(of: &Formula, cases: &[Case]) -> bool
-    ensures { IsTrue result ↔ (cases_of_negated of.now ≡ Some (map first_of cases.now)) }
+fn are_cases_of_negated(of: &Formula, cases: &[Formula]) -> bool
+    ensures { IsTrue result ↔ (cases_of_negated of.now ≡ Some cases.now) }
 {
     match &of.node {
         FormulaNode::Join(junction, parts) => {
-            *junction == Junction::AllOf && negate(cases, parts.as_slice())
+            *junction == Junction::AllOf && are_negations(cases, parts.as_slice())
         }
         FormulaNode::Connect(Connective::Iff, one, other) => {
             cases.len() == 2
                 && is_both_of(
-                    formula_of(&cases[0]),
+                    &cases[0],
                     Entry::Plain(one),
                     Entry::Negated(other),
                 )
                 && is_both_of(
-                    formula_of(&cases[1]),
+                    &cases[1],
                     Entry::Negated(one),
                     Entry::Plain(other),
                 )
         }
         _ => false,
     }
-}
-
-// The formula of a case.
-fn formula_of(case: &Case) -> &Formula
-    ensures { result.now ≡ first_of case.now }
-{
-    &case.formula
-}
-
-// Whether the formula of each case is the one at its place.
-fn are_formulas(cases: &[Case], formulas: &[Formula]) -> bool
-    ensures { IsTrue result ↔ (formulas.now ≡ map first_of cases.now) }
-{
-    if cases.len() != formulas.len() {
-        return false;
-    }
-    for i in 0..cases.len() {
-        if !same_formula(formula_of(&cases[i]), &formulas[i]) {
-            return false;
-        }
-    }
-    true
-}
-
-// Whether the formula of each case is the negation of the one at its place.
-fn negate(cases: &[Case], formulas: &[Formula]) -> bool
-    ensures { IsTrue result ↔ (map NotFormula formulas.now ≡ map first_of cases.now) }
-{
-    if cases.len() != formulas.len() {
-        return false;
-    }
-    for i in 0..cases.len() {
-        if !is_negation(formula_of(&cases[i]), &formulas[i]) {
-            return false;
-        }
-    }
-    true
 }
 
 /// Whether the entry is the negation of another one.

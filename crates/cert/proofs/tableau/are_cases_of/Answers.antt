@@ -9,4 +9,4 @@ pub returns-then-eq : goal.returns-then-eq
 returns-then-eq c =
     let junction : c.in-Join.junction ≡ AnyOf = search rules in
     let stored = (λ i. JoinFormula (sym junction i) (formulas_of (c.as_slice.ensures.value i))) ∙ ap formula_of_node (sym c.in-Join.is) ∙ c.of.view_is in
-    as_some_flipped _ _ _ _ (any_of_cases _ _ stored) c.are_formulas.ensures
+    as_some_flipped _ _ _ _ (any_of_cases _ _ stored) c.same_formulas.ensures.items

@@ -1,5 +1,4 @@
-use Rattle.std.proofs.Common.{◌≡◌, length, sym, ◌∙◌, ◌∷◌, [], map, arith}
-use Rattle.cert.specs.CertData.{first_of}
+use Rattle.std.proofs.Common.{◌≡◌, length, arith}
 use Rattle.cert.proofs.QuantifiedLemmas.{two_of, cut_test}
 use Rattle.cert.proofs.tableau.are_cut.Goals as goal
 
@@ -8,5 +7,4 @@ returns-in-len2 c =
     let cases = c.args.cases.now in
     let len : length cases ≡ 2 = omega (arith, c.in-len2.len_at_least, c.in-len2.len_below) in
     let two = two_of cases c.first-item.result c.second-item.result len c.first-item.is c.second-item.is in
-    let these = two ∙ (λ i. sym c.formula_of-formula.ensures i ∷ sym c.formula_of-negation.ensures i ∷ []) in
-    cut_test (map first_of cases) _ _ _ these c.is_negation.ensures
+    cut_test cases _ _ _ two c.is_negation.ensures

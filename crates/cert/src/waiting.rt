@@ -1,0 +1,81 @@
+//! The cases that wait while the branch of another one is worked on, in an array on the stack.
+
+ghost use Rattle.std.specs.Prelude.{◌≡◌, ◌<◌, ◌≤◌, ◌∷◌, [], ◌++◌, map, IfSome, MatchOption};
+ghost use Rattle.cert.specs.Closes.{most_entries};
+ghost use Rattle.cert.specs.Waiting.{cases_in, count_of, IsOrdered, case_of, case_at};
+
+use crate::branch::MOST_ENTRIES;
+use fol::formula::Formula;
+
+/// The cases of a fork that are left, and the number of entries of its branch.
+#[derive(Clone, Copy)]
+pub struct Fork<'a> {
+    pub mark: usize,
+    pub cases: &'a [Formula],
+}
+
+/// A case that waited, and the number of entries of the branch that it goes on with.
+#[derive(Clone, Copy)]
+pub struct Case<'a> {
+    pub mark: usize,
+    pub formula: &'a Formula,
+}
+
+/// The forks with cases that are left, in the first places, the innermost last.
+#[derive(Drop)]
+pub struct Waiting<'a> {
+    places: [Fork<'a>; MOST_ENTRIES],
+    count: usize,
+}
+
+impl<'a> Waiting<'a> {
+    /// No fork. The cases fill the places, and are not looked at.
+    pub fn none(cases: &'a [Formula]) -> Waiting<'a>
+        ensures ordered { IsOrdered result }
+        ensures cases { cases_in result ≡ [] }
+        ensures count { count_of result ≡ 0 }
+    {
+        Waiting {
+            places: [Fork { mark: 0, cases }; MOST_ENTRIES],
+            count: 0,
+        }
+    }
+
+    /// Lets the cases of a fork wait before all others.
+    pub fn push(&mut self, mark: usize, cases: &'a [Formula])
+        requires ordered { IsOrdered self.old }
+        requires later { count_of self.old < mark }
+        requires room { mark < most_entries }
+        ensures ordered { IsOrdered self.new }
+        ensures cases { cases_in self.new ≡ map (case_at mark) cases.now ++ cases_in self.old }
+        ensures count { count_of self.new ≤ mark }
+    {
+        let count = self.count;
+        let places = &mut self.places[..];
+        places[count] = Fork { mark, cases };
+        self.count += 1;
+    }
+
+    /// Takes the next case out.
+    pub fn next(&mut self) -> Option<Case<'a>>
+        requires { IsOrdered self.old }
+        ensures ordered { IsOrdered self.new }
+        ensures cases { MatchOption result (cases_in self.old ≡ []) (λ case. cases_in self.old ≡ case_of case ∷ cases_in self.new) }
+        ensures count { MatchOption result (count_of self.new ≡ 0) (λ case. count_of self.new ≤ case.mark) }
+        ensures room { IfSome result (λ case. case.mark < most_entries) }
+    {
+        while self.count > 0 {
+            let last = self.count - 1;
+            let places = &mut self.places[..];
+            let Fork { mark, cases } = places[last];
+            match cases.split_first() {
+                Some((formula, rest)) => {
+                    places[last] = Fork { mark, cases: rest };
+                    return Some(Case { mark, formula });
+                }
+                None => self.count = last,
+            }
+        }
+        None
+    }
+}
