@@ -8,13 +8,15 @@ use Rattle.pv_base.specs.declared.types.TypeNode.{TypeNode}
 use Rattle.pv_base.specs.declared.types.TypeNode.TheVariants.{Int, Address, Signer}
 use Rattle.pv_base.specs.declared.types.Width.{Width}
 use Rattle.pv_base.specs.declared.types.Width.TheVariants.{U8, U16, U32, U64, U128}
-use Rattle.fol.specs.FormulaData.{TermData, MaxTerm, FormulaData, EqFormula, NotFormula, ImpliesFormula, IffFormula, AnyOfFormula, FormulasData, formulas_of, formulas_of_injective}
+use Rattle.fol.specs.FormulaData.{TermData, MaxTerm, FormulaData, EqFormula, IsFormula, AllOfFormula, NotFormula, ImpliesFormula, IffFormula, AnyOfFormula, FormulasData, formulas_of, formulas_of_injective}
 use Rattle.cert.specs.Parts.{parts_of_negated, cases_of, cases_of_negated, both_of}
-use Rattle.cert.specs.Axioms.{greatest, trichotomy_axiom, IsInstanceOf}
-use Rattle.cert.specs.declared.certificate.Axiom.TheVariants.{Trichotomy}
-use Rattle.cert.proofs.AxiomLemmas.{trichotomy_cases}
+use Rattle.axioms.specs.Alternatives.{IsAlternative}
+use Rattle.axioms.specs.Equivalences.{greatest, IsEquivalence}
+use Rattle.axioms.specs.declared.axiom.Alternative.TheVariants.{Trichotomy}
+use Rattle.axioms.specs.declared.axiom.Equivalence.TheVariants.{Range}
+use Rattle.saturation.specs.NumberAxioms.{range_parts, trichotomy_cases, trichotomy_axiom}
 use Rattle.saturation.specs.Branch.{IsNumber}
-use Rattle.saturation.specs.Saturated.{Stands, HasOne, AllStand, SomeStands}
+use Rattle.saturation.specs.Saturated.{IsRangeAt, Stands, HasOne, AllStand, SomeStands}
 use Rattle.pv_base.proofs.TruthValues.{true_is, not_true, holds}
 
 -- ---- lists of formulas
@@ -109,14 +111,43 @@ third_case : (p : FormulaData) (xs : List FormulaData) (t u : TermData) → AnyO
 third_case p xs t u stored e =
     ap (λ ys. slice_get ys 2) (formulas_of_injective xs (trichotomy_cases t u) (cases_inside (stored ∙ e)))
 
-pub trichotomy_at : (p : FormulaData) (xs : List FormulaData) (t u : TermData) (a b : Bool) → AnyOfFormula (formulas_of xs) ≡ p → IsTrue a ↔ (slice_get xs 2 ≡ Some (EqFormula t u)) → a ≡ true → IsTrue b ↔ IsInstanceOf Trichotomy p → IsTrue b ↔ (p ≡ trichotomy_axiom t u)
+pub trichotomy_at : (p : FormulaData) (xs : List FormulaData) (t u : TermData) (a b : Bool) → AnyOfFormula (formulas_of xs) ≡ p → IsTrue a ↔ (slice_get xs 2 ≡ Some (EqFormula t u)) → a ≡ true → IsTrue b ↔ IsAlternative Trichotomy xs → IsTrue b ↔ (p ≡ trichotomy_axiom t u)
 trichotomy_at p xs t u a b stored equal h test = (
   λ s. let found = test.0 s in
-      let same : Some (EqFormula found.0 found.1) ≡ Some (EqFormula t u) = sym (third_case p xs found.0 found.1 stored found.2) ∙ equal.0 (true_is a h) in
-      found.2 ∙ (λ i. trichotomy_axiom (left_inside same i) (right_inside same i)),
-  λ e. test.1 (t, u, e),
+      let same : Some (EqFormula found.0 found.1) ≡ Some (EqFormula t u) = sym (ap (λ ys. slice_get ys 2) found.2) ∙ equal.0 (true_is a h) in
+      sym stored ∙ ap (λ ys. AnyOfFormula (formulas_of ys)) found.2 ∙ (λ i. trichotomy_axiom (left_inside same i) (right_inside same i)),
+  λ e. test.1 (t, u, formulas_of_injective xs (trichotomy_cases t u) (cases_inside (stored ∙ e))),
 )
 
 pub no_trichotomy : (p : FormulaData) (xs : List FormulaData) (t u : TermData) (a : Bool) → AnyOfFormula (formulas_of xs) ≡ p → IsTrue a ↔ (slice_get xs 2 ≡ Some (EqFormula t u)) → a ≡ false → IsTrue a ↔ (p ≡ trichotomy_axiom t u)
 no_trichotomy p xs t u a stored equal h =
     (λ s. absurd (not_true a h s), λ e. absurd (not_true a h (equal.1 (third_case p xs t u stored e))))
+
+-- ---- ranges
+
+sides_left : {l r p q : FormulaData} → IffFormula l r ≡ IffFormula p q → l ≡ p
+sides_left e = cc
+
+sides_right : {l r p q : FormulaData} → IffFormula l r ≡ IffFormula p q → r ≡ q
+sides_right e = cc
+
+type_of_claim : {a b : TypeData} {t u : TermData} → IsFormula a t ≡ IsFormula b u → a ≡ b
+type_of_claim e = cc
+
+term_of_claim : {a b : TypeData} {t u : TermData} → IsFormula a t ≡ IsFormula b u → t ≡ u
+term_of_claim e = cc
+
+pub range_at : (p l r : FormulaData) (a : TypeData) (t : TermData) (x y : Bool) → IffFormula l r ≡ p → IsTrue x ↔ (l ≡ IsFormula a t) → x ≡ true → IsTrue y ↔ IsEquivalence Range l r → IsTrue y ↔ IsRangeAt a t p
+range_at p l r a t x y stored claim h test = (
+  λ s. let found = test.0 s in
+      let left = claim.0 (true_is x h) in
+      let same : IsFormula found.0 found.1 ≡ IsFormula a t = sym found.4 ∙ left in
+      let of : found.0 ≡ a = type_of_claim same in
+      let term : found.1 ≡ t = term_of_claim same in
+      (found.2, subst (λ b. greatest b ≡ Some found.2) of found.3, sym stored ∙ (λ i. IffFormula (left i) (found.5 i)) ∙ ap (λ u. IffFormula (IsFormula a t) (AllOfFormula (formulas_of (range_parts u found.2)))) term),
+  λ range. test.1 (a, t, range.0, range.1, claim.0 (true_is x h), sides_right (stored ∙ range.2)),
+)
+
+pub no_range : (p l r : FormulaData) (a : TypeData) (t : TermData) (x : Bool) → IffFormula l r ≡ p → IsTrue x ↔ (l ≡ IsFormula a t) → x ≡ false → IsTrue x ↔ IsRangeAt a t p
+no_range p l r a t x stored claim h =
+    (λ s. absurd (not_true x h s), λ range. absurd (not_true x h (claim.1 (sides_left (stored ∙ range.2)))))

@@ -1,7 +1,8 @@
 -- Branches of an analytic tableau (R. Smullyan, First-Order Logic, chapter II).
 use Rattle.std.specs.Prelude.{◌≡◌, ℕ, suc, ◌<◌, ◌≤◌, List, length, slice_get, Option, Some, None}
 use Rattle.fol.specs.FormulaData.{FormulaData, NotFormula}
-use Rattle.cert.specs.Axioms.{IsInstanceOf}
+use Rattle.fol.specs.declared.shapes.Shape.{Shape}
+use Rattle.axioms.specs.Axioms.{IsAxiom}
 use Rattle.cert.specs.Closes.{IsEntry, most_entries}
 use Rattle.cert.specs.Parts.{parts_of, cases_of}
 use Rattle.saturation.specs.declared.branch.Origin.{Origin}
@@ -18,19 +19,19 @@ IsNumber j p None = ⊥
 IsNumber j p (Some ps) = slice_get ps j ≡ Some p
 
 -- the formula comes from one of the first `count` entries, or from an axiom
-abbrev pub ComesFrom : List FormulaData → ℕ → Origin → FormulaData → Type 0
-ComesFrom entries count (Part i j) p = (i < count) × ((q : FormulaData) × IsEntry entries i q × IsNumber j p (parts_of q))
-ComesFrom entries count (Case i j) p = (i < count) × ((q : FormulaData) × IsEntry entries i q × IsNumber j p (cases_of q))
-ComesFrom entries count (Axiom name) p = IsInstanceOf name p
+abbrev pub ComesFrom : List Shape → List FormulaData → ℕ → Origin → FormulaData → Type 0
+ComesFrom shapes entries count (Part i j) p = (i < count) × ((q : FormulaData) × IsEntry entries i q × IsNumber j p (parts_of q))
+ComesFrom shapes entries count (Case i j) p = (i < count) × ((q : FormulaData) × IsEntry entries i q × IsNumber j p (cases_of q))
+ComesFrom shapes entries count (Axiom name) p = IsAxiom shapes name p
 
 -- entry k + 1 comes from earlier ones
-abbrev pub IsGrownAt : BranchData → ℕ → Type 0
-IsGrownAt b k = (origin : Origin) × (p : FormulaData) × (slice_get b.origins k ≡ Some origin) × IsEntry b.entries (suc k) p × ComesFrom b.entries (suc k) origin p
+abbrev pub IsGrownAt : List Shape → BranchData → ℕ → Type 0
+IsGrownAt shapes b k = (origin : Origin) × (p : FormulaData) × (slice_get b.origins k ≡ Some origin) × IsEntry b.entries (suc k) p × ComesFrom shapes b.entries (suc k) origin p
 
 -- a branch of a tableau for a formula: it begins with the formula's negation, and each later entry comes from earlier
 -- ones, or from an axiom
-pub record IsBranchOf (p : FormulaData) (b : BranchData) : Type 0 where
+pub record IsBranchOf (shapes : List Shape) (p : FormulaData) (b : BranchData) : Type 0 where
   pub begins : IsEntry b.entries 0 (NotFormula p)
   pub short : length b.entries ≤ most_entries
   pub one_each : length b.entries ≡ suc (length b.origins)
-  pub grown : (k : ℕ) → k < length b.origins → IsGrownAt b k
+  pub grown : (k : ℕ) → k < length b.origins → IsGrownAt shapes b k

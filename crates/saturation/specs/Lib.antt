@@ -1,3 +1,4 @@
+pub mod NumberAxioms
 pub mod Branch
 pub mod Saturated
 pub mod Subterms

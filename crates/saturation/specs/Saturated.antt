@@ -4,10 +4,13 @@ use Rattle.std.specs.Prelude.{◌≡◌, ℕ, List, slice_get, Option, Some, Non
 use Rattle.pv_base.specs.TypeData.{TypeData, NumType}
 use Rattle.fol.specs.declared.operators.Comparison.TheVariants.{Eq}
 use Rattle.fol.specs.FormulaData.{TermData, FormulaData, IsFormula, NotFormula, CompareFormula}
-use Rattle.cert.specs.Axioms.{greatest, range_axiom, trichotomy_axiom, IsWhole}
+use Rattle.fol.specs.declared.shapes.Shape.{Shape}
+use Rattle.axioms.specs.Equivalences.{greatest}
+use Rattle.axioms.specs.Facts.{IsWhole}
 use Rattle.cert.specs.Closes.{IsFalseForm}
 use Rattle.cert.specs.Parts.{parts_of, cases_of}
 use Rattle.saturation.specs.Branch.{BranchData, IsBranchOf}
+use Rattle.saturation.specs.NumberAxioms.{range_axiom, trichotomy_axiom}
 use Rattle.saturation.specs.Subterms.{EachIn}
 
 -- some formula of the list has the property
@@ -67,6 +70,6 @@ pub record IsSettled (entries : List FormulaData) (p : FormulaData) : Type 0 whe
   pub is_not_denied : Stands entries (NotFormula p) → ⊥
 
 -- a branch of a tableau for the formula on which nothing is left to do, and which nothing closes
-pub record IsSaturatedBranch (p : FormulaData) (b : BranchData) : Type 0 where
-  pub is_branch : IsBranchOf p b
+pub record IsSaturatedBranch (shapes : List Shape) (p : FormulaData) (b : BranchData) : Type 0 where
+  pub is_branch : IsBranchOf shapes p b
   pub settled : All (IsSettled b.entries) b.entries

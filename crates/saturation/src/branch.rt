@@ -1,6 +1,6 @@
 //! Branches of tableaux, with where each of their entries came from.
 
-use cert::certificate::Axiom;
+use axioms::axiom::Axiom;
 use fol::formula::Formula;
 use std::marker::Model;
 

@@ -7,11 +7,12 @@ use crate::branch::Branch;
 use crate::growth::is_branch_of;
 use crate::settled::are_settled;
 use fol::formula::Formula;
+use fol::shapes::Shapes;
 
-/// Whether the branch is one of a tableau for the formula on which nothing is left to do, and which
+/// Whether the branch is one of a tableau for the formula, over these shapes of structs, on which nothing is left to do, and which
 /// nothing closes. Entries are compared pair by pair.
-pub fn is_saturated(formula: &Formula, branch: &Branch) -> bool
-    ensures { IsTrue result ↔ IsSaturatedBranch formula.now branch.now }
+pub fn is_saturated(shapes: &Shapes, formula: &Formula, branch: &Branch) -> bool
+    ensures { IsTrue result ↔ IsSaturatedBranch shapes.now formula.now branch.now }
 {
-    is_branch_of(formula, branch) && are_settled(branch.entries.as_slice())
+    is_branch_of(shapes, formula, branch) && are_settled(branch.entries.as_slice())
 }

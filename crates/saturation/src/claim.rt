@@ -3,14 +3,15 @@
 ghost use Rattle.std.specs.Prelude.{◌≡◌, ◌↔◌, IsTrue, Some, slice_get};
 ghost use Rattle.pv_base.specs.TypeData.{TypeData, NumType};
 ghost use Rattle.fol.specs.FormulaData.{EqFormula, IsFormula};
-ghost use Rattle.cert.specs.Axioms.{trichotomy_axiom};
 ghost use Rattle.cert.specs.Branch.{entry_formula};
 ghost use Rattle.cert.specs.Parts.{both_of};
+ghost use Rattle.saturation.specs.NumberAxioms.{trichotomy_axiom};
 ghost use Rattle.saturation.specs.Saturated.{HasOne, Stands, IsRangeAt};
 
-use cert::axioms::is_instance;
+use axioms::alternatives::are_alternative;
+use axioms::axiom::{Alternative, Equivalence};
+use axioms::equivalences::is_equivalence;
 use cert::branch::Entry;
-use cert::certificate::Axiom;
 use cert::tableau::{is_both_of, is_entry};
 use fol::formula::{Formula, FormulaNode, Term};
 use fol::operators::{Comparison, Connective, Junction};
@@ -93,8 +94,8 @@ fn is_range_at(formula: &Formula, of: &TypeTerm, term: &Term) -> bool
     ensures { IsTrue result ↔ IsRangeAt of.now term.now formula.now }
 {
     match &formula.node {
-        FormulaNode::Connect(Connective::Iff, left, _) => has_type(left, of, term)
-            && is_instance(Axiom::Range, formula),
+        FormulaNode::Connect(Connective::Iff, left, right) => has_type(left, of, term)
+            && is_equivalence(Equivalence::Range, left, right),
         _ => false,
     }
 }
@@ -117,7 +118,8 @@ fn is_trichotomy_at(formula: &Formula, left: &Term, right: &Term) -> bool
         FormulaNode::Join(junction, cases) => match *junction {
             Junction::AllOf => false,
             Junction::AnyOf => {
-                equates(cases.as_slice(), left, right) && is_instance(Axiom::Trichotomy, formula)
+                equates(cases.as_slice(), left, right)
+                    && are_alternative(Alternative::Trichotomy, cases.as_slice())
             }
         },
         _ => false,

@@ -1,33 +1,33 @@
 //! Whether formulas are a branch of a tableau.
 
 ghost use Rattle.std.specs.Prelude.{◌≡◌, ◌↔◌, ℕ, suc, ◌<◌, IsTrue, length, slice_get};
-ghost use Rattle.cert.specs.Axioms.{IsInstanceOf};
 ghost use Rattle.cert.specs.Closes.{IsEntry};
 ghost use Rattle.cert.specs.Parts.{parts_of, parts_of_negated, cases_of, cases_of_negated};
 ghost use Rattle.fol.specs.FormulaData.{FormulaData, NotFormula};
 ghost use Rattle.std.specs.Prelude.{map, Some};
 ghost use Rattle.saturation.specs.Branch.{IsNumber, ComesFrom, IsGrownAt, IsBranchOf};
 
+use axioms::instance::is_axiom;
 use crate::branch::{Branch, Origin};
-use cert::axioms::is_instance;
 use cert::branch::Entry;
 use cert::tableau::{is_both_of, is_entry};
 use fol::formula::{Formula, FormulaNode};
 use fol::operators::{Connective, Junction};
 use fol::same::same_formula;
+use fol::shapes::Shapes;
 
 /// The greatest number of entries of a branch.
 const MOST_ENTRIES: usize = 4_000;
 
-/// Whether the branch is one of a tableau for the formula.
-pub fn is_branch_of(formula: &Formula, branch: &Branch) -> bool
-    ensures { IsTrue result ↔ IsBranchOf formula.now branch.now }
+/// Whether the branch is one of a tableau for the formula, over these shapes of structs.
+pub fn is_branch_of(shapes: &Shapes, formula: &Formula, branch: &Branch) -> bool
+    ensures { IsTrue result ↔ IsBranchOf shapes.now formula.now branch.now }
 {
     let count = branch.entries.len();
     count <= MOST_ENTRIES
         && count == branch.origins.len() + 1
         && begins_with_negation(branch.entries.as_slice(), formula)
-        && is_grown(branch)
+        && is_grown(shapes, branch)
 }
 
 fn begins_with_negation(entries: &[Formula], formula: &Formula) -> bool
@@ -40,24 +40,25 @@ fn begins_with_negation(entries: &[Formula], formula: &Formula) -> bool
 }
 
 // Whether each entry but the first comes from earlier ones or from an axiom.
-fn is_grown(branch: &Branch) -> bool
+fn is_grown(shapes: &Shapes, branch: &Branch) -> bool
     requires { length branch.now.entries ≡ suc (length branch.now.origins) }
-    ensures { IsTrue result ↔ ((k : ℕ) → k < length branch.now.origins → IsGrownAt branch.now k) }
+    ensures { IsTrue result ↔ ((k : ℕ) → k < length branch.now.origins → IsGrownAt shapes.now branch.now k) }
 {
     for k in 0..branch.origins.len() {
-        if !is_grown_at(branch, k) {
+        if !is_grown_at(shapes, branch, k) {
             return false;
         }
     }
     true
 }
 
-fn is_grown_at(branch: &Branch, k: usize) -> bool
+fn is_grown_at(shapes: &Shapes, branch: &Branch, k: usize) -> bool
     requires one_each { length branch.now.entries ≡ suc (length branch.now.origins) }
     requires within { k < length branch.now.origins }
-    ensures { IsTrue result ↔ IsGrownAt branch.now k }
+    ensures { IsTrue result ↔ IsGrownAt shapes.now branch.now k }
 {
     comes_from(
+        shapes,
         branch.entries.as_slice(),
         k + 1,
         branch.origins[k],
@@ -66,8 +67,14 @@ fn is_grown_at(branch: &Branch, k: usize) -> bool
 }
 
 // Whether the formula comes from one of the first `count` entries, or from an axiom.
-fn comes_from(entries: &[Formula], count: usize, origin: Origin, formula: &Formula) -> bool
-    ensures { IsTrue result ↔ ComesFrom entries.now count origin formula.now }
+fn comes_from(
+    shapes: &Shapes,
+    entries: &[Formula],
+    count: usize,
+    origin: Origin,
+    formula: &Formula,
+) -> bool
+    ensures { IsTrue result ↔ ComesFrom shapes.now entries.now count origin formula.now }
 {
     match origin {
         Origin::Part(entry, number) => {
@@ -76,7 +83,7 @@ fn comes_from(entries: &[Formula], count: usize, origin: Origin, formula: &Formu
         Origin::Case(entry, number) => {
             (entry as usize) < count && is_case_at(entries, entry, number, formula)
         }
-        Origin::Axiom(name) => is_instance(name, formula),
+        Origin::Axiom(name) => is_axiom(shapes, name, formula),
     }
 }
 

@@ -2,7 +2,7 @@
 
 ghost use Rattle.std.specs.Prelude.{◌≡◌, ◌↔◌, IsTrue, All, map, Some};
 ghost use Rattle.fol.specs.FormulaData.{TermData, NotFormula};
-ghost use Rattle.cert.specs.Axioms.{greatest};
+ghost use Rattle.axioms.specs.Equivalences.{greatest};
 ghost use Rattle.cert.specs.Closes.{IsFalseForm};
 ghost use Rattle.cert.specs.Parts.{parts_of, parts_of_negated, cases_of, cases_of_negated};
 ghost use Rattle.saturation.specs.Saturated.{HasOne, Stands, AllStand, SomeStands, RangeStands, TrichotomyStands, DeniedStands, AxiomStands, IsSettled};

@@ -1,7 +1,7 @@
 //! Steps that close a branch.
 
 use crate::rows::contradiction;
-use cert::certificate::End;
+use cert::certificate::Close;
 use fol::formula::{Formula, FormulaNode, TermNode};
 use fol::operators::{Comparison, Connective, Constant, Junction};
 use fol::same::{same_formula, same_term};
@@ -21,18 +21,18 @@ pub fn closing(
     alloc: Global,
     entries: &[Formula],
     waiting: &[u32],
-) -> Result<Option<End>, NoMemory> {
+) -> Result<Option<Close>, NoMemory> {
     match first_conflict(entries) {
-        Some(Conflict::False(index)) => Ok(Some(End::False(index))),
-        Some(Conflict::Clash(other, index)) => Ok(Some(End::Clash(other, index))),
+        Some(Conflict::False(index)) => Ok(Some(Close::False(index))),
+        Some(Conflict::Clash(other, index)) => Ok(Some(Close::Clash(other, index))),
         None if has_equivalence(entries, waiting) => Ok(None),
         None => linear(alloc, entries),
     }
 }
 
-fn linear(alloc: Global, entries: &[Formula]) -> Result<Option<End>, NoMemory> {
+fn linear(alloc: Global, entries: &[Formula]) -> Result<Option<Close>, NoMemory> {
     match contradiction(alloc, entries)? {
-        Some(multiples) => Ok(Some(End::Linear(multiples))),
+        Some(multiples) => Ok(Some(Close::Linear(multiples))),
         None => Ok(None),
     }
 }

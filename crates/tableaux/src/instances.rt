@@ -1,8 +1,9 @@
 //! The instances of axioms that an entry calls for.
 
+use axioms::axiom::{Alternative, Axiom, Equivalence, Fact};
+use axioms::facts::is_arithmetic;
 use crate::expansion::{is_number, range, trichotomy};
-use cert::axioms::is_arithmetic;
-use cert::certificate::{Axiom, Step, StepNode};
+use cert::certificate::{Step, StepNode};
 use fol::formula::{Formula, FormulaNode, Term};
 use fol::operators::Comparison;
 use pv_base::memory::NoMemory;
@@ -75,7 +76,7 @@ fn add_range(
     term: &Term,
 ) -> Result<(), NoMemory> {
     match range(alloc, of, term)? {
-        Some(formula) => add(steps, Axiom::Range, formula),
+        Some(formula) => add(steps, Axiom::Exactly(Equivalence::Range), formula),
         None => Ok(()),
     }
 }
@@ -86,7 +87,7 @@ fn trichotomy_steps(alloc: Global, left: &Term, right: &Term) -> Result<Vec<Step
     add_whole(alloc, &mut steps, right)?;
     add(
         &mut steps,
-        Axiom::Trichotomy,
+        Axiom::Cases(Alternative::Trichotomy),
         trichotomy(alloc, left, right)?,
     )?;
     Ok(steps)
@@ -95,7 +96,7 @@ fn trichotomy_steps(alloc: Global, left: &Term, right: &Term) -> Result<Vec<Step
 // That a term is a whole number, where it is one by its form.
 fn add_whole(alloc: Global, steps: &mut Vec<Step>, term: &Term) -> Result<(), NoMemory> {
     if is_arithmetic(term) {
-        add(steps, Axiom::Whole, is_number(alloc, term)?)
+        add(steps, Axiom::Plain(Fact::Whole), is_number(alloc, term)?)
     } else {
         Ok(())
     }

@@ -5,7 +5,7 @@ ghost use Rattle.std.specs.Prelude.{◌≡◌, ◌+◌};
 use crate::expansion::{is_disjunction, parts};
 use crate::growing::grow;
 use crate::instances::instances;
-use cert::certificate::{Step, StepNode};
+use cert::certificate::{Move, MoveNode, Step, StepNode};
 use fol::formula::Formula;
 use pv_base::memory::NoMemory;
 use pv_base::meter::take_step;
@@ -17,31 +17,22 @@ use std::sync::ledger::Ledger;
 /// The greatest number of entries of a branch.
 pub const MOST_ENTRIES: usize = 4_000;
 
-/// The straight steps that were taken on a branch.
-#[derive(Drop)]
-pub struct Straight {
-    pub steps: Vec<Step>,
-    /// The numbers of the disjunctions that wait to be split.
-    pub waiting: Vec<u32>,
-}
-
-/// Takes each straight step that the entries from `from` on call for; none where a limit was met.
+/// Takes each straight step that the entries from `from` on call for, and puts it behind the other moves.
+/// It answers with the numbers of the disjunctions that wait to be split; none where a limit was met.
 pub fn straighten<L: Ledger>(
     alloc: Global,
     branch: &mut Branch,
     from: usize,
     waiting: &[u32],
+    moves: &mut Vec<Move>,
     steps: &mut Steps<L>,
     left: &mut u64,
-) -> Result<Option<Straight>, NoMemory>
+) -> Result<Option<Vec<u32>>, NoMemory>
     ensures { steps.new + left.new ≡ steps.old + left.old }
 {
-    let mut straight = Straight {
-        steps: Vec::new(alloc),
-        waiting: Vec::from_slice(alloc, waiting)?,
-    };
-    if saturate(alloc, branch, from, &mut straight, steps, left)? {
-        Ok(Some(straight))
+    let mut waiting = Vec::from_slice(alloc, waiting)?;
+    if saturate(alloc, branch, from, &mut waiting, moves, steps, left)? {
+        Ok(Some(waiting))
     } else {
         Ok(None)
     }
@@ -52,7 +43,8 @@ fn saturate<L: Ledger>(
     alloc: Global,
     branch: &mut Branch,
     from: usize,
-    straight: &mut Straight,
+    waiting: &mut Vec<u32>,
+    moves: &mut Vec<Move>,
     steps: &mut Steps<L>,
     left: &mut u64,
 ) -> Result<bool, NoMemory>
@@ -62,7 +54,7 @@ fn saturate<L: Ledger>(
         if next >= branch.entries.len() {
             return Ok(true);
         }
-        if !expand(alloc, branch, next, straight, steps, left)? {
+        if !expand(alloc, branch, next, waiting, moves, steps, left)? {
             return Ok(false);
         }
     }
@@ -74,17 +66,18 @@ fn expand<L: Ledger>(
     alloc: Global,
     branch: &mut Branch,
     next: usize,
-    straight: &mut Straight,
+    waiting: &mut Vec<u32>,
+    moves: &mut Vec<Move>,
     steps: &mut Steps<L>,
     left: &mut u64,
 ) -> Result<bool, NoMemory>
     ensures { steps.new + left.new ≡ steps.old + left.old }
 {
-    match expand_uncounted(alloc, branch, next, straight)? {
+    match expand_uncounted(alloc, branch, next, waiting, moves)? {
         Outcome::Nothing => Ok(false),
         Outcome::Waiting => Ok(true),
         Outcome::Parts => Ok(take_step(steps, left)),
-        Outcome::Literal => add_axioms(alloc, branch, next, straight, steps, left),
+        Outcome::Literal => add_axioms(alloc, branch, next, moves, steps, left),
     }
 }
 
@@ -105,7 +98,8 @@ fn expand_uncounted(
     alloc: Global,
     branch: &mut Branch,
     next: usize,
-    straight: &mut Straight,
+    waiting: &mut Vec<u32>,
+    moves: &mut Vec<Move>,
 ) -> Result<Outcome, NoMemory> {
     let index = match u32::try_from(next) {
         Ok(index) => index,
@@ -116,12 +110,12 @@ fn expand_uncounted(
         None => return Ok(Outcome::Nothing),
     };
     if is_disjunction(entry) {
-        straight.waiting.push(index)?;
+        waiting.push(index)?;
         return Ok(Outcome::Waiting);
     }
     match parts(alloc, entry)? {
         Some(formulas) => {
-            take_parts(alloc, branch, index, formulas, straight)?;
+            take_parts(alloc, branch, index, formulas, moves)?;
             Ok(Outcome::Parts)
         }
         None => Ok(Outcome::Literal),
@@ -134,13 +128,15 @@ fn take_parts(
     branch: &mut Branch,
     index: u32,
     formulas: Vec<Formula>,
-    straight: &mut Straight,
+    moves: &mut Vec<Move>,
 ) -> Result<(), NoMemory> {
     add_parts(alloc, branch, index, formulas.as_slice())?;
-    straight.steps.push(Step {
-        node: StepNode::Parts(index, formulas),
-    })?;
-    Ok(())
+    add(
+        moves,
+        Step {
+            node: StepNode::Parts(index, formulas),
+        },
+    )
 }
 
 fn add_parts(
@@ -162,7 +158,7 @@ fn add_axioms<L: Ledger>(
     alloc: Global,
     branch: &mut Branch,
     next: usize,
-    straight: &mut Straight,
+    moves: &mut Vec<Move>,
     steps: &mut Steps<L>,
     left: &mut u64,
 ) -> Result<bool, NoMemory>
@@ -172,7 +168,7 @@ fn add_axioms<L: Ledger>(
     if !add_instances(alloc, branch, due.as_slice(), steps, left)? {
         return Ok(false);
     }
-    append(&mut straight.steps, due)?;
+    append(moves, due)?;
     Ok(true)
 }
 
@@ -201,9 +197,16 @@ fn add_instance(alloc: Global, branch: &mut Branch, step: &Step) -> Result<(), N
     }
 }
 
-fn append(steps: &mut Vec<Step>, more: Vec<Step>) -> Result<(), NoMemory> {
+fn append(moves: &mut Vec<Move>, more: Vec<Step>) -> Result<(), NoMemory> {
     for step in more {
-        steps.push(step)?;
+        add(moves, step)?;
     }
+    Ok(())
+}
+
+fn add(moves: &mut Vec<Move>, step: Step) -> Result<(), NoMemory> {
+    moves.push(Move {
+        node: MoveNode::Straight(step),
+    })?;
     Ok(())
 }

@@ -6,8 +6,8 @@ ghost use Rattle.std.specs.Prelude.{◌≡◌, ◌+◌};
 use crate::closing::{closing, is_equivalence};
 use crate::expansion::cases;
 use crate::growing::{grow, shorten};
-use crate::straight::{Straight, straighten};
-use cert::certificate::{Case, Cert, End};
+use crate::straight::straighten;
+use cert::certificate::{Cause, Move, MoveNode};
 use fol::formula::Formula;
 use pv_base::memory::NoMemory;
 use pv_base::meter::take_step;
@@ -23,9 +23,9 @@ struct Disjunction {
     cases: Vec<Formula>,
 }
 
-/// A certificate that closes the branch. Its entries from `from` on were not looked at yet, and of
-/// those before, the disjunctions that are waiting were not split. Where none is found, the branch is
-/// left as the one that could not be closed.
+/// Whether the branch was closed, by moves that are put behind the others. Its entries from `from` on
+/// were not looked at yet, and of those before, the disjunctions that are waiting were not split. Where
+/// it was not closed, the branch is left as the one that could not be, and the moves are of no use.
 #[cycle(close)]
 pub fn close<L: Ledger>(
     alloc: Global,
@@ -33,53 +33,37 @@ pub fn close<L: Ledger>(
     from: usize,
     waiting: &[u32],
     splits: u32,
+    moves: &mut Vec<Move>,
     steps: &mut Steps<L>,
     left: &mut u64,
-) -> Result<Option<Cert>, NoMemory>
+) -> Result<bool, NoMemory>
     ensures { steps.new + left.new ≡ steps.old + left.old }
 {
-    match straighten(alloc, branch, from, waiting, steps, left)? {
-        Some(straight) => close_straight(alloc, branch, straight, splits, steps, left),
-        None => Ok(None),
+    match straighten(alloc, branch, from, waiting, moves, steps, left)? {
+        Some(waiting) => close_straight(alloc, branch, waiting, splits, moves, steps, left),
+        None => Ok(false),
     }
 }
 
-// A certificate that begins with these steps, which were taken on the branch.
+// The same for a branch that no straight step goes on with.
 #[cycle(close)]
 fn close_straight<L: Ledger>(
     alloc: Global,
     branch: &mut Branch,
-    straight: Straight,
-    splits: u32,
-    steps: &mut Steps<L>,
-    left: &mut u64,
-) -> Result<Option<Cert>, NoMemory>
-    ensures { steps.new + left.new ≡ steps.old + left.old }
-{
-    match end_of(alloc, branch, straight.waiting, splits, steps, left)? {
-        Some(end) => Ok(Some(Cert {
-            steps: straight.steps,
-            end,
-        })),
-        None => Ok(None),
-    }
-}
-
-// What closes a branch that no straight step goes on with.
-#[cycle(close)]
-fn end_of<L: Ledger>(
-    alloc: Global,
-    branch: &mut Branch,
     waiting: Vec<u32>,
     splits: u32,
+    moves: &mut Vec<Move>,
     steps: &mut Steps<L>,
     left: &mut u64,
-) -> Result<Option<End>, NoMemory>
+) -> Result<bool, NoMemory>
     ensures { steps.new + left.new ≡ steps.old + left.old }
 {
     match closing(alloc, branch.entries.as_slice(), waiting.as_slice())? {
-        Some(end) => Ok(Some(end)),
-        None => split(alloc, branch, waiting, splits, steps, left),
+        Some(by) => {
+            add(moves, MoveNode::Closed(by))?;
+            Ok(true)
+        }
+        None => split(alloc, branch, waiting, splits, moves, steps, left),
     }
 }
 
@@ -90,13 +74,14 @@ fn split<L: Ledger>(
     branch: &mut Branch,
     mut waiting: Vec<u32>,
     splits: u32,
+    moves: &mut Vec<Move>,
     steps: &mut Steps<L>,
     left: &mut u64,
-) -> Result<Option<End>, NoMemory>
+) -> Result<bool, NoMemory>
     ensures { steps.new + left.new ≡ steps.old + left.old }
 {
     if splits == 0 {
-        return Ok(None);
+        return Ok(false);
     }
     match due_split(alloc, branch.entries.as_slice(), &mut waiting, steps, left)? {
         Some(due) => {
@@ -106,11 +91,12 @@ fn split<L: Ledger>(
                 due,
                 waiting.as_slice(),
                 splits - 1,
+                moves,
                 steps,
                 left,
             )
         }
-        None => Ok(None),
+        None => Ok(false),
     }
 }
 
@@ -121,90 +107,75 @@ fn close_cases<L: Ledger>(
     due: Disjunction,
     waiting: &[u32],
     splits: u32,
-    steps: &mut Steps<L>,
-    left: &mut u64,
-) -> Result<Option<End>, NoMemory>
-    ensures { steps.new + left.new ≡ steps.old + left.old }
-{
-    let index = due.index;
-    let mut closed = Vec::new(alloc);
-    let mut number: u32 = 0;
-    for formula in due.cases {
-        let origin = Origin::Case(index, number);
-        if !close_case(
-            alloc,
-            branch,
-            formula,
-            origin,
-            waiting,
-            splits,
-            &mut closed,
-            steps,
-            left,
-        )? {
-            return Ok(None);
-        }
-        number = number.saturating_add(1);
-    }
-    Ok(Some(End::Split(index, closed)))
-}
-
-// False where the branch with this case is not closed.
-#[cycle(close)]
-fn close_case<L: Ledger>(
-    alloc: Global,
-    branch: &mut Branch,
-    formula: Formula,
-    origin: Origin,
-    waiting: &[u32],
-    splits: u32,
-    closed: &mut Vec<Case>,
+    moves: &mut Vec<Move>,
     steps: &mut Steps<L>,
     left: &mut u64,
 ) -> Result<bool, NoMemory>
     ensures { steps.new + left.new ≡ steps.old + left.old }
 {
-    // Boxed, since it lives on across a step that may fail.
-    let formula = Box::new(alloc, formula)?;
-    match close_grown(
-        alloc, branch, &formula, origin, waiting, splits, steps, left,
-    )? {
-        Some(cert) => {
-            add_case(closed, formula, cert)?;
-            Ok(true)
+    let index = due.index;
+    let place = moves.len();
+    let count = due.cases.len();
+    add(moves, MoveNode::Forked(Cause::Split(index), due.cases))?;
+    let mut number: u32 = 0;
+    for at in 0..count {
+        let origin = Origin::Case(index, number);
+        if !close_case(
+            alloc, branch, place, at, origin, waiting, splits, moves, steps, left,
+        )? {
+            return Ok(false);
         }
-        None => Ok(false),
+        number = number.saturating_add(1);
     }
+    Ok(true)
 }
 
-// A certificate that closes the branch with one more entry; the branch is then as it was.
+// Closes the branch with one more entry, a case of the fork at a place of the moves; the branch is then
+// as it was.
 #[cycle(close)]
-fn close_grown<L: Ledger>(
+fn close_case<L: Ledger>(
     alloc: Global,
     branch: &mut Branch,
-    formula: &Formula,
+    place: usize,
+    at: usize,
     origin: Origin,
     waiting: &[u32],
     splits: u32,
+    moves: &mut Vec<Move>,
     steps: &mut Steps<L>,
     left: &mut u64,
-) -> Result<Option<Cert>, NoMemory>
+) -> Result<bool, NoMemory>
     ensures { steps.new + left.new ≡ steps.old + left.old }
 {
     let mark = branch.entries.len();
-    grow(alloc, branch, formula, origin)?;
-    let found = close(alloc, branch, mark, waiting, splits, steps, left)?;
-    if found.is_some() {
-        shorten(branch, mark);
+    match case_at(moves.as_slice(), place, at) {
+        Some(formula) => grow(alloc, branch, formula, origin)?,
+        None => return Ok(false),
     }
-    Ok(found)
+    if !close(alloc, branch, mark, waiting, splits, moves, steps, left)? {
+        return Ok(false);
+    }
+    shorten(branch, mark);
+    Ok(true)
 }
 
-fn add_case(closed: &mut Vec<Case>, formula: Box<Formula>, cert: Cert) -> Result<(), NoMemory> {
-    closed.push(Case {
-        formula: Box::into_inner(formula),
-        cert,
-    })?;
+// A case of the fork at a place of the moves.
+fn case_at(moves: &[Move], place: usize, at: usize) -> Option<&Formula> {
+    match moves.get(place) {
+        Some(made) => case_of(made, at),
+        None => None,
+    }
+}
+
+fn case_of(made: &Move, at: usize) -> Option<&Formula> {
+    match &made.node {
+        MoveNode::Forked(_, cases) => cases.get(at),
+        _ => None,
+    }
+}
+
+fn add(moves: &mut Vec<Move>, node: MoveNode) -> Result<(), NoMemory> {
+    moves.push(Move { node })?;
     Ok(())
 }
 

@@ -1,5 +1,5 @@
 use Rattle.std.proofs.Common.{◌≡◌}
-use Rattle.cert.specs.Axioms.{trichotomy_axiom}
+use Rattle.saturation.specs.NumberAxioms.{trichotomy_axiom}
 use Rattle.saturation.proofs.Walks.{none_turn, one_found, none_end}
 use Rattle.saturation.proofs.claim.trichotomy_axiom_stands.Goals as goal
 
