@@ -1,5 +1,6 @@
 -- What a search answers, and what shows it.
 use Rattle.std.specs.Prelude.{◌≡◌, Bool, true, false, List, length}
+use Rattle.fol.specs.declared.shapes.Shape.{Shape}
 use Rattle.fol.specs.FormulaData.{FormulaData}
 use Rattle.cert.specs.Closes.{Certifies, most_entries}
 use Rattle.lin_arith.specs.Answer.{IsSolution}
@@ -14,33 +15,33 @@ use Rattle.search.specs.declared.answer.Answer.{Answer}
 use Rattle.search.specs.declared.answer.Answer.TheVariants.{Proved, Open, Wide, Rows, Budget, Size}
 
 -- a saturated branch, and values of its unknowns that meet its rows
-pub record IsOpenLeaf (p : FormulaData) (leaf : Leaf) (values : List Fraction) : Type 0 where
-  pub is_leaf : IsLeafOf p leaf
+pub record IsOpenLeaf (shapes : List Shape) (p : FormulaData) (leaf : Leaf) (values : List Fraction) : Type 0 where
+  pub is_leaf : IsLeafOf shapes p leaf
   pub met : IsSolution leaf.rows values
 
 -- a saturated branch, and two rows of an elimination of its rows whose sum leaves 128 bits
-pub record IsWideLeaf (p : FormulaData) (leaf : Leaf) (first second : Inequality) : Type 0 where
-  pub is_leaf : IsLeafOf p leaf
+pub record IsWideLeaf (shapes : List Shape) (p : FormulaData) (leaf : Leaf) (first second : Inequality) : Type 0 where
+  pub is_leaf : IsLeafOf shapes p leaf
   pub wide : IsWide leaf.rows first second
 
 -- a saturated branch, and the 5,000 rows of an elimination of its rows
-pub record IsLargeLeaf (p : FormulaData) (leaf : Leaf) (found : List Inequality) : Type 0 where
-  pub is_leaf : IsLeafOf p leaf
+pub record IsLargeLeaf (shapes : List Shape) (p : FormulaData) (leaf : Leaf) (found : List Inequality) : Type 0 where
+  pub is_leaf : IsLeafOf shapes p leaf
   pub reached : ReachesLimit leaf.rows found
 
 -- a branch with as many entries as a branch may have
-pub record IsFullBranch (p : FormulaData) (branch : BranchData) : Type 0 where
-  pub is_branch : IsBranchOf p branch
+pub record IsFullBranch (shapes : List Shape) (p : FormulaData) (branch : BranchData) : Type 0 where
+  pub is_branch : IsBranchOf shapes p branch
   pub full : length branch.entries ≡ most_entries
 
--- what the answer to a search for this formula shows
-abbrev pub Shows : FormulaData → Answer → Type 0
-Shows p (Proved cert) = Certifies cert p
-Shows p (Open leaf values) = IsOpenLeaf p leaf values
-Shows p (Wide leaf first second) = IsWideLeaf p leaf first second
-Shows p (Rows leaf found) = IsLargeLeaf p leaf found
-Shows p Budget = Unit {0}
-Shows p (Size branch) = IsFullBranch p branch
+-- what the answer to a search for this formula shows, over these shapes of structs
+abbrev pub Shows : List Shape → FormulaData → Answer → Type 0
+Shows shapes p (Proved cert) = Certifies shapes cert p
+Shows shapes p (Open leaf values) = IsOpenLeaf shapes p leaf values
+Shows shapes p (Wide leaf first second) = IsWideLeaf shapes p leaf first second
+Shows shapes p (Rows leaf found) = IsLargeLeaf shapes p leaf found
+Shows shapes p Budget = Unit {0}
+Shows shapes p (Size branch) = IsFullBranch shapes p branch
 
 -- whether the search spent its budget
 abbrev pub is_spent : Answer → Bool

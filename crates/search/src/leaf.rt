@@ -7,6 +7,7 @@ ghost use Rattle.search.specs.Leaf.{IsLeafOf};
 
 use crate::answer::{Answer, Leaf};
 use fol::formula::Formula;
+use fol::shapes::Shapes;
 use lin_arith::solve;
 use linear_rows::rows::LinAnswer;
 use pv_base::memory::NoMemory;
@@ -23,16 +24,21 @@ use tableaux::straight::MOST_ENTRIES;
 /// The answer of a branch on which the search had nothing left to do but what is due on numbers, which may
 /// make it too long. It counts only where the checkers accept the branch and its rows; that they do where the
 /// search ends there is tested, not proved.
-pub fn answer_at(alloc: Global, formula: &Formula, mut branch: Branch) -> Result<Answer, NoMemory>
-    ensures shown { IfOk result (Shows formula.now) }
+pub fn answer_at(
+    alloc: Global,
+    shapes: &Shapes,
+    formula: &Formula,
+    mut branch: Branch,
+) -> Result<Answer, NoMemory>
+    ensures shown { IfOk result (Shows shapes.now formula.now) }
     ensures unspent { IfOk result (λ answer. is_spent answer ≡ false) }
 {
     add_numbers(alloc, &mut branch)?;
     if branch.entries.len() > MOST_ENTRIES {
-        return outgrown(formula, branch);
+        return outgrown(shapes, formula, branch);
     }
     let leaf = leaf_at(alloc, branch)?;
-    if !is_leaf_of(formula, &leaf) {
+    if !is_leaf_of(shapes, formula, &leaf) {
         return Err(NoMemory);
     }
     match solve(alloc, &leaf.rows)? {
@@ -54,12 +60,16 @@ fn leaf_at(alloc: Global, branch: Branch) -> Result<Leaf, NoMemory> {
 }
 
 /// The answer of a branch that grew too long.
-pub fn outgrown(formula: &Formula, mut branch: Branch) -> Result<Answer, NoMemory>
-    ensures shown { IfOk result (Shows formula.now) }
+pub fn outgrown(
+    shapes: &Shapes,
+    formula: &Formula,
+    mut branch: Branch,
+) -> Result<Answer, NoMemory>
+    ensures shown { IfOk result (Shows shapes.now formula.now) }
     ensures unspent { IfOk result (λ answer. is_spent answer ≡ false) }
 {
     shorten(&mut branch, MOST_ENTRIES);
-    if branch.entries.len() == MOST_ENTRIES && is_branch_of(formula, &branch) {
+    if branch.entries.len() == MOST_ENTRIES && is_branch_of(shapes, formula, &branch) {
         Ok(Answer::Size(branch))
     } else {
         Err(NoMemory)
@@ -67,11 +77,11 @@ pub fn outgrown(formula: &Formula, mut branch: Branch) -> Result<Answer, NoMemor
 }
 
 // Whether nothing is left to do on the leaf's branch, and its rows are those of the branch.
-fn is_leaf_of(formula: &Formula, leaf: &Leaf) -> bool
-    ensures exact { IsTrue result ↔ IsLeafOf formula.now leaf.now }
+fn is_leaf_of(shapes: &Shapes, formula: &Formula, leaf: &Leaf) -> bool
+    ensures exact { IsTrue result ↔ IsLeafOf shapes.now formula.now leaf.now }
     ensures fits { IsTrue result → All IsFitting leaf.now.rows }
 {
-    is_saturated(formula, &leaf.branch)
+    is_saturated(shapes, formula, &leaf.branch)
         && is_system_of(
             leaf.branch.entries.as_slice(),
             leaf.unknowns.as_slice(),

@@ -38,18 +38,32 @@ pub fn prove<L: Ledger>(
     budget: u64,
     steps: &mut Steps<L>,
 ) -> Result<Answer, NoMemory>
-    ensures shown { IfOk result (Shows formula.now) }
+    ensures shown { IfOk result (Shows shapes.now formula.now) }
     ensures spent { IfOk result (λ answer. is_spent answer ≡ true → steps.new ≡ steps.old + budget) }
     ensures budget { steps.new ≤ steps.old + budget }
 {
     let mut left = budget;
     let mut branch = started(alloc, formula)?;
-    match close(alloc, &mut branch, 0, &[], MOST_SPLITS, steps, &mut left)? {
-        Some(cert) => certified(shapes, formula, cert),
-        None if left == 0 => Ok(Answer::Budget),
-        None if branch.entries.len() >= MOST_ENTRIES => outgrown(formula, branch),
-        None => answer_at(alloc, formula, branch),
+    let mut moves = Vec::new(alloc);
+    if close(
+        alloc,
+        &mut branch,
+        0,
+        &[],
+        MOST_SPLITS,
+        &mut moves,
+        steps,
+        &mut left,
+    )? {
+        return certified(shapes, formula, Cert { moves });
     }
+    if left == 0 {
+        return Ok(Answer::Budget);
+    }
+    if branch.entries.len() >= MOST_ENTRIES {
+        return outgrown(shapes, formula, branch);
+    }
+    answer_at(alloc, shapes, formula, branch)
 }
 
 // The branch that begins with the negation of the formula.
@@ -64,7 +78,7 @@ fn started(alloc: Global, formula: &Formula) -> Result<Branch, NoMemory> {
 
 // The answer of a certificate, which counts only where the checker accepts it.
 fn certified(shapes: &Shapes, formula: &Formula, cert: Cert) -> Result<Answer, NoMemory>
-    ensures shown { IfOk result (Shows formula.now) }
+    ensures shown { IfOk result (Shows shapes.now formula.now) }
     ensures unspent { IfOk result (λ answer. is_spent answer ≡ false) }
 {
     if check(shapes, formula, &cert) {
