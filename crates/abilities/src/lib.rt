@@ -1,0 +1,5 @@
+//! The abilities of types.
+#![tactic(auto)]
+
+pub mod abilities;
+pub mod set;
