@@ -27,7 +27,7 @@ none_at count i = elim (cases_lt i count) [
   | inr h ↦ get_or_past (replicate {A = List ℕ} count []) i [] (let q = length-replicate {A = List ℕ} count [] in omega arith)
 ]
 
-no_edge : (count i j : ℕ) → IsEdge (replicate count []) i j → ⊥
+pub no_edge : (count i j : ℕ) → IsEdge (replicate count []) i j → ⊥
 no_edge count i j e = let n = ap (λ (xs : List ℕ). length xs) (none_at count i) in let b = e.1 in omega arith
 
 pub mirrored_none : (targets sources : List (List ℕ)) (count : ℕ) → targets ≡ replicate count [] → sources ≡ replicate count [] → AreMirrored targets sources
@@ -40,7 +40,7 @@ mirrored_none targets sources count t s = rw (t, s) (record {
 
 -- ---- one more edge
 
-edge_kept : (graph : List (List ℕ)) (from to i j : ℕ) → IsEdge graph i j → IsEdge (set graph from (get_or graph from [] ++ to ∷ [])) i j
+pub edge_kept : (graph : List (List ℕ)) (from to i j : ℕ) → IsEdge graph i j → IsEdge (set graph from (get_or graph from [] ++ to ∷ [])) i j
 edge_kept graph from to i j e = elim (cases_eq i from) [
   | inl q ↦ (
       let b = edge_begins graph i j e in
@@ -55,14 +55,14 @@ edge_kept graph from to i j e = elim (cases_eq i from) [
   | inr d ↦ subst (λ (xs : List ℕ). (k : ℕ) × (k < length xs) × (get_or xs k 0 ≡ j)) (sym (get_or-set_other graph from i (get_or graph from [] ++ to ∷ []) [] d)) e
 ]
 
-edge_new : (graph : List (List ℕ)) (from to : ℕ) → from < length graph → IsEdge (set graph from (get_or graph from [] ++ to ∷ [])) from to
+pub edge_new : (graph : List (List ℕ)) (from to : ℕ) → from < length graph → IsEdge (set graph from (get_or graph from [] ++ to ∷ [])) from to
 edge_new graph from to b =
     let new = get_or-set_at graph from from (get_or graph from [] ++ to ∷ []) [] refl b in
     let n = ap (λ (xs : List ℕ). length xs) new in
     let p = length_push (get_or graph from []) to in
     (length (get_or graph from []), omega arith, ap (λ (xs : List ℕ). get_or xs (length (get_or graph from [])) 0) new ∙ get_or_push (get_or graph from []) to 0 (length (get_or graph from [])) refl)
 
-edge_pushed : (graph : List (List ℕ)) (from to i j : ℕ) → from < length graph → IsEdge (set graph from (get_or graph from [] ++ to ∷ [])) i j → IsEdge graph i j ⊎ ((i ≡ from) × (j ≡ to))
+pub edge_pushed : (graph : List (List ℕ)) (from to i j : ℕ) → from < length graph → IsEdge (set graph from (get_or graph from [] ++ to ∷ [])) i j → IsEdge graph i j ⊎ ((i ≡ from) × (j ≡ to))
 edge_pushed graph from to i j b e = elim (cases_eq i from) [
   | inl q ↦ (
       let new = get_or-set_at graph from i (get_or graph from [] ++ to ∷ []) [] q b in

@@ -1,0 +1,4 @@
+pub mod Bounds
+pub mod FirstPlaces
+pub mod MadeGraphs
+pub mod Naming
