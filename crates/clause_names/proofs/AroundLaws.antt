@@ -1,5 +1,5 @@
 -- Names that are numbered one after another.
-use Rattle.std.proofs.Common.{◌≡◌, ℕ, zero, suc, ◌+◌, ◌<◌, List, [], ◌∷◌, ◌++◌, length, get_or, take, refl, sym, ap, ◌∙◌, append_assoc, arith}
+use Rattle.std.proofs.Common.{◌≡◌, ℕ, zero, suc, ◌+◌, ◌<◌, List, [], ◌∷◌, ◌++◌, length, get_or, take, sym, ap, ◌∙◌, append_assoc, arith}
 use Rattle.pv_types.specs.declared.spec.SpecName.{SpecName}
 use Rattle.spec_names.specs.declared.outer.OuterName.{OuterName}
 use Rattle.clause_names.specs.declared.around.NameKind.{NameKind}

@@ -1,12 +1,11 @@
 -- The clauses of a target, of some sources and of more behind them.
-use Rattle.std.proofs.Common.{◌≡◌, ◌⊎◌, inl, inr, ℕ, suc, ◌+◌, ◌<◌, List, [], ◌∷◌, ◌++◌, length, get_or, take, drop, Bool, true, refl, sym, ap, subst, ◌∙◌, arith, append_assoc, append-nil, length-append}
+use Rattle.std.proofs.Common.{◌≡◌, inl, inr, ℕ, suc, ◌+◌, ◌<◌, List, [], ◌∷◌, ◌++◌, length, get_or, take, drop, refl, sym, ap, subst, ◌∙◌, arith, append_assoc, append-nil, length-append}
 use Rattle.pv_base.specs.declared.span.Span.{Span}
 use Rattle.clause_tree.specs.declared.clause.Clause.{Clause as ClauseTree}
 use Rattle.pv_types.specs.declared.clause.Clause.{Clause}
 use Rattle.spec_names.specs.declared.outer.OuterName.{OuterName}
 use Rattle.clause_names.specs.declared.clauses.Target.{Target}
 use Rattle.clause_names.specs.Setting.{ClauseScope}
-use Rattle.clause_names.specs.ClauseForms.{IsClauseOf}
 use Rattle.clause_names.specs.Clauses.{AddedClauses, AreClausesOf, HasUnknownAmong, HasUnknownBehind, PlacedClause, entered, lets_from, placed, placed_one}
 use Rattle.clause_names.proofs.ListLaws.{flat_next, flat_split}
 

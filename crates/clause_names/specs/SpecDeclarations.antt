@@ -12,9 +12,7 @@ use Rattle.pv_types.specs.Listed.{IsSound, nodes_of}
 use Rattle.pv_types.specs.declared.program.SchemaId.{SchemaId}
 use Rattle.pv_types.specs.declared.declaration.Schema.{Schema}
 use Rattle.pv_types.specs.declared.declaration.SpecFunction.{SpecFunction}
-use Rattle.pv_types.specs.declared.declaration.TypedName.{TypedName}
 use Rattle.pv_names.specs.EnvironmentData.{EnvironmentData}
-use Rattle.pv_names.specs.Meanings.{each}
 use Rattle.pv_names.specs.TypeMeanings.{TypeScope, type_meaning}
 use Rattle.spec_names.specs.Forms.{SpecTree}
 use Rattle.spec_names.specs.Resolved.{expression_tree}

@@ -303,7 +303,7 @@ fn clauses_of_each_form(rt: HostRuntime) -> Result<(), Fail> {
     let alloc = rt.alloc();
     for (text, name, wanted) in [
         (
-            "module 0x1::m { struct R has key {} fun f(x: u64, y: u64): u64 { x } spec f { pragma opaque; requires x < y; ensures result == y; aborts_if x > 1; modifies global<R>(@0x1), global<R>(@0x2); let z = x; let post w = result; ensures z == w; include true_of; } spec schema S { } }",
+            "module 0x1::m { struct R has key {} fun f(x: u64, y: u64): u64 { x } spec f { pragma opaque; requires x < y; ensures result == y; aborts_if x > 1; modifies global<R>(@0x1), global<R>(@0x2); let z = x; let post w = result; ensures z == w; include Missing; } spec schema S { } }",
             b"f".as_slice(),
             "?",
         ),
