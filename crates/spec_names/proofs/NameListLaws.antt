@@ -1,10 +1,9 @@
 -- Names that are put behind others, and where each stands last.
-use Rattle.std.proofs.Common.{◌≡◌, ℕ, zero, suc, ◌+◌, ◌<◌, List, [], ◌∷◌, ◌++◌, length, Bool, true, false, Some, None, Option, refl, ap, sym, ◌∙◌, ◌⊎◌, inl, inr, subst, arith, slice_get}
+use Rattle.std.proofs.Common.{◌≡◌, ℕ, suc, List, [], ◌∷◌, ◌++◌, length, Bool, true, false, Some, None, Option, refl, ap, sym, ◌∙◌, ◌⊎◌, inl, inr, subst, arith, slice_get}
 use Rattle.std.specs.Prelude.{Result, Ok, Err, OnOk, is_err, cond, if◌then◌else◌, option_and_then}
 use Rattle.std.specs.Map.{lookup}
 use Rattle.pv_base.specs.Names.{same_name}
 use Rattle.pv_types.specs.declared.spec.SpecName.{SpecName}
-use Rattle.spec_names.specs.declared.outer.OuterName.{OuterName}
 use Rattle.spec_names.specs.NameLists.{IsIndexOf, last_place, later}
 use Rattle.spec_names.specs.OuterNames.{outer_meaning, or_name, with_meanings}
 
