@@ -12,7 +12,7 @@ use Rattle.verify.specs.OpenValues.{AreValuesOf, IsOpenCondition}
 use Rattle.report.specs.ReportData.{ParameterValueData}
 use Rattle.verify.specs.Verified.{IsShown}
 
-pub open_condition : (p : FormulaData) (ps : List (List ℕ)) (leaf : Leaf) (fractions : List Fraction) (values : List ParameterValueData) (us : List TermData) (fs : List Fraction) → IsOpenLeaf p leaf fractions → AreValuesOf us fs ps values → us ≡ leaf.unknowns.items → fs ≡ fractions → IsOpenCondition p ps values
+pub open_condition : (p : FormulaData) (ps : List (List ℕ)) (leaf : Leaf) (fractions : List Fraction) (values : List ParameterValueData) (us : List TermData) (fs : List Fraction) → IsOpenLeaf [] p leaf fractions → AreValuesOf us fs ps values → us ≡ leaf.unknowns.items → fs ≡ fractions → IsOpenCondition p ps values
 open_condition p ps leaf fractions values us fs is are e f = record {
   leaf = leaf;
   fractions = fractions;
@@ -20,14 +20,14 @@ open_condition p ps leaf fractions values us fs is are e f = record {
   are_values = subst (λ us. AreValuesOf us fractions ps values) e (subst (λ fs. AreValuesOf us fs ps values) f are);
 }
 
-pub shown_wide : (p : FormulaData) (ps : List (List ℕ)) (leaf : Leaf) (first second : Inequality) (verdict : ConditionVerdict) (values : List ParameterValueData) → IsWideLeaf p leaf first second → verdict ≡ Wide → values ≡ [] → IsShown p ps verdict values
+pub shown_wide : (p : FormulaData) (ps : List (List ℕ)) (leaf : Leaf) (first second : Inequality) (verdict : ConditionVerdict) (values : List ParameterValueData) → IsWideLeaf [] p leaf first second → verdict ≡ Wide → values ≡ [] → IsShown p ps verdict values
 shown_wide p ps leaf first second verdict values is e none =
     subst (λ v. IsShown p ps v values) (sym e) (record { leaf = leaf; first = first; second = second; is_wide = is }, none)
 
-pub shown_rows : (p : FormulaData) (ps : List (List ℕ)) (leaf : Leaf) (found : List Inequality) (verdict : ConditionVerdict) (values : List ParameterValueData) → IsLargeLeaf p leaf found → verdict ≡ Rows → values ≡ [] → IsShown p ps verdict values
+pub shown_rows : (p : FormulaData) (ps : List (List ℕ)) (leaf : Leaf) (found : List Inequality) (verdict : ConditionVerdict) (values : List ParameterValueData) → IsLargeLeaf [] p leaf found → verdict ≡ Rows → values ≡ [] → IsShown p ps verdict values
 shown_rows p ps leaf found verdict values is e none =
     subst (λ v. IsShown p ps v values) (sym e) (record { leaf = leaf; found = found; is_large = is }, none)
 
-pub shown_size : (p : FormulaData) (ps : List (List ℕ)) (branch : BranchData) (verdict : ConditionVerdict) (values : List ParameterValueData) → IsFullBranch p branch → verdict ≡ Size → values ≡ [] → IsShown p ps verdict values
+pub shown_size : (p : FormulaData) (ps : List (List ℕ)) (branch : BranchData) (verdict : ConditionVerdict) (values : List ParameterValueData) → IsFullBranch [] p branch → verdict ≡ Size → values ≡ [] → IsShown p ps verdict values
 shown_size p ps branch verdict values is e none =
     subst (λ v. IsShown p ps v values) (sym e) (record { branch = branch; is_full = is }, none)

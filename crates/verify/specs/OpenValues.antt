@@ -1,5 +1,5 @@
 -- Branches that show why a condition is not proved, and the values of a function's parameters on an open one.
-use Rattle.std.specs.Prelude.{◌≡◌, ℕ, pos, List, map, slice_get, Some, All}
+use Rattle.std.specs.Prelude.{◌≡◌, ℕ, pos, List, [], map, slice_get, Some, All}
 use Rattle.fol.specs.FormulaData.{TermData, VarTerm, FormulaData}
 use Rattle.linear_rows.specs.Inequality.{Inequality}
 use Rattle.linear_rows.specs.declared.rows.Fraction.{Fraction}
@@ -26,7 +26,7 @@ pub record AreValuesOf (unknowns : List TermData) (fractions : List Fraction) (p
 pub record IsOpenCondition (p : FormulaData) (parameters : List (List ℕ)) (values : List ParameterValueData) : Type 0 where
   pub leaf : Leaf
   pub fractions : List Fraction
-  pub is_open : IsOpenLeaf p leaf fractions
+  pub is_open : IsOpenLeaf [] p leaf fractions
   pub are_values : AreValuesOf leaf.unknowns.items fractions parameters values
 
 -- on some branch an elimination meets two rows whose sum leaves 128 bits
@@ -34,15 +34,15 @@ pub record IsWideCondition (p : FormulaData) : Type 0 where
   pub leaf : Leaf
   pub first : Inequality
   pub second : Inequality
-  pub is_wide : IsWideLeaf p leaf first second
+  pub is_wide : IsWideLeaf [] p leaf first second
 
 -- on some branch an elimination has 5,000 rows
 pub record IsLargeCondition (p : FormulaData) : Type 0 where
   pub leaf : Leaf
   pub found : List Inequality
-  pub is_large : IsLargeLeaf p leaf found
+  pub is_large : IsLargeLeaf [] p leaf found
 
 -- some branch has as many entries as a branch may have
 pub record IsFullCondition (p : FormulaData) : Type 0 where
   pub branch : BranchData
-  pub is_full : IsFullBranch p branch
+  pub is_full : IsFullBranch [] p branch

@@ -55,7 +55,7 @@ fn bare(alloc: Global, verdict: ConditionVerdict) -> Finding
 
 /// A formula with a certificate is valid: the checker accepts the certificate once more.
 fn confirm(alloc: Global, formula: &Formula, certificate: &Cert)
-    requires { Certifies certificate.now formula.now }
+    requires { Certifies [] certificate.now formula.now }
     ensures { Valid [] formula.now }
 {
     let shapes = Shapes::new(alloc);
@@ -71,7 +71,7 @@ fn finding_for(
     parameters: &[Name],
     answer: &Answer,
 ) -> Result<Finding, NoMemory>
-    requires { Shows formula.now answer.now }
+    requires { Shows [] formula.now answer.now }
     ensures { IfOk result (λ found. IsShown formula.now parameters.now found.verdict found.values.items) }
 {
     match answer {
