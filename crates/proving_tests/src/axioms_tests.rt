@@ -124,7 +124,7 @@ fn read_type(alloc: Global, text: &mut Text<'_>, fuel: u32) -> Option<TypeTerm> 
 }
 
 // The shape of a struct with one type parameter, whose fields are a truth value and one of that type.
-fn pair_shapes(alloc: Global) -> Result<Shapes, NoMemory> {
+pub(crate) fn pair_shapes(alloc: Global) -> Result<Shapes, NoMemory> {
     let mut items = Vec::new(alloc);
     items.push(TypeTerm {
         node: TypeNode::Bool,
@@ -274,7 +274,7 @@ fn read_list(alloc: Global, text: &mut Text<'_>, fuel: u32) -> Option<Vec<Formul
 }
 
 // The formula that the text spells, whole.
-fn read(alloc: Global, text: &str) -> Option<Formula> {
+pub(crate) fn read(alloc: Global, text: &str) -> Option<Formula> {
     let mut text = Text {
         rest: text.as_bytes(),
     };

@@ -1,6 +1,7 @@
 //! Certificates worked out by hand, and what becomes of them when they are spoilt.
 
-use cert::certificate::{Axiom, Cert, End, Multiple, Step, StepNode};
+use axioms::axiom::{Axiom, Fact};
+use cert::certificate::{Cert, Close, Move, MoveNode, Multiple, Step, StepNode};
 use cert::checker::check;
 use fol::formula::{Formula, FormulaNode, Term, TermNode};
 use fol::operators::{Comparison, Connective, Constant};
@@ -44,6 +45,18 @@ fn weaker_bound(rt: &impl Abort, alloc: Global) -> Formula {
     }
 }
 
+fn straight(node: StepNode) -> Move {
+    Move {
+        node: MoveNode::Straight(Step { node }),
+    }
+}
+
+fn closed(by: Close) -> Move {
+    Move {
+        node: MoveNode::Closed(by),
+    }
+}
+
 // The parts of its negation, and then their sum with these multipliers.
 fn by_rows(rt: &impl Abort, alloc: Global, first: i128, second: i128) -> Cert {
     let mut parts = Vec::new(alloc);
@@ -58,11 +71,9 @@ fn by_rows(rt: &impl Abort, alloc: Global, first: i128, second: i128) -> Cert {
             ).expect(rt, "memory")),
         })
         .expect(rt, "memory");
-    let mut steps = Vec::new(alloc);
-    steps
-        .push(Step {
-            node: StepNode::Parts(0, parts),
-        })
+    let mut moves = Vec::new(alloc);
+    moves
+        .push(straight(StepNode::Parts(0, parts)))
         .expect(rt, "memory");
     let mut multiples = Vec::new(alloc);
     multiples
@@ -77,10 +88,10 @@ fn by_rows(rt: &impl Abort, alloc: Global, first: i128, second: i128) -> Cert {
             multiplier: second,
         })
         .expect(rt, "memory");
-    Cert {
-        steps,
-        end: End::Linear(multiples),
-    }
+    moves
+        .push(closed(Close::Linear(multiples)))
+        .expect(rt, "memory");
+    Cert { moves }
 }
 
 #[test]
@@ -103,16 +114,17 @@ fn numerals_are_whole(rt: HostRuntime) -> Result<(), Fail> {
     let shapes = Shapes::new(rt.alloc());
     for (number, accepted) in [(7, true), (8, false)] {
         let formula = whole(&rt, rt.alloc(), numeral(7));
-        let mut steps = Vec::new(rt.alloc());
-        steps
-            .push(Step {
-                node: StepNode::Axiom(Axiom::Whole, whole(&rt, rt.alloc(), numeral(number))),
-            })
+        let mut moves = Vec::new(rt.alloc());
+        moves
+            .push(straight(StepNode::Axiom(
+                Axiom::Plain(Fact::Whole),
+                whole(&rt, rt.alloc(), numeral(number)),
+            )))
             .expect(&rt, "memory");
-        let cert = Cert {
-            steps,
-            end: End::Clash(1, 0),
-        };
+        moves
+            .push(closed(Close::Clash(1, 0)))
+            .expect(&rt, "memory");
+        let cert = Cert { moves };
         assert_eq!(rt; check(&shapes, &formula, &cert), accepted, "{number}");
     }
     Ok(())

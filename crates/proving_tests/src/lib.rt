@@ -4,6 +4,8 @@
 #[cfg(test)]
 mod axioms_tests;
 #[cfg(test)]
+mod bad_cert_tests;
+#[cfg(test)]
 mod cert_tests;
 #[cfg(test)]
 mod lin_arith_tests;

@@ -1,8 +1,9 @@
 //! Branches and rows made by hand, and what becomes of them when they are spoilt.
 
-use cert::certificate::Axiom;
+use axioms::axiom::{Axiom, Fact};
 use fol::formula::{Formula, FormulaNode, Term};
 use fol::operators::Junction;
+use fol::shapes::Shapes;
 use linear_rows::rows::{LinRow, Rows};
 use pv_base::types::{TypeNode, TypeTerm};
 use saturation::branch::{Branch, Origin};
@@ -107,7 +108,7 @@ fn is_accepted(rt: &impl Abort, alloc: Global, place: usize, kind: Kind, origin:
         (Kind::Bound, Origin::Part(1, 0)),
         (Kind::Either, Origin::Part(1, 1)),
         (Kind::Below, Origin::Case(3, 0)),
-        (Kind::Whole, Origin::Axiom(Axiom::Whole)),
+        (Kind::Whole, Origin::Axiom(Axiom::Plain(Fact::Whole))),
     ];
     let formula = not(rt, alloc, both(rt, alloc));
     let mut entries = Vec::new(alloc);
@@ -121,12 +122,12 @@ fn is_accepted(rt: &impl Abort, alloc: Global, place: usize, kind: Kind, origin:
         origins.push(from).expect(rt, "memory");
     }
     let branch = Branch { entries, origins };
-    is_saturated(&formula, &branch)
+    is_saturated(&Shapes::new(alloc), &formula, &branch)
 }
 
 #[test]
 fn branches(rt: HostRuntime) -> Result<(), Fail> {
-    let whole = Origin::Axiom(Axiom::Whole);
+    let whole = Origin::Axiom(Axiom::Plain(Fact::Whole));
     for (place, kind, origin, accepted, what) in [
         (3, Kind::Below, Origin::Case(3, 0), true, "first case"),
         (3, Kind::Above, Origin::Case(3, 1), true, "second case"),

@@ -1,6 +1,6 @@
 //! Steps of certificates, each accepted, and refused in a form that differs in one place.
 
-use cert::certificate::{Case, Cert, End, Step, StepNode};
+use cert::certificate::{Cause, Cert, Close, Move, MoveNode, Step, StepNode};
 use cert::checker::check;
 use fol::formula::{Formula, Term};
 use fol::shapes::Shapes;
@@ -64,31 +64,36 @@ fn two(rt: &impl Abort, alloc: Global, left: Formula, right: Formula) -> Vec<For
     both
 }
 
-fn parts(entry: u32, formulas: Vec<Formula>) -> Step {
-    Step {
-        node: StepNode::Parts(entry, formulas),
+fn parts(entry: u32, formulas: Vec<Formula>) -> Move {
+    straight(StepNode::Parts(entry, formulas))
+}
+
+fn straight(node: StepNode) -> Move {
+    Move {
+        node: MoveNode::Straight(Step { node }),
     }
 }
 
-fn case(alloc: Global, formula: Formula, first: u32, second: u32) -> Case {
-    Case {
-        formula,
-        cert: Cert {
-            steps: Vec::new(alloc),
-            end: End::Clash(first, second),
-        },
+fn forked(cause: Cause, cases: Vec<Formula>) -> Move {
+    Move {
+        node: MoveNode::Forked(cause, cases),
     }
 }
 
-// Whether these steps and this end certify that the first formula implies the second. They begin with entries
-// 2, that the second does not hold, and 3, that the first does.
+fn clash(first: u32, second: u32) -> Move {
+    Move {
+        node: MoveNode::Closed(Close::Clash(first, second)),
+    }
+}
+
+// Whether these moves certify that the first formula implies the second. They begin with entries 2, that the
+// second does not hold, and 3, that the first does.
 fn certifies(
     rt: &impl Abort,
     alloc: Global,
     from: &Formula,
     to: &Formula,
-    more: Vec<Step>,
-    end: End,
+    more: Vec<Move>,
 ) -> bool {
     let formula = Formula::any_of(two(
         rt,
@@ -96,19 +101,19 @@ fn certifies(
         not(rt, alloc, copy(rt, alloc, from)),
         copy(rt, alloc, to),
     ));
-    let mut steps = Vec::new(alloc);
+    let mut moves = Vec::new(alloc);
     let doubled = not(rt, alloc, not(rt, alloc, copy(rt, alloc, from)));
     let denied = not(rt, alloc, copy(rt, alloc, to));
-    steps
+    moves
         .push(parts(0, two(rt, alloc, doubled, denied)))
         .expect(rt, "memory");
     let mut holds = Vec::new(alloc);
     holds.push(copy(rt, alloc, from)).expect(rt, "memory");
-    steps.push(parts(1, holds)).expect(rt, "memory");
-    for step in more {
-        steps.push(step).expect(rt, "memory");
+    moves.push(parts(1, holds)).expect(rt, "memory");
+    for made in more {
+        moves.push(made).expect(rt, "memory");
     }
-    check(&Shapes::new(alloc), &formula, &Cert { steps, end })
+    check(&Shapes::new(alloc), &formula, &Cert { moves })
 }
 
 // For all values of 0 some value of 1 is at least it.
@@ -125,14 +130,12 @@ fn instances_of_entries(rt: HostRuntime) -> Result<(), Fail> {
         (9, 2, 1, 2, 1, false),
     ] {
         let shown = exists(&rt, a, bound, at_most(&rt, a, left, right));
-        let mut steps = Vec::new(a);
-        steps
-            .push(Step {
-                node: StepNode::Instance(entry, Term::variable(put), copy(&rt, a, &shown)),
-            })
-            .expect(&rt, "memory");
+        let mut moves = Vec::new(a);
+        let instance = StepNode::Instance(entry, Term::variable(put), copy(&rt, a, &shown));
+        moves.push(straight(instance)).expect(&rt, "memory");
+        moves.push(clash(4, 2)).expect(&rt, "memory");
         assert_eq!(rt;
-            certifies(&rt, a, &all, &shown, steps, End::Clash(4, 2)),
+            certifies(&rt, a, &all, &shown, moves),
             accepted,
             "{entry} {put} {bound} {left} {right}"
         );
@@ -147,23 +150,15 @@ fn names_are_new(rt: HostRuntime) -> Result<(), Fail> {
     let some = exists(&rt, a, 0, at_most(&rt, a, 0, 1));
     let shown = exists(&rt, a, 2, at_most(&rt, a, 2, 1));
     for (entry, variable, accepted) in [(3, 7, true), (3, 0, true), (3, 1, false), (2, 7, false)] {
-        let mut steps = Vec::new(a);
-        steps
-            .push(Step {
-                node: StepNode::Name(entry, variable, at_most(&rt, a, variable, 1)),
-            })
-            .expect(&rt, "memory");
-        steps
-            .push(Step {
-                node: StepNode::Instance(
-                    2,
-                    Term::variable(variable),
-                    not(&rt, a, at_most(&rt, a, variable, 1)),
-                ),
-            })
-            .expect(&rt, "memory");
+        let mut moves = Vec::new(a);
+        let name = StepNode::Name(entry, variable, at_most(&rt, a, variable, 1));
+        moves.push(straight(name)).expect(&rt, "memory");
+        let denied = not(&rt, a, at_most(&rt, a, variable, 1));
+        let instance = StepNode::Instance(2, Term::variable(variable), denied);
+        moves.push(straight(instance)).expect(&rt, "memory");
+        moves.push(clash(4, 5)).expect(&rt, "memory");
         assert_eq!(rt;
-            certifies(&rt, a, &some, &shown, steps, End::Clash(4, 5)),
+            certifies(&rt, a, &some, &shown, moves),
             accepted,
             "{entry} {variable}"
         );
@@ -177,18 +172,17 @@ fn cuts_are_of_a_formula_and_its_negation(rt: HostRuntime) -> Result<(), Fail> {
     let a = rt.alloc();
     let same = at_most(&rt, a, 0, 1);
     for (right, accepted) in [(1, true), (2, false)] {
-        let mut cases = Vec::new(a);
-        cases
-            .push(case(a, at_most(&rt, a, 0, 1), 4, 2))
-            .expect(&rt, "memory");
-        cases
-            .push(case(a, not(&rt, a, at_most(&rt, a, 0, right)), 3, 4))
-            .expect(&rt, "memory");
-        assert_eq!(rt;
-            certifies(&rt, a, &same, &same, Vec::new(a), End::Cut(cases)),
-            accepted,
-            "{right}"
+        let cases = two(
+            &rt,
+            a,
+            at_most(&rt, a, 0, 1),
+            not(&rt, a, at_most(&rt, a, 0, right)),
         );
+        let mut moves = Vec::new(a);
+        moves.push(forked(Cause::Cut, cases)).expect(&rt, "memory");
+        moves.push(clash(4, 2)).expect(&rt, "memory");
+        moves.push(clash(3, 4)).expect(&rt, "memory");
+        assert_eq!(rt; certifies(&rt, a, &same, &same, moves), accepted, "{right}");
     }
     Ok(())
 }
@@ -207,23 +201,22 @@ fn bounds_are_of_whole_numbers(rt: HostRuntime) -> Result<(), Fail> {
         };
         let whole = Formula::has_type(kind, Box::new(a, Term::variable(0)).expect(&rt, "memory"));
         let shown = Formula::any_of(two(&rt, a, most(&rt, a, 0, 3), least(&rt, a, next, 0)));
-        let mut steps = Vec::new(a);
+        let mut moves = Vec::new(a);
         let neither = two(
             &rt,
             a,
             not(&rt, a, most(&rt, a, 0, 3)),
             not(&rt, a, least(&rt, a, next, 0)),
         );
-        steps.push(parts(2, neither)).expect(&rt, "memory");
-        let mut cases = Vec::new(a);
-        cases
-            .push(case(a, most(&rt, a, 0, 3), 6, 4))
+        moves.push(parts(2, neither)).expect(&rt, "memory");
+        let cases = two(&rt, a, most(&rt, a, 0, 3), least(&rt, a, next, 0));
+        moves
+            .push(forked(Cause::Bound(3), cases))
             .expect(&rt, "memory");
-        cases
-            .push(case(a, least(&rt, a, next, 0), 6, 5))
-            .expect(&rt, "memory");
+        moves.push(clash(6, 4)).expect(&rt, "memory");
+        moves.push(clash(6, 5)).expect(&rt, "memory");
         assert_eq!(rt;
-            certifies(&rt, a, &whole, &shown, steps, End::Bound(3, cases)),
+            certifies(&rt, a, &whole, &shown, moves),
             accepted,
             "{is_number} {next}"
         );
@@ -248,23 +241,16 @@ fn rewrites_capture_nothing(rt: HostRuntime) -> Result<(), Fail> {
         let holds = for_all(&rt, a, bound, at_most(&rt, a, 0, bound));
         let shown = for_all(&rt, a, bound, at_most(&rt, a, 1, bound));
         let both = Formula::all_of(two(&rt, a, copy(&rt, a, &equal), copy(&rt, a, &holds)));
-        let mut steps = Vec::new(a);
-        steps
+        let mut moves = Vec::new(a);
+        moves
             .push(parts(3, two(&rt, a, equal, holds)))
             .expect(&rt, "memory");
-        steps
-            .push(Step {
-                node: StepNode::Rewrite(
-                    equation,
-                    5,
-                    9,
-                    for_all(&rt, a, bound, at_most(&rt, a, put, bound)),
-                    copy(&rt, a, &shown),
-                ),
-            })
-            .expect(&rt, "memory");
+        let pattern = for_all(&rt, a, bound, at_most(&rt, a, put, bound));
+        let rewrite = StepNode::Rewrite(equation, 5, 9, pattern, copy(&rt, a, &shown));
+        moves.push(straight(rewrite)).expect(&rt, "memory");
+        moves.push(clash(6, 2)).expect(&rt, "memory");
         assert_eq!(rt;
-            certifies(&rt, a, &both, &shown, steps, End::Clash(6, 2)),
+            certifies(&rt, a, &both, &shown, moves),
             accepted,
             "{equation} {bound} {put}"
         );
