@@ -46,7 +46,7 @@ resumed b k d c cs ws w cut e halted =
     let short : length (take c.mark b) ≡ c.mark = length-take-le c.mark b stacked.0 in
     let long : length d ≡ c.mark + 1 = omega (arith, short, ap length whole, length-append (take c.mark b) (c.formula ∷ [])) in
     let others : branches_of d cs ≡ branches_of b cs =
-        branches_longer (take c.mark b) (c.formula ∷ []) d c.mark cs whole (omega (arith, short)) stacked.1 ∙ branches_shorter b c.mark c.mark cs (omega arith) stacked.1 in
+    branches_longer (take c.mark b) (c.formula ∷ []) d c.mark cs whole (omega (arith, short)) stacked.1 ∙ branches_shorter b c.mark c.mark cs (omega arith) stacked.1 in
     record {
       long = long;
       stacked = stacked_higher c.mark (length d) cs (omega (arith, long)) stacked.1;

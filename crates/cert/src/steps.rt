@@ -9,12 +9,12 @@ ghost use Rattle.cert.specs.Branch.{entries_of, IsCounted};
 ghost use Rattle.cert.specs.Parts.{parts_of};
 ghost use Rattle.cert.specs.Closes.{added, most_deep, IsEntry, IsWithin, NamesWithin, IsAllowed, IsStep};
 
-use axioms::instance::is_axiom;
 use crate::branch::{Branch, added_by, entry_at};
 use crate::certificate::{Step, StepNode};
 use crate::quantified::{is_body_with, is_new};
 use crate::rewriting::{Pattern, is_rewriting};
 use crate::tableau::are_parts;
+use axioms::instance::is_axiom;
 use fol::depth::{is_deeper, is_term_deeper};
 use fol::formula::{Formula, Term, TermNode};
 use fol::operators::Quantifier;
@@ -28,9 +28,7 @@ pub fn is_step(shapes: &Shapes, branch: &Branch<'_>, step: &Step) -> bool
     requires { IsCounted branch.now }
     ensures { IsTrue result ↔ IsStep shapes.now (entries_of branch.now) step.now }
 {
-    are_within(added_by(step), MOST_DEEP)
-        && names_within(step)
-        && is_allowed(shapes, branch, step)
+    are_within(added_by(step), MOST_DEEP) && names_within(step) && is_allowed(shapes, branch, step)
 }
 
 /// Whether no formula is deeper than the limit.

@@ -139,10 +139,7 @@ fn are_bounds(term: &Term, cases: &[Formula]) -> bool
     ensures { IsTrue result ↔ AreBounds term.now cases.now }
 {
     match cases {
-        [first, second] => match (
-            upper_bound(term, first),
-            lower_bound(term, second),
-        ) {
+        [first, second] => match (upper_bound(term, first), lower_bound(term, second)) {
             (Some(most), Some(least)) => most.checked_add(1) == Some(least),
             _ => false,
         },
@@ -192,22 +189,12 @@ fn are_cases_of(of: &Formula, cases: &[Formula]) -> bool
             *junction == Junction::AnyOf && same_formulas(parts.as_slice(), cases)
         }
         FormulaNode::Connect(Connective::Implies, left, right) => {
-            cases.len() == 2
-                && is_negation(&cases[0], left)
-                && same_formula(&cases[1], right)
+            cases.len() == 2 && is_negation(&cases[0], left) && same_formula(&cases[1], right)
         }
         FormulaNode::Connect(Connective::Iff, left, right) => {
             cases.len() == 2
-                && is_both_of(
-                    &cases[0],
-                    Entry::Plain(left),
-                    Entry::Plain(right),
-                )
-                && is_both_of(
-                    &cases[1],
-                    Entry::Negated(left),
-                    Entry::Negated(right),
-                )
+                && is_both_of(&cases[0], Entry::Plain(left), Entry::Plain(right))
+                && is_both_of(&cases[1], Entry::Negated(left), Entry::Negated(right))
         }
         FormulaNode::Not(of) => are_cases_of_negated(of, cases),
         _ => false,
@@ -223,16 +210,8 @@ fn are_cases_of_negated(of: &Formula, cases: &[Formula]) -> bool
         }
         FormulaNode::Connect(Connective::Iff, one, other) => {
             cases.len() == 2
-                && is_both_of(
-                    &cases[0],
-                    Entry::Plain(one),
-                    Entry::Negated(other),
-                )
-                && is_both_of(
-                    &cases[1],
-                    Entry::Negated(one),
-                    Entry::Plain(other),
-                )
+                && is_both_of(&cases[0], Entry::Plain(one), Entry::Negated(other))
+                && is_both_of(&cases[1], Entry::Negated(one), Entry::Plain(other))
         }
         _ => false,
     }

@@ -20,9 +20,7 @@ fn spelled(rt: &impl Abort, alloc: Global, text: &str) -> Formula {
 fn all_spelled(rt: &impl Abort, alloc: Global, texts: &[&str]) -> Vec<Formula> {
     let mut formulas = Vec::new(alloc);
     for text in texts {
-        formulas
-            .push(spelled(rt, alloc, text))
-            .expect(rt, "memory");
+        formulas.push(spelled(rt, alloc, text)).expect(rt, "memory");
     }
     formulas
 }

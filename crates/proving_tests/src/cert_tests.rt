@@ -121,9 +121,7 @@ fn numerals_are_whole(rt: HostRuntime) -> Result<(), Fail> {
                 whole(&rt, rt.alloc(), numeral(number)),
             )))
             .expect(&rt, "memory");
-        moves
-            .push(closed(Close::Clash(1, 0)))
-            .expect(&rt, "memory");
+        moves.push(closed(Close::Clash(1, 0))).expect(&rt, "memory");
         let cert = Cert { moves };
         assert_eq!(rt; check(&shapes, &formula, &cert), accepted, "{number}");
     }

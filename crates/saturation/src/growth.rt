@@ -7,8 +7,8 @@ ghost use Rattle.fol.specs.FormulaData.{FormulaData, NotFormula};
 ghost use Rattle.std.specs.Prelude.{map, Some};
 ghost use Rattle.saturation.specs.Branch.{IsNumber, ComesFrom, IsGrownAt, IsBranchOf};
 
-use axioms::instance::is_axiom;
 use crate::branch::{Branch, Origin};
+use axioms::instance::is_axiom;
 use cert::branch::Entry;
 use cert::tableau::{is_both_of, is_entry};
 use fol::formula::{Formula, FormulaNode};

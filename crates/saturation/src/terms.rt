@@ -5,8 +5,8 @@ ghost use Rattle.fol.specs.FormulaData.{terms_of, formulas_of};
 ghost use Rattle.saturation.specs.Saturated.{WholeStands};
 ghost use Rattle.saturation.specs.Subterms.{EachTerm, EachOfTerms, EachIn, EachInAll};
 
-use axioms::facts::is_arithmetic;
 use crate::claim::number_stands;
+use axioms::facts::is_arithmetic;
 use fol::formula::{Formula, FormulaNode, Term, TermNode};
 
 /// Whether each term of the formula outside quantifiers that is a whole number by its form is said to

@@ -60,11 +60,7 @@ fn leaf_at(alloc: Global, branch: Branch) -> Result<Leaf, NoMemory> {
 }
 
 /// The answer of a branch that grew too long.
-pub fn outgrown(
-    shapes: &Shapes,
-    formula: &Formula,
-    mut branch: Branch,
-) -> Result<Answer, NoMemory>
+pub fn outgrown(shapes: &Shapes, formula: &Formula, mut branch: Branch) -> Result<Answer, NoMemory>
     ensures shown { IfOk result (Shows shapes.now formula.now) }
     ensures unspent { IfOk result (λ answer. is_spent answer ≡ false) }
 {

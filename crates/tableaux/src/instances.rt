@@ -1,8 +1,8 @@
 //! The instances of axioms that an entry calls for.
 
+use crate::expansion::{is_number, range, trichotomy};
 use axioms::axiom::{Alternative, Axiom, Equivalence, Fact};
 use axioms::facts::is_arithmetic;
-use crate::expansion::{is_number, range, trichotomy};
 use cert::certificate::{Step, StepNode};
 use fol::formula::{Formula, FormulaNode, Term};
 use fol::operators::Comparison;

@@ -1,9 +1,9 @@
 //! The terms of a branch that are whole numbers by their form.
 
-use axioms::axiom::{Axiom, Fact};
-use axioms::facts::is_arithmetic;
 use crate::expansion::is_number;
 use crate::growing::grow;
+use axioms::axiom::{Axiom, Fact};
+use axioms::facts::is_arithmetic;
 use fol::formula::{Formula, FormulaNode, Term, TermNode};
 use pv_base::memory::NoMemory;
 use saturation::branch::{Branch, Origin};
@@ -17,7 +17,12 @@ pub fn add_numbers(alloc: Global, branch: &mut Branch) -> Result<(), NoMemory> {
         add_missing(alloc, branch.entries.as_slice(), entry, &mut missing)?;
     }
     for formula in missing.iter() {
-        grow(alloc, branch, formula, Origin::Axiom(Axiom::Plain(Fact::Whole)))?;
+        grow(
+            alloc,
+            branch,
+            formula,
+            Origin::Axiom(Axiom::Plain(Fact::Whole)),
+        )?;
     }
     Ok(())
 }
