@@ -1,8 +1,8 @@
 -- The first place of two groups is the earlier one of their first places.
-use Rattle.std.proofs.Common.{◌≡◌, ℕ, ◌<◌, ◌≤◌, ◌⊎◌, inl, inr, Option, Some, None, sym, subst, arith}
+use Rattle.std.proofs.Common.{◌⊎◌, inl, inr, Option, Some, None, sym, subst, arith}
 use Rattle.std.proofs.lemmas.Bool.{cases_lt}
 use Rattle.pv_base.specs.declared.span.Span.{Span}
-use Rattle.declaration_places.specs.Order.{IsBefore, IsFirst, IsFirstOrNone, IsEarlier}
+use Rattle.declaration_places.specs.Order.{IsBefore, IsFirstOrNone, IsEarlier}
 
 -- what stands before a place stands before another one, or that one before the place
 pub before_split : (p q r : Span) → IsBefore p r → IsBefore p q ⊎ IsBefore q r

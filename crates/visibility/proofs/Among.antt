@@ -1,13 +1,13 @@
 -- The first of some declarations that uses what it may not: of none, of one, of two groups.
-use Rattle.std.proofs.Common.{◌≡◌, ℕ, ◌+◌, ◌<◌, ◌⊎◌, inl, inr, List, [], ◌∷◌, ◌++◌, length, take, map, Option, Some, None, refl, sym, ◌∙◌, ap, subst, arith, add-one}
+use Rattle.std.proofs.Common.{◌≡◌, ℕ, ◌+◌, ◌⊎◌, inl, inr, List, [], ◌∷◌, ◌++◌, take, map, Option, Some, None, refl, sym, ◌∙◌, ap, subst, arith, add-one}
 use Rattle.std.specs.Prelude.{All, Contains, MatchOption, slice_get}
 use Rattle.std.proofs.Math.Seq.{take-suc}
 use Rattle.std.proofs.lemmas.List.{map-append}
 use Rattle.std.proofs.lemmas.Option.{slice_get_within, get_or_from_slice_get}
-use Rattle.std.proofs.lemmas.List.Elements.{All-append, All-nil, All-push, All-contains, Contains-push, Contains-push_cases, Contains-append_left, Contains-append_right, Contains-append_cases}
+use Rattle.std.proofs.lemmas.List.Elements.{All-append, All-nil, All-push, Contains-push, Contains-push_cases, Contains-append_left, Contains-append_right, Contains-append_cases}
 use Rattle.pv_base.specs.declared.span.Span.{Span}
 use Rattle.pv_types.specs.declared.program.Program.{Program}
-use Rattle.declaration_places.specs.Order.{IsBefore, IsFirst, IsFirstOrNone, IsEarlier}
+use Rattle.declaration_places.specs.Order.{IsBefore, IsFirst, IsEarlier}
 use Rattle.declaration_places.proofs.Firsts.{first_of_both, first_renamed}
 use Rattle.visibility.specs.Visible.{Code, IsVisible, IsBarredAmong, IsVerdict, IsFirstBarred}
 

@@ -1,12 +1,11 @@
 -- What holds of each element so far, and what decides whether a function is visible.
-use Rattle.std.proofs.Common.{◌≡◌, ℕ, ◌+◌, ◌<◌, ◌≤◌, List, [], ◌∷◌, length, take, Bool, true, false, not, Option, Some, None, refl, sym, ◌∙◌, ap, subst, arith, get_or}
+use Rattle.std.proofs.Common.{◌≡◌, ℕ, ◌+◌, ◌<◌, ◌≤◌, List, [], ◌∷◌, length, take, Bool, false, Option, Some, None, sym, subst, arith, get_or}
 use Rattle.std.specs.Prelude.{◌↔◌, IsTrue, All, IsSomeAnd, slice_get}
 use Rattle.std.specs.Map.{lookup}
 use Rattle.std.proofs.lemmas.List.{take_all}
 use Rattle.std.proofs.lemmas.Option.{slice_get_within, get_or_from_slice_get, slice_get-get_or}
 use Rattle.std.proofs.lemmas.List.Elements.{All-more}
 use Rattle.pv_base.specs.declared.types.FunctionId.{FunctionId}
-use Rattle.pv_base.specs.TypeData.{TypeData, TypesData, types_of, list_of_types, list_of_types-types_of}
 use Rattle.pv_types.specs.declared.declaration.Function.{Function}
 use Rattle.pv_types.specs.declared.program.ModuleId.{ModuleId}
 use Rattle.pv_types.specs.declared.program.Program.{Program}

@@ -1,12 +1,11 @@
 -- What code may use of other modules. Source: The Move Book, "Functions", on visibility, and "Friends"; "Structs and
 -- Resources", on privileged struct operations; "Global Storage Operators", by which only the module that declares a struct
 -- may use it in global storage.
-use Rattle.std.specs.Prelude.{◌≡◌, ℕ, Bool, false, not, IsTrue, List, [], ◌++◌, ◌&&◌, map, All, Contains, Option, Some, None, IsSomeAnd, slice_get}
+use Rattle.std.specs.Prelude.{◌≡◌, Bool, false, not, IsTrue, List, [], ◌++◌, map, All, Contains, Option, Some, None, IsSomeAnd, slice_get}
 use Rattle.std.specs.Map.{lookup}
 use Rattle.pv_base.specs.declared.span.Span.{Span}
 use Rattle.pv_base.specs.TypeData.{TypeData, StructType, ParamType, list_of_types}
 use Rattle.pv_base.specs.declared.types.FunctionId.{FunctionId}
-use Rattle.pv_base.specs.declared.types.StructId.{StructId}
 use Rattle.pv_types.specs.declared.arena.Node.{Node}
 use Rattle.pv_types.specs.declared.arena.Node.TheVariants.{Many}
 use Rattle.pv_types.specs.declared.code.CodeLeaf.{CodeLeaf}
@@ -14,7 +13,6 @@ use Rattle.pv_types.specs.declared.code.CodeUnary.{CodeUnary}
 use Rattle.pv_types.specs.declared.code.CodeBinary.{CodeBinary}
 use Rattle.pv_types.specs.declared.code.CodeMany.{CodeMany}
 use Rattle.pv_types.specs.declared.code.CodeMany.TheVariants.{Call as call_form, Pack, Unpack}
-use Rattle.pv_types.specs.declared.code.Call.{Call}
 use Rattle.pv_types.specs.declared.code.Callee.{Callee}
 use Rattle.pv_types.specs.declared.code.Callee.TheVariants.{Function as plain_function, Storage, Vector, AddressOf}
 use Rattle.pv_types.specs.declared.declaration.TypeParameter.{TypeParameter}
