@@ -59,14 +59,15 @@ fn certify(rt: &impl Abort, alloc: Global, moves: Vec<Move>) -> bool {
     check(&Shapes::new(alloc), &formula, &Cert { moves })
 }
 
-// A certificate of `x = y` exactly where `x = y`, with this many of its moves, and one more where it is said.
-fn of_equivalence(rt: &impl Abort, alloc: Global, count: usize, cases: usize) -> Cert {
-    let both = all_spelled(rt, alloc, &["Y2=xy!=xy", "Y2!=xy=xy"][..cases]);
+// The first moves of a certificate of `x = y` exactly where `x = y`, whose fork has these cases; there is one
+// move too many.
+fn of_equivalence(rt: &impl Abort, alloc: Global, count: usize, cases: &[&str]) -> Cert {
+    let cases = all_spelled(rt, alloc, cases);
     let first = all_spelled(rt, alloc, &["=xy", "!=xy"]);
     let second = all_spelled(rt, alloc, &["!=xy", "=xy"]);
     let mut moves = Vec::new(alloc);
     moves
-        .push(forked(Cause::Split(0), both))
+        .push(forked(Cause::Split(0), cases))
         .expect(rt, "memory");
     moves
         .push(straight(StepNode::Parts(1, first)))
@@ -85,23 +86,24 @@ fn of_equivalence(rt: &impl Abort, alloc: Global, count: usize, cases: usize) ->
 fn texts_are_whole(rt: HostRuntime) -> Result<(), Fail> {
     let alloc = rt.alloc();
     let formula = spelled(&rt, alloc, "~=xy=xy");
-    for (count, cases, accepted) in [
-        (0, 2, false),
-        (1, 2, false),
-        (2, 2, false),
-        (3, 2, false),
-        (4, 2, false),
-        (5, 2, true),
-        (6, 2, false),
-        (3, 1, false),
-        (5, 1, false),
-    ] {
-        let cert = of_equivalence(&rt, alloc, count, cases);
+    for count in 0..7 {
+        let cert = of_equivalence(&rt, alloc, count, &["Y2=xy!=xy", "Y2!=xy=xy"]);
         assert_eq!(rt;
             check(&Shapes::new(alloc), &formula, &cert),
-            accepted,
-            "{count} {cases}"
+            count == 5,
+            "{count}"
         );
+    }
+    Ok(())
+}
+
+#[test]
+fn each_case_of_an_equivalence_counts(rt: HostRuntime) -> Result<(), Fail> {
+    let alloc = rt.alloc();
+    let formula = spelled(&rt, alloc, "~=xy=xy");
+    for count in [3, 5] {
+        let cert = of_equivalence(&rt, alloc, count, &["Y2=xy!=xy"]);
+        assert!(rt; !check(&Shapes::new(alloc), &formula, &cert), "{count}");
     }
     Ok(())
 }
