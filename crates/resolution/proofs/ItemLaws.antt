@@ -1,0 +1,79 @@
+-- Declarations one after another, and the first one with a use that has no meaning.
+use Rattle.std.proofs.Common.{◌≡◌, inl, inr, ℕ, suc, ◌+◌, ◌<◌, List, [], ◌∷◌, ◌++◌, length, get_or, take, drop, zero, sym, ap, subst, ◌∙◌, arith, append_assoc, append-nil, add-one, drop-cons}
+use Rattle.std.proofs.lemmas.List.{take_more}
+use Rattle.pv_base.specs.declared.span.Span.{Span}
+use Rattle.source_tree.specs.SourceData.{SourceMemberData}
+use Rattle.resolution.specs.declared.fault.PlaceFault.{PlaceFault}
+use Rattle.resolution.specs.declared.fault.PlaceFault.TheVariants.{Unknown, NoMemory}
+use Rattle.pv_names.specs.Meanings.{IfUnknown}
+use Rattle.pv_names.specs.declared.fault.NameFault.{NameFault}
+use Rattle.pv_names.specs.declared.fault.NameFault.TheVariants.{Unknown as name_unknown, NoMemory as name_memory}
+use Rattle.resolution.specs.Faults.{IsFaultAmong, fault_at}
+use Rattle.resolution.specs.Items.{AreKnown, HasUnknown, Here, IsFirstUnknown, Item, item_place, items_behind, member_items}
+
+pub known_append : (xs ys : List Item) → AreKnown xs → AreKnown ys → AreKnown (xs ++ ys)
+known_append [] ys a b = b
+known_append (x ∷ xs) ys a b = (a.0, known_append xs ys a.1 b)
+
+first_behind : (xs ys : List Item) (place : Span) → AreKnown xs → IsFirstUnknown ys place → IsFirstUnknown (xs ++ ys) place
+first_behind [] ys place a h = h
+first_behind (x ∷ xs) ys place a h = inr (a.0, first_behind xs ys place a.1 h)
+
+first_before : (xs ys : List Item) (place : Span) → IsFirstUnknown xs place → IsFirstUnknown (xs ++ ys) place
+first_before [] ys place h = absurd h
+first_before (x ∷ xs) ys place (inl h) = inl h
+first_before (x ∷ xs) ys place (inr h) = inr (h.0, first_before xs ys place h.1)
+
+pub fault_behind : (xs ys : List Item) (fault : PlaceFault) → AreKnown xs → IsFaultAmong ys fault → IsFaultAmong (xs ++ ys) fault
+fault_behind xs ys (Unknown place) a h = first_behind xs ys place a h
+fault_behind xs ys NoMemory a h = tt
+
+pub fault_before : (xs ys : List Item) (fault : PlaceFault) → IsFaultAmong xs fault → IsFaultAmong (xs ++ ys) fault
+fault_before xs ys (Unknown place) h = first_before xs ys place h
+fault_before xs ys NoMemory h = tt
+
+-- between others
+pub fault_between : (xs ys zs : List Item) (fault : PlaceFault) → AreKnown xs → IsFaultAmong ys fault → IsFaultAmong (xs ++ (ys ++ zs)) fault
+fault_between xs ys zs fault a h = fault_behind xs (ys ++ zs) fault a (fault_before ys zs fault h)
+
+-- one declaration, in which a use has no meaning or for which memory ran out
+pub item_fault : (x : Item) (fault : NameFault) (place : Span) → place ≡ item_place x → IfUnknown fault (HasUnknown x) → IsFaultAmong (x ∷ []) (fault_at fault place)
+item_fault x name_unknown place e h = inl (h, e)
+item_fault x name_memory place e h = tt
+
+-- ---- members
+
+pub items-append : (w : Here) (before ms ns : List SourceMemberData) → items_behind w before (ms ++ ns) ≡ items_behind w before ms ++ items_behind w (before ++ ms) ns
+items-append w before [] ns = ap (λ b. items_behind w b ns) (sym (append-nil before))
+items-append w before (m ∷ ms) ns =
+    ap (λ is. member_items w before m ++ is) (items-append w (before ++ m ∷ []) ms ns ∙ ap (λ b. items_behind w (before ++ m ∷ []) ms ++ items_behind w b ns) (append_assoc before (m ∷ []) ms))
+    ∙ sym (append_assoc (member_items w before m) (items_behind w (before ++ m ∷ []) ms) (items_behind w (before ++ m ∷ ms) ns))
+
+-- the list is what stands before a place, what stands there, and what stands behind it
+pub around_place : {A : Type 0} (xs : List A) (i : ℕ) (x : A) → i < length xs → x ≡ get_or xs i x → take i xs ++ x ∷ drop (i + 1) xs ≡ xs
+around_place [] i x h e = absurd (omega (arith, h))
+around_place (y ∷ ys) zero x h e = ap (λ z. z ∷ ys) e
+around_place (y ∷ ys) (suc i) x h e =
+    let n : suc i + 1 ≡ suc (i + 1) = omega arith in
+    ap (λ k. y ∷ (take i ys ++ x ∷ drop k (y ∷ ys))) n ∙ ap (λ zs. y ∷ zs) (around_place ys i x (omega (arith, h)) e)
+
+pub drop_one : {A : Type 0} (xs : List A) (i : ℕ) (x : A) → i < length xs → x ≡ get_or xs i x → drop i xs ≡ x ∷ drop (i + 1) xs
+drop_one xs i x h e =
+    let f : drop i xs ≡ get_or xs i x ∷ drop (suc i) xs = drop-cons xs i x h in
+    rw add-one (f ∙ ap (λ y. y ∷ drop (suc i) xs) (sym e))
+
+pub taken_one : {A : Type 0} (xs : List A) (i : ℕ) (x : A) → i < length xs → x ≡ get_or xs i x → take (i + 1) xs ≡ take i xs ++ x ∷ []
+taken_one xs i x h e = take_more xs i x h ∙ ap (λ y. take i xs ++ y ∷ []) (sym e)
+
+-- the first members are known, and the next one is
+pub known_member : (w : Here) (ms : List SourceMemberData) (i : ℕ) (m : SourceMemberData) → i < length ms → m ≡ get_or ms i m → AreKnown (items_behind w [] (take i ms)) → AreKnown (member_items w (take i ms) m) → AreKnown (items_behind w [] (take (i + 1) ms))
+known_member w ms i m h e a b =
+    let one = subst (λ is. AreKnown is) (sym (append-nil (member_items w (take i ms) m))) b in
+    let all = known_append (items_behind w [] (take i ms)) (items_behind w (take i ms) (m ∷ [])) a one in
+    subst (λ is. AreKnown is) (sym (ap (λ xs. items_behind w [] xs) (taken_one ms i m h e) ∙ items-append w [] (take i ms) (m ∷ []))) all
+
+-- the first members are known, and in the next one is a fault
+pub fault_member : (w : Here) (ms : List SourceMemberData) (i : ℕ) (m : SourceMemberData) (fault : PlaceFault) → i < length ms → m ≡ get_or ms i m → AreKnown (items_behind w [] (take i ms)) → IsFaultAmong (member_items w (take i ms) m) fault → IsFaultAmong (items_behind w [] ms) fault
+fault_member w ms i m fault h e a b =
+    let there = fault_between (items_behind w [] (take i ms)) (member_items w (take i ms) m) (items_behind w (take i ms ++ m ∷ []) (drop (i + 1) ms)) fault a b in
+    subst (λ is. IsFaultAmong is fault) (sym (items-append w [] (take i ms) (m ∷ drop (i + 1) ms)) ∙ ap (λ xs. items_behind w [] xs) (around_place ms i m h e)) there

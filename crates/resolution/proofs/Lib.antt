@@ -1,0 +1,9 @@
+pub mod FinishLaws
+pub mod ItemLaws
+pub mod KnownLaws
+pub mod LoopLaws
+pub mod OneProgram
+pub mod OwnerLaws
+pub mod PartLaws
+pub mod ProgramLaws
+pub mod TableLaws

@@ -1,0 +1,8 @@
+use Rattle.std.proofs.Common.{take}
+use Rattle.clause_names.specs.Clauses.{placed}
+use Rattle.clause_names.specs.Setting.{scope_of}
+use Rattle.resolution.specs.LoopParts.{AddedOne}
+use Rattle.resolution.proofs.functions.add_block.Given as goal
+
+abbrev pub invariant-loop-tree : goal.invariant-loop-tree
+invariant-loop-tree l = AddedOne (scope_of l.place) l.outer l.at (placed l.block (take l.tree-index l.trees)) l.initial.into l.into

@@ -1,0 +1,8 @@
+use Rattle.std.proofs.Common.{◌≡◌, take}
+use Rattle.module_names.specs.Brings.{firsts}
+use Rattle.clause_names.specs.Setting.{same_schema}
+use Rattle.resolution.specs.Known.{schemas_of}
+use Rattle.resolution.proofs.known.note_source_schemas.Given as goal
+
+abbrev pub invariant-loop-tree : goal.invariant-loop-tree
+invariant-loop-tree l = l.schemas ≡ firsts same_schema l.initial.schemas (schemas_of l.environment (take l.tree-index l.trees))

@@ -1,0 +1,32 @@
+-- Uses that mean nothing, by the declaration in which they stand.
+use Rattle.std.specs.Prelude.{ℕ, List}
+use Rattle.pv_base.specs.declared.span.Span.{Span}
+use Rattle.source_tree.specs.SourceModuleData.{SourceModuleData}
+use Rattle.pv_names.specs.declared.fault.NameFault.{NameFault}
+use Rattle.pv_names.specs.declared.fault.NameFault.TheVariants.{Unknown as unknown, NoMemory as no_memory}
+use Rattle.resolution.specs.declared.fault.PlaceFault.{PlaceFault}
+use Rattle.resolution.specs.declared.fault.PlaceFault.TheVariants.{Unknown as unknown_at, NoMemory as no_memory_at}
+use Rattle.resolution.specs.declared.fault.ResolveFault.{ResolveFault}
+use Rattle.resolution.specs.declared.fault.ResolveFault.TheVariants.{Unknown as unknown_in, NoMemory as no_memory_in}
+use Rattle.resolution.specs.Known.{KnownData, known_of}
+use Rattle.resolution.specs.Items.{Item, IsFirstUnknown, IsFirstUnknownIn}
+
+abbrev pub fault_at : NameFault → Span → PlaceFault
+fault_at unknown place = unknown_at place
+fault_at no_memory place = no_memory_at
+
+-- of these declarations the first one with a use that means nothing begins there
+abbrev pub IsFaultAmong : List Item → PlaceFault → Type 0
+IsFaultAmong items (unknown_at place) = IsFirstUnknown items place
+IsFaultAmong items no_memory_at = Unit {0}
+
+abbrev pub fault_in : PlaceFault → ℕ → ResolveFault
+fault_in (unknown_at place) file = unknown_in file place
+fault_in no_memory_at file = no_memory_in
+
+abbrev pub IsFaultFrom : KnownData → List (List SourceModuleData) → ResolveFault → Type 0
+IsFaultFrom known sources (unknown_in file place) = IsFirstUnknownIn known 0 sources file place
+IsFaultFrom known sources no_memory_in = Unit {0}
+
+abbrev pub IsFaultOf : List (List SourceModuleData) → ResolveFault → Type 0
+IsFaultOf sources fault = IsFaultFrom (known_of sources) sources fault

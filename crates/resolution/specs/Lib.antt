@@ -1,0 +1,9 @@
+pub mod Faults
+pub mod Items
+pub mod Known
+pub mod Modules
+pub mod Owners
+pub mod LoopParts
+pub mod OwnersSoFar
+pub mod Parts
+pub mod Programs

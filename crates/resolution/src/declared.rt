@@ -1,0 +1,89 @@
+//! Declarations, each under its name.
+
+ghost use Rattle.std.specs.Prelude.{◌≡◌, [], ◌∷◌, OnOk};
+ghost use Rattle.resolution.specs.Parts.{Entered, finished};
+
+use crate::first::put_first;
+use crate::tables::{Owned, function_with, struct_with};
+use clause_names::pragmas::{Settings, pragmas_of};
+use pv_base::memory::NoMemory;
+use pv_base::types::{FunctionId, StructId};
+use pv_types::declaration::{Constant, Function, Module, Schema, SpecFunction, Struct};
+use pv_types::program::{ConstantId, ModuleId, Program, SchemaId};
+
+/// The kinds of a declaration.
+#[derive(Drop)]
+pub enum DeclaredForm {
+    Module(ModuleId, Module),
+    Struct(StructId, Struct),
+    Constant(ConstantId, Constant),
+    Function(FunctionId, Function),
+    SpecFunction(FunctionId, SpecFunction),
+    Schema(SchemaId, Schema),
+}
+
+/// A declaration under its name.
+pub struct Declared {
+    pub form: DeclaredForm,
+}
+
+// Its own, so that letting one go is a call wherever it is done, and not the cases of all forms below it.
+impl Drop for Declared {
+    fn drop(self) {
+        let Declared { form } = self;
+        drop(form);
+    }
+}
+
+impl Declared {
+    /// A declaration with the clauses of its owner, and what its pragmas and those of its module set.
+    pub fn finished(self, owned: Owned, of_module: Settings) -> Declared
+        ensures { result.form ≡ finished self.form owned.clauses owned.settings of_module }
+    {
+        let Declared { form } = self;
+        let Owned { clauses, settings } = owned;
+        let form = match form {
+            DeclaredForm::Struct(id, resolved) => {
+                DeclaredForm::Struct(id, struct_with(resolved, clauses))
+            }
+            DeclaredForm::Function(id, resolved) => {
+                let pragmas = pragmas_of(settings, of_module);
+                DeclaredForm::Function(id, function_with(resolved, pragmas, clauses))
+            }
+            DeclaredForm::Module(id, resolved) => {
+                drop(clauses);
+                DeclaredForm::Module(id, resolved)
+            }
+            DeclaredForm::Constant(id, resolved) => {
+                drop(clauses);
+                DeclaredForm::Constant(id, resolved)
+            }
+            DeclaredForm::SpecFunction(id, resolved) => {
+                drop(clauses);
+                DeclaredForm::SpecFunction(id, resolved)
+            }
+            DeclaredForm::Schema(id, resolved) => {
+                drop(clauses);
+                DeclaredForm::Schema(id, resolved)
+            }
+        };
+        Declared { form }
+    }
+
+    /// Puts a declaration into its table, unless one of its name is there.
+    pub fn put_into(self, program: &mut Program) -> Result<(), NoMemory>
+        ensures { OnOk result (Entered (self ∷ []) program.old program.new) }
+    {
+        let Declared { form } = self;
+        match form {
+            DeclaredForm::Module(id, resolved) => put_first(&mut program.modules, id, resolved),
+            DeclaredForm::Struct(id, resolved) => put_first(&mut program.structs, id, resolved),
+            DeclaredForm::Constant(id, resolved) => put_first(&mut program.constants, id, resolved),
+            DeclaredForm::Function(id, resolved) => put_first(&mut program.functions, id, resolved),
+            DeclaredForm::SpecFunction(id, resolved) => {
+                put_first(&mut program.spec_functions, id, resolved)
+            }
+            DeclaredForm::Schema(id, resolved) => put_first(&mut program.schemas, id, resolved),
+        }
+    }
+}

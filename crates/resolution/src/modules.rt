@@ -1,0 +1,128 @@
+//! Modules whose names are resolved.
+
+ghost use Rattle.std.specs.Prelude.{◌≡◌, [], ◌∷◌, ◌++◌, length, Some, IfErr, OnOk};
+ghost use Rattle.resolution.specs.Faults.{IsFaultAmong};
+ghost use Rattle.resolution.specs.Items.{AreKnown, items_behind, items_in, module_items, source_items};
+ghost use Rattle.resolution.specs.Known.{KnownData};
+ghost use Rattle.resolution.specs.Modules.{IsKnown, IsWithin};
+ghost use Rattle.resolution.specs.Owners.{blocks_of, settings_in};
+ghost use Rattle.resolution.specs.OwnersSoFar.{AreNumbers, AreOwners, blocks_before};
+ghost use Rattle.resolution.specs.Parts.{EnteredOf, here_of};
+ghost use Rattle.resolution.specs.Programs.{ModuleTree, declarations_from, declarations_in, module_declarations, source_declarations};
+
+use crate::declared::{Declared, DeclaredForm};
+use crate::fault::PlaceFault;
+use crate::known::Known;
+use crate::members::ModulePlace;
+use crate::owners::{Owner, fresh_owners, member_numbers};
+use crate::parts::own_members;
+use crate::tables::enter_parts;
+use clause_names::pragmas::Settings;
+use module_names::brings::enter_module;
+use pv_base::span::Span;
+use pv_names::environment::Environment;
+use pv_names::fault::NameFault;
+use pv_types::declaration::Module;
+use pv_types::program::{ModuleId, Program};
+use pv_types::sequence::Sequence;
+use source_tree::source::SourceModule;
+use std::alloc::Global;
+
+/// What the pragmas of a module set, which is the last of its owners.
+fn settings_of_module(place: &ModulePlace<'_>, owners: &[Owner]) -> Settings
+    requires { AreOwners (here_of place.now) (blocks_before (here_of place.now) place.now.members.now) owners.now }
+    ensures { result ≡ settings_in (blocks_of place.now.members.now (length place.now.members.now)) }
+{
+    owners[place.members.len()].settings
+}
+
+/// Puts the declarations of a module into their tables, the module itself last.
+fn own_module(place: &ModulePlace<'_>, at: Span, program: &mut Program) -> Result<(), PlaceFault>
+    requires { AreNumbers (here_of place.now) place.now.numbers.now }
+    ensures entered { OnOk result (EnteredOf (declarations_from (here_of place.now) 0 place.now.members.now ++ ModuleTree (here_of place.now) at ∷ []) program.old program.new) }
+    ensures known { OnOk result (AreKnown (items_behind (here_of place.now) [] place.now.members.now)) }
+    ensures unknown { IfErr result (IsFaultAmong (items_behind (here_of place.now) [] place.now.members.now)) }
+{
+    let mut owners = fresh_owners(place.alloc, place.environment, place.members)?;
+    let mut friends = Sequence::new(place.alloc);
+    let parts = own_members(place, &mut owners, &mut friends)?;
+    let of_module = settings_of_module(place, &owners);
+    let owned = enter_parts(program, parts, owners, of_module)?;
+    let id = place.environment.own().try_clone(place.alloc)?;
+    let resolved = Module {
+        place: at,
+        friends,
+        clauses: owned.clauses,
+    };
+    let declared = Declared {
+        form: DeclaredForm::Module(id, resolved),
+    };
+    declared.put_into(program)?;
+    Ok(())
+}
+
+/// Puts the declarations of a module of this address and name into their tables.
+fn enter_own(
+    alloc: Global,
+    environment: &mut Environment,
+    known: &Known,
+    own: ModuleId,
+    tree: &SourceModule,
+    program: &mut Program,
+) -> Result<(), PlaceFault>
+    ensures within { OnOk result ((k : KnownData) → IsWithin k environment.old → IsWithin k environment.new) }
+    ensures entered { OnOk result ((k : KnownData) → IsWithin k environment.old → IsKnown k known.now → EnteredOf (declarations_in k tree.now (Some own)) program.old program.new) }
+    ensures known { OnOk result ((k : KnownData) → IsWithin k environment.old → IsKnown k known.now → AreKnown (items_in k tree.now (Some own))) }
+    ensures unknown { IfErr result (λ fault. (k : KnownData) → IsWithin k environment.old → IsKnown k known.now → IsFaultAmong (items_in k tree.now (Some own)) fault) }
+{
+    enter_module(alloc, own, &tree.members, environment)?;
+    let numbers = member_numbers(alloc, &tree.members)?;
+    let place = ModulePlace {
+        alloc,
+        environment,
+        modules: &known.modules,
+        schemas: &known.schemas,
+        members: &tree.members,
+        numbers: &numbers,
+    };
+    own_module(&place, tree.place, program)
+}
+
+/// Puts the declarations of a module into their tables.
+fn enter_tree(
+    alloc: Global,
+    environment: &mut Environment,
+    known: &Known,
+    tree: &SourceModule,
+    program: &mut Program,
+) -> Result<(), PlaceFault>
+    ensures within { OnOk result ((k : KnownData) → IsWithin k environment.old → IsWithin k environment.new) }
+    ensures entered { OnOk result ((k : KnownData) → IsWithin k environment.old → IsKnown k known.now → EnteredOf (module_declarations k tree.now) program.old program.new) }
+    ensures known { OnOk result ((k : KnownData) → IsWithin k environment.old → IsKnown k known.now → AreKnown (module_items k tree.now)) }
+    ensures unknown { IfErr result (λ fault. (k : KnownData) → IsWithin k environment.old → IsKnown k known.now → IsFaultAmong (module_items k tree.now) fault) }
+{
+    match environment.module_named(alloc, &tree.name) {
+        Ok(own) => enter_own(alloc, environment, known, own, tree, program),
+        Err(NameFault::Unknown) => Err(PlaceFault::Unknown(tree.place)),
+        Err(NameFault::NoMemory) => Err(PlaceFault::NoMemory),
+    }
+}
+
+/// Puts the declarations of a source into their tables.
+pub fn enter_source(
+    alloc: Global,
+    environment: &mut Environment,
+    known: &Known,
+    trees: &[SourceModule],
+    program: &mut Program,
+) -> Result<(), PlaceFault>
+    ensures within { OnOk result ((k : KnownData) → IsWithin k environment.old → IsWithin k environment.new) }
+    ensures entered { OnOk result ((k : KnownData) → IsWithin k environment.old → IsKnown k known.now → EnteredOf (source_declarations k trees.now) program.old program.new) }
+    ensures known { OnOk result ((k : KnownData) → IsWithin k environment.old → IsKnown k known.now → AreKnown (source_items k trees.now)) }
+    ensures unknown { IfErr result (λ fault. (k : KnownData) → IsWithin k environment.old → IsKnown k known.now → IsFaultAmong (source_items k trees.now) fault) }
+{
+    for tree in trees {
+        enter_tree(alloc, environment, known, tree, program)?;
+    }
+    Ok(())
+}

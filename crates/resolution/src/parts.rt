@@ -1,0 +1,217 @@
+//! What is made of the members of a module, in their order.
+
+ghost use Rattle.std.specs.Prelude.{◌≡◌, ℕ, ◌++◌, [], ◌∷◌, List, true, false, None, take, IfOk, IfErr, OnOk};
+ghost use Rattle.std.specs.List.{filter_map};
+ghost use Rattle.clause_tree.specs.declared.clause.Spec.{Spec as SpecTree};
+ghost use Rattle.source_tree.specs.SourceData.{SourceMemberData};
+ghost use Rattle.pv_names.specs.Meanings.{IfUnknown, module_meaning};
+ghost use Rattle.module_names.specs.Declares.{listed};
+ghost use Rattle.declaration_names.specs.Imports.{among_these, use_is_known};
+ghost use Rattle.resolution.specs.Faults.{IsFaultAmong};
+ghost use Rattle.resolution.specs.Items.{AreKnown, HasUnknownInForm, HasUnknownInOwned, HasUnknownInSpec, form_items, items_behind};
+ghost use Rattle.resolution.specs.Owners.{HasUnknownInBlock, OwnerScope};
+ghost use Rattle.resolution.specs.OwnersSoFar.{AreNumbers, AreOwners, IsOwnerAfter, StandsIn, blocks_before, blocks_with};
+ghost use Rattle.resolution.specs.Parts.{ArePartsFrom, IsBareAs, IsMade, IsSimple, here_of};
+ghost use Rattle.resolution.specs.Programs.{form_declaration, friend_of_form, friend_of_member, spec_declaration};
+ghost use Rattle.pv_base.specs.Pairs.{Paired};
+
+use crate::declared::Declared;
+use crate::fault::{PlaceFault, fault_at};
+use crate::functions::own_function;
+use crate::members::{
+    ModulePlace, clauses_of_spec, own_constant, own_schema, own_spec_function, own_struct,
+    spec_place,
+};
+use crate::owners::{Owner, owner_of};
+use clause_names::clauses::resolve_block;
+use clause_names::place::ClausePlace;
+use clause_names::pragmas::with_block;
+use clause_tree::clause::Spec;
+use declaration_names::imports::{resolve_friend, use_is_known};
+use file_tree::member::{Friend, Use};
+use pv_base::memory::NoMemory;
+use pv_names::fault::NameFault;
+use pv_names::types::TypePlace;
+use pv_types::program::ModuleId;
+use pv_types::sequence::Sequence;
+use source_tree::places::form_place;
+use source_tree::source::SourceForm;
+
+// ---- spec blocks
+
+/// One more spec block of an owner.
+fn add_to_owner(place: &ModulePlace<'_>, owner: &mut Owner, spec: &Spec) -> Result<(), NameFault>
+    ensures added { OnOk result ((w : OwnerScope) (blocks : List SpecTree) → StandsIn (here_of place.now) w → IsOwnerAfter w blocks owner.old → IsOwnerAfter w (blocks ++ spec.now ∷ []) owner.new) }
+    ensures known { OnOk result ((w : OwnerScope) (blocks : List SpecTree) → StandsIn (here_of place.now) w → IsOwnerAfter w blocks owner.old → HasUnknownInBlock w blocks spec.now → ⊥) }
+    ensures unknown { IfErr result (λ fault. (w : OwnerScope) (blocks : List SpecTree) → StandsIn (here_of place.now) w → IsOwnerAfter w blocks owner.old → IfUnknown fault (HasUnknownInBlock w blocks spec.now)) }
+{
+    if owner.parameters.len() > u32::MAX as usize {
+        return Err(NameFault::NoMemory);
+    }
+    let clauses = ClausePlace {
+        alloc: place.alloc,
+        types: TypePlace {
+            environment: place.environment,
+            parameters: owner.parameters.as_slice(),
+            is_spec: true,
+        },
+        schemas: place.schemas,
+    };
+    let trees = clauses_of_spec(spec);
+    resolve_block(&clauses, spec_place(spec), trees, &mut owner.target)?;
+    owner.settings = with_block(owner.settings, trees);
+    Ok(())
+}
+
+/// A spec block of a member, or of the module itself.
+fn add_owned(
+    place: &ModulePlace<'_>,
+    number: usize,
+    owners: &mut Vec<Owner>,
+    spec: &Spec,
+) -> Result<(), NameFault>
+    requires numbers { AreNumbers (here_of place.now) place.now.numbers.now }
+    requires owners { AreOwners (here_of place.now) (blocks_before (here_of place.now) (take number place.now.members.now)) owners.old.items }
+    ensures added { OnOk result (AreOwners (here_of place.now) (blocks_with (here_of place.now) (take number place.now.members.now) spec.now) owners.new.items) }
+    ensures known { OnOk result (HasUnknownInOwned (here_of place.now) (take number place.now.members.now) spec.now → ⊥) }
+    ensures unknown { IfErr result (λ fault. IfUnknown fault (HasUnknownInOwned (here_of place.now) (take number place.now.members.now) spec.now)) }
+{
+    let count = place.members.len();
+    let Some(index) = owner_of(place.alloc, place.numbers, count, spec)? else {
+        return Err(NameFault::Unknown);
+    };
+    let owner = &mut owners[index];
+    add_to_owner(place, owner, spec)?;
+    Ok(())
+}
+
+/// A spec block.
+fn own_spec(
+    place: &ModulePlace<'_>,
+    number: usize,
+    owners: &mut Vec<Owner>,
+    spec: &Spec,
+) -> Result<Option<Declared>, NameFault>
+    requires numbers { AreNumbers (here_of place.now) place.now.numbers.now }
+    requires owners { AreOwners (here_of place.now) (blocks_before (here_of place.now) (take number place.now.members.now)) owners.old.items }
+    ensures added { OnOk result (AreOwners (here_of place.now) (blocks_with (here_of place.now) (take number place.now.members.now) spec.now) owners.new.items) }
+    ensures part { IfOk result (λ part. Paired IsBareAs (spec_declaration (here_of place.now) spec.now) (listed part)) }
+    ensures known { OnOk result (HasUnknownInSpec (here_of place.now) (take number place.now.members.now) spec.now → ⊥) }
+    ensures unknown { IfErr result (λ fault. IfUnknown fault (HasUnknownInSpec (here_of place.now) (take number place.now.members.now) spec.now)) }
+{
+    match spec {
+        Spec::Schema(tree) => Ok(Some(own_schema(place, tree)?)),
+        Spec::Function(tree) => Ok(Some(own_spec_function(place, tree)?)),
+        Spec::Loop { .. } => Ok(None),
+        Spec::Module { .. } | Spec::Named { .. } => {
+            add_owned(place, number, owners, spec)?;
+            Ok(None)
+        }
+    }
+}
+
+// ---- members
+
+/// A `use`.
+fn own_use(place: &ModulePlace<'_>, tree: &Use) -> Result<(), NameFault>
+    ensures known { OnOk result (use_is_known place.now.environment.now place.now.modules.now.keys tree.now ≡ true) }
+    ensures unknown { IfErr result (λ fault. IfUnknown fault (use_is_known place.now.environment.now place.now.modules.now.keys tree.now ≡ false)) }
+{
+    if use_is_known(place.alloc, place.environment, place.modules, tree)? {
+        return Ok(());
+    }
+    Err(NameFault::Unknown)
+}
+
+/// A friend, which is put behind others.
+fn own_friend(
+    place: &ModulePlace<'_>,
+    tree: &Friend,
+    friends: &mut Sequence<ModuleId>,
+) -> Result<(), NameFault>
+    ensures found { OnOk result (friends.new ≡ friends.old ++ listed (among_these place.now.modules.now.keys (module_meaning place.now.environment.now tree.now.owner))) }
+    ensures known { OnOk result ((among_these place.now.modules.now.keys (module_meaning place.now.environment.now tree.now.owner) ≡ None) → ⊥) }
+    ensures unknown { IfErr result (λ fault. IfUnknown fault (among_these place.now.modules.now.keys (module_meaning place.now.environment.now tree.now.owner) ≡ None)) }
+{
+    let id = resolve_friend(place.alloc, place.environment, place.modules, tree)?;
+    friends.push(id)?;
+    Ok(())
+}
+
+/// A member that is no function, with the friend that it names behind others.
+fn own_simple(
+    place: &ModulePlace<'_>,
+    form: &SourceForm,
+    friends: &mut Sequence<ModuleId>,
+) -> Result<Option<Declared>, NameFault>
+    requires { IsSimple form.now }
+    ensures simple { OnOk result (IsSimple form.now) }
+    ensures part { IfOk result (λ part. (n : ℕ) (loops : List SpecTree) → Paired IsBareAs (form_declaration (here_of place.now) n form.now loops) (listed part)) }
+    ensures friends { OnOk result (friends.new ≡ friends.old ++ listed (friend_of_form (here_of place.now) form.now)) }
+    ensures known { OnOk result ((before : List SourceMemberData) → HasUnknownInForm (here_of place.now) before form.now → ⊥) }
+    ensures unknown { IfErr result (λ fault. (before : List SourceMemberData) → IfUnknown fault (HasUnknownInForm (here_of place.now) before form.now)) }
+{
+    match form {
+        SourceForm::Use(tree) => {
+            own_use(place, tree)?;
+            Ok(None)
+        }
+        SourceForm::Friend(tree) => {
+            own_friend(place, tree, friends)?;
+            Ok(None)
+        }
+        SourceForm::Struct(tree) => Ok(Some(own_struct(place, tree)?)),
+        SourceForm::Constant(tree) => Ok(Some(own_constant(place, tree)?)),
+        SourceForm::Function(_) | SourceForm::Spec(_) => unreachable!(),
+    }
+}
+
+/// A member of this form with the number `number`, behind the others.
+fn own_form(
+    place: &ModulePlace<'_>,
+    number: usize,
+    form: &SourceForm,
+    loops: &[Spec],
+    owners: &mut Vec<Owner>,
+    friends: &mut Sequence<ModuleId>,
+) -> Result<Option<Declared>, PlaceFault>
+    requires numbers { AreNumbers (here_of place.now) place.now.numbers.now }
+    requires owners { AreOwners (here_of place.now) (blocks_before (here_of place.now) (take number place.now.members.now)) owners.old.items }
+    ensures made { IfOk result (λ part. IsMade (here_of place.now) number (take number place.now.members.now) form.now loops.now friends.old friends.new part) }
+    ensures owners { OnOk result ((m : SourceMemberData) → m.form ≡ form.now → AreOwners (here_of place.now) (blocks_before (here_of place.now) (take number place.now.members.now ++ m ∷ [])) owners.new.items) }
+    ensures unknown { IfErr result (IsFaultAmong (form_items (here_of place.now) (take number place.now.members.now) form.now loops.now)) }
+{
+    match form {
+        SourceForm::Function(tree) => Ok(Some(own_function(place, tree, loops)?)),
+        SourceForm::Spec(spec) => match own_spec(place, number, owners, spec) {
+            Ok(part) => Ok(part),
+            Err(fault) => Err(fault_at(fault, spec_place(spec))),
+        },
+        _ => match own_simple(place, form, friends) {
+            Ok(part) => Ok(part),
+            Err(fault) => Err(fault_at(fault, form_place(form))),
+        },
+    }
+}
+
+/// What is made of all members of a module, in their order.
+pub fn own_members(
+    place: &ModulePlace<'_>,
+    owners: &mut Vec<Owner>,
+    friends: &mut Sequence<ModuleId>,
+) -> Result<Vec<Option<Declared>>, PlaceFault>
+    requires numbers { AreNumbers (here_of place.now) place.now.numbers.now }
+    requires owners { AreOwners (here_of place.now) (blocks_before (here_of place.now) []) owners.old.items }
+    ensures parts { IfOk result (λ parts. ArePartsFrom (here_of place.now) 0 place.now.members.now parts.items) }
+    ensures friends { OnOk result (friends.new ≡ friends.old ++ filter_map (friend_of_member (here_of place.now)) place.now.members.now) }
+    ensures owners { OnOk result (AreOwners (here_of place.now) (blocks_before (here_of place.now) place.now.members.now) owners.new.items) }
+    ensures known { OnOk result (AreKnown (items_behind (here_of place.now) [] place.now.members.now)) }
+    ensures unknown { IfErr result (IsFaultAmong (items_behind (here_of place.now) [] place.now.members.now)) }
+{
+    let mut parts = Vec::new(place.alloc);
+    for (number, member) in place.members.iter().enumerate() {
+        let part = own_form(place, number, &member.form, &member.loops, owners, friends)?;
+        parts.push(part)?;
+    }
+    Ok(parts)
+}
