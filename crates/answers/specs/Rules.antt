@@ -1,20 +1,26 @@
 -- The numbers and the names of the rules.
 use Rattle.std.specs.Prelude.{ℕ, Bool, true, false, List, codes}
 use Rattle.answers.specs.declared.rule.Rule.{Rule}
-use Rattle.answers.specs.declared.rule.Rule.TheVariants.{BadToken, Grammar, LeftOut, TwiceDeclared, NotBuilt}
+use Rattle.answers.specs.declared.rule.Rule.TheVariants.{BadToken, Grammar, LeftOut, UnknownName, TwiceDeclared, NotVisible, Cycle, NotBuilt}
 
 abbrev pub rule_number : Rule → ℕ
 rule_number BadToken = 1
 rule_number Grammar = 2
 rule_number LeftOut = 3
+rule_number UnknownName = 5
 rule_number TwiceDeclared = 6
+rule_number NotVisible = 7
+rule_number Cycle = 8
 rule_number NotBuilt = 18
 
 abbrev pub rule_name : Rule → List ℕ
 rule_name BadToken = codes "BadToken"
 rule_name Grammar = codes "Grammar"
 rule_name LeftOut = codes "LeftOut"
+rule_name UnknownName = codes "UnknownName"
 rule_name TwiceDeclared = codes "TwiceDeclared"
+rule_name NotVisible = codes "NotVisible"
+rule_name Cycle = codes "Cycle"
 rule_name NotBuilt = codes "NotBuilt"
 
 -- Where a file breaks the rule, its definition says at which place: for each rule but `Grammar`, whose place is where a reader

@@ -12,9 +12,18 @@ pub enum Rule {
     Grammar,
     /// The tokens are of no source, and hold a marker of a form that is left out.
     LeftOut,
+    /// A use of a name means no declaration: of an address, a module, a member, a type, a value, a call or a variable of a
+    /// schema.
+    UnknownName,
     /// Two declarations of one kind in one module have one name, or two parameters, type parameters or fields of one
     /// owner; or two modules have one address and one name.
     TwiceDeclared,
+    /// Code calls a function that is not visible in its module, makes or takes apart a struct of another module, or
+    /// uses global storage at one.
+    NotVisible,
+    /// Modules use one another in a circle, the types of a struct's fields lead back to it, or spec functions or
+    /// schemas use themselves.
+    Cycle,
     /// The file holds a form that is not built yet.
     NotBuilt,
 }
@@ -28,7 +37,10 @@ impl Rule {
             Rule::BadToken => 1,
             Rule::Grammar => 2,
             Rule::LeftOut => 3,
+            Rule::UnknownName => 5,
             Rule::TwiceDeclared => 6,
+            Rule::NotVisible => 7,
+            Rule::Cycle => 8,
             Rule::NotBuilt => 18,
         }
     }
@@ -41,7 +53,10 @@ impl Rule {
             Rule::BadToken => b"BadToken",
             Rule::Grammar => b"Grammar",
             Rule::LeftOut => b"LeftOut",
+            Rule::UnknownName => b"UnknownName",
             Rule::TwiceDeclared => b"TwiceDeclared",
+            Rule::NotVisible => b"NotVisible",
+            Rule::Cycle => b"Cycle",
             Rule::NotBuilt => b"NotBuilt",
         }
     }

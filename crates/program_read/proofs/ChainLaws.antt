@@ -1,8 +1,8 @@
 -- What is so of each stage is so of a chain of them: it gives one thing at most, or it stops in one way.
-use Rattle.std.proofs.Common.{◌≡◌, ℕ, List, refl, sym, ap, subst, ◌∙◌}
-use Rattle.program_read.specs.Chain.{FileStage, GivesBehind, StopsBehind, at_first, at_second, makes, checks, ◌▷◌}
+use Rattle.std.proofs.Common.{◌≡◌, ℕ, List, sym, subst, ◌∙◌}
+use Rattle.program_read.specs.Chain.{FileStage, GivesBehind, StopsBehind, allows, at_first, at_second, makes, checks, ◌▷◌}
 use Rattle.program_read.specs.FileFault.{IsSameStop, without_place}
-use Rattle.program_read.specs.Numbered.{Each, EachPair, IsFirst}
+use Rattle.program_read.specs.Numbered.{Each, IsFirst}
 use Rattle.program_read.specs.declared.fault.FileFault.{FileFault}
 use Rattle.program_read.proofs.NumberedLaws.{none_first, once, one_list}
 use Rattle.program_read.proofs.NumberedLemmas.{each_of_pairs}
@@ -74,4 +74,16 @@ module _ {A B : Type 0} (IsOf : ℕ → A → B → Type 0) (IsWrong : ℕ → A
     one = λ given made other p q. one_list IsOf 0 given made other one_made p q;
     either = λ given made file fault p stops. none_stops HasMade IsWrong made_apart told given file fault (each_of_pairs IsOf HasMade 0 given made (λ n item m h. (m, h)) p) stops;
     stop = stops_once HasMade IsWrong made_apart told;
+  }
+
+-- ---- stages that look at all files at once
+
+module _ {A : Type 0} (IsRight : A → Type 0) (IsWrong : A → ℕ → FileFault → Type 0)
+    (apart : (given : A) (file : ℕ) (fault : FileFault) → IsRight given → IsWrong given file fault → ⊥)
+    (told : (given : A) (file other_file : ℕ) (fault other : FileFault) → IsWrong given file fault → IsWrong given other_file other → IsSameStop file other_file fault other) where
+  pub allows_laws : Laws (allows IsRight IsWrong)
+  allows_laws = record {
+    one = λ given made other p q. p.0 ∙ sym q.0;
+    either = λ given made file fault p stops. apart given file fault p.1 stops;
+    stop = told;
   }

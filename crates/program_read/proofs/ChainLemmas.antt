@@ -1,8 +1,8 @@
 -- Files that are taken in order, by a stage that looks at each by itself.
-use Rattle.std.proofs.Common.{◌≡◌, ℕ, ◌+◌, ◌<◌, ◌≤◌, List, length, take, get_or, refl, sym, ap, subst, ◌∙◌}
-use Rattle.program_read.specs.Chain.{FileStage, GivesBehind, makes, checks, ◌▷◌}
+use Rattle.std.proofs.Common.{◌≡◌, ℕ, ◌<◌, List, length, take, get_or, sym, ap, subst, ◌∙◌}
+use Rattle.program_read.specs.Chain.{FileStage, makes, checks, ◌▷◌}
 use Rattle.program_read.specs.FileReading.{IsIn}
-use Rattle.program_read.specs.Numbered.{Each, EachPair, IsFirst}
+use Rattle.program_read.specs.Numbered.{EachPair, IsFirst}
 use Rattle.program_read.specs.declared.fault.FileFault.{FileFault}
 use Rattle.program_read.proofs.NumberedLemmas.{each_of_pairs, first_at, pairs_length}
 

@@ -4,6 +4,8 @@ mod NumberedLaws
 pub mod ChainLemmas
 mod ChainLaws
 mod MarkerLaws
+mod UnknownLaws
+mod NameLaws
 mod TextLemmas
 mod LocalLemmas
 mod ModuleLemmas

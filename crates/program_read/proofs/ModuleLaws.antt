@@ -1,5 +1,5 @@
 -- Modules of files are one program of sums at most, or what is not built of them begins at one place.
-use Rattle.std.proofs.Common.{◌≡◌, ℕ, false, true, List, [], ◌∷◌, ◌++◌, refl, sym, ap, subst, ◌∙◌, append-nil, append_assoc, inl, inr}
+use Rattle.std.proofs.Common.{◌≡◌, ℕ, false, List, [], ◌∷◌, ◌++◌, refl, sym, ap, subst, ◌∙◌, append-nil, append_assoc, inl, inr}
 use Rattle.pv_base.proofs.ListEnds.{head_is, tail_is}
 use Rattle.pv_base.proofs.TruthValues.{apart}
 use Rattle.source_tree.specs.SourceModuleData.{SourceModuleData}

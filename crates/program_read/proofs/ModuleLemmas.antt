@@ -16,7 +16,7 @@ use Rattle.source_tree.specs.Places.{module_place}
 use Rattle.sum_module.specs.Program.{IsSumModule}
 use Rattle.program_read.specs.declared.fault.FileFault.{FileFault}
 use Rattle.program_read.specs.FileFault.{breaks}
-use Rattle.program_read.specs.Modules.{AreModules, HasUnbuilt, IsFirstUnbuilt, is_taken, numbered}
+use Rattle.program_read.specs.Modules.{AreModules, HasUnbuilt, is_taken, numbered}
 use Rattle.program_read.specs.ModuleReading.{AreRead, IsSetOf, is_in, key_cmp}
 use Rattle.program_read.proofs.NumberedLemmas.{behind, counted, parts_at, taken_all}
 

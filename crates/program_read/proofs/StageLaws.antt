@@ -1,25 +1,25 @@
 -- The laws of each stage, and of all of them.
-use Rattle.std.proofs.Common.{◌≡◌, ℕ, List, length, Option, [], Some, None, inl, inr, refl, sym, ap, ◌∙◌, arith}
-use Rattle.answers.specs.declared.rule.Rule.TheVariants.{BadToken, TwiceDeclared, NotBuilt}
+use Rattle.std.proofs.Common.{length, ◌≡◌, ℕ, List, [], Some, None, inl, inr, sym, ap, ◌∙◌, arith}
+use Rattle.answers.specs.declared.rule.Rule.TheVariants.{BadToken, NotBuilt}
 use Rattle.move_tokens.specs.Spelling.{IsBadAt, Spells}
 use Rattle.move_tokens.specs.declared.token.Token.{Token}
 use Rattle.source_tree.specs.Denoted.{IsSourceOf}
 use Rattle.source_tree.specs.SourceModuleData.{SourceModuleData}
-use Rattle.sum_tree.specs.SumModuleData.{SumModuleData}
-use Rattle.program_read.specs.Chain.{FileStage, ◌▷◌}
+use Rattle.program_read.specs.Chain.{◌▷◌}
 use Rattle.program_read.specs.FileFault.{IsSameStop, breaks, without_place}
 use Rattle.program_read.specs.LocalCounts.{HasFewLocals, HasManyLocals, locals_stage}
-use Rattle.program_read.specs.Modules.{HasUnbuilt, modules_stage, numbered}
+use Rattle.program_read.specs.Modules.{AreNoSums, modules_stage, numbered}
+use Rattle.program_read.specs.Named.{NamedData}
 use Rattle.program_read.specs.Program.{name_stages, program_stages, source_stages}
-use Rattle.program_read.specs.Sources.{Denote, DenoteNone, HasMarker, HasNoTree, left_out, source_stage}
+use Rattle.program_read.specs.Sources.{Denote, DenoteNone, left_out, source_stage}
 use Rattle.program_read.specs.Texts.{AreTokensOf, HasBadToken, IsHeavy, IsLight, IsLong, IsShort, length_stage, nesting_stage, text_stages, tokens_stage}
-use Rattle.program_read.specs.Twice.{HasTwice, twice_stage}
 use Rattle.program_read.specs.declared.fault.FileFault.{FileFault}
 use Rattle.program_read.specs.declared.fault.FileFault.TheVariants.{Passes}
 use Rattle.program_read.specs.declared.fault.FileLimit.TheVariants.{Locals}
 use Rattle.program_read.proofs.ChainLaws.{Laws, behind_laws, checks_laws, makes_laws}
 use Rattle.program_read.proofs.ChainLemmas.{KeepsCount, behind_keeps, checks_keeps, makes_keeps}
 use Rattle.program_read.proofs.MarkerLaws.{marker_once, marker_or_none}
+use Rattle.program_read.proofs.NameLaws.{HaveOneProgram, name_laws, sources_kept}
 use Rattle.program_read.proofs.ModuleLaws.{all_or_first, first_once, one_program}
 
 -- ---- tokens
@@ -29,6 +29,7 @@ pub record Known : Type 0 where
   pub one_spelling : (file : ℕ) (bytes : List ℕ) (one other : List Token) → Spells file one bytes → Spells file other bytes → one ≡ other
   pub one_place : (one other : ℕ) (bytes : List ℕ) → IsBadAt one bytes → IsBadAt other bytes → one ≡ other
   pub one_source : (tokens : List Token) (one other : List SourceModuleData) → IsSourceOf one tokens → IsSourceOf other tokens → one ≡ other
+  pub one_program : HaveOneProgram
 
 bad_once : Known → (n : ℕ) (bytes : List ℕ) (fault other : FileFault) → HasBadToken n bytes fault → HasBadToken n bytes other → without_place fault ≡ without_place other
 bad_once known n bytes fault other p q =
@@ -72,39 +73,17 @@ locals_laws =
     checks_laws HasFewLocals HasManyLocals (λ n source fault few many. none_is_some (sym few ∙ many.excess))
     (λ n source fault other p q. ap without_place (p.fault_is ∙ ap (Passes Locals) (some_is (sym p.excess ∙ q.excess)) ∙ sym q.fault_is))
 
--- ---- names
-
-abbrev file_of : Option (ℕ × ℕ) → ℕ
-file_of None = 0
-file_of (Some at) = at.0
-
-abbrev place_of : Option (ℕ × ℕ) → ℕ
-place_of None = 0
-place_of (Some at) = at.1
-
-twice_once : (sources : List (List SourceModuleData)) (file other_file : ℕ) (fault other : FileFault) → HasTwice sources file fault → HasTwice sources other_file other → IsSameStop file other_file fault other
-twice_once sources file other_file fault other p q =
-    let same = sym p.first ∙ q.first in
-    record { file_is = ap file_of same; fault_is = ap without_place (p.fault_is ∙ ap (breaks TwiceDeclared) (ap place_of same) ∙ sym q.fault_is) }
-
-twice_laws : Laws twice_stage
-twice_laws = record {
-  one = λ sources one other p q. p.0 ∙ sym q.0;
-  either = λ sources handed file fault p stops. none_is_some (sym p.1 ∙ stops.first);
-  stop = twice_once;
-}
-
 -- ---- modules
 
-unbuilt_once : (sources : List (List SourceModuleData)) (file other_file : ℕ) (fault other : FileFault) → HasUnbuilt (numbered 0 sources) file fault → HasUnbuilt (numbered 0 sources) other_file other → IsSameStop file other_file fault other
-unbuilt_once sources file other_file fault other p q =
-    let o = first_once (numbered 0 sources) file other_file p.place q.place p.first q.first in
+unbuilt_once : (given : NamedData) (file other_file : ℕ) (fault other : FileFault) → AreNoSums given.sources file fault → AreNoSums given.sources other_file other → IsSameStop file other_file fault other
+unbuilt_once given file other_file fault other p q =
+    let o = first_once (numbered 0 given.sources) file other_file p.place q.place p.first q.first in
     record { file_is = o.file_is; fault_is = ap without_place (p.fault_is ∙ ap (breaks NotBuilt) o.place_is ∙ sym q.fault_is) }
 
 modules_laws : Laws modules_stage
 modules_laws = record {
-  one = λ sources one other p q. one_program [] (numbered 0 sources) one other p q;
-  either = λ sources program file fault p stops. all_or_first (numbered 0 sources) program file stops.place p stops.first;
+  one = λ given one other p q. one_program [] (numbered 0 given.sources) one other p q;
+  either = λ given program file fault p stops. all_or_first (numbered 0 given.sources) program file stops.place p stops.first;
   stop = unbuilt_once;
 }
 
@@ -116,11 +95,9 @@ text_laws known = behind_laws (tokens_stage ▷ length_stage) nesting_stage (beh
 source_chain_laws : Known → Laws source_stages
 source_chain_laws known = behind_laws (text_stages ▷ source_stage) locals_stage (behind_laws text_stages source_stage (text_laws known) (source_laws known)) locals_laws
 
-name_chain_laws : Known → Laws name_stages
-name_chain_laws known = behind_laws source_stages twice_stage (source_chain_laws known) twice_laws
-
 pub program_laws : Known → Laws program_stages
-program_laws known = behind_laws name_stages modules_stage (name_chain_laws known) modules_laws
+program_laws known =
+    behind_laws (source_stages ▷ name_stages) modules_stage (behind_laws source_stages name_stages (source_chain_laws known) (name_laws known.one_program)) modules_laws
 
 -- ---- how many files there are
 
@@ -130,8 +107,9 @@ text_keeps = behind_keeps (tokens_stage ▷ length_stage) nesting_stage (behind_
 pub read_keeps : KeepsCount (text_stages ▷ source_stage)
 read_keeps = behind_keeps text_stages source_stage text_keeps (makes_keeps Denote DenoteNone)
 
-pub source_keeps : KeepsCount source_stages
+source_keeps : KeepsCount source_stages
 source_keeps = behind_keeps (text_stages ▷ source_stage) locals_stage read_keeps (checks_keeps HasFewLocals HasManyLocals)
 
-pub name_keeps : KeepsCount name_stages
-name_keeps = behind_keeps source_stages twice_stage source_keeps (λ given made g. ap length g.0)
+-- the sources that keep the rules on names are as many as the files
+pub named_count : (files : List (List ℕ)) (given : NamedData) → (source_stages ▷ name_stages).Gives files given → length given.sources ≡ length files
+named_count files given g = ap length (sources_kept g.between given g.second) ∙ source_keeps files g.between g.first

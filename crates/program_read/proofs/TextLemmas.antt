@@ -1,8 +1,8 @@
 -- The tokens of files, read in order.
 use Rattle.std.proofs.Common.{◌≡◌, ℕ, suc, ◌+◌, ◌<◌, List, [], ◌∷◌, ◌++◌, length, map, refl, sym, ap, subst, ◌∙◌, append_assoc, append-nil, arith}
 use Rattle.move_tokens.specs.declared.token.Token.{Token}
-use Rattle.program_read.specs.Chain.{FileStage, GivesBehind, at_first, at_second, ◌▷◌}
-use Rattle.program_read.specs.Numbered.{Each, EachPair, IsFirst}
+use Rattle.program_read.specs.Chain.{at_first, at_second, ◌▷◌}
+use Rattle.program_read.specs.Numbered.{Each, EachPair}
 use Rattle.program_read.specs.Texts.{AreTokensOf, IsLong, IsShort, length_stage, text_stages, tokens_stage}
 use Rattle.program_read.specs.TextReading.{IsFirstLong, IsLongText, IsShortText, IsText}
 use Rattle.program_read.specs.declared.fault.FileFault.{FileFault}

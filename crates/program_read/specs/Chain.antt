@@ -40,3 +40,9 @@ checks IsRight IsWrong = record {
   Gives = λ items handed. (handed ≡ items) × Each IsRight 0 items;
   Stops = λ items file fault. IsFirst IsRight (λ n item. IsWrong n item fault) items file;
 }
+
+-- ---- stages that look at all files at once
+
+-- What is given is as it should be, and is handed on.
+abbrev pub allows : {A : Type 0} → (A → Type 0) → (A → ℕ → FileFault → Type 0) → FileStage A A
+allows IsRight IsWrong = record { Gives = λ given handed. (handed ≡ given) × IsRight given; Stops = IsWrong }

@@ -1,5 +1,5 @@
 -- Facts about why files were not read.
-use Rattle.std.specs.Prelude.{◌≡◌, ℕ, if◌then◌else◌, Option, None}
+use Rattle.std.specs.Prelude.{◌≡◌, ℕ, if◌then◌else◌, None}
 use Rattle.answers.specs.Rules.{tells_place}
 use Rattle.answers.specs.declared.rule.Rule.{Rule}
 use Rattle.program_read.specs.declared.fault.FileFault.{FileFault}

@@ -6,7 +6,9 @@ pub mod Texts
 pub mod TextReading
 pub mod Sources
 pub mod LocalCounts
+pub mod Named
 pub mod Twice
+pub mod Bounds
 pub mod Modules
 pub mod ModuleReading
 pub mod Program

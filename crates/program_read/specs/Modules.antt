@@ -11,6 +11,7 @@ use Rattle.source_tree.specs.Places.{module_place}
 use Rattle.sum_module.specs.Program.{IsSumModule}
 use Rattle.program_read.specs.Chain.{FileStage}
 use Rattle.program_read.specs.FileFault.{breaks}
+use Rattle.program_read.specs.Named.{NamedData}
 use Rattle.program_read.specs.declared.fault.FileFault.{FileFault}
 
 -- the modules of sources in order, each with the number of its file, the first of which is this one
@@ -57,8 +58,13 @@ pub record HasUnbuilt (modules : List (ℕ × SourceModuleData)) (file : ℕ) (f
   pub fault_is : fault ≡ breaks NotBuilt place
   pub first : IsFirstUnbuilt modules file place
 
-abbrev pub modules_stage : FileStage (List (List SourceModuleData)) (List SumModuleData)
-modules_stage = record {
-  Gives = λ sources program. AreModules [] (numbered 0 sources) program;
-  Stops = λ sources file fault. HasUnbuilt (numbered 0 sources) file fault;
-}
+-- these are the modules of sums that the modules of the sources are
+abbrev pub AreSumsOf : List (List SourceModuleData) → List SumModuleData → Type 0
+AreSumsOf sources modules = AreModules [] (numbered 0 sources) modules
+
+abbrev pub AreNoSums : List (List SourceModuleData) → ℕ → FileFault → Type 0
+AreNoSums sources = HasUnbuilt (numbered 0 sources)
+
+-- modules of sums are read off the trees of the sources
+abbrev pub modules_stage : FileStage NamedData (List SumModuleData)
+modules_stage = record { Gives = λ given. AreSumsOf given.sources; Stops = λ given. AreNoSums given.sources }

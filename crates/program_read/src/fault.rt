@@ -6,6 +6,7 @@ ghost use Rattle.program_read.specs.FileFault.{breaks};
 use answers::rule::Rule;
 use pv_base::memory::NoMemory;
 use pv_base::name::Name;
+use pv_base::span::Span;
 use std::alloc::AllocFailed;
 
 /// A limit that a file can pass.
@@ -45,6 +46,17 @@ pub enum ProgramFault {
     InFile(u32, FileFault),
     /// Memory ran out.
     NoMemory,
+}
+
+impl ProgramFault {
+    ghost use Rattle.program_read.specs.declared.fault.ProgramFault.TheVariants.{InFile};
+
+    /// That a rule is broken at this place, which names its file.
+    pub fn breaks(rule: Rule, place: Span) -> ProgramFault
+        ensures { result ≡ InFile place.file (breaks rule place.start) }
+    {
+        ProgramFault::InFile(place.file, FileFault::breaks(rule, place.start))
+    }
 }
 
 impl From<NoMemory> for ProgramFault {

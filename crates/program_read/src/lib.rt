@@ -1,9 +1,11 @@
 //! Programs of sums, read off the bytes of their files.
 #![tactic(auto)]
 
+pub mod bounds;
 pub mod fault;
 pub mod locals;
 pub mod modules;
+pub mod names;
 pub mod program;
 pub mod sources;
 pub mod texts;

@@ -4,7 +4,7 @@ ghost use Rattle.std.specs.Prelude.{◌≡◌, ◌≤◌, ◌^◌, ◌++◌, ◌
 ghost use Rattle.source_tree.specs.SourceModuleData.{SourceModuleData};
 ghost use Rattle.program_read.specs.FileFault.{IfInFile};
 ghost use Rattle.program_read.specs.ModuleReading.{AreRead, IsSetOf, is_in};
-ghost use Rattle.program_read.specs.Modules.{HasUnbuilt, modules_stage};
+ghost use Rattle.program_read.specs.Modules.{AreNoSums, AreSumsOf, HasUnbuilt};
 
 use crate::fault::{FileFault, ProgramFault};
 use answers::rule::Rule;
@@ -81,7 +81,7 @@ impl Found {
 /// first such.
 pub fn read_modules(alloc: Global, sources: &[Source]) -> Result<Vec<SumModule>, ProgramFault>
     requires few { length sources.now ≤ 2 ^ 32 }
-    ensures { MatchResult result (λ found. modules_stage.Gives sources.now found.items) (λ fault. IfInFile fault (modules_stage.Stops sources.now)) }
+    ensures { MatchResult result (λ found. AreSumsOf sources.now found.items) (λ fault. IfInFile fault (AreNoSums sources.now)) }
 {
     let mut found = Found::new(alloc);
     for (number, source) in sources.iter().enumerate() {

@@ -10,11 +10,12 @@ ghost use Rattle.program_read.specs.Program.{IsProgramOf, ProgramStopped};
 use crate::fault::ProgramFault;
 use crate::locals::check_locals;
 use crate::modules::read_modules;
+use crate::names::check_names;
 use crate::sources::read_sources;
 use crate::texts::read_texts;
-use crate::twice::check_twice;
 use move_tokens::scanner::{one_spelling, spelled_or_bad};
 use pv_base::lists::Bytes;
+use resolution::law::one_program;
 use source_parse::denoted::one_source;
 use std::alloc::Global;
 use sum_tree::function::SumModule;
@@ -24,8 +25,9 @@ use sum_tree::function::SumModule;
 /// # Errors
 ///
 /// The first of these that holds of some file, with the first file of which it holds: no tokens spell it; it has
-/// too many tokens; they nest too deep; they are of no source; a function has too many parameters and locals;
-/// something is declared twice; a module is none of sums. `NoMemory` where memory ran out.
+/// too many tokens; they nest too deep; they are of no source; a function has too many parameters and locals; a
+/// use of a name means nothing; something is declared twice; code uses what it may not; declarations go in a
+/// circle; a module is none of sums. `NoMemory` where memory ran out.
 pub fn read_program(alloc: Global, files: &[Bytes]) -> Result<Vec<SumModule>, ProgramFault>
     requires few { length files.now ≤ 2 ^ 32 }
     requires short { AllByRecursion (λ bytes. length bytes < 2 ^ 32) files.now }
@@ -34,7 +36,7 @@ pub fn read_program(alloc: Global, files: &[Bytes]) -> Result<Vec<SumModule>, Pr
     let texts = read_texts(alloc, files)?;
     let sources = read_sources(alloc, texts.as_slice())?;
     check_locals(alloc, sources.as_slice())?;
-    check_twice(alloc, sources.as_slice())?;
+    check_names(alloc, sources.as_slice())?;
     read_modules(alloc, sources.as_slice())
 }
 
@@ -51,4 +53,5 @@ pub fn one_outcome()
     one_spelling();
     spelled_or_bad();
     one_source();
+    one_program();
 }

@@ -1,9 +1,8 @@
 //! That nothing is declared twice in files.
 
-ghost use Rattle.std.specs.Prelude.{◌≡◌, ◌≤◌, ◌^◌, None, length, MatchResult};
-ghost use Rattle.module_names.specs.Program.{first_twice_of};
+ghost use Rattle.std.specs.Prelude.{◌≤◌, ◌^◌, length, MatchResult};
 ghost use Rattle.program_read.specs.FileFault.{IfInFile};
-ghost use Rattle.program_read.specs.Twice.{twice_stage};
+ghost use Rattle.program_read.specs.Twice.{HasNoneTwice, HasTwice};
 
 use crate::fault::{FileFault, ProgramFault};
 use answers::rule::Rule;
@@ -18,7 +17,7 @@ use std::alloc::Global;
 /// `TwiceDeclared` exactly where something is, with the first declaration that is there a second time.
 pub fn check_twice(alloc: Global, sources: &[Source]) -> Result<(), ProgramFault>
     requires few { length sources.now ≤ 2 ^ 32 }
-    ensures { MatchResult result (λ _. first_twice_of sources.now ≡ None) (λ fault. IfInFile fault (twice_stage.Stops sources.now)) }
+    ensures { MatchResult result (λ _. HasNoneTwice sources.now) (λ fault. IfInFile fault (HasTwice sources.now)) }
 {
     match first_twice_of(alloc, sources)? {
         None => Ok(()),

@@ -8,7 +8,7 @@ use Rattle.answers.specs.declared.rule.Rule.{Rule}
 use Rattle.answers.specs.declared.rule.Rule.TheVariants.{BadToken}
 use Rattle.outside.specs.Handed.{HandedFiles, HandedOver}
 use Rattle.outside.specs.Outside.{Files, HasFaulted, IsLongFile}
-use Rattle.program_read.specs.Numbered.{Each, IsFirst}
+use Rattle.program_read.specs.Numbered.{IsFirst}
 use Rattle.program_read.specs.FileFault.{IsSameStop, without_place}
 use Rattle.program_read.specs.Program.{IsProgramOf, ProgramStopped}
 use Rattle.program_read.specs.declared.fault.FileFault.{FileFault}
@@ -23,12 +23,11 @@ use Rattle.report.specs.declared.status.LimitKind.TheVariants.{Files as files_ki
 use Rattle.report.specs.declared.status.Status.{Status}
 use Rattle.report.specs.declared.status.Status.TheVariants.{AllProved, NotAllProved, Refused, Fault, BadWords, Limit, NoMemory}
 use Rattle.sum_tree.specs.SumModuleData.{SumModuleData}
-use Rattle.pv_base.specs.Pairs.{Paired}
 use Rattle.prove.proofs.HandedLemmas.{handed_in_part, one_handed}
-use Rattle.prove.specs.Causes.{AreTold, BreaksRule, BreaksRuleOn, Causes, FileCauses, HandedCauses, HaveProgram, IsRefused, IsReported, PassesLimit, SomeIsLong, TextCauses, UnlessFree, refused}
+use Rattle.prove.specs.Causes.{AreTold, BreaksRule, BreaksRuleOn, Causes, FileCauses, HandedCauses, IsRefused, IsReported, PassesLimit, SomeIsLong, TextCauses, UnlessFree, refused}
 use Rattle.prove.specs.Outcome.{status_of}
 use Rattle.prove.specs.Run.{Ends, IsOutput, IsVerified, RunStopped, report_status}
-use Rattle.prove.specs.Stages.{FetchStopped, HandedBefore, HandedTo, HasBytes, HaveBytes, IsFetched, IsLong, IsProgramStop, NameFiles, ReadStopped, limit_kind, line_in, stop_of}
+use Rattle.prove.specs.Stages.{FetchStopped, HandedBefore, HandedTo, HaveBytes, IsFetched, IsLong, IsProgramStop, NameFiles, ReadStopped, limit_kind, line_in, stop_of}
 use Rattle.prove.specs.declared.stages.RunStop.{RunStop}
 use Rattle.prove.specs.declared.stages.RunStop.TheVariants.{TooManyFiles, SourceFault, Limit as limit_stop, Refused as refused_stop, NoMemory as memory_stop}
 

@@ -1,11 +1,10 @@
 -- Files that are fetched one after another.
-use Rattle.std.proofs.Common.{◌≡◌, ℕ, zero, suc, ◌+◌, ◌<◌, List, [], ◌∷◌, ◌++◌, length, take, get_or, Option, Result, Ok, Err, sym, subst}
+use Rattle.std.proofs.Common.{◌≡◌, ℕ, ◌+◌, ◌<◌, List, [], ◌∷◌, ◌++◌, length, take, get_or, Option, Result, Ok, Err, sym, subst}
 use Rattle.std.specs.Prelude.{IfErr, IsErrAnd}
 use Rattle.outside.specs.Outside.{Files}
 use Rattle.report.specs.declared.status.LimitKind.TheVariants.{Files as files_kind, Bytes, Tokens, Nesting, Locals}
 use Rattle.program_read.specs.Numbered.{Each, IsFirst}
 use Rattle.program_read.proofs.NumberedLemmas.{first_at}
-use Rattle.pv_base.specs.Pairs.{Paired}
 use Rattle.verify.proofs.PairLemmas.{paired_more}
 use Rattle.prove.specs.Stages.{FetchStopped, HasBytes, HaveBytes, IsFetched, IsFetchStop, IsLong}
 use Rattle.prove.specs.declared.stages.RunStop.{RunStop}

@@ -1,15 +1,15 @@
 -- Each function of a program that was read may be verified, and each module is in one of the files.
-use Rattle.std.proofs.Common.{◌≡◌, ℕ, zero, suc, ◌+◌, ◌<◌, ◌≤◌, ◌^◌, Bool, true, false, cond, ◌&&◌, List, [], ◌∷◌, ◌++◌, length, map, get_or, Option, Some, None, refl, sym, ap, subst, ◌∙◌, arith}
+use Rattle.std.proofs.Common.{◌≡◌, ℕ, zero, suc, ◌+◌, ◌<◌, ◌≤◌, ◌^◌, Bool, true, false, cond, ◌&&◌, List, [], ◌∷◌, ◌++◌, length, map, get_or, Option, Some, None, refl, sym, ap, subst, arith}
 use Rattle.std.specs.Prelude.{option_and_then, nat_lt}
 use Rattle.std.specs.Option.{option_map}
-use Rattle.std.specs.List.{AllByRecursion, flat_map}
+use Rattle.std.specs.List.{AllByRecursion}
 use Rattle.std.proofs.lemmas.Bool.{and_parts, leb-true, ltb-true}
 use Rattle.move_tree.specs.declared.lexeme.Numeral.{Numeral}
 use Rattle.move_tree.specs.declared.literal.Literal.{Literal}
 use Rattle.move_tree.specs.declared.literal.Literal.TheVariants.{Number, Truth, Address}
 use Rattle.move_tree.specs.declared.path.Path.{Path}
 use Rattle.move_tree.specs.declared.path.Path.TheVariants.{Name as name_path, Member as member_path, Full as full_path}
-use Rattle.expression_tree.specs.ExpressionData.{ExpressionData, BinaryExpression, AssignExpression, IfExpression, WhileExpression, LoopExpression, ReturnExpression, AbortExpression, BreakExpression, ContinueExpression, UnaryExpression, UseExpression, FieldExpression, LiteralExpression, PathExpression, CallExpression, PackExpression, VectorExpression, AssertExpression, TupleExpression, CastExpression, BlockExpression, ExpressionsData, NoExpressions, MoreExpressions, BlockData, BlockOf, ItemsData, NoItems, MoreItems, MaybeExpressionData, NoExpression, SomeExpression}
+use Rattle.expression_tree.specs.ExpressionData.{ExpressionData, BinaryExpression, AssignExpression, IfExpression, WhileExpression, LoopExpression, ReturnExpression, AbortExpression, BreakExpression, ContinueExpression, UnaryExpression, UseExpression, FieldExpression, LiteralExpression, PathExpression, CallExpression, PackExpression, VectorExpression, AssertExpression, TupleExpression, CastExpression, BlockExpression, ExpressionsData, NoExpressions, MoreExpressions, BlockData, BlockOf, NoItems, MoreItems, NoExpression, SomeExpression}
 use Rattle.file_tree.specs.declared.member.Function.{Function as FunctionTree}
 use Rattle.source_tree.specs.declared.source.SourceForm.{SourceForm}
 use Rattle.source_tree.specs.declared.source.SourceForm.TheVariants.{Use, Friend, Struct, Constant, Function, Spec}
@@ -29,7 +29,7 @@ use Rattle.sum_module.specs.Members.{AreMembers, IsMember}
 use Rattle.sum_module.specs.Joined.{functions_in, functions_of_member, specified}
 use Rattle.sum_module.specs.Program.{IsSumModule}
 use Rattle.program_read.specs.Modules.{AreModules, numbered}
-use Rattle.ref_sem.specs.Bodies.{HasU64Body, IsU64Sum}
+use Rattle.ref_sem.specs.Bodies.{IsU64Sum}
 use Rattle.verify.specs.Verified.{AreVerifiable, IsVerifiable}
 
 -- ---- the numbers of a sum that was read

@@ -1,5 +1,5 @@
 -- What each stage of a run demands, and why it stops.
-use Rattle.std.specs.Prelude.{◌≡◌, ℕ, ◌<◌, ◌≤◌, Bool, true, false, not, ◌==◌, List, [], ◌∷◌, length, take, slice_index_or, Option, Some, None, Result, Err, IfSome}
+use Rattle.std.specs.Prelude.{◌≡◌, ℕ, ◌<◌, ◌≤◌, Bool, true, false, not, ◌==◌, List, [], ◌∷◌, length, take, slice_index_or, Option, Some, Result, Err, IfSome}
 use Rattle.std.specs.List.{list_all}
 use Rattle.std.specs.FinMap as map
 use Rattle.outside.specs.Handed.{HandedFiles, HandedOver}
@@ -7,7 +7,6 @@ use Rattle.outside.specs.Outside.{Files, HasFaulted, IsLongFile}
 use Rattle.report.specs.Lines.{line_of}
 use Rattle.report.specs.declared.status.LimitKind.{LimitKind}
 use Rattle.report.specs.declared.status.LimitKind.TheVariants.{Bytes, Tokens, Nesting, Locals}
-use Rattle.report.specs.declared.status.Refusal.{Refusal}
 use Rattle.pv_base.specs.Pairs.{Paired}
 use Rattle.program_read.specs.Numbered.{IsFirst}
 use Rattle.program_read.specs.Program.{ProgramStopped}
@@ -16,7 +15,7 @@ use Rattle.program_read.specs.declared.fault.FileFault.TheVariants.{Breaks, Pass
 use Rattle.program_read.specs.declared.fault.FileLimit.{FileLimit}
 use Rattle.program_read.specs.declared.fault.FileLimit.TheVariants.{Tokens as of_tokens, Nesting as of_nesting, Locals as of_locals}
 use Rattle.prove.specs.declared.stages.RunStop.{RunStop}
-use Rattle.prove.specs.declared.stages.RunStop.TheVariants.{TooManyFiles, SourceFault, Limit, Refused, NoMemory}
+use Rattle.prove.specs.declared.stages.RunStop.TheVariants.{SourceFault, Limit, Refused, NoMemory}
 
 -- ---- words
 

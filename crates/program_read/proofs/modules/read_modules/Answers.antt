@@ -1,6 +1,6 @@
 use Rattle.std.proofs.Common.{◌++◌, ◌∙◌, sym, subst, take}
 use Rattle.program_read.specs.FileFault.{IfInFile}
-use Rattle.program_read.specs.Modules.{HasUnbuilt, modules_stage, numbered}
+use Rattle.program_read.specs.Modules.{AreNoSums, HasUnbuilt, numbered}
 use Rattle.program_read.specs.ModuleReading.{AreRead}
 use Rattle.program_read.proofs.FaultLemmas.{hands_on}
 use Rattle.program_read.proofs.ModuleLemmas.{all_more, in_file, stops_in_all}
@@ -10,7 +10,7 @@ pub returns-in_err-add_all : goal.returns-in_err-add_all
 returns-in_err-add_all c =
     let source = c.as_slice.ensures.value ∙ c.source.view_is ∙ c.index-sources-number.is in
     let front = numbered 0 (take c.loop-number.number c.args.sources.now) in
-    hands_on c.from_residual.result _ _ _ (modules_stage.Stops c.args.sources.now) c.from_residual.ensures.1
+    hands_on c.from_residual.result _ _ _ (AreNoSums c.args.sources.now) c.from_residual.ensures.1
     (λ file fault. stops_in_all c.args.sources.now c.loop-number.number c.index-sources-number.result file fault c.loop-number-test.true)
     (subst (λ modules. IfInFile c.in_err-add_all.field-0.0 (HasUnbuilt (front ++ in_file c.loop-number.number modules))) source (c.in_err-add_all.ensures front c.loop-number.invariant))
 

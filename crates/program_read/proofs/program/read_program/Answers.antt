@@ -1,14 +1,13 @@
-use Rattle.std.proofs.Common.{◌≡◌, None, arith, refl, subst}
+use Rattle.std.proofs.Common.{arith, refl, subst}
 use Rattle.program_read.specs.Chain.{at_first, at_second, ◌▷◌}
 use Rattle.program_read.specs.FileFault.{IfInFile}
 use Rattle.program_read.specs.LocalCounts.{HasFewLocals, locals_stage}
-use Rattle.program_read.specs.Modules.{modules_stage}
+use Rattle.program_read.specs.Modules.{AreNoSums, AreSumsOf}
+use Rattle.program_read.specs.Named.{named}
 use Rattle.program_read.specs.Numbered.{Each}
 use Rattle.program_read.specs.Program.{name_stages, program_stages, source_stages}
 use Rattle.program_read.specs.Sources.{source_stage}
 use Rattle.program_read.specs.Texts.{text_stages}
-use Rattle.program_read.specs.Twice.{twice_stage}
-use Rattle.module_names.specs.Program.{first_twice_of}
 use Rattle.program_read.proofs.FaultLemmas.{hands_all, hands_on}
 use Rattle.program_read.proofs.StageLaws.{read_keeps, text_keeps}
 use Rattle.program_read.proofs.program.read_program.Goals as goal
@@ -38,18 +37,18 @@ returns-in_err-check_locals c =
     (λ file fault stops. at_first (at_first (at_second c.in_ok-sources.sources.items read stops)))
     (subst (λ sources. IfInFile c.in_err-check_locals.field-0.0 (locals_stage.Stops sources)) c.as_slice-2.ensures.value c.in_err-check_locals.ensures)
 
-pub check_twice-requires : goal.check_twice-requires
-check_twice-requires c =
+pub check_names-requires : goal.check_names-requires
+check_names-requires c =
     let read : (text_stages ▷ source_stage).Gives c.args.files.now c.in_ok-sources.sources.items = record { between = c.in_ok-texts.texts.items; first = c.in_ok-texts.ensures; second = subst (λ texts. source_stage.Gives texts c.in_ok-sources.sources.items) c.as_slice.ensures.value c.in_ok-sources.ensures } in
     record { few = omega (arith, c.requires.few, c.as_slice-3.ensures.len, read_keeps c.args.files.now c.in_ok-sources.sources.items read) }
 
-pub returns-in_err-check_twice : goal.returns-in_err-check_twice
-returns-in_err-check_twice c =
+pub returns-in_err-check_names : goal.returns-in_err-check_names
+returns-in_err-check_names c =
     let read : (text_stages ▷ source_stage).Gives c.args.files.now c.in_ok-sources.sources.items = record { between = c.in_ok-texts.texts.items; first = c.in_ok-texts.ensures; second = subst (λ texts. source_stage.Gives texts c.in_ok-sources.sources.items) c.as_slice.ensures.value c.in_ok-sources.ensures } in
     let checked : source_stages.Gives c.args.files.now c.in_ok-sources.sources.items = record { between = c.in_ok-sources.sources.items; first = read; second = (refl, subst (Each HasFewLocals 0) c.as_slice-2.ensures.value c.in_ok-check_locals.ensures) } in
-    hands_on c.from_residual-in_err-check_twice.result _ _ _ (program_stages.Stops c.args.files.now) c.from_residual-in_err-check_twice.ensures.1
+    hands_on c.from_residual-in_err-check_names.result _ _ _ (program_stages.Stops c.args.files.now) c.from_residual-in_err-check_names.ensures.1
     (λ file fault stops. at_first (at_second c.in_ok-sources.sources.items checked stops))
-    (subst (λ sources. IfInFile c.in_err-check_twice.field-0.0 (twice_stage.Stops sources)) c.as_slice-3.ensures.value c.in_err-check_twice.ensures)
+    (subst (λ sources. IfInFile c.in_err-check_names.field-0.0 (name_stages.Stops sources)) c.as_slice-3.ensures.value c.in_err-check_names.ensures)
 
 pub read_modules-requires : goal.read_modules-requires
 read_modules-requires c =
@@ -60,8 +59,9 @@ pub returns : goal.returns
 returns c =
     let read : (text_stages ▷ source_stage).Gives c.args.files.now c.in_ok-sources.sources.items = record { between = c.in_ok-texts.texts.items; first = c.in_ok-texts.ensures; second = subst (λ texts. source_stage.Gives texts c.in_ok-sources.sources.items) c.as_slice.ensures.value c.in_ok-sources.ensures } in
     let checked : source_stages.Gives c.args.files.now c.in_ok-sources.sources.items = record { between = c.in_ok-sources.sources.items; first = read; second = (refl, subst (Each HasFewLocals 0) c.as_slice-2.ensures.value c.in_ok-check_locals.ensures) } in
-    let named : name_stages.Gives c.args.files.now c.in_ok-sources.sources.items = record { between = c.in_ok-sources.sources.items; first = checked; second = (refl, subst (λ sources. first_twice_of sources ≡ None) c.as_slice-3.ensures.value c.in_ok-check_twice.ensures) } in
+    let given = named c.in_ok-sources.sources.items c.in_ok-check_names.field-0 in
+    let kept : (source_stages ▷ name_stages).Gives c.args.files.now given = record { between = c.in_ok-sources.sources.items; first = checked; second = subst (λ sources. name_stages.Gives sources (named sources c.in_ok-check_names.field-0)) c.as_slice-3.ensures.value c.in_ok-check_names.ensures } in
     hands_all c.read_modules.result _ (λ program. program_stages.Gives c.args.files.now program.items) _ (program_stages.Stops c.args.files.now)
-    (λ program gives. record { between = c.in_ok-sources.sources.items; first = named; second = subst (λ sources. modules_stage.Gives sources program.items) c.as_slice-4.ensures.value gives })
-    (λ file fault stops. at_second c.in_ok-sources.sources.items named (subst (λ sources. modules_stage.Stops sources file fault) c.as_slice-4.ensures.value stops))
+    (λ program gives. record { between = given; first = kept; second = subst (λ sources. AreSumsOf sources program.items) c.as_slice-4.ensures.value gives })
+    (λ file fault stops. at_second given kept (subst (λ sources. AreNoSums sources file fault) c.as_slice-4.ensures.value stops))
     c.read_modules.ensures

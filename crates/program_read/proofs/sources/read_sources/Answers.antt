@@ -1,5 +1,4 @@
 use Rattle.std.proofs.Common.{subst}
-use Rattle.source_tree.specs.SourceModuleData.{SourceModuleData}
 use Rattle.program_read.specs.FileFault.{IfInFile}
 use Rattle.program_read.specs.FileReading.{IsIn}
 use Rattle.program_read.specs.Sources.{Denote, DenoteNone, source_stage}

@@ -1,5 +1,5 @@
 use Rattle.std.proofs.Common.{arith, refl, subst}
-use Rattle.program_read.specs.Chain.{at_first, at_second}
+use Rattle.program_read.specs.Chain.{at_second}
 use Rattle.program_read.specs.FileFault.{IfInFile}
 use Rattle.program_read.specs.Numbered.{Each}
 use Rattle.program_read.specs.Texts.{IsLight, nesting_stage, text_stages}

@@ -1,4 +1,4 @@
-use Rattle.std.proofs.Common.{◌≡◌, ap, rules, sym, subst, ◌∙◌}
+use Rattle.std.proofs.Common.{◌≡◌, rules, sym, subst}
 use Rattle.std.specs.Vec.Iter.{into_iter_items}
 use Rattle.program_read.specs.TextReading.{IsFirstLong}
 use Rattle.program_read.specs.declared.fault.FileFault.TheVariants.{Passes}
