@@ -1,0 +1,5 @@
+pub mod Numbers
+pub mod FormulaBytes
+pub mod Trees
+pub mod CertificateBytes
+pub mod Lengths
