@@ -1,0 +1,71 @@
+-- What is typed together, which typing is chosen, and when there is none.
+use Rattle.std.specs.Prelude.{◌≡◌, ◌⊎◌, ◌<◌, ℕ, suc, IsTrue, List, length, Contains, slice_index_or}
+use Rattle.pv_base.specs.TypeData.{TypeData}
+use Rattle.typings.specs.Sorts.{is_integer}
+use Rattle.typings.specs.Demand.{Typing, Demand}
+use Rattle.typings.specs.Rules.{TypeReading, IsTyping, HasOpenHead, IsRead}
+use Rattle.typings.specs.Settings.{unit_type}
+
+-- A function, a constant or a clause: what is demanded at each step, in order: of what is declared with its type, then at each
+-- node, and then of the whole.
+pub record System : Type 0 where
+  pub reading : TypeReading
+  pub steps : List (List Demand)
+  -- how many places there are
+  pub places : ℕ
+  -- the places of the whole values of `e;`
+  pub dropped : List ℕ
+  -- the integer type where nothing determines one
+  pub open_integer : TypeData
+
+abbrev pub Typings : System → Typing → Type 0
+Typings s = IsTyping s.reading s.steps
+
+-- all of these typings give the place one type
+abbrev pub IsForced : (Typing → Type 0) → ℕ → Type 0
+IsForced These p = (t u : Typing) → These t → These u → t p ≡ u p
+
+-- all of these typings give the place an integer type
+abbrev pub IsIntegerPlace : (Typing → Type 0) → ℕ → Type 0
+IsIntegerPlace These p = (t : Typing) → These t → IsTrue (is_integer (t p))
+
+-- A typing in which an integer type that is not forced is the one for this, wherever it stands
+pub record IsDefaulted (s : System) (t : Typing) : Type 0 where
+  pub typing : Typings s t
+  pub integers : (p : ℕ) → p < s.places → IsIntegerPlace (Typings s) p → (IsForced (Typings s) p → ⊥) → t p ≡ s.open_integer
+
+-- and in which the whole value of an `e;`, where these typings do not force it, is `()` if it can be
+pub record IsSettledTyping (s : System) (t : Typing) : Type 0 where
+  pub defaulted : IsDefaulted s t
+  pub nothing : (p : ℕ) → Contains s.dropped p → (IsForced (IsDefaulted s) p → ⊥) → (u : Typing) → IsDefaulted s u → u p ≡ unit_type → t p ≡ unit_type
+
+-- ---- answers
+
+abbrev pub HasTyping : System → Type 0
+HasTyping s = (t : Typing) × Typings s t
+
+-- no typing exists
+abbrev pub IsUntypable : System → Type 0
+IsUntypable s = (t : Typing) → Typings s t → ⊥
+
+-- typings exist, and this is the type of the place
+pub record HasType (s : System) (p : ℕ) (of : TypeData) : Type 0 where
+  pub typing : Typing
+  pub settled : IsSettledTyping s typing
+  pub each : (t : Typing) → IsSettledTyping s t → t p ≡ of
+
+-- all nodes are read, typings exist, and each place has its type
+pub record IsTyped (s : System) (types : List TypeData) : Type 0 where
+  pub whole : HasOpenHead s.reading s.steps → ⊥
+  pub exists : HasTyping s
+  pub same_length : length types ≡ s.places
+  pub each : (p : ℕ) → p < s.places → HasType s p (slice_index_or types p unit_type)
+
+-- typings exist, and a head is open, or a place is not forced
+pub record IsAmbiguous (s : System) : Type 0 where
+  pub exists : HasTyping s
+  pub why : HasOpenHead s.reading s.steps ⊎ ((p : ℕ) × (p < s.places) × (IsForced (IsSettledTyping s) p → ⊥))
+
+-- the node with this number is read: what is declared is the step before the first node
+abbrev pub NodeIsRead : System → ℕ → Type 0
+NodeIsRead s n = IsRead s.reading s.steps (suc n)

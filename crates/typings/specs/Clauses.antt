@@ -1,0 +1,250 @@
+-- What is demanded of clauses, where they stand. Source: the Move Specification Language reference, "Spec Blocks and Conditions",
+-- "Pre and Post State", "Let Bindings", "Invariants" and "Schemas".
+use Rattle.std.specs.Prelude.{◌≡◌, ℕ, ◌+◌, Bool, true, false, List, [], ◌∷◌, ◌++◌, length, map, Option, Some, None, slice_get, sum_by, if◌then◌else◌}
+use Rattle.std.specs.Map.{lookup}
+use Rattle.std.specs.List.{flat_map}
+use Rattle.pv_base.specs.TypeData.{TypeData, TypesData, BoolType, NumType, TupleType, list_of_types}
+use Rattle.pv_types.specs.declared.arena.Node.TheVariants.{Many}
+use Rattle.pv_types.specs.declared.clause.Clause.{Clause}
+use Rattle.pv_types.specs.declared.clause.ClauseForm.{ClauseForm}
+use Rattle.pv_types.specs.declared.clause.ClauseForm.TheVariants.{Condition, Modifies, Let, Include}
+use Rattle.pv_types.specs.declared.clause.ConditionKind.{ConditionKind}
+use Rattle.pv_types.specs.declared.clause.ConditionKind.TheVariants.{Requires, Ensures, AbortsIf, Invariant, UpdateInvariant}
+use Rattle.pv_types.specs.declared.operator.SpecBuiltin.TheVariants.{Global}
+use Rattle.pv_types.specs.declared.spec.SpecCallee.{SpecCallee}
+use Rattle.pv_types.specs.declared.spec.SpecCallee.TheVariants.{Builtin}
+use Rattle.pv_types.specs.declared.spec.SpecMany.TheVariants.{Call}
+use Rattle.pv_types.specs.declared.spec.SpecName.{SpecName}
+use Rattle.pv_types.specs.declared.spec.SpecName.TheVariants.{Parameter, Local, Result, Let as let_name, Variable, Field, Quantified}
+use Rattle.pv_types.specs.declared.declaration.Function.{Function}
+use Rattle.pv_types.specs.declared.declaration.Schema.{Schema}
+use Rattle.pv_types.specs.declared.declaration.SpecFunction.{SpecFunction}
+use Rattle.pv_types.specs.declared.declaration.Struct.{Struct}
+use Rattle.pv_types.specs.declared.declaration.TypedName.{TypedName}
+use Rattle.pv_types.specs.declared.program.Program.{Program}
+use Rattle.declaration_places.specs.Same.{same_schema}
+use Rattle.typings.specs.Instances.{instance, argument_in, spec_type}
+use Rattle.typings.specs.declared.sort.Sort.TheVariants.{Value}
+use Rattle.typings.specs.Demand.{TypeForm, Written, Declared, Applied, Demand, Has, IsOf, Takes, Returns, Barred}
+use Rattle.typings.specs.CodeDemands.{has, barred_unless}
+use Rattle.typings.specs.CodeSystems.{last_by}
+use Rattle.typings.specs.SpecDemands.{SpecNode, SpecSetting, binds_in, declared_variables, spec_argument_demands, spec_demands_from, spec_given_demands, spec_place_count}
+use Rattle.typings.specs.Answers.{System, HasType}
+
+-- ---- names
+
+-- The types of what clauses speak of, as specifications read them: those of parameters, locals, results, fields and variables, by
+-- their numbers, and of each `let`, by the number of its clause, with whether it is of the state at the exit.
+pub record Names : Type 0 where
+  pub parameters : List TypeData
+  pub locals : List TypeData
+  pub results : List TypeData
+  pub fields : List TypeData
+  pub variables : List TypeData
+  pub lets : ℕ → Option (Bool × TypeData)
+
+-- what may stand in an expression beside the rest: `old`, the results, and what is of the state at the exit
+pub record Allowed : Type 0 where
+  pub old : Bool
+  pub results : Bool
+  pub exits : Bool
+
+abbrev pub only_if : Bool → Option TypeData → Option TypeData
+only_if may of = if may then of else None
+
+abbrev pub let_type : Bool → Option (Bool × TypeData) → Option TypeData
+let_type exits None = None
+let_type exits (Some (false, of)) = Some of
+let_type exits (Some (true, of)) = only_if exits (Some of)
+
+abbrev pub named_by : Names → Allowed → SpecName → Option TypeData
+named_by names may (Parameter k) = slice_get names.parameters k
+named_by names may (Local k) = slice_get names.locals k
+named_by names may (Result k) = only_if may.results (slice_get names.results k)
+named_by names may (let_name k) = let_type may.exits (names.lets k)
+named_by names may (Variable k) = slice_get names.variables k
+named_by names may (Field k) = slice_get names.fields k
+named_by names may (Quantified v) = None
+
+abbrev pub entry_alone : Allowed
+entry_alone = record { old = false; results = false; exits = false }
+
+abbrev pub both_states : Allowed
+both_states = record { old = true; results = true; exits = true }
+
+-- ---- what stands where
+
+pub data Block : Type 0 where
+  FunctionBlock : Block
+  StructBlock : Block
+  ModuleBlock : Block
+  LoopBlock : Block
+
+-- the conditions that a block may hold
+abbrev pub may_hold : Block → ConditionKind → Bool
+may_hold FunctionBlock Requires = true
+may_hold FunctionBlock Ensures = true
+may_hold FunctionBlock AbortsIf = true
+may_hold FunctionBlock _ = false
+may_hold StructBlock Invariant = true
+may_hold StructBlock _ = false
+may_hold ModuleBlock Invariant = true
+may_hold ModuleBlock UpdateInvariant = true
+may_hold ModuleBlock _ = false
+may_hold LoopBlock Invariant = true
+may_hold LoopBlock _ = false
+
+abbrev pub is_function_block : Block → Bool
+is_function_block FunctionBlock = true
+is_function_block _ = false
+
+-- `old` stands in `ensures`, in update invariants and in invariants of loops; results in `ensures`
+abbrev pub allowed_in : Block → ConditionKind → Allowed
+allowed_in block Ensures = both_states
+allowed_in block UpdateInvariant = record { old = true; results = false; exits = true }
+allowed_in LoopBlock Invariant = record { old = true; results = false; exits = false }
+allowed_in block _ = entry_alone
+
+abbrev pub allowed_by : Block → ClauseForm → Allowed
+allowed_by block (Condition kind root) = allowed_in block kind
+allowed_by block (Modifies roots) = entry_alone
+allowed_by block (Let true value) = both_states
+allowed_by block (Let false value) = entry_alone
+allowed_by block (Include schema types given) = both_states
+
+-- ---- the whole of a clause
+
+abbrev pub is_global_callee : SpecCallee → Bool
+is_global_callee (Builtin Global) = true
+is_global_callee _ = false
+
+abbrev pub is_global : Option SpecNode → Bool
+is_global (Some (Many (Call c) parts)) = is_global_callee c.callee
+is_global _ = false
+
+-- `modifies` names places of storage
+abbrev pub modified : List SpecNode → ℕ → List Demand
+modified nodes root = barred_unless (is_global (slice_get nodes root))
+
+abbrev pub given_to : ℕ → Option Schema → List ℕ → List Demand
+given_to first None given = Barred ∷ []
+given_to first (Some s) given = spec_given_demands first (length s.type_parameters) given (map (λ v. spec_type v.annotation) s.variables)
+
+abbrev pub schema_arity : Option Schema → ℕ
+schema_arity None = 0
+schema_arity (Some s) = length s.type_parameters
+
+-- what is asked of a clause as a whole, in a block that may hold it; an `include` is as a call of its schema, whose type
+-- arguments stand from the place `first` on
+abbrev pub whole_demands : SpecSetting → Block → ℕ → ClauseForm → List Demand
+whole_demands s block first (Condition kind root) = barred_unless (may_hold block kind) ++ has root BoolType ∷ []
+whole_demands s block first (Modifies roots) = barred_unless (is_function_block block) ++ flat_map (modified s.nodes) roots
+whole_demands s block first (Let is_post value) = IsOf Value value ∷ []
+whole_demands s block first (Include schema types given) =
+    let d = lookup (same_schema schema) s.program.schemas in
+    spec_argument_demands s.program.structs first (schema_arity d) (list_of_types types) ++ given_to first d given
+
+abbrev pub form_arguments : Program → ClauseForm → ℕ
+form_arguments program (Include schema types given) = schema_arity (lookup (same_schema schema) program.schemas)
+form_arguments program _ = 0
+
+-- ---- systems
+
+-- a type parameter of a schema stands for what it is given
+abbrev pub form_at : TypesData → TypeForm → TypeForm
+form_at types (Written of) = Written (instance (argument_in types) of)
+form_at types (Declared of first count) = Declared of first count
+form_at types (Applied s first count) = Applied s first count
+
+abbrev pub demand_at : TypesData → Demand → Demand
+demand_at types (Has p form) = Has p (form_at types form)
+demand_at types (Takes e form) = Takes e (form_at types form)
+demand_at types (Returns e form) = Returns e (form_at types form)
+demand_at types d = d
+
+abbrev pub spec_system : SpecSetting → ℕ → List Demand → System
+spec_system s more whole = record {
+  reading = record { structs = s.program.structs; is_spec = true };
+  steps = declared_variables s ∷ (spec_demands_from s 0 s.nodes ++ whole ∷ []);
+  places = spec_place_count s + more;
+  dropped = [];
+  open_integer = NumType;
+}
+
+abbrev pub system_at : TypesData → System → System
+system_at types s = record {
+  reading = s.reading;
+  steps = map (map (demand_at types)) s.steps;
+  places = s.places;
+  dropped = s.dropped;
+  open_integer = s.open_integer;
+}
+
+abbrev pub clause_setting : Program → Names → Block → Clause → SpecSetting
+clause_setting program names block c = record {
+  program = program;
+  nodes = c.body.nodes;
+  named = named_by names (allowed_by block c.form);
+  may_be_old = (allowed_by block c.form).old;
+  variables = sum_by (λ node. length (binds_in node)) c.body.nodes;
+}
+
+-- a clause in a block where these names are
+abbrev pub clause_system : Program → Names → Block → Clause → System
+clause_system program names block c =
+    let s = clause_setting program names block c in
+    spec_system s (form_arguments program c.form) (whole_demands s block (spec_place_count s) c.form)
+
+-- a clause of a schema, which is included with these types
+abbrev pub clause_system_at : Program → Names → Block → TypesData → Clause → System
+clause_system_at program names block types c = system_at types (clause_system program names block c)
+
+-- ---- names of owners
+
+abbrev pub spec_types_of : List TypedName → List TypeData
+spec_types_of names = map (λ n. spec_type n.annotation) names
+
+-- a tuple has a result for each of its parts
+abbrev pub results_of : TypeData → List TypeData
+results_of (TupleType ts) = map spec_type (list_of_types ts)
+results_of of = spec_type of ∷ []
+
+abbrev pub no_lets : ℕ → Option (Bool × TypeData)
+no_lets n = None
+
+abbrev pub function_names : Function → (ℕ → Option (Bool × TypeData)) → Names
+function_names f lets = record { parameters = spec_types_of f.parameters; locals = []; results = results_of f.result; fields = []; variables = []; lets = lets }
+
+abbrev pub struct_names : Struct → (ℕ → Option (Bool × TypeData)) → Names
+struct_names s lets = record { parameters = []; locals = []; results = []; fields = spec_types_of s.fields; variables = []; lets = lets }
+
+abbrev pub module_names : (ℕ → Option (Bool × TypeData)) → Names
+module_names lets = record { parameters = []; locals = []; results = []; fields = []; variables = []; lets = lets }
+
+-- the locals of the function have the types that its typing gives them
+abbrev pub loop_names : TypeData → List TypeData → Names
+loop_names returned locals = record { parameters = []; locals = map spec_type locals; results = results_of returned; fields = []; variables = []; lets = no_lets }
+
+abbrev pub schema_names : Schema → TypesData → (ℕ → Option (Bool × TypeData)) → Names
+schema_names s types lets = record { parameters = []; locals = []; results = []; fields = []; variables = map (instance (argument_in types)) (spec_types_of s.variables); lets = lets }
+
+-- a spec function
+abbrev pub spec_function_system : Program → SpecFunction → System
+spec_function_system program f =
+    let s : SpecSetting = record {
+      program = program;
+      nodes = f.body.nodes;
+      named = named_by (record { parameters = spec_types_of f.parameters; locals = []; results = []; fields = []; variables = []; lets = no_lets }) entry_alone;
+      may_be_old = false;
+      variables = sum_by (λ node. length (binds_in node)) f.body.nodes;
+    } in
+    spec_system s 0 (last_by (λ n. has n (spec_type f.result)) s.nodes 0 ∷ [])
+
+-- ---- lets
+
+-- a `let` of a clause with the number k has the type of its value, and is none where this has no type
+pub record IsLet (system : Clause → System) (clauses : List Clause) (lets : ℕ → Option (Bool × TypeData)) : Type 0 where
+  pub told : (k : ℕ) (is_post : Bool) (of : TypeData) → lets k ≡ Some (is_post, of)
+      → (clause : Clause) × (value : ℕ) × (slice_get clauses k ≡ Some clause) × (clause.form ≡ Let is_post value) × HasType (system clause) value of
+  pub typed : (k : ℕ) (clause : Clause) (is_post : Bool) (value : ℕ) (of : TypeData) → slice_get clauses k ≡ Some clause → clause.form ≡ Let is_post value
+      → HasType (system clause) value of → lets k ≡ Some (is_post, of)

@@ -1,0 +1,59 @@
+-- Fields of structs of other modules, and operations on storage whose type arguments are not written, at such structs or at type
+-- parameters. Source: The Move Book, "Structs and Resources", on privileged struct operations, and "Global Storage Operators".
+use Rattle.std.specs.Prelude.{◌≡◌, ◌⊎◌, ℕ, suc, List, take, Some, slice_get}
+use Rattle.pv_base.specs.TypeData.{TypeData}
+use Rattle.pv_base.specs.declared.types.StructId.{StructId}
+use Rattle.pv_types.specs.declared.arena.Node.TheVariants.{Unary, Many}
+use Rattle.pv_types.specs.declared.code.CodeUnary.TheVariants.{Field}
+use Rattle.pv_types.specs.declared.code.CodeMany.TheVariants.{Call as call_form}
+use Rattle.pv_types.specs.declared.code.Call.{Call}
+use Rattle.pv_types.specs.declared.code.Callee.TheVariants.{Storage}
+use Rattle.pv_types.specs.declared.operator.StorageOperation.{StorageOperation}
+use Rattle.pv_types.specs.declared.declaration.Function.{Function}
+use Rattle.pv_types.specs.declared.program.ModuleId.{ModuleId}
+use Rattle.pv_types.specs.declared.program.Program.{Program}
+use Rattle.declaration_places.specs.Homes.{struct_home}
+use Rattle.visibility.specs.Visible.{TypeIsVisible}
+use Rattle.typings.specs.Sorts.{behind, struct_in}
+use Rattle.typings.specs.Demand.{Typing}
+use Rattle.typings.specs.Settings.{first_argument}
+use Rattle.typings.specs.Answers.{System, Typings, HasTyping, NodeIsRead}
+use Rattle.typings.specs.CodeSystems.{function_setting, function_system}
+
+-- the first so many steps alone
+abbrev pub first_steps : System → ℕ → System
+first_steps s k = record { reading = s.reading; steps = take k s.steps; places = s.places; dropped = s.dropped; open_integer = s.open_integer }
+
+-- So many nodes, the first ones, have typings, and the one with this number is among them and read.
+pub record IsJudged (s : System) (count node : ℕ) : Type 0 where
+  pub exists : HasTyping (first_steps s (suc count))
+  pub is_read : NodeIsRead (first_steps s (suc count)) node
+
+-- a field of a struct of another module, in the order of nodes before any without a typing
+pub record BarsField (program : Program) (own : ModuleId) (f : Function) : Type 0 where
+  pub count : ℕ
+  pub node : ℕ
+  pub name : List ℕ
+  pub base : ℕ
+  pub stands : slice_get f.body.nodes node ≡ Some (Unary (Field name) base)
+  pub judged : IsJudged (function_system program f) count node
+  pub owner : StructId
+  pub settled : (t : Typing) → Typings (first_steps (function_system program f) (suc count)) t → struct_in (behind (t base)) ≡ Some owner
+  pub elsewhere : struct_home owner ≡ own → ⊥
+
+-- an operation on storage at such a struct, or at a type parameter that has key
+pub record BarsStorage (program : Program) (own : ModuleId) (f : Function) : Type 0 where
+  pub count : ℕ
+  pub node : ℕ
+  pub call : Call
+  pub parts : List ℕ
+  pub stands : slice_get f.body.nodes node ≡ Some (Many (call_form call) parts)
+  pub operation : StorageOperation
+  pub callee_is : call.callee ≡ Storage operation
+  pub judged : IsJudged (function_system program f) count node
+  pub of : TypeData
+  pub settled : (t : Typing) → Typings (first_steps (function_system program f) (suc count)) t → t (first_argument (function_setting program f) node) ≡ of
+  pub barred : TypeIsVisible own f.type_parameters of → ⊥
+
+abbrev pub BarsUse : Program → ModuleId → Function → Type 0
+BarsUse program own f = BarsField program own f ⊎ BarsStorage program own f

@@ -1,0 +1,50 @@
+-- Which loops `break` and `continue` belong to: each to the innermost loop in whose body it stands. The condition of a `while`
+-- belongs to the loop outside. Source: The Move Book, "While, For, and Loop".
+use Rattle.std.specs.Prelude.{ℕ, ◌+◌, Bool, true, false, ◌&&◌, ◌||◌, ltb, List, length}
+use Rattle.std.specs.List.{list_any}
+use Rattle.pv_types.specs.Trees.{Tree, LeafTree, UnaryTree, BinaryTree, IfTree, ManyTree, BadTree, Trees, NoTrees, MoreTrees, at, trees}
+use Rattle.pv_types.specs.Listed.{subtrees}
+use Rattle.pv_types.specs.declared.arena.Node.TheVariants.{Unary, Binary}
+use Rattle.pv_types.specs.declared.code.CodeLeaf.{CodeLeaf}
+use Rattle.pv_types.specs.declared.code.CodeLeaf.TheVariants.{Break}
+use Rattle.pv_types.specs.declared.code.CodeUnary.{CodeUnary}
+use Rattle.pv_types.specs.declared.code.CodeUnary.TheVariants.{Loop}
+use Rattle.pv_types.specs.declared.code.CodeBinary.{CodeBinary}
+use Rattle.pv_types.specs.declared.code.CodeBinary.TheVariants.{While}
+use Rattle.pv_types.specs.declared.code.CodeMany.{CodeMany}
+use Rattle.visibility.specs.Visible.{CodeNode}
+
+abbrev pub CodeTree : Type 0
+CodeTree = Tree CodeLeaf CodeUnary CodeBinary CodeMany
+
+-- a `break` stands in the tree that belongs to a loop outside it
+abbrev mutual
+  pub has_break : CodeTree → Bool
+  has_break (LeafTree Break) = true
+  has_break (LeafTree _) = false
+  has_break (UnaryTree Loop a) = false
+  has_break (UnaryTree _ a) = has_break a
+  has_break (BinaryTree While a b) = has_break a
+  has_break (BinaryTree _ a b) = has_break a || has_break b
+  has_break (IfTree c a b) = has_break c || (has_break a || has_break b)
+  has_break (ManyTree m ts) = have_break ts
+  has_break BadTree = false
+
+  pub have_break : Trees CodeLeaf CodeUnary CodeBinary CodeMany → Bool
+  have_break NoTrees = false
+  have_break (MoreTrees t ts) = has_break t || have_break ts
+
+-- the node with the number n is one of those of the tree whose own node has the number b: they stand one behind another, and
+-- the tree's own node last
+abbrev pub stands_in : List CodeNode → ℕ → ℕ → Bool
+stands_in nodes b n = ltb n (b + 1) && ltb b (n + length (subtrees (at (trees nodes) b)))
+
+-- the node is a loop, in whose body the node with the number n stands
+abbrev pub loops_over : List CodeNode → ℕ → CodeNode → Bool
+loops_over nodes n (Unary Loop body) = stands_in nodes body n
+loops_over nodes n (Binary While condition body) = stands_in nodes body n
+loops_over nodes n _ = false
+
+-- the node with this number stands in the body of a loop
+abbrev pub is_in_loop : List CodeNode → ℕ → Bool
+is_in_loop nodes n = list_any (loops_over nodes n) nodes
