@@ -1,0 +1,3 @@
+pub mod Seen
+pub mod Settings
+pub mod Ways
