@@ -1,0 +1,16 @@
+use Rattle.std.proofs.Common.{◌≡◌, ◌∙◌, arith, ap, sym, subst}
+use Rattle.pv_base.specs.TypeData.{TypeData}
+use Rattle.type_places.specs.Slots.{Typing, wrapped}
+use Rattle.type_places.proofs.Asking.{adds_said, wrapped_same, type_size_pos}
+use Rattle.type_places.proofs.parts.closed_part.Goals as goal
+
+pub returns-in_ok-ask_type-in-Some-clause-says : goal.returns-in_ok-ask_type-in-Some-clause-says
+returns-in_ok-ask_type-in-Some-clause-says c = adds_said c.args.asks.now.items c.ask_type.new.asks.items
+    (λ t. t c.args.part ≡ c.in-Some.inner.now)
+    (λ t. wrapped c.args.wrap (t c.args.part) ≡ c.args.of.now)
+    (λ t e. wrapped_same c.args.wrap (t c.args.part) c.in-Some.inner.now (e ∙ c.in-Some.ensures.some))
+    (λ t e. ap (wrapped c.args.wrap) e ∙ sym c.in-Some.ensures.some)
+    c.in_ok-ask_type-in-Some.ensures.adds
+
+pub returns-in-None-clause-less : goal.returns-in-None-clause-less
+returns-in-None-clause-less c = omega (arith, type_size_pos c.args.of.now)
