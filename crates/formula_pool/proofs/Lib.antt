@@ -1,0 +1,6 @@
+pub mod ItemLemmas
+pub mod ShapeLemmas
+pub mod OnceLemmas
+pub mod DepthLemmas
+pub mod SearchLemmas
+pub mod GrowthLemmas

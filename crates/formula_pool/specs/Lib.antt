@@ -1,0 +1,5 @@
+pub mod NodeCodes
+pub mod NodeHash
+pub mod Items
+pub mod Pools
+pub mod Depths

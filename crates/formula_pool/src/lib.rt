@@ -1,0 +1,6 @@
+//! Terms and formulas as nodes that stand once, each with a number.
+#![tactic(auto)]
+
+pub mod interning;
+pub mod node;
+pub mod pool;
