@@ -2,6 +2,8 @@
 #![tactic(auto)]
 
 mod file_sources;
+#[cfg(test)]
+mod name_rows;
 mod out_sink;
 #[cfg(test)]
 mod rows;

@@ -17,7 +17,7 @@ use std::process::Abort;
 use std::sync::ledger::{Blank, Ledger};
 
 /// Words, and the files that the source holds.
-fn words_of(rt: &impl Abort, alloc: Global, given: &[&[u8]]) -> Words {
+pub(crate) fn words_of(rt: &impl Abort, alloc: Global, given: &[&[u8]]) -> Words {
     let mut words = Words::new(alloc);
     for word in given {
         words.push(name_of(rt, alloc, word)).expect(rt, "memory");
@@ -45,7 +45,7 @@ fn source_of(rt: &impl Abort, alloc: Global, text: &[u8], fails: &[u64]) -> MapS
 }
 
 /// A source that holds these two files.
-fn pair_of(rt: &impl Abort, alloc: Global, first: &[u8], second: &[u8]) -> MapSources {
+pub(crate) fn pair_of(rt: &impl Abort, alloc: Global, first: &[u8], second: &[u8]) -> MapSources {
     let mut files = FileMap::new(alloc);
     put(rt, alloc, &mut files, b"a.move", first);
     put(rt, alloc, &mut files, b"b.move", second);
@@ -88,7 +88,7 @@ fn run<W: Sink, L: Ledger>(
 }
 
 /// What the verifier answers over a sink whose writes with these numbers fail, and which takes this output.
-fn answer(
+pub(crate) fn answer(
     rt: &impl Abort,
     alloc: Global,
     words: &Words,
@@ -222,7 +222,7 @@ fn reports(rt: HostRuntime) {
         ),
         (
             b"module 0x1::m { fun f(): u64 { 1 } spec g { } }",
-            b"refused 18 NotBuilt a.move:1\n",
+            b"refused 5 UnknownName a.move:1\n",
             2,
         ),
         (
