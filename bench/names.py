@@ -40,7 +40,7 @@ def uses(count):
 
 
 def included(count):
-    schema = ["spec schema Bounded { x: u64; requires x < 1000; ensures result == x; }"]
+    schema = ["spec schema Bounded { x: u64; result: u64; requires x < 1000; ensures result == x; }"]
     return [module("m", schema + ["fun f%d(x: u64): u64 { x } spec f%d { include Bounded; }" % (k, k) for k in range(count)])]
 
 
