@@ -121,3 +121,8 @@ on_ok (Err x) P e h = absurd (cc)
 pub on_err : {T E : Type 0} (r : Result T E) (P : Type 0) → is_err r ≡ true → OnErr r P → P
 on_err (Ok x) P e h = absurd (cc)
 on_err (Err x) P e h = h
+
+-- ---- below lengths
+
+pub below_same : (i a b : ℕ) → a ≡ b → i < b → i < a
+below_same i a b e l = omega arith

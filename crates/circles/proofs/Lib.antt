@@ -1,6 +1,6 @@
 pub mod CircleLemmas
 pub mod EdgeLemmas
-pub mod FirstLemmas
 pub mod LabelLemmas
+pub mod OnCircleLemmas
 pub mod ReachLemmas
 pub mod WalkLemmas

@@ -18,10 +18,6 @@ Leads graph i j = (k : ℕ) × IsEdge graph i k × Reaches graph k j
 abbrev pub IsOnCircle : List (List ℕ) → ℕ → Type 0
 IsOnCircle graph i = Leads graph i i
 
--- i leads back to itself, and no smaller number does
-abbrev pub IsFirstOnCircle : List (List ℕ) → ℕ → Type 0
-IsFirstOnCircle graph i = IsOnCircle graph i × ((j : ℕ) → j < i → ¬ IsOnCircle graph j)
-
 -- each edge leads to a number of the graph
 abbrev pub IsWithin : List (List ℕ) → Type 0
 IsWithin graph = (i j : ℕ) → IsEdge graph i j → j < length graph

@@ -1,7 +1,7 @@
-//! Numbers that lead to others, and the first of them that leads back to itself.
+//! Numbers that lead to others, and those of them that lead back to themselves.
 #![tactic(auto)]
 
-pub mod first;
 pub mod graph;
+pub mod on_circle;
 mod roots;
 mod walk;

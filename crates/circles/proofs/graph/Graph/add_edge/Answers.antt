@@ -1,8 +1,7 @@
 use Rattle.std.proofs.Common.{ℕ, ◌<◌, ◌-◌, ◌++◌, List, [], ◌∷◌, length, get_or, set, take, sym, ◌∙◌, ap, subst}
 use Rattle.std.proofs.lemmas.List.{get_or_read, get_or-set_same}
 use Rattle.circles.specs.Circles.{AreMirrored}
-use Rattle.circles.proofs.EdgeLemmas.{mirrored_pushed, restored, unchanged, on_ok, on_err}
-use Rattle.circles.proofs.FirstLemmas.{below_same}
+use Rattle.circles.proofs.EdgeLemmas.{mirrored_pushed, restored, unchanged, on_ok, on_err, below_same}
 use Rattle.circles.proofs.graph.Graph.add_edge.Goals as goal
 
 pub invariant_of-self-then-is_err : goal.invariant_of-self-then-is_err

@@ -1,11 +1,15 @@
 -- Numbers on circles are those that have a target with their own label.
-use Rattle.std.proofs.Common.{◌≡◌, ℕ, ◌<◌, ◌≤◌, ◌+◌, List, [], length, get_or, false, Option, None, refl, sym, ◌∙◌, ap, subst, arith}
+use Rattle.std.proofs.Common.{◌≡◌, ◌↔◌, ℕ, ◌<◌, ◌≤◌, ◌+◌, inl, inr, List, [], ◌∷◌, ◌++◌, length, get_or, false, Option, None, refl, sym, ◌∙◌, ap, subst, arith}
+use Rattle.std.specs.Prelude.{Contains}
 use Rattle.std.specs.Bool.{IsTrue}
+use Rattle.std.proofs.lemmas.Bool.{cases_eq}
 use Rattle.std.proofs.lemmas.List.{get_or_read}
+use Rattle.std.proofs.lemmas.List.Elements.{Contains-push, Contains-push_cases, Contains-append_left}
 use Rattle.circles.specs.declared.walk.Mark.{Mark}
 use Rattle.circles.specs.Circles.{IsEdge, IsOnCircle, AreMirrored}
 use Rattle.circles.specs.Walking.{IsSeen, IsWalk}
 use Rattle.circles.specs.Labelling.{label, NoneIsOpen, IsLabelling}
+use Rattle.circles.proofs.EdgeLemmas.{edge_begins}
 use Rattle.circles.proofs.ReachLemmas.{targets_are}
 use Rattle.circles.proofs.CircleLemmas.{same_root, circle_root}
 
@@ -26,18 +30,6 @@ module _ (graph sources : List (List ℕ)) (marks : List Mark) (order : List ℕ
       (e.0, e.1, ap (λ (x : ℕ). label labels x) e.2 ∙ r ∙ sym is)
 
 -- ---- the same of what the code reads
-
-pub less_or : (j i : ℕ) → j < i + 1 → (j ≡ i → ⊥) → j < i
-less_or j i l d = omega arith
-
-pub not_true : IsTrue false → ⊥
-not_true h = cc
-
-pub below_same : (i a b : ℕ) → a ≡ b → i < b → i < a
-below_same i a b e l = omega arith
-
-pub below_all : (i a b k : ℕ) → a ≡ b → i < b → a ≤ k → i < k
-below_all i a b k e l m = omega arith
 
 module _ (graph g sources : List (List ℕ)) (marks : List Mark) (order o : List ℕ) (labels ls : List (Option ℕ)) (same : g ≡ graph) (mirrored : AreMirrored graph sources) (walk : IsWalk g marks order []) (seen : (i : ℕ) → i < length g → IsSeen marks i) (ordered : o ≡ order) (labelling : IsLabelling sources o 0 labels [] NoneIsOpen) (valued : ls ≡ labels) (i : ℕ) (inside : i < length g) (read slice : List ℕ) (reads : read ≡ get_or g i read) (sliced : slice ≡ read) (own : Option ℕ) (owned : own ≡ get_or labels i own) where
   walk_read : IsWalk graph marks order []
@@ -67,3 +59,45 @@ module _ (graph g sources : List (List ℕ)) (marks : List Mark) (order o : List
 
   pub circle_read : IsOnCircle graph i → HasLabel slice ls own
   circle_read = circle_has graph sources marks order ls mirrored walk_read seen_read labelling_read i slice slice_is own own_is
+
+-- ---- those that were found
+
+module _ (graph : List (List ℕ)) (found : List ℕ) where
+  -- the numbers below this one that are on a circle are those that were found
+  abbrev pub AreFound : ℕ → Type 0
+  AreFound i = (j : ℕ) → Contains found j ↔ ((j < i) × IsOnCircle graph j)
+
+  pub not_found : (i : ℕ) → ¬ IsOnCircle graph i → AreFound i → AreFound (i + 1)
+  not_found i n h j = (
+    λ c. (let o = (h j).0 c in let b = o.0 in (omega arith, o.1)),
+    λ o. elim (cases_eq j i) [
+      | inl e ↦ absurd (n (subst (λ (x : ℕ). IsOnCircle graph x) e o.1))
+      | inr d ↦ (h j).1 (let b = o.0 in omega arith, o.1)
+    ],
+  )
+
+  pub all_found : (i : ℕ) → length graph ≤ i → AreFound i → (j : ℕ) → Contains found j ↔ IsOnCircle graph j
+  all_found i m h j = (
+    λ c. ((h j).0 c).1,
+    λ o. (h j).1 (let b = edge_begins graph j o.0 o.1 in omega arith, o),
+  )
+
+pub none_found : (graph : List (List ℕ)) → AreFound graph [] 0
+none_found graph j = (λ c. (let b = c.1 in absurd (omega arith)), λ o. (let b = o.0 in absurd (omega arith)))
+
+pub one_found : (graph : List (List ℕ)) (found : List ℕ) (i : ℕ) → IsOnCircle graph i → AreFound graph found i → AreFound graph (found ++ i ∷ []) (i + 1)
+one_found graph found i on h j = (
+  λ c. elim (Contains-push_cases found i j c) [
+    | inl old ↦ (let o = (h j).0 old in let b = o.0 in (omega arith, o.1))
+    | inr e ↦ (omega arith, subst (λ (x : ℕ). IsOnCircle graph x) e on)
+  ],
+  λ o. elim (cases_eq j i) [
+    | inl e ↦ subst (λ (x : ℕ). Contains (found ++ i ∷ []) x) (sym e) (Contains-push found i)
+    | inr d ↦ Contains-append_left found (i ∷ []) j ((h j).1 (let b = o.0 in omega arith, o.1))
+  ],
+)
+
+-- ---- what a test says
+
+pub not_true : IsTrue false → ⊥
+not_true h = cc

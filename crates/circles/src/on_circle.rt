@@ -1,7 +1,7 @@
-//! The first number on a circle.
+//! The numbers that are on a circle.
 
-ghost use Rattle.std.specs.Prelude.{◌≡◌, ℕ, ◌<◌, ◌↔◌, length, slice_index, IsTrue, IfOk, MatchOption, Option};
-ghost use Rattle.circles.specs.Circles.{IsOnCircle, IsFirstOnCircle};
+ghost use Rattle.std.specs.Prelude.{◌≡◌, ℕ, ◌<◌, ◌↔◌, Contains, length, slice_index, IsTrue, IfOk, Option};
+ghost use Rattle.circles.specs.Circles.{IsOnCircle};
 ghost use Rattle.circles.specs.Labelling.{label};
 
 use crate::graph::Graph;
@@ -23,17 +23,18 @@ fn is_label_among(targets: &[usize], labels: &[Option<usize>], own: Option<usize
     false
 }
 
-/// The first number that leads back to itself, over one edge or more. None where no number does.
-pub fn first_on_circle(alloc: Global, graph: &Graph) -> Result<Option<usize>, NoMemory>
-    ensures { IfOk result (λ found. MatchOption found ((i : ℕ) → ¬ IsOnCircle graph.now i) (λ i. IsFirstOnCircle graph.now i)) }
+/// The numbers that lead back to themselves, over one edge or more: all of them, and no others.
+pub fn all_on_circle(alloc: Global, graph: &Graph) -> Result<Vec<usize>, NoMemory>
+    ensures { IfOk result (λ found. (i : ℕ) → Contains found.items i ↔ IsOnCircle graph.now i) }
 {
     let (targets, sources) = graph.sides();
     let walk = walk_all(alloc, targets)?;
     let labels = label_all(alloc, sources, walk.order.as_slice())?;
+    let mut found = Vec::new(alloc);
     for i in 0..targets.len() {
         if is_label_among(targets[i].as_slice(), labels.as_slice(), labels[i]) {
-            return Ok(Some(i));
+            found.push(i)?;
         }
     }
-    Ok(None)
+    Ok(found)
 }
