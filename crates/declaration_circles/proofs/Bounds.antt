@@ -1,7 +1,7 @@
 -- Edges between declarations are between numbers of their table.
-use Rattle.std.proofs.Common.{◌≡◌, ℕ, ◌+◌, ◌<◌, ◌≤◌, List, [], ◌∷◌, ◌++◌, length, map, Bool, true, false, nat_eq, Option, Some, None, refl, sym, ◌∙◌, ap, subst, arith}
+use Rattle.std.proofs.Common.{◌≡◌, ℕ, ◌+◌, ◌<◌, ◌≤◌, List, [], ◌∷◌, length, Bool, true, false, nat_eq, Option, Some, None, refl, arith}
 use Rattle.std.specs.Prelude.{All, IfSome, if◌then◌else◌}
-use Rattle.std.specs.List.{flat_map, position}
+use Rattle.std.specs.List.{flat_map}
 use Rattle.std.specs.Map.{keys_of}
 use Rattle.std.proofs.lemmas.List.{length-map}
 use Rattle.std.proofs.lemmas.List.Quantifiers.{position-Some}
@@ -10,8 +10,7 @@ use Rattle.pv_types.specs.declared.program.ModuleId.{ModuleId}
 use Rattle.pv_types.specs.declared.declaration.Module.{Module}
 use Rattle.pv_types.specs.declared.program.Program.{Program}
 use Rattle.pv_names.specs.MemberNames.{same_module}
-use Rattle.declaration_circles.specs.declared.edges.Edge.{Edge}
-use Rattle.declaration_circles.specs.Edges.{edge, edge_apart, number, edges_to, struct_edges, spec_function_edges, schema_edges, edges_apart, own_home, homes_in_module, use_edges, member_edges, module_edges}
+use Rattle.declaration_circles.specs.Edges.{edge, edge_apart, number, edges_to, edges_apart, own_home, homes_in_module, use_edges, member_edges, module_edges}
 use Rattle.declaration_places.specs.Homes.{struct_home, constant_home, function_home, schema_home}
 use Rattle.declaration_circles.specs.Naming.{homes_in_struct, homes_in_constant, homes_in_function, homes_in_spec_function, homes_in_schema}
 use Rattle.declaration_circles.specs.Within.{IsWithin}

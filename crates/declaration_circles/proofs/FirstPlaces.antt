@@ -1,13 +1,16 @@
--- The first place of several kinds is the earlier one of their first places.
-use Rattle.std.proofs.Common.{◌≡◌, ℕ, ◌+◌, ◌<◌, ◌⊎◌, inl, inr, List, [], ◌∷◌, ◌++◌, length, Option, Some, None, refl, sym, ◌∙◌, ap, subst, arith}
-use Rattle.std.specs.Prelude.{All, Contains, MatchOption, IfSome, slice_get}
-use Rattle.std.proofs.lemmas.Bool.{cases_eq, cases_lt}
+-- The first place of a kind is that of the numbers that lead back; of several kinds it is the earlier one of theirs.
+use Rattle.std.proofs.Common.{◌≡◌, ◌↔◌, ℕ, ◌+◌, ◌<◌, ◌⊎◌, inl, inr, List, [], ◌∷◌, ◌++◌, length, get_or, take, add-one, Option, Some, None, refl, sym, ◌∙◌, ap, subst, arith}
+use Rattle.std.specs.Prelude.{All, Contains, MatchOption, slice_get}
+use Rattle.std.proofs.Math.Seq.{take-suc}
 use Rattle.std.proofs.lemmas.List.Elements.{All-append, All-nil, All-push, All-contains, Contains-push, Contains-push_cases, Contains-append_left, Contains-append_right, Contains-append_cases}
+use Rattle.std.proofs.lemmas.Option.{slice_get-get_or}
 use Rattle.pv_base.specs.declared.span.Span.{Span}
 use Rattle.declaration_places.specs.Order.{IsBefore, IsFirst, IsFirstOrNone, IsEarlier}
-use Rattle.declaration_places.proofs.Firsts.{before_trans, first_of_both, first_renamed}
-use Rattle.declaration_circles.specs.Leading.{LeadsBack, IsFirstBack}
-use Rattle.declaration_circles.specs.Circular.{Kind, HasNoCircle, HaveNoCircles, IsCircular, IsKindFirst, IsFirstOfKind, IsKindVerdict, IsFirstCircle, AreInOrder, AllInOrder}
+use Rattle.declaration_places.proofs.Firsts.{first_of_both, first_renamed}
+use Rattle.declaration_circles.specs.declared.edges.Edge.{Edge}
+use Rattle.declaration_circles.specs.Leading.{Leads, Directly, Over, LeadsBack}
+use Rattle.declaration_circles.specs.Within.{IsWithin}
+use Rattle.declaration_circles.specs.Circular.{Kind, HasNoCircle, HaveNoCircles, IsCircular, IsKindCircular, IsKindVerdict, IsFirstCircle, IsPlaceAmong}
 
 none_contained : (kind : Kind) → Contains [] kind → ⊥
 none_contained kind c = let b = c.1 in omega arith
@@ -19,37 +22,85 @@ irreflexive : (p : Span) → IsBefore p p → ⊥
 irreflexive p (inl h) = omega arith
 irreflexive p (inr h) = let s = h.1 in omega arith
 
--- one number alone is the first
-one_first : (kind : Kind) (i j : ℕ) → IsFirstBack kind.edges i → IsFirstBack kind.edges j → i ≡ j
-one_first kind i j f g = elim (cases_eq i j) [
-  | inl e ↦ e
-  | inr d ↦ elim (cases_lt i j) [
-    | inl l ↦ absurd (g.first i l f.back)
-    | inr l ↦ absurd (f.first j (omega arith) g.back)
-  ]
-]
+-- ---- one kind
 
-one_place : (kind : Kind) (p q : Span) → IsKindFirst kind p → IsKindFirst kind q → p ≡ q
-one_place kind p q f g =
-    let same = one_first kind f.0 g.0 f.2 g.2 in
-    let e = sym f.1 ∙ ap (λ (i : ℕ). slice_get kind.places i) same ∙ g.1 in
-    cc
+-- a place that may be missing is the first of itself
+alone : (place : Option Span) → IsFirstOrNone (λ q. place ≡ Some q) place
+alone None = λ q e. absurd (cc)
+alone (Some p) = record {
+  one = refl;
+  first = λ other e b. (let same : other ≡ p = cc in irreflexive p (subst (λ (o : Span). IsBefore o p) same b));
+}
+
+pub no_place : (places : List Span) (numbers : List ℕ) → IsFirstOrNone (IsPlaceAmong places (take 0 numbers)) None
+no_place places numbers place h = let b = h.1.1 in omega arith
+
+-- the place of the next one of some numbers
+pub next_place : (places : List Span) (numbers : List ℕ) (n d : ℕ) (first place new : Option Span) → n < length numbers
+    → place ≡ slice_get places (get_or numbers n d) → IsEarlier first place new
+    → IsFirstOrNone (IsPlaceAmong places (take n numbers)) first → IsFirstOrNone (IsPlaceAmong places (take (n + 1) numbers)) new
+next_place places numbers n d first place new b is e before =
+    let next = get_or numbers n d in
+    let taken : take (n + 1) numbers ≡ take n numbers ++ next ∷ [] = ap (λ (m : ℕ). take m numbers) (add-one n) ∙ take-suc numbers n d b in
+    subst (λ (ns : List ℕ). IsFirstOrNone (IsPlaceAmong places ns) new) (sym taken)
+    (first_renamed (λ q. IsPlaceAmong places (take n numbers) q ⊎ (place ≡ Some q)) (IsPlaceAmong places (take n numbers ++ next ∷ [])) new
+    (λ q h. elim h [
+      | inl x ↦ (x.0, Contains-append_left (take n numbers) (next ∷ []) x.0 x.1, x.2)
+      | inr y ↦ (next, Contains-push (take n numbers) next, sym is ∙ y)
+    ])
+    (λ q h. elim (Contains-push_cases (take n numbers) next h.0 h.1) [
+      | inl c ↦ inl (h.0, c, h.2)
+      | inr c ↦ inr (is ∙ ap (λ (i : ℕ). slice_get places i) c ∙ h.2)
+    ])
+    (first_of_both (IsPlaceAmong places (take n numbers)) (λ q. place ≡ Some q) first place new before (alone place) e))
+
+-- an edge of a number that leads back to itself begins there
+back_below : (count : ℕ) (edges : List Edge) → All (IsWithin count) edges → (i j : ℕ) → Leads edges i j → i < count
+back_below count edges within i j (Directly e) =
+    (All-contains (IsWithin count) edges (record { from = i; to = j }) within e).begins
+back_below count edges within i j (Over {j = k} e r) =
+    (All-contains (IsWithin count) edges (record { from = i; to = k }) within e).begins
+
+stands : {A : Type 0} (xs : List A) (n : ℕ) → n < length xs → (x : A) × (slice_get xs n ≡ Some x)
+stands [] n b = absurd (omega arith)
+stands (x ∷ xs) n b = (get_or (x ∷ xs) n x, slice_get-get_or (x ∷ xs) n x b)
+
+decided : (kind : Kind) (numbers : List ℕ) (found : Option Span) → All (IsWithin (length kind.places)) kind.edges
+    → ((i : ℕ) → Contains numbers i ↔ LeadsBack kind.edges i)
+    → IsFirstOrNone (IsPlaceAmong kind.places numbers) found → IsKindVerdict kind found
+decided kind numbers None within exact f = λ i back.
+    (let there = stands kind.places i (back_below (length kind.places) kind.edges within i i back) in
+    f there.0 (i, (exact i).1 back, there.1))
+decided kind numbers (Some place) within exact f =
+    first_renamed (IsPlaceAmong kind.places numbers) (IsKindCircular kind) (Some place)
+    (λ q h. (h.0, h.2, (exact h.0).0 h.1))
+    (λ q h. (h.0, (exact h.0).1 h.2, h.1))
+    f
+
+-- the same of what the code reads
+pub verdict : (kind : Kind) (count : ℕ) (edges : List Edge) (items numbers : List ℕ) (found : Option Span)
+    → All (IsWithin count) kind.edges → length kind.places ≡ count → edges ≡ kind.edges → numbers ≡ items
+    → ((i : ℕ) → Contains items i ↔ LeadsBack edges i)
+    → IsFirstOrNone (IsPlaceAmong kind.places numbers) found → IsKindVerdict kind found
+verdict kind count edges items numbers found within size is read exact f =
+    decided kind items found
+    (subst (λ (n : ℕ). All (IsWithin n) kind.edges) (sym size) within)
+    (subst (λ (es : List Edge). (i : ℕ) → Contains items i ↔ LeadsBack es i) is exact)
+    (subst (λ (ns : List ℕ). IsFirstOrNone (IsPlaceAmong kind.places ns) found) read f)
+
+-- ---- several kinds
 
 pub of_one : (kind : Kind) (found : Option Span) → IsKindVerdict kind found → IsFirstCircle (kind ∷ []) found
 of_one kind None v = record {
   clear = λ e. All-push HasNoCircle [] kind (All-nil HasNoCircle) v;
-  first = λ p h. (let k = only kind h.0 h.1 in let f = h.2 in (subst (λ (x : Kind). HasNoCircle x) k v) f.0 f.2.back);
-  decided = All-push (λ k. HasNoCircle k ⊎ ((p : Span) × IsKindFirst k p)) [] kind (All-nil (λ k. HasNoCircle k ⊎ ((p : Span) × IsKindFirst k p))) (inl v);
+  first = λ p h. (let f = h.2 in (subst (λ (x : Kind). HasNoCircle x) (only kind h.0 h.1) v) f.0 f.2);
 }
 of_one kind (Some place) v = record {
   clear = λ e. absurd (cc);
   first = record {
-    one = (kind, Contains-push [] kind, v);
-    first = λ other h b.
-        (let f : IsKindFirst kind other = subst (λ (k : Kind). IsKindFirst k other) (sym (only kind h.0 h.1)) h.2 in
-        irreflexive place (subst (λ (o : Span). IsBefore o place) (one_place kind other place f v) b));
+    one = (kind, Contains-push [] kind, v.one);
+    first = λ other h. v.first other (subst (λ (k : Kind). IsKindCircular k other) (sym (only kind h.0 h.1)) h.2);
   };
-  decided = All-push (λ k. HasNoCircle k ⊎ ((p : Span) × IsKindFirst k p)) [] kind (All-nil (λ k. HasNoCircle k ⊎ ((p : Span) × IsKindFirst k p))) (inr (place, v));
 }
 
 -- the earlier one of two places is missing only where both are
@@ -64,7 +115,7 @@ pub of_both : (xs ys : List Kind) (a b o : Option Span)
     → IsFirstCircle xs a → IsFirstCircle ys b → IsEarlier a b o → IsFirstCircle (xs ++ ys) o
 of_both xs ys a b o f g e = record {
   clear = λ n. (let m = none_of_both a b (subst (λ (x : Option Span). IsEarlier a b x) n e) in All-append HasNoCircle xs ys (f.clear m.0) (g.clear m.1));
-  first = first_renamed (λ q. IsFirstOfKind xs q ⊎ IsFirstOfKind ys q) (IsFirstOfKind (xs ++ ys)) o
+  first = first_renamed (λ q. IsCircular xs q ⊎ IsCircular ys q) (IsCircular (xs ++ ys)) o
       (λ q h. elim h [
         | inl x ↦ (x.0, Contains-append_left xs ys x.0 x.1, x.2)
         | inr y ↦ (y.0, Contains-append_right xs ys y.0 y.1, y.2)
@@ -73,41 +124,10 @@ of_both xs ys a b o f g e = record {
         | inl c ↦ inl (h.0, c, h.2)
         | inr c ↦ inr (h.0, c, h.2)
       ])
-      (first_of_both (IsFirstOfKind xs) (IsFirstOfKind ys) a b o f.first g.first e);
-  decided = All-append (λ k. HasNoCircle k ⊎ ((p : Span) × IsKindFirst k p)) xs ys f.decided g.decided;
+      (first_of_both (IsCircular xs) (IsCircular ys) a b o f.first g.first e);
 }
 
 pub answered : (kinds : List Kind) (o : Option Span) → IsFirstCircle kinds o
-    → MatchOption o (HaveNoCircles kinds) (IsFirst (IsFirstOfKind kinds))
+    → MatchOption o (HaveNoCircles kinds) (IsFirst (IsCircular kinds))
 answered kinds None f = f.clear refl
 answered kinds (Some place) f = f.first
-
--- where the tables are in order, the first one of a kind is a circular declaration or stands before it
-before_or_same : (kind : Kind) (i : ℕ) (p q : Span) → AreInOrder kind.places → IsKindFirst kind p
-    → slice_get kind.places i ≡ Some q → LeadsBack kind.edges i → IsBefore p q ⊎ (p ≡ q)
-before_or_same kind i p q order f here back = elim (cases_eq f.0 i) [
-  | inl e ↦ (let same = sym f.1 ∙ ap (λ (n : ℕ). slice_get kind.places n) e ∙ here in inr (cc))
-  | inr d ↦ elim (cases_lt i f.0) [
-    | inl l ↦ absurd (f.2.first i l back)
-    | inr l ↦ inl (order f.0 i p q (omega arith) f.1 here)
-  ]
-]
-
-pub in_order : (kinds : List Kind) (o : Option Span) → IsFirstCircle kinds o → AllInOrder kinds
-    → IfSome o (IsFirst (IsCircular kinds))
-in_order kinds None f order = tt
-in_order kinds (Some place) f order = record {
-  one = (f.first.one.0, f.first.one.1, (f.first.one.2.0, f.first.one.2.1, f.first.one.2.2.back));
-  first = λ other h before.
-      (let c = h.2 in
-      elim (All-contains (λ k. HasNoCircle k ⊎ ((p : Span) × IsKindFirst k p)) kinds h.0 f.decided h.1) [
-        | inl n ↦ n c.0 c.2
-        | inr k ↦ (
-            let ordered = All-contains (λ kind. AreInOrder kind.places) kinds h.0 order h.1 in
-            let isfirst : IsFirstOfKind kinds k.0 = (h.0, h.1, k.1) in
-            elim (before_or_same h.0 c.0 k.0 other ordered k.1 c.1 c.2) [
-              | inl b ↦ f.first.first k.0 isfirst (before_trans k.0 other place b before)
-              | inr e ↦ f.first.first k.0 isfirst (subst (λ (x : Span). IsBefore x place) (sym e) before)
-            ])
-      ]);
-}

@@ -1,12 +1,12 @@
 -- Graphs that are made of edges, and what leads to what in them.
-use Rattle.std.proofs.Common.{◌≡◌, ℕ, ◌+◌, ◌<◌, ◌⊎◌, inl, inr, List, [], ◌∷◌, ◌++◌, length, get_or, set, take, replicate, add-one, Option, Some, None, refl, sym, ◌∙◌, ap, subst, arith}
-use Rattle.std.specs.Prelude.{All, Contains, MatchOption, IfSome}
+use Rattle.std.proofs.Common.{◌≡◌, ℕ, ◌+◌, ◌<◌, inl, inr, List, [], ◌∷◌, ◌++◌, length, get_or, set, take, replicate, add-one, sym, ◌∙◌, ap, subst, arith}
+use Rattle.std.specs.Prelude.{All, Contains, ◌↔◌}
 use Rattle.std.proofs.Math.Seq.{take-suc}
 use Rattle.std.proofs.lemmas.List.Elements.{Contains-push, Contains-push_cases, Contains-append_left}
 use Rattle.circles.specs.Circles as graph
-use Rattle.circles.proofs.EdgeLemmas.{edge_begins, edge_kept, edge_new, edge_pushed, no_edge}
+use Rattle.circles.proofs.EdgeLemmas.{edge_kept, edge_new, edge_pushed, no_edge}
 use Rattle.declaration_circles.specs.declared.edges.Edge.{Edge}
-use Rattle.declaration_circles.specs.Leading.{IsEdge, Leads, Directly, Over, LeadsBack, IsFirstBack}
+use Rattle.declaration_circles.specs.Leading.{Leads, Directly, Over, LeadsBack}
 use Rattle.declaration_circles.specs.Within.{HasEdgesOf, IsWithin}
 
 pub no_edges : (count : ℕ) → HasEdgesOf (replicate count []) []
@@ -52,17 +52,8 @@ module _ (numbers : List (List ℕ)) (edges : List Edge) (h : HasEdgesOf numbers
   pub leads_back : (i j : ℕ) → graph.Leads numbers i j → Leads edges i j
   leads_back i j l = leads_along i l.1 l.2
 
-  pub first_found : (o : Option ℕ)
-      → MatchOption o ((i : ℕ) → ¬ graph.IsOnCircle numbers i) (λ i. graph.IsFirstOnCircle numbers i)
-      → MatchOption o ((i : ℕ) → ¬ LeadsBack edges i) (λ i. IsFirstBack edges i)
-  first_found None f = λ i l. f i (leads_there l)
-  first_found (Some i) f = record { back = leads_back i i f.0; first = λ j b l. f.1 j b (leads_there l) }
-
-pub within_graph : (numbers : List (List ℕ)) (count : ℕ) (o : Option ℕ) → length numbers ≡ count
-    → MatchOption o ((i : ℕ) → ¬ graph.IsOnCircle numbers i) (λ i. graph.IsFirstOnCircle numbers i)
-    → IfSome o (λ i. i < count)
-within_graph numbers count None e f = tt
-within_graph numbers count (Some i) e f = let b = edge_begins numbers i f.0.0 f.0.1 in omega arith
+  pub same_back : (numbers_found : List ℕ) → ((i : ℕ) → Contains numbers_found i ↔ graph.IsOnCircle numbers i) → (i : ℕ) → Contains numbers_found i ↔ LeadsBack edges i
+  same_back numbers_found f i = (λ c. leads_back i i ((f i).0 c), λ l. (f i).1 (leads_there l))
 
 -- the next one of some edges
 pub next_edge : (numbers new : List (List ℕ)) (edges : List Edge) (n count : ℕ) (d : Edge) → n < length edges → length numbers ≡ count → All (IsWithin count) edges

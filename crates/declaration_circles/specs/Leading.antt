@@ -1,5 +1,5 @@
 -- What leads to what, over the numbers of declarations.
-use Rattle.std.specs.Prelude.{◌≡◌, ℕ, ◌<◌, List, Contains}
+use Rattle.std.specs.Prelude.{ℕ, List, Contains}
 use Rattle.declaration_circles.specs.declared.edges.Edge.{Edge}
 
 -- one leads to the other by itself
@@ -14,8 +14,3 @@ pub data Leads (edges : List Edge) : ℕ → ℕ → Type 0 where
 -- it leads back to itself
 abbrev pub LeadsBack : List Edge → ℕ → Type 0
 LeadsBack edges i = Leads edges i i
-
--- it leads back to itself, and none with a smaller number does
-pub record IsFirstBack (edges : List Edge) (i : ℕ) : Type 0 where
-  pub back : LeadsBack edges i
-  pub first : (j : ℕ) → j < i → ¬ LeadsBack edges j

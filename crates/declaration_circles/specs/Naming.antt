@@ -1,11 +1,11 @@
 -- What declarations name: the structs in types, and the modules whose members stand in types, code and specifications.
 -- Source: The Move Book, "Modules and Scripts", "Structs and Resources" and "Uses and Aliases"; the Move Specification
 -- Language reference, "Expressions" and "Schemas".
-use Rattle.std.specs.Prelude.{ℕ, List, [], ◌∷◌, ◌++◌, map, Option, Some, None}
+use Rattle.std.specs.Prelude.{List, [], ◌∷◌, ◌++◌, map, Option, Some, None}
 use Rattle.std.specs.List.{flat_map}
 use Rattle.pv_base.specs.declared.types.StructId.{StructId}
 use Rattle.pv_base.specs.declared.types.FunctionId.{FunctionId}
-use Rattle.pv_base.specs.TypeData.{TypeData, TypesData, BoolType, VectorType, StructType, SharedType, MutableType, TupleType, NoTypes, MoreTypes}
+use Rattle.pv_base.specs.TypeData.{TypeData, TypesData, VectorType, StructType, SharedType, MutableType, TupleType, NoTypes, MoreTypes}
 use Rattle.pv_types.specs.declared.arena.Node.{Node}
 use Rattle.pv_types.specs.declared.arena.Node.TheVariants.{Leaf, Unary, Binary, Many}
 use Rattle.pv_types.specs.declared.code.CodeLeaf.{CodeLeaf}
@@ -27,7 +27,6 @@ use Rattle.pv_types.specs.declared.spec.SpecMany.{SpecMany}
 use Rattle.pv_types.specs.declared.spec.SpecMany.TheVariants.{Call as spec_call, Pack as spec_pack, Quantified}
 use Rattle.pv_types.specs.declared.spec.SpecCallee.{SpecCallee}
 use Rattle.pv_types.specs.declared.spec.SpecCallee.TheVariants.{Function as spec_function}
-use Rattle.pv_types.specs.declared.spec.Bind.{Bind}
 use Rattle.pv_types.specs.declared.spec.Domain.{Domain}
 use Rattle.pv_types.specs.declared.spec.Domain.TheVariants.{Of}
 use Rattle.pv_types.specs.declared.clause.Clause.{Clause}
@@ -35,7 +34,6 @@ use Rattle.pv_types.specs.declared.clause.LoopClause.{LoopClause}
 use Rattle.pv_types.specs.declared.clause.ClauseForm.{ClauseForm}
 use Rattle.pv_types.specs.declared.clause.ClauseForm.TheVariants.{Include}
 use Rattle.pv_types.specs.declared.declaration.TypedName.{TypedName}
-use Rattle.pv_types.specs.declared.declaration.Module.{Module}
 use Rattle.pv_types.specs.declared.declaration.Struct.{Struct}
 use Rattle.pv_types.specs.declared.declaration.Constant.{Constant}
 use Rattle.pv_types.specs.declared.declaration.Function.{Function}

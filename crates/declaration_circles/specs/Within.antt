@@ -1,5 +1,5 @@
 -- Graphs that have given edges.
-use Rattle.std.specs.Prelude.{ℕ, ◌<◌, ◌↔◌, List}
+use Rattle.std.specs.Prelude.{ℕ, ◌<◌, List}
 use Rattle.circles.specs.Circles as graph
 use Rattle.declaration_circles.specs.declared.edges.Edge.{Edge}
 use Rattle.declaration_circles.specs.Leading.{IsEdge}

@@ -1,12 +1,12 @@
-//! The first of numbers that leads back to itself over edges.
+//! The numbers that lead back to themselves over edges.
 
-ghost use Rattle.std.specs.Prelude.{◌≡◌, ◌<◌, ℕ, All, length, IfOk, IfSome, MatchOption};
-ghost use Rattle.declaration_circles.specs.Leading.{IsFirstBack, LeadsBack};
+ghost use Rattle.std.specs.Prelude.{◌≡◌, ◌↔◌, ℕ, All, Contains, length, IfOk};
+ghost use Rattle.declaration_circles.specs.Leading.{LeadsBack};
 ghost use Rattle.declaration_circles.specs.Within.{HasEdgesOf, IsWithin};
 
 use crate::edges::Edge;
-use circles::first::first_on_circle;
 use circles::graph::Graph;
+use circles::on_circle::all_on_circle;
 use pv_base::memory::NoMemory;
 use std::alloc::Global;
 
@@ -23,16 +23,11 @@ fn graph_of(alloc: Global, count: usize, edges: &[Edge]) -> Result<Graph, NoMemo
     Ok(graph)
 }
 
-/// The first of so many numbers that leads back to itself over these edges.
-pub(crate) fn first_back(
-    alloc: Global,
-    count: usize,
-    edges: &[Edge],
-) -> Result<Option<usize>, NoMemory>
+/// Those of so many numbers that lead back to themselves over these edges: all of them, and no others.
+pub(crate) fn all_back(alloc: Global, count: usize, edges: &[Edge]) -> Result<Vec<usize>, NoMemory>
     requires { All (IsWithin count) edges.now }
-    ensures found { IfOk result (λ found. MatchOption found ((i : ℕ) → ¬ LeadsBack edges.now i) (λ i. IsFirstBack edges.now i)) }
-    ensures within { IfOk result (λ found. IfSome found (λ i. i < count)) }
+    ensures { IfOk result (λ found. (i : ℕ) → Contains found.items i ↔ LeadsBack edges.now i) }
 {
     let graph = graph_of(alloc, count, edges)?;
-    first_on_circle(alloc, &graph)
+    all_on_circle(alloc, &graph)
 }

@@ -1,4 +1,3 @@
-use Rattle.std.proofs.Common.{Some}
 use Rattle.declaration_places.specs.Same.{same_function}
 use Rattle.declaration_circles.specs.Naming.{called_in_node}
 use Rattle.declaration_circles.specs.Edges.{edge, number}

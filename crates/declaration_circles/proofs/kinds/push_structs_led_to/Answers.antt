@@ -1,4 +1,4 @@
-use Rattle.std.proofs.Common.{◌≡◌, ◌++◌, ℕ, length, Option, Bor, refl, ◌∙◌, ap}
+use Rattle.std.proofs.Common.{◌++◌, ℕ, length, Option, Bor, refl, ◌∙◌, ap}
 use Rattle.std.proofs.lemmas.Option.{slice_get_read}
 use Rattle.pv_base.specs.declared.types.StructId.{StructId}
 use Rattle.declaration_places.specs.Same.{same_struct}

@@ -1,4 +1,4 @@
-use Rattle.std.proofs.Common.{◌≡◌, ◌++◌, take}
+use Rattle.std.proofs.Common.{◌≡◌, take}
 use Rattle.std.specs.List.{flat_map}
 use Rattle.declaration_places.specs.Same.{same_function}
 use Rattle.declaration_circles.specs.Edges.{edges_to}

@@ -1,4 +1,4 @@
-use Rattle.std.proofs.Common.{◌≡◌, ◌++◌, ℕ, length, Option, Some, refl, ◌∙◌, ap}
+use Rattle.std.proofs.Common.{◌++◌, ℕ, length, Option, Some, refl, ◌∙◌, ap}
 use Rattle.std.proofs.lemmas.Option.{slice_get_read}
 use Rattle.pv_types.specs.declared.program.ModuleId.{ModuleId}
 use Rattle.pv_names.specs.MemberNames.{same_module}

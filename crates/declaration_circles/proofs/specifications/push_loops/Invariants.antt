@@ -1,5 +1,4 @@
 use Rattle.std.proofs.Common.{◌≡◌, ◌++◌, take}
-use Rattle.std.specs.List.{flat_map}
 use Rattle.declaration_circles.specs.Naming.{homes_in_loops}
 use Rattle.declaration_circles.proofs.specifications.push_loops.Given as goal
 

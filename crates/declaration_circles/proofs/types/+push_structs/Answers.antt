@@ -1,4 +1,4 @@
-use Rattle.std.proofs.Common.{rules, arith}
+use Rattle.std.proofs.Common.{arith}
 use Rattle.std.proofs.lemmas.Grind.{common_steps}
 use Rattle.declaration_circles.proofs.Naming.{structs_all}
 use Rattle.declaration_circles.proofs.types.+push_structs.Goals as goal

@@ -1,5 +1,4 @@
 use Rattle.std.proofs.Common.{◌≡◌, ◌++◌, take}
-use Rattle.std.specs.List.{flat_map}
 use Rattle.declaration_circles.specs.Naming.{homes_in_names}
 use Rattle.declaration_circles.proofs.types.push_homes_of_names.Given as goal
 
