@@ -11,7 +11,7 @@ use Rattle.resolution.specs.Known.{known_of}
 use Rattle.resolution.specs.Programs.{IsProgramOf}
 use Rattle.declaration_places.specs.Order.{IsBefore}
 use Rattle.visibility.specs.Visible.{IsVisible, codes_of}
-use Rattle.declaration_circles.specs.Circular.{HasNoCircle as HasNone, IsKindFirst, Kind}
+use Rattle.declaration_circles.specs.Circular.{HasNoCircle as HasNone, IsKindCircular, Kind}
 use Rattle.program_read.specs.Bounds.{HasBarred, HasCircle, HasNoCircle, IsAllVisible, StopsAt, circle_stage, kinds_in, visible_stage}
 use Rattle.program_read.specs.Chain.{◌▷◌}
 use Rattle.program_read.specs.FileFault.{IsSameStop, breaks, without_place}
@@ -105,8 +105,8 @@ visible_laws = allows_laws (λ given. IsAllVisible given.program) (λ given. Has
 
 -- ---- circles
 
-kind_apart : (kind : Kind) (place : Span) → HasNone kind → IsKindFirst kind place → ⊥
-kind_apart kind place none f = none f.0 f.2.back
+kind_apart : (kind : Kind) (place : Span) → HasNone kind → IsKindCircular kind place → ⊥
+kind_apart kind place none f = none f.0 f.2
 
 circles_apart : (given : NamedData) (file : ℕ) (fault : FileFault) → HasNoCircle given.sources given.program → HasCircle given.sources given.program file fault → ⊥
 circles_apart given file fault none stops =

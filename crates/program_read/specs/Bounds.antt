@@ -9,7 +9,7 @@ use Rattle.pv_types.specs.declared.program.Program.{Program}
 use Rattle.declaration_places.specs.Order.{IsFirst}
 use Rattle.visibility.specs.Visible.{IsBarred, IsVisible, codes_of}
 use Rattle.module_uses.specs.Uses.{uses_of}
-use Rattle.declaration_circles.specs.Circular.{HaveNoCircles, IsFirstOfKind, Kind, kinds_of}
+use Rattle.declaration_circles.specs.Circular.{HaveNoCircles, IsCircular, Kind, kinds_of}
 use Rattle.program_read.specs.Chain.{FileStage, allows}
 use Rattle.program_read.specs.FileFault.{breaks}
 use Rattle.program_read.specs.Named.{NamedData}
@@ -44,9 +44,9 @@ kinds_in sources program = kinds_of program (uses_of sources program)
 abbrev pub HasNoCircle : List (List SourceModuleData) → Program → Type 0
 HasNoCircle sources program = HaveNoCircles (kinds_in sources program)
 
--- of the first declarations of each kind that lead back to themselves, the first begins here
+-- the first declaration that leads back to itself begins here
 abbrev pub HasCircle : List (List SourceModuleData) → Program → ℕ → FileFault → Type 0
-HasCircle sources program = StopsAt Cycle (IsFirstOfKind (kinds_in sources program))
+HasCircle sources program = StopsAt Cycle (IsCircular (kinds_in sources program))
 
 abbrev pub circle_stage : FileStage NamedData NamedData
 circle_stage = allows (λ given. HasNoCircle given.sources given.program) (λ given. HasCircle given.sources given.program)

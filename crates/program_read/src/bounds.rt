@@ -31,7 +31,7 @@ pub fn check_visible(alloc: Global, program: &Program) -> Result<(), ProgramFaul
 ///
 /// # Errors
 ///
-/// `Cycle` exactly where one does, with the first of the first ones of each kind.
+/// `Cycle` exactly where one does, with the first such declaration.
 pub fn check_circles(
     alloc: Global,
     sources: &[Source],

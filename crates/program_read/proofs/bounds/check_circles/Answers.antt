@@ -3,10 +3,10 @@ use Rattle.std.specs.Prelude.{MatchOption}
 use Rattle.pv_base.specs.declared.span.Span.{Span}
 use Rattle.pv_types.specs.declared.program.ModuleId.{ModuleId}
 use Rattle.declaration_places.specs.Order.{IsFirst}
-use Rattle.declaration_circles.specs.Circular.{HaveNoCircles, IsFirstOfKind, kinds_of}
+use Rattle.declaration_circles.specs.Circular.{HaveNoCircles, IsCircular, kinds_of}
 use Rattle.program_read.proofs.bounds.check_circles.Goals as goal
 
 pub returns-in-None : goal.returns-in-None
 returns-in-None c =
     subst (λ (uses : List (List ModuleId)). HaveNoCircles (kinds_of c.args.program.now uses)) (c.as_slice.ensures.value ∙ c.in_ok-uses.ensures.uses)
-    (subst (λ (found : Option Span). MatchOption found (HaveNoCircles (kinds_of c.args.program.now c.as_slice.result.now)) (IsFirst (IsFirstOfKind (kinds_of c.args.program.now c.as_slice.result.now)))) c.in-None.is c.in_ok-first_circle.ensures.found)
+    (subst (λ (found : Option Span). MatchOption found (HaveNoCircles (kinds_of c.args.program.now c.as_slice.result.now)) (IsFirst (IsCircular (kinds_of c.args.program.now c.as_slice.result.now)))) c.in-None.is c.in_ok-first_circle.ensures)
