@@ -1,7 +1,7 @@
 -- The items of a pool as it grows, and those of its nodes.
 use Rattle.std.proofs.Common.{◌≡◌, ℕ, zero, suc, ◌+◌, ◌<◌, ◌≤◌, List, [], ◌∷◌, ◌++◌, length, Some, refl, sym, ap, ◌∙◌, subst, arith, length-append}
 use Rattle.std.specs.Prelude.{slice_get}
-use Rattle.std.proofs.lemmas.List.{get_or_append_left, get_or_push}
+use Rattle.std.proofs.lemmas.List.{get_or_append_left, get_or_push, get_or_past}
 use Rattle.formula_pool.specs.Items.{Item, NoItem, Sort, sort_of, one_item, two_item, three_item}
 use Rattle.formula_pool.specs.Pools.{nth, item_of, items_from, items, item_at, HasPart, HasParts, IsPool, Extends}
 use Rattle.formula_pool.specs.declared.node.Node.{Node}
@@ -80,3 +80,7 @@ parts_kept ns ms e i (LeafNode k) h p = p
 parts_kept ns ms e i (OneNode k a) h p = part_kept ns ms e i a _ h p
 parts_kept ns ms e i (TwoNode k a b) h p = (part_kept ns ms e i a _ h p.0, part_kept ns ms e i b _ h p.1)
 parts_kept ns ms e i (ThreeNode k a b c) h p = (part_kept ns ms e i a _ h p.0, part_kept ns ms e i b _ h p.1, part_kept ns ms e i c _ h p.2)
+
+-- past the nodes there is no item
+pub item_past : (ns : List Node) (i : ℕ) → length ns ≤ i → item_at ns i ≡ NoItem
+item_past ns i h = get_or_past (items ns) i NoItem (omega (arith, h, items_length ns))

@@ -4,3 +4,4 @@ pub mod OnceLemmas
 pub mod DepthLemmas
 pub mod SearchLemmas
 pub mod GrowthLemmas
+pub mod ListLemmas

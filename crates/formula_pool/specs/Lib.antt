@@ -3,3 +3,4 @@ pub mod NodeHash
 pub mod Items
 pub mod Pools
 pub mod Depths
+pub mod Lists

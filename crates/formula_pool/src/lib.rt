@@ -4,3 +4,4 @@
 pub mod interning;
 pub mod node;
 pub mod pool;
+pub mod reading;
