@@ -1,0 +1,14 @@
+//! What is due is allowed.
+
+ghost use Rattle.std.specs.Prelude.{List};
+ghost use Rattle.fol.specs.FormulaData.{TermData, FormulaData};
+ghost use Rattle.fol.specs.declared.shapes.Shape.{Shape};
+ghost use Rattle.axioms.specs.Axioms.{IsAxiom};
+ghost use Rattle.axioms.specs.declared.axiom.Axiom.{Axiom};
+ghost use Rattle.branches.specs.Branch.{Branch};
+ghost use Rattle.branches.specs.Table.{Asks};
+
+/// Each formula that the table asks for is an instance of the axiom that the table names beside it.
+pub fn asked_are_axioms()
+    ensures { (shapes : List Shape) (b : Branch) (name : Axiom) (ts : List TermData) (p : FormulaData) → Asks shapes b name ts p → IsAxiom shapes name p }
+{}
