@@ -3,7 +3,7 @@ use Rattle.std.specs.Prelude.{◌≡◌, ◌≢◌, ℕ, ◌+◌, ◌≤◌, max
 use Rattle.pv_base.specs.TypeData.{TypeData}
 use Rattle.fol.specs.declared.operators.Quantifier.TheVariants.{ForAll, Exists}
 use Rattle.fol.specs.declared.shapes.Shape.{Shape}
-use Rattle.fol.specs.Depth.{formula_depth}
+use Rattle.fol.specs.Depth.{term_depth, formula_depth}
 use Rattle.fol.specs.FormulaData.{TermData, VarTerm, FormulaData, EqFormula, NotFormula, QuantifyFormula, SubTerm, LeFormula, TriggersData}
 use Rattle.axioms.specs.declared.axiom.Axiom.{Axiom}
 use Rattle.axioms.specs.declared.axiom.Axiom.TheVariants.{Cases}
@@ -89,6 +89,7 @@ pub record InstanceDue (b : Branch) (i : ℕ) (t : TermData) (p : FormulaData) (
   pub few : generation ≤ most_generations
   pub is_new : IsNew b p
   pub shallow : IsShallow p
+  pub shallow_term : term_depth t ≤ most_deep
 
 -- ---- instances of axioms
 

@@ -5,3 +5,5 @@ pub mod Match
 pub mod Table
 pub mod Decisions
 pub mod Due
+pub mod Rows
+pub mod Turns

@@ -5,10 +5,18 @@ ghost use Rattle.fol.specs.FormulaData.{TermData, FormulaData};
 ghost use Rattle.fol.specs.declared.shapes.Shape.{Shape};
 ghost use Rattle.axioms.specs.Axioms.{IsAxiom};
 ghost use Rattle.axioms.specs.declared.axiom.Axiom.{Axiom};
+ghost use Rattle.cert.specs.Closes.{Certifies};
+ghost use Rattle.cert.specs.CertData.{MoveData};
 ghost use Rattle.branches.specs.Branch.{Branch};
+ghost use Rattle.branches.specs.Turns.{Turn, IsProof};
 ghost use Rattle.branches.specs.Table.{Asks};
 
 /// Each formula that the table asks for is an instance of the axiom that the table names beside it.
 pub fn asked_are_axioms()
     ensures { (shapes : List Shape) (b : Branch) (name : Axiom) (ts : List TermData) (p : FormulaData) → Asks shapes b name ts p → IsAxiom shapes name p }
+{}
+
+/// A due text that leaves no branch open makes a certificate of its formula.
+pub fn proofs_are_certified()
+    ensures { (shapes : List Shape) (p : FormulaData) (turns : List Turn) → IsProof shapes p turns → (moves : List MoveData) × Certifies shapes moves p }
 {}
