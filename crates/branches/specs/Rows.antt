@@ -11,13 +11,13 @@ use Rattle.cert.specs.Unknowns.{EachUnknown}
 use Rattle.linear_rows.specs.Inequality.{Inequality, coefficient}
 use Rattle.linear_rows.specs.declared.rows.Fraction.{Fraction}
 use Rattle.lin_arith.specs.Answer.{IsSolution}
-use Rattle.branches.specs.Branch.{Branch, formulas, Stands}
+use Rattle.branches.specs.Branch.{Branch, formulas, Stands, IsTerm}
 use Rattle.branches.specs.Joined.{Joined}
 
--- a number for each class of terms
+-- a number for each class of terms of the branch
 pub record IsClassing (b : Branch) (class : TermData → ℕ) : Type 0 where
-  pub same : (t u : TermData) → Joined b t u → class t ≡ class u
-  pub apart : (t u : TermData) → class t ≡ class u → Joined b t u
+  pub same : (t u : TermData) → IsTerm b t → IsTerm b u → Joined b t u → class t ≡ class u
+  pub apart : (t u : TermData) → IsTerm b t → IsTerm b u → class t ≡ class u → Joined b t u
 
 -- ---- comparisons over classes
 

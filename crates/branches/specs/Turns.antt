@@ -14,9 +14,11 @@ use Rattle.axioms.specs.Forms.{DifferFormula}
 use Rattle.cert.specs.CertData.{StepData, AxiomStep, RewriteStep, CloseData}
 use Rattle.cert.specs.Closes.{most_entries, IsStep, IsClose, added}
 use Rattle.linear_rows.specs.Inequality.{Inequality}
+use Rattle.linear_rows.specs.Elimination.{ReachesLimit}
 use Rattle.linear_rows.specs.declared.rows.Fraction.{Fraction}
 use Rattle.lin_arith.specs.Answer.{IsSolution}
 use Rattle.lin_arith.specs.Values.{AreAllChosen}
+use Rattle.lin_arith.specs.Wide.{IsWide}
 use Rattle.branches.specs.Branch.{Branch, Entry, formulas, Says}
 use Rattle.branches.specs.Due.{PartsDue, SplitDue, NameDue, InstanceDue, AxiomDue, CutDue, AreGenerations, IsNotClosed, IsSaturated, IsRange, IsShallow}
 use Rattle.branches.specs.Rows.{AreBranchRows, IsWholeIfNumber, Meets, MeetsWhole}
@@ -196,6 +198,24 @@ pub record IsOpenBranch (shapes : List Shape) (p : FormulaData) (turns : List Tu
   pub reached : IsReached shapes p turns b
   pub saturated : IsSaturated shapes b
   pub met : MeetsWhole b values
+
+-- an elimination of the rows of a branch that is reached meets two rows whose sum leaves 128 bits
+pub record IsWideBranch (shapes : List Shape) (p : FormulaData) (turns : List Turn) (b : Branch) (first second : Inequality) : Type 0 where
+  pub reached : IsReached shapes p turns b
+  pub class : TermData → ℕ
+  pub classes : List ℕ
+  pub rows : List Inequality
+  pub are_rows : AreBranchRows b class classes rows
+  pub wide : IsWide rows first second
+
+-- or has 5,000 rows
+pub record IsLargeBranch (shapes : List Shape) (p : FormulaData) (turns : List Turn) (b : Branch) (found : List Inequality) : Type 0 where
+  pub reached : IsReached shapes p turns b
+  pub class : TermData → ℕ
+  pub classes : List ℕ
+  pub rows : List Inequality
+  pub are_rows : AreBranchRows b class classes rows
+  pub limit : ReachesLimit rows found
 
 -- a partial tree: a due text with this number of steps. It may end among the links of a chain that would close the
 -- branch that is worked on
