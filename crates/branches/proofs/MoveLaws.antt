@@ -67,7 +67,7 @@ all_moves (CloseTurn chain by ∷ turns) = map StraightMove chain ++ ClosedMove 
 
 axiom_of : (shapes : List Shape) (b : Branch) {name : Axiom} {ts : List TermData} {p : FormulaData} → AsksAxiom shapes b name ts p → IsAxiom shapes name p
 axiom_of shapes b (ByTable name ts p h) = asked shapes b h
-axiom_of shapes b (AsDecision t u a n) = (_, (t, u, refl), refl)
+axiom_of shapes b (AsDecision t u d a n) = (_, (t, u, refl), refl)
 
 one : (P : FormulaData → Type 0) (p : FormulaData) → P p → All P (p ∷ [])
 one P p h = All-cons P p [] h (All-nil P)

@@ -101,7 +101,7 @@ trichotomy_axiom t u =
 -- by the table, or as a decision of two numbers
 pub data AsksAxiom (shapes : List Shape) (b : Branch) : Axiom → List TermData → FormulaData → Type 0 where
   ByTable : (name : Axiom) (ts : List TermData) (p : FormulaData) → Asks shapes b name ts p → AsksAxiom shapes b name ts p
-  AsDecision : (t u : TermData) → AsksDecision b t u → AreNumbers b t u → AsksAxiom shapes b (Cases Trichotomy) (t ∷ u ∷ []) (trichotomy_axiom t u)
+  AsDecision : (t u : TermData) → t ≢ u → AsksDecision b t u → AreNumbers b t u → AsksAxiom shapes b (Cases Trichotomy) (t ∷ u ∷ []) (trichotomy_axiom t u)
 
 -- the greatest of the generations of terms; of none it is 0
 pub data AreGenerations (b : Branch) : List TermData → ℕ → Type 0 where
