@@ -1,0 +1,12 @@
+pub mod SetLaws
+pub mod StateLaws
+pub mod EventLaws
+pub mod ShownLaws
+pub mod PieceLaws
+pub mod PassLaws
+pub mod NumberLaws
+pub mod Fitting
+pub mod Fitted
+pub mod Turning
+pub mod EffectsFit
+pub mod VerdictLaws

@@ -1,0 +1,15 @@
+-- What summaries say of pieces of code.
+use Rattle.std.specs.Prelude.{◌≡◌, ℕ, List, length, Some, slice_get}
+use Rattle.control_paths.specs.Pieces.{Piece, piece_at}
+use Rattle.local_states.specs.declared.summary.Summary.{Summary}
+use Rattle.local_states.specs.Shown.{Shows, Means}
+
+pub record Stands (base : ℕ) (summary : Summary) (piece : Piece) : Type 0 where
+  pub flow : Shows base summary.effects piece.flow
+  pub binds : Means base summary.binds piece.binds
+  pub local : summary.local ≡ piece.local
+
+-- each summary is that of the piece with its number
+pub record AllStand (base : ℕ) (summaries : List Summary) (pieces : List Piece) : Type 0 where
+  pub same : length summaries ≡ length pieces
+  pub each : (k : ℕ) (s : Summary) → slice_get summaries k ≡ Some s → Stands base s (piece_at pieces k)
