@@ -94,10 +94,10 @@ next_over Q es Over path = absurd path
 next_over Q es (Stopped n) path = absurd path
 
 module _ (l : ℕ) (e f : LocalEffect) (P Q : List Event → Exit → Type 0) (pe : Ends l e P) (pb : Breaks l e P) (qe : Ends l f Q) (qb : Breaks l f Q) where
-  turn_ends : Ends l (then_of e (to_next_of f)) (After P (to_next Q))
+  pub turn_ends : Ends l (then_of e (to_next_of f)) (After P (to_next Q))
   turn_ends = ends_then l e (to_next_of f) P (to_next Q) pe (ends_next l f Q qe)
 
-  last_ends : Ends l (then_of e (to_out_of f)) (After P (to_out Q))
+  pub last_ends : Ends l (then_of e (to_out_of f)) (After P (to_out Q))
   last_ends = ends_then l e (to_out_of f) P (to_out Q) pe (ends_out l f Q qe)
 
   last_breaks : Breaks l (then_of e (to_out_of f)) (After P (to_out Q))
@@ -114,10 +114,10 @@ module _ (l : ℕ) (e f : LocalEffect) (P Q : List Event → Exit → Type 0) (p
   turn_broken : (rule : Rule) (had : Bool) (es : List Event) (exit : Exit) → After P (to_next Q) es exit → is_broken rule l had es ≡ true → (then_of e (to_out_of f)).broken rule had ≡ true
   turn_broken rule had es exit path h = let one = turn_in_last es exit path in last_breaks.from rule had es one.0 one.1 h
 
-  reached_same : (had : Bool) → reached e f had had ≡ true
+  pub reached_same : (had : Bool) → reached e f had had ≡ true
   reached_same had = or_left (same had had) ((then_of e (to_next_of f)).ends had Onward had) (same_refl had)
 
-  reached_on : (a b c : Bool) → reached e f a b ≡ true → reached e f b c ≡ true → reached e f a c ≡ true
+  pub reached_on : (a b c : Bool) → reached e f a b ≡ true → reached e f b c ≡ true → reached e f a c ≡ true
   reached_on a b c h k =
       elim (two_states a b c) [
         | inl s ↦ subst (λ x. reached e f x c ≡ true) (sym s) k
@@ -127,10 +127,10 @@ module _ (l : ℕ) (e f : LocalEffect) (P Q : List Event → Exit → Type 0) (p
         ]
       ]
 
-  reached_turn : (had : Bool) (es : List Event) → After P (to_next Q) es (Leaves Onward) → reached e f had (has_behind l had es) ≡ true
+  pub reached_turn : (had : Bool) (es : List Event) → After P (to_next Q) es (Leaves Onward) → reached e f had (has_behind l had es) ≡ true
   reached_turn had es path = or_right (same had (has_behind l had es)) ((then_of e (to_next_of f)).ends had Onward (has_behind l had es)) (turn_ends.from had Onward es path)
 
-  times_reach : (n : ℕ) (had : Bool) (es : List Event) (exit : Exit) → times n (After P (to_next Q)) es exit → reached e f had (has_behind l had es) ≡ true
+  pub times_reach : (n : ℕ) (had : Bool) (es : List Event) (exit : Exit) → times n (After P (to_next Q)) es exit → reached e f had (has_behind l had es) ≡ true
   times_reach zero had es exit path = subst (λ xs. reached e f had (has_behind l had xs) ≡ true) (sym path.0) (reached_same had)
   times_reach (suc n) had es exit j =
       let state = has_behind l had j.first in
@@ -149,13 +149,13 @@ module _ (l : ℕ) (e f : LocalEffect) (P Q : List Event → Exit → Type 0) (p
       ]
 
   -- turns that lead to a state
-  record Turned (had state : Bool) : Type 0 where
-    count : ℕ
-    events : List Event
-    path : times count (After P (to_next Q)) events (Leaves Onward)
-    has_is : has_behind l had events ≡ state
+  pub record Turned (had state : Bool) : Type 0 where
+    pub count : ℕ
+    pub events : List Event
+    pub path : times count (After P (to_next Q)) events (Leaves Onward)
+    pub has_is : has_behind l had events ≡ state
 
-  turned : (had state : Bool) → reached e f had state ≡ true → Turned had state
+  pub turned : (had state : Bool) → reached e f had state ≡ true → Turned had state
   turned had state h =
       elim (or_cases (same had state) ((then_of e (to_next_of f)).ends had Onward state) h) [
         | inl s ↦ record { count = 0; events = []; path = (refl, refl); has_is = same_true had state s }

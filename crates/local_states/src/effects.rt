@@ -3,7 +3,7 @@
 ghost use Rattle.std.specs.Prelude.{◌≡◌, ◌<◌, ◌&&◌, ◌||◌, ℕ, Bool, true, false, not};
 ghost use Rattle.control_paths.specs.Events.{Rule};
 ghost use Rattle.control_paths.specs.Flows.{Way, Onward, Broken, Continued, Returned};
-ghost use Rattle.local_states.specs.LocalEffects.{LocalEffect, at_some, either_of, is_onward, is_undropped, jump_of, out_ends, over, same, scope_of, step_broken, step_of, stepped, then_of, to_next_of, to_out_of, turns_of};
+ghost use Rattle.local_states.specs.LocalEffects.{LocalEffect, at_some, either_of, is_onward, is_undropped, jump_of, out_ends, over, reached, same, scope_of, step_broken, step_of, stepped, then_of, to_next_of, to_out_of, turns_of};
 ghost use Rattle.local_states.specs.Sets.{has};
 ghost use Rattle.local_states.specs.Views.{is_in, may, outcome_of, view, wrong};
 
@@ -73,7 +73,7 @@ impl Step {
 }
 
 /// What code does from these states on.
-fn from_states(start: Ends, code: &Effects) -> Outcome
+pub fn from_states(start: Ends, code: &Effects) -> Outcome
     ensures ends { (i : ℕ) (way : Way) (state : Bool) → may result way state i ≡ at_some (λ s. is_in start s i) (λ s. may (outcome_of code.now s) way state i) }
     ensures broken { (i : ℕ) (rule : Rule) → wrong result rule i ≡ at_some (λ s. is_in start s i) (λ s. wrong (outcome_of code.now s) rule i) }
 {
@@ -223,22 +223,32 @@ impl Effects {
         ensures ends { (i : ℕ) (had : Bool) (way : Way) (state : Bool) → i < 64 → may (outcome_of result had) way state i ≡ (turns_of (view self.now i) (view body.now i)).ends had way state }
         ensures broken { (i : ℕ) (had : Bool) (rule : Rule) → i < 64 → wrong (outcome_of result had) rule i ≡ (turns_of (view self.now i) (view body.now i)).broken rule had }
     {
-        let turn = self.then(&body.to_next());
         let last = self.then(&body.to_out());
-        let all = LocalSet::all();
-        let from_lacking = Ends {
-            lacking: all,
-            having: turn.lacking.onward.having,
-        };
-        let from_having = Ends {
-            lacking: turn.having.onward.lacking,
-            having: all,
-        };
+        let (lacking, having) = turn_starts(self, body);
         Effects {
-            lacking: from_states(from_lacking, &last),
-            having: from_states(from_having, &last),
+            lacking: from_states(lacking, &last),
+            having: from_states(having, &last),
         }
     }
+}
+
+/// The states at the start of a turn of a loop, each turn of which is one piece of code and then a body: of the locals that lack
+/// a value before the loop, and of those that have one.
+pub fn turn_starts(test: &Effects, body: &Effects) -> (Ends, Ends)
+    ensures lacking { (i : ℕ) (state : Bool) → i < 64 → is_in result.0 state i ≡ reached (view test.now i) (view body.now i) false state }
+    ensures having { (i : ℕ) (state : Bool) → i < 64 → is_in result.1 state i ≡ reached (view test.now i) (view body.now i) true state }
+{
+    let turn = test.then(&body.to_next());
+    let all = LocalSet::all();
+    let lacking = Ends {
+        lacking: all,
+        having: turn.lacking.onward.having,
+    };
+    let having = Ends {
+        lacking: turn.having.onward.lacking,
+        having: all,
+    };
+    (lacking, having)
 }
 
 /// Locals that lack a value.

@@ -1,11 +1,11 @@
-//! The states of the locals of a body.
+//! What code does to locals over all control paths, and the rules on locals that a body breaks.
 #![tactic(auto)]
 
-mod effects;
-mod forms;
-mod outcome;
-mod pass;
+pub mod effects;
+pub mod forms;
+pub mod outcome;
+pub mod pass;
 pub mod rules;
-mod sets;
-mod shown;
-mod summary;
+pub mod sets;
+pub mod shown;
+pub mod summary;

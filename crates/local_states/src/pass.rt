@@ -18,7 +18,7 @@ use pv_types::declaration::AbilitySet;
 use std::alloc::Global;
 
 /// What is known of each node of a body.
-fn summaries(
+pub fn summaries(
     alloc: Global,
     base: usize,
     types: &[AbilitySet],
@@ -50,7 +50,7 @@ pub fn below(base: usize, bound: usize) -> LocalSet
 }
 
 /// The parameters, which are the first locals.
-fn parameters_of(base: usize, parameters: usize) -> LocalSet
+pub fn parameters_of(base: usize, parameters: usize) -> LocalSet
     ensures { Means base result (first_numbers parameters) }
 {
     below(base, parameters)
