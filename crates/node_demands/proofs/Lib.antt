@@ -1,2 +1,3 @@
 pub mod And
 pub mod Ways
+pub mod Given

@@ -1,9 +1,13 @@
 //! What each node of a program demands of a typing.
 #![tactic(auto)]
 
+pub mod arguments;
+pub mod call;
 pub mod demand;
 pub mod inner;
 pub mod leaf;
 pub mod setting;
+pub mod signature;
+pub mod structs;
 pub mod way;
 pub mod written;
