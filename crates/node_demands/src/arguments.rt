@@ -16,11 +16,7 @@ use pv_types::table::Table;
 use typings::sort::Sort;
 
 /// So many places, from this one on, stand for types that are no references and no tuples.
-fn add_values<'a>(
-    demands: &mut Vec<Demand<'a>>,
-    first: usize,
-    count: usize,
-) -> Result<(), NoMemory>
+fn add_values<'a>(demands: &mut Vec<Demand<'a>>, first: usize, count: usize) -> Result<(), NoMemory>
     ensures { OnOk result (seen_all demands.new.items ≡ seen_all demands.old.items ++ each_of Value (places_from first count)) }
 {
     let mut at = first;

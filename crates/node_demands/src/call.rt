@@ -20,8 +20,11 @@ use pv_types::operator::{StorageOperation, VectorFunction};
 use pv_types::program::Program;
 
 const BOOL: BuiltinType = BuiltinType::Plain(PlainType::Bool);
+
 const U64: BuiltinType = BuiltinType::Plain(PlainType::Int(Width::U64));
+
 const ADDRESS: BuiltinType = BuiltinType::Plain(PlainType::Address);
+
 const NOTHING: BuiltinType = BuiltinType::Plain(PlainType::Nothing);
 
 /// Each argument fits its parameter, whose type parameters stand from the place `first` on, so many of them.
@@ -92,7 +95,10 @@ fn add_function<'a>(
     let count = found.type_parameters.as_slice().len();
     add_arguments(demands, &program.structs, first, count, types)?;
     add_given(demands, first, count, parts, found.parameters.as_slice())?;
-    add(demands, &[Demand::Has(place, TypeForm::Declared(&found.result, first, count))])
+    add(
+        demands,
+        &[Demand::Has(place, TypeForm::Declared(&found.result, first, count))],
+    )
 }
 
 /// A call of what the language has by itself, with one type parameter.
@@ -107,7 +113,10 @@ fn add_builtin<'a>(
     ensures { OnOk result (seen_all demands.new.items ≡ seen_all demands.old.items ++ (given_demands first 1 parts.now (map builtin_type parameters.now) ++ D.Has place (D.Declared (builtin_type returned) first 1) ∷ [])) }
 {
     add_given_builtin(demands, first, 1, parts, parameters)?;
-    add(demands, &[Demand::Has(place, TypeForm::Builtin(returned, first, 1))])
+    add(
+        demands,
+        &[Demand::Has(place, TypeForm::Builtin(returned, first, 1))],
+    )
 }
 
 /// The parameters and the result of an operation on storage, behind the type argument.
@@ -129,10 +138,24 @@ fn add_storage_parts<'a>(
             add_builtin(demands, place, first, parts, &[ADDRESS], BuiltinType::Item)
         }
         StorageOperation::BorrowGlobal => {
-            add_builtin(demands, place, first, parts, &[ADDRESS], BuiltinType::SharedItem)
+            add_builtin(
+                demands,
+                place,
+                first,
+                parts,
+                &[ADDRESS],
+                BuiltinType::SharedItem,
+            )
         }
         StorageOperation::BorrowGlobalMut => {
-            add_builtin(demands, place, first, parts, &[ADDRESS], BuiltinType::MutableItem)
+            add_builtin(
+                demands,
+                place,
+                first,
+                parts,
+                &[ADDRESS],
+                BuiltinType::MutableItem,
+            )
         }
         StorageOperation::Exists => add_builtin(demands, place, first, parts, &[ADDRESS], BOOL),
     }
@@ -156,20 +179,41 @@ fn add_vector_parts<'a>(
         }
         VectorFunction::Length => add_builtin(demands, place, first, parts, &[shared], U64),
         VectorFunction::Borrow => {
-            add_builtin(demands, place, first, parts, &[shared, U64], BuiltinType::SharedItem)
+            add_builtin(
+                demands,
+                place,
+                first,
+                parts,
+                &[shared, U64],
+                BuiltinType::SharedItem,
+            )
         }
         VectorFunction::PushBack => {
             let given = [mutable, BuiltinType::Item];
             add_builtin(demands, place, first, parts, &given, NOTHING)
         }
         VectorFunction::BorrowMut => {
-            add_builtin(demands, place, first, parts, &[mutable, U64], BuiltinType::MutableItem)
+            add_builtin(
+                demands,
+                place,
+                first,
+                parts,
+                &[mutable, U64],
+                BuiltinType::MutableItem,
+            )
         }
         VectorFunction::PopBack => {
             add_builtin(demands, place, first, parts, &[mutable], BuiltinType::Item)
         }
         VectorFunction::DestroyEmpty => {
-            add_builtin(demands, place, first, parts, &[BuiltinType::Vector], NOTHING)
+            add_builtin(
+                demands,
+                place,
+                first,
+                parts,
+                &[BuiltinType::Vector],
+                NOTHING,
+            )
         }
         VectorFunction::Swap => {
             add_builtin(demands, place, first, parts, &[mutable, U64, U64], NOTHING)
@@ -190,7 +234,10 @@ fn add_address_of<'a>(
 {
     add_arguments(demands, &program.structs, first, 0, types)?;
     add_given_builtin(demands, first, 0, parts, &[BuiltinType::SharedSigner])?;
-    add(demands, &[Demand::Has(place, TypeForm::Builtin(ADDRESS, first, 0))])
+    add(
+        demands,
+        &[Demand::Has(place, TypeForm::Builtin(ADDRESS, first, 0))],
+    )
 }
 
 /// An operation on storage.
@@ -274,5 +321,13 @@ pub fn add_call<'a>(
 ) -> Result<(), NoMemory>
     ensures { OnOk result (seen_all demands.new.items ≡ seen_all demands.old.items ++ call_demands program.now.structs place first (callee_signature program.now call.now.callee) (list_of_types call.now.types) parts.now) }
 {
-    add_listed(demands, program, place, first, &call.callee, &call.types.items, parts)
+    add_listed(
+        demands,
+        program,
+        place,
+        first,
+        &call.callee,
+        &call.types.items,
+        parts,
+    )
 }

@@ -6,6 +6,7 @@ pub mod call;
 pub mod demand;
 pub mod inner;
 pub mod leaf;
+pub mod many;
 pub mod setting;
 pub mod signature;
 pub mod structs;

@@ -34,7 +34,7 @@ use Rattle.typings.specs.declared.sort.Sort.{Sort}
 use Rattle.typings.specs.declared.sort.Sort.TheVariants.{Single, Value, Integer}
 use Rattle.typings.specs.ProperTypes.{is_proper, is_proper_value}
 use Rattle.typings.specs.Demand.{Written, Declared, Applied, Demand, Same, Has, MadeOf, TupleOf, IsOf, Alike, Takes, Returns, FieldOf, TargetOf, Through, Behind, Barred}
-use Rattle.typings.specs.Rules.{field_of}
+use Rattle.typings.specs.Rules.{field_named}
 use Rattle.typings.specs.Settings.{Signature, unit_type, u64_type, callee_signature, CodeSetting, local_place, first_argument, struct_arity}
 use Rattle.typings.specs.Jumps.{has_break, is_in_loop}
 
@@ -211,20 +211,20 @@ field_demand first count p None = Barred
 field_demand first count p (Some of) = Has p (Declared of first count)
 
 -- each part has the type of the field that is named for it
-abbrev pub field_demands : ℕ → Option Struct → List (List ℕ) → List ℕ → List Demand
+abbrev pub field_demands : ℕ → Struct → List (List ℕ) → List ℕ → List Demand
 field_demands first s [] parts = []
 field_demands first s (name ∷ names) [] = Barred ∷ []
-field_demands first s (name ∷ names) (p ∷ parts) = field_demand first (struct_arity s) p (field_of s name) ∷ field_demands first s names parts
+field_demands first s (name ∷ names) (p ∷ parts) = field_demand first (length s.type_parameters) p (field_named s.fields name) ∷ field_demands first s names parts
 
-abbrev pub named_demands : Option Struct → List (List ℕ) → List Demand
-named_demands None names = Barred ∷ []
-named_demands (Some s) names = barred_unless (names_each_once s.fields names)
+abbrev pub named_demands : ℕ → Option Struct → List (List ℕ) → List ℕ → List Demand
+named_demands first None names parts = Barred ∷ []
+named_demands first (Some s) names parts = barred_unless (names_each_once s.fields names) ++ field_demands first s names parts
 
 -- a struct that is made or taken apart
 abbrev pub struct_demands : Structs → ℕ → ℕ → StructId → List TypeData → List (List ℕ) → List ℕ → List Demand
 struct_demands structs n first owner types names parts =
     let s = lookup (same_struct owner) structs in
-    ((argument_demands structs first (struct_arity s) types ++ named_demands s names) ++ field_demands first s names parts)
+    (argument_demands structs first (struct_arity s) types ++ named_demands first s names parts)
     ++ Has n (Applied owner first (struct_arity s)) ∷ []
 
 -- ---- what has a list of parts

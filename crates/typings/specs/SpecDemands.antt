@@ -39,8 +39,8 @@ use Rattle.typings.specs.Instances.{spec_type}
 use Rattle.typings.specs.ProperTypes.{is_proper_single, is_proper_value}
 use Rattle.typings.specs.Demand.{Declared, Applied, Demand, Same, Has, MadeOf, IsOf, FieldOf, Barred}
 use Rattle.typings.specs.Settings.{Signature, signature, item, unit_type, struct_arity, arity_of}
-use Rattle.typings.specs.CodeDemands.{has, barred_unless, each_of, places_from, same_constant, named_demands}
-use Rattle.typings.specs.Rules.{field_of}
+use Rattle.typings.specs.CodeDemands.{has, barred_unless, each_of, names_each_once, places_from, same_constant}
+use Rattle.typings.specs.Rules.{field_named}
 
 abbrev pub SpecNode : Type 0
 SpecNode = Node SpecLeaf SpecUnary SpecBinary SpecMany
@@ -182,10 +182,14 @@ abbrev pub spec_field_demand : ℕ → ℕ → ℕ → Option TypeData → Deman
 spec_field_demand first count p None = Barred
 spec_field_demand first count p (Some of) = Has p (Declared (spec_type of) first count)
 
-abbrev pub spec_field_demands : ℕ → Option Struct → List (List ℕ) → List ℕ → List Demand
+abbrev pub spec_field_demands : ℕ → Struct → List (List ℕ) → List ℕ → List Demand
 spec_field_demands first s [] parts = []
 spec_field_demands first s (name ∷ names) [] = Barred ∷ []
-spec_field_demands first s (name ∷ names) (p ∷ parts) = spec_field_demand first (struct_arity s) p (field_of s name) ∷ spec_field_demands first s names parts
+spec_field_demands first s (name ∷ names) (p ∷ parts) = spec_field_demand first (length s.type_parameters) p (field_named s.fields name) ∷ spec_field_demands first s names parts
+
+abbrev pub spec_named_demands : ℕ → Option Struct → List (List ℕ) → List ℕ → List Demand
+spec_named_demands first None names parts = Barred ∷ []
+spec_named_demands first (Some s) names parts = barred_unless (names_each_once s.fields names) ++ spec_field_demands first s names parts
 
 -- the ranges are the first parts, the body is the last; between them stand the terms of triggers
 abbrev pub domain_ranges : Domain → ℕ
@@ -207,8 +211,8 @@ spec_many_demands s n first (Call c) parts =
     ++ spec_signature_demands s.program.structs n first (spec_callee_signature s.program c.callee) (list_of_types c.types) parts
 spec_many_demands s n first (Pack fields) parts =
     let d = lookup (same_struct fields.owner) s.program.structs in
-    ((spec_argument_demands s.program.structs first (struct_arity d) (list_of_types fields.types) ++ named_demands d fields.fields)
-    ++ spec_field_demands first d fields.fields parts) ++ Has n (Applied fields.owner first (struct_arity d)) ∷ []
+    (spec_argument_demands s.program.structs first (struct_arity d) (list_of_types fields.types) ++ spec_named_demands first d fields.fields parts)
+    ++ Has n (Applied fields.owner first (struct_arity d)) ∷ []
 spec_many_demands s n first (Quantified quantifier binds triggers) parts = has n BoolType ∷ quantified_parts (range_count binds) parts
 
 -- ---- nodes
