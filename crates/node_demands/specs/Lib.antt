@@ -1,3 +1,4 @@
 pub mod Seen
 pub mod Settings
 pub mod Ways
+pub mod Told

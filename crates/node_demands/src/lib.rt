@@ -2,11 +2,13 @@
 #![tactic(auto)]
 
 pub mod arguments;
+pub mod breaks;
 pub mod call;
 pub mod demand;
 pub mod inner;
 pub mod leaf;
 pub mod many;
+pub mod node;
 pub mod setting;
 pub mod signature;
 pub mod structs;
