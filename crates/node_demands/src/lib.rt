@@ -7,6 +7,7 @@ pub mod call;
 pub mod demand;
 pub mod inner;
 pub mod leaf;
+pub mod loops;
 pub mod many;
 pub mod node;
 pub mod setting;

@@ -1,6 +1,6 @@
 -- Which loops `break` and `continue` belong to: each to the innermost loop in whose body it stands. The condition of a `while`
 -- belongs to the loop outside. Source: The Move Book, "While, For, and Loop".
-use Rattle.std.specs.Prelude.{ℕ, ◌+◌, Bool, true, false, ◌&&◌, ◌||◌, ltb, List, length}
+use Rattle.std.specs.Prelude.{ℕ, ◌+◌, Bool, true, false, ◌&&◌, ◌||◌, ltb, List, length, Option, Some, None}
 use Rattle.std.specs.List.{list_any}
 use Rattle.pv_types.specs.Trees.{Tree, LeafTree, UnaryTree, BinaryTree, IfTree, ManyTree, BadTree, Trees, NoTrees, MoreTrees, at, trees}
 use Rattle.pv_types.specs.Listed.{subtrees}
@@ -39,12 +39,16 @@ abbrev mutual
 abbrev pub stands_in : List CodeNode → ℕ → ℕ → Bool
 stands_in nodes b n = ltb n (b + 1) && ltb b (n + length (subtrees (at (trees nodes) b)))
 
--- the node is a loop, in whose body the node with the number n stands
-abbrev pub loops_over : List CodeNode → ℕ → CodeNode → Bool
-loops_over nodes n (Unary Loop body) = stands_in nodes body n
-loops_over nodes n (Binary While condition body) = stands_in nodes body n
-loops_over nodes n _ = false
+-- the body of a loop, where the node is one
+abbrev pub loop_body : CodeNode → Option ℕ
+loop_body (Unary Loop body) = Some body
+loop_body (Binary While condition body) = Some body
+loop_body _ = None
+
+abbrev pub stands_in_body : List CodeNode → ℕ → Option ℕ → Bool
+stands_in_body nodes n None = false
+stands_in_body nodes n (Some body) = stands_in nodes body n
 
 -- the node with this number stands in the body of a loop
 abbrev pub is_in_loop : List CodeNode → ℕ → Bool
-is_in_loop nodes n = list_any (loops_over nodes n) nodes
+is_in_loop nodes n = list_any (λ node. stands_in_body nodes n (loop_body node)) nodes
