@@ -1,3 +1,4 @@
 pub mod And
 pub mod Ways
 pub mod Given
+pub mod Covered

@@ -2,6 +2,8 @@
 #![tactic(auto)]
 
 pub mod arguments;
+pub mod arity;
+pub mod body;
 pub mod breaks;
 pub mod call;
 pub mod demand;

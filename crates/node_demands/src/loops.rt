@@ -3,7 +3,8 @@
 ghost use Rattle.std.specs.Prelude.{◌≡◌, ◌<◌, ◌≤◌, ◌+◌, ◌&&◌, ◌||◌, ℕ, List, All, false, ltb, map, length, IfOk, IfSome, slice_index_or};
 ghost use Rattle.pv_types.specs.Listed.{inner_all, subtrees};
 ghost use Rattle.pv_types.specs.Trees.{IsBelow, at, tree_of, trees, trees_of};
-ghost use Rattle.typings.specs.Jumps.{CodeTree, is_in_loop, loop_body};
+ghost use Rattle.typings.specs.Jumps.{CodeTree, loop_body, stands_in_body};
+ghost use Rattle.visibility.specs.Visible.{CodeNode};
 ghost use Rattle.node_demands.specs.Told.{TellsLoops, TellsSizes};
 
 use pv_base::memory::NoMemory;
@@ -83,12 +84,44 @@ fn body_of(
 
 /// The nodes of a body of so many nodes, the last of which is its own.
 
-fn mark(told: &mut [bool], body: usize, size: usize)
-    requires { body < length told.old }
-    ensures { (n : ℕ) → n < length told.old → slice_index_or told.new n false ≡ (slice_index_or told.old n false || (ltb n (body + 1) && ltb body (n + size))) }
+fn mark(told: &mut Vec<bool>, body: usize, size: usize)
+    requires { body < length told.old.items }
+    ensures len { length told.new.items ≡ length told.old.items }
+    ensures marked { (n : ℕ) → n < length told.old.items → slice_index_or told.new.items n false ≡ (slice_index_or told.old.items n false || (ltb n (body + 1) && ltb body (n + size))) }
 {
     let first = (body + 1).saturating_sub(size);
     for place in first..body + 1 {
         told[place] = true;
     }
+}
+
+/// The body of a node, where it is a loop.
+fn mark_node(
+    told: &mut Vec<bool>,
+    sizes: &[usize],
+    node: &Node<CodeLeaf, CodeUnary, CodeBinary, CodeMany>,
+    place: usize,
+)
+    requires below { IsBelow place node.now }
+    requires within { place < length told.old.items }
+    requires sizes { length sizes.now ≡ length told.old.items }
+    ensures len { length told.new.items ≡ length told.old.items }
+    ensures marked { (nodes : List CodeNode) → TellsSizes sizes.now (trees nodes) → (n : ℕ) → n < length told.old.items → slice_index_or told.new.items n false ≡ (slice_index_or told.old.items n false || stands_in_body nodes n (loop_body node.now)) }
+{
+    if let Some(body) = body_of(node, place) {
+        mark(told, body, sizes[body]);
+    }
+}
+
+/// For each node whether it stands in the body of a loop.
+pub fn loops_of(alloc: Global, body: &Body) -> Result<Vec<bool>, NoMemory>
+    ensures len { IfOk result (λ told. length told.items ≡ length body.now.nodes) }
+    ensures told { IfOk result (λ told. TellsLoops told.items body.now.nodes body.now.nodes) }
+{
+    let sizes = sizes_of(alloc, body)?;
+    let mut told = vec![in alloc; false; body.len()]?;
+    for place in 0..body.len() {
+        mark_node(&mut told, sizes.as_slice(), body.node(place), place);
+    }
+    Ok(told)
 }
