@@ -1,7 +1,6 @@
 -- Arguments, and parts that stand for fields, of which there are too many or too few.
-use Rattle.std.proofs.Common.{◌≡◌, ℕ, suc, ◌<◌, List, [], ◌∷◌, ◌++◌, length, get_or, drop, refl, sym, ◌∙◌, ap, drop-cons, arith}
-use Rattle.pv_base.specs.TypeData.{TypeData}
-use Rattle.typings.specs.Demand.{Demand, Barred}
+use Rattle.std.proofs.Common.{◌≡◌, ℕ, ◌<◌, List, [], ◌∷◌, length, drop, refl, ap, drop-cons, arith}
+use Rattle.typings.specs.Demand.{Barred}
 use Rattle.typings.specs.CodeDemands.{given_demands}
 
 -- an argument, and no parameter left for it

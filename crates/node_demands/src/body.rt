@@ -38,10 +38,7 @@ pub fn tables_of(alloc: Global, body: &Body) -> Result<LoopTables, NoMemory>
 }
 
 /// Whether a `break` belongs to the node, where it is a `loop`.
-fn is_broken(
-    breaks: &[bool],
-    node: &Node<CodeLeaf, CodeUnary, CodeBinary, CodeMany>,
-) -> bool
+fn is_broken(breaks: &[bool], node: &Node<CodeLeaf, CodeUnary, CodeBinary, CodeMany>) -> bool
     requires { IsBelow (length breaks.now) node.now }
     ensures { (s : S.CodeSetting) → TellsBreaks breaks.now (trees s.nodes) → result ≡ is_broken s node.now }
 {

@@ -16,4 +16,5 @@ pub mod setting;
 pub mod signature;
 pub mod structs;
 pub mod way;
+pub mod whole;
 pub mod written;

@@ -67,10 +67,7 @@ fn sizes_of(alloc: Global, body: &Body) -> Result<Vec<usize>, NoMemory>
 }
 
 /// The body of a loop, where the node with the number `place` is one.
-fn body_of(
-    node: &Node<CodeLeaf, CodeUnary, CodeBinary, CodeMany>,
-    place: usize,
-) -> Option<usize>
+fn body_of(node: &Node<CodeLeaf, CodeUnary, CodeBinary, CodeMany>, place: usize) -> Option<usize>
     requires { IsBelow place node.now }
     ensures body { result ≡ loop_body node.now }
     ensures below { IfSome result (λ body. body < place) }

@@ -31,15 +31,20 @@ pub fn add_node<'a>(
 {
     match node {
         Node::Leaf(leaf) => add_leaf(demands, setting, place, jumps.in_loop, leaf),
-        Node::Unary(form, part) => {
-            add_unary(demands, setting, place, jumps.breaks, form, *part)
-        }
+        Node::Unary(form, part) => { add_unary(demands, setting, place, jumps.breaks, form, *part) }
         Node::Binary(form, left, right) => {
             add_binary(demands, setting, place, form, *left, *right)
         }
         Node::If(condition, left, right) => {
             let truth = Demand::Has(*condition, TypeForm::Plain(PlainType::Bool));
-            add(demands, &[truth, Demand::Same(*left, place), Demand::Same(*right, place)])
+            add(
+                demands,
+                &[
+                    truth,
+                    Demand::Same(*left, place),
+                    Demand::Same(*right, place),
+                ],
+            )
         }
         Node::Many(form, parts) => {
             add_many(demands, setting, place, first, form, parts.as_slice())
