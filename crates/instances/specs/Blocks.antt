@@ -44,7 +44,7 @@ abbrev mutual
 
 -- how many unused numbers are looked for
 abbrev pub block_length : ℕ
-block_length = 4096
+block_length = 2048
 
 -- none of these numbers stands in the formula or the term
 pub record AreUnused (low high : ℕ) (p : FormulaData) (t : TermData) : Type 0 where

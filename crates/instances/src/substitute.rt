@@ -15,8 +15,8 @@ use substitution::binders::Binders;
 /// the formula is true with the term's value for the variable: `truth`. A bound variable keeps its
 /// number, unless it is free in the term; then it gets one that stands in neither.
 ///
-/// `NoMemory` comes also where the formula is deeper than 4,096, which the stack might not hold, and
-/// where more than a million variables leave no numbers free.
+/// `NoMemory` comes also where the formula is deeper than 2,048, which the stack might not hold, and
+/// where more than two million variables leave no numbers free.
 #[tactic(auto, using(crate::proofs::ReplacedInstance::replaced_instance, crate::proofs::ReplacedInstance::replaced_truth))]
 pub fn substitute(
     alloc: Global,

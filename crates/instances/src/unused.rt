@@ -7,14 +7,14 @@ ghost use Rattle.instances.specs.Blocks.{block_length, is_outside, term_clear, t
 use fol::formula::{Formula, FormulaNode, Term, TermNode, Trigger};
 
 /// How many numbers are looked for, one after another.
-pub const BLOCK_LENGTH: u32 = 4_096;
+pub const BLOCK_LENGTH: u32 = 2_048;
 
 /// The blocks that numbers of 32 bits have.
-const BLOCKS: u32 = 1_048_576;
+const BLOCKS: u32 = 2_097_152;
 
 /// The first number of a block of which none stands in the formula or the term. It is the first such
 /// number of the form 2^n, where there is one, so that numbers stay small. None where each block has a
-/// number that stands there; then there are at least a million of these.
+/// number that stands there; then there are at least two million of these.
 pub fn unused_from(formula: &Formula, term: &Term) -> Option<u32>
     ensures { IfSome result (λ low. AreUnused low (low + block_length) formula.now term.now) }
 {
