@@ -1,8 +1,10 @@
 -- Certificates as trees of steps, each followed by what goes on with the branches that it leaves, and the text of moves
 -- that a tree stands for.
-use Rattle.std.specs.Prelude.{ℕ, ℤ, pos, ◌+ℤ◌, List, [], ◌∷◌, ◌++◌}
+use Rattle.std.specs.Prelude.{◌≡◌, ℕ, ℤ, pos, ◌+ℤ◌, List, [], ◌∷◌, ◌++◌}
 use Rattle.axioms.specs.declared.axiom.Axiom.{Axiom}
 use Rattle.fol.specs.FormulaData.{TermData, NumTerm, FormulaData, NotFormula, LeFormula}
+use Rattle.fol.specs.declared.shapes.Shape.{Shape}
+use Rattle.cert.specs.Closes.{Certifies}
 use Rattle.cert.specs.CertData.{PartsStep, AxiomStep, InstanceStep, NameStep, RewriteStep, LinearClose, ClashClose, FalseClose, MoveData, StraightMove, ForkedMove, ClosedMove}
 use Rattle.cert.specs.declared.certificate.Cause.TheVariants.{Split, Cut, Bound}
 use Rattle.cert.specs.declared.certificate.Multiple.{Multiple}
@@ -49,3 +51,8 @@ abbrev mutual
   pub moves_of_cases : CasesData → List MoveData
   moves_of_cases NoCases = []
   moves_of_cases (MoreCases p next cs) = moves_of next ++ moves_of_cases cs
+
+-- each certificate that is accepted is the text of a tree
+abbrev pub AcceptedAreTrees : Type 0
+AcceptedAreTrees =
+    (shapes : List Shape) (moves : List MoveData) (p : FormulaData) → Certifies shapes moves p → (tree : TreeData) × (moves_of tree ≡ moves)

@@ -2,5 +2,6 @@
 #![tactic(auto)]
 
 pub mod cert_len;
+pub mod laws;
 mod lengths;
 mod moves;
