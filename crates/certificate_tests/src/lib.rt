@@ -1,4 +1,4 @@
-//! Tests of substitution, of the lengths of certificates, and of long certificates.
+//! Tests of substitution, of steps of certificates, of their lengths, and of long ones.
 #![tactic(auto)]
 
 #[cfg(test)]
@@ -7,3 +7,5 @@ mod length_tests;
 mod long_tests;
 #[cfg(test)]
 mod substitute_tests;
+#[cfg(test)]
+mod whole_tests;

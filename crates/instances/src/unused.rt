@@ -13,8 +13,8 @@ pub const BLOCK_LENGTH: u32 = 2_048;
 const BLOCKS: u32 = 2_097_152;
 
 /// The first number of a block of which none stands in the formula or the term. It is the first such
-/// number of the form 2^n, where there is one, so that numbers stay small. None where each block has a
-/// number that stands there; then there are at least two million of these.
+/// power of two from 2,048 on, where there is one, so that numbers stay small. None where each block has
+/// a number that stands there; then there are at least two million of these.
 pub fn unused_from(formula: &Formula, term: &Term) -> Option<u32>
     ensures { IfSome result (λ low. AreUnused low (low + block_length) formula.now term.now) }
 {
