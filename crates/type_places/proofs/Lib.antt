@@ -1,3 +1,10 @@
 pub mod Becoming
 pub mod Asking
 pub mod Joining
+pub mod Refill
+pub mod Growing
+pub mod Adding
+pub mod Instancing
+pub mod Heading
+pub mod Results
+pub mod WritingBack

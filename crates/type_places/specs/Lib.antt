@@ -1,3 +1,9 @@
 pub mod Sorts
 pub mod Slots
 pub mod Asks
+pub mod Ranks
+pub mod Grown
+pub mod Agree
+pub mod Instances
+pub mod Terms
+pub mod Heads
