@@ -3,7 +3,7 @@
 use Rattle.std.specs.Prelude.{◌≡◌, ℕ, ◌+◌, Bool, true, false, List, [], ◌∷◌, ◌++◌, length, map, Option, Some, None, slice_get, sum_by, if◌then◌else◌}
 use Rattle.std.specs.Map.{lookup}
 use Rattle.std.specs.List.{flat_map}
-use Rattle.pv_base.specs.TypeData.{TypeData, TypesData, BoolType, NumType, TupleType, list_of_types}
+use Rattle.pv_base.specs.TypeData.{TypeData, TypesData, NoTypes, BoolType, NumType, TupleType, list_of_types}
 use Rattle.pv_types.specs.declared.arena.Node.TheVariants.{Many}
 use Rattle.pv_types.specs.declared.clause.Clause.{Clause}
 use Rattle.pv_types.specs.declared.clause.ClauseForm.{ClauseForm}
@@ -25,7 +25,7 @@ use Rattle.pv_types.specs.declared.program.Program.{Program}
 use Rattle.declaration_places.specs.Same.{same_schema}
 use Rattle.typings.specs.Instances.{instance, argument_in, spec_type}
 use Rattle.typings.specs.declared.sort.Sort.TheVariants.{Value}
-use Rattle.typings.specs.Demand.{TypeForm, Written, Declared, Applied, Demand, Has, IsOf, Takes, Returns, Barred}
+use Rattle.typings.specs.Demand.{Demand, IsOf, Barred}
 use Rattle.typings.specs.CodeDemands.{has, barred_unless}
 use Rattle.typings.specs.CodeSystems.{last_by}
 use Rattle.typings.specs.SpecDemands.{SpecNode, SpecSetting, binds_in, declared_variables, spec_argument_demands, spec_demands_from, spec_given_demands, spec_place_count}
@@ -142,25 +142,13 @@ whole_demands s block first (Modifies roots) = barred_unless (is_function_block 
 whole_demands s block first (Let is_post value) = IsOf Value value ∷ []
 whole_demands s block first (Include schema types given) =
     let d = lookup (same_schema schema) s.program.schemas in
-    spec_argument_demands s.program.structs first (schema_arity d) (list_of_types types) ++ given_to first d given
+    spec_argument_demands s first (schema_arity d) (list_of_types types) ++ given_to first d given
 
 abbrev pub form_arguments : Program → ClauseForm → ℕ
 form_arguments program (Include schema types given) = schema_arity (lookup (same_schema schema) program.schemas)
 form_arguments program _ = 0
 
 -- ---- systems
-
--- a type parameter of a schema stands for what it is given
-abbrev pub form_at : TypesData → TypeForm → TypeForm
-form_at types (Written of) = Written (instance (argument_in types) of)
-form_at types (Declared of first count) = Declared of first count
-form_at types (Applied s first count) = Applied s first count
-
-abbrev pub demand_at : TypesData → Demand → Demand
-demand_at types (Has p form) = Has p (form_at types form)
-demand_at types (Takes e form) = Takes e (form_at types form)
-demand_at types (Returns e form) = Returns e (form_at types form)
-demand_at types d = d
 
 abbrev pub spec_system : SpecSetting → ℕ → List Demand → System
 spec_system s more whole = record {
@@ -171,33 +159,21 @@ spec_system s more whole = record {
   open_integer = NumType;
 }
 
-abbrev pub system_at : TypesData → System → System
-system_at types s = record {
-  reading = s.reading;
-  steps = map (map (demand_at types)) s.steps;
-  places = s.places;
-  dropped = s.dropped;
-  open_integer = s.open_integer;
-}
-
-abbrev pub clause_setting : Program → Names → Block → Clause → SpecSetting
-clause_setting program names block c = record {
+abbrev pub clause_setting : Program → Names → Block → TypesData → Clause → SpecSetting
+clause_setting program names block types c = record {
   program = program;
   nodes = c.body.nodes;
   named = named_by names (allowed_by block c.form);
   may_be_old = (allowed_by block c.form).old;
   variables = sum_by (λ node. length (binds_in node)) c.body.nodes;
+  types = types;
 }
 
--- a clause in a block where these names are
-abbrev pub clause_system : Program → Names → Block → Clause → System
-clause_system program names block c =
-    let s = clause_setting program names block c in
+-- a clause in a block where these names are, and where type parameters stand for these types, if it is of a schema
+abbrev pub clause_system : Program → Names → Block → TypesData → Clause → System
+clause_system program names block types c =
+    let s = clause_setting program names block types c in
     spec_system s (form_arguments program c.form) (whole_demands s block (spec_place_count s) c.form)
-
--- a clause of a schema, which is included with these types
-abbrev pub clause_system_at : Program → Names → Block → TypesData → Clause → System
-clause_system_at program names block types c = system_at types (clause_system program names block c)
 
 -- ---- names of owners
 
@@ -237,6 +213,7 @@ spec_function_system program f =
       named = named_by (record { parameters = spec_types_of f.parameters; locals = []; results = []; fields = []; variables = []; lets = no_lets }) entry_alone;
       may_be_old = false;
       variables = sum_by (λ node. length (binds_in node)) f.body.nodes;
+      types = NoTypes;
     } in
     spec_system s 0 (last_by (λ n. has n (spec_type f.result)) s.nodes 0 ∷ [])
 

@@ -27,7 +27,7 @@ use Rattle.typings.specs.Settings.{local_place}
 use Rattle.typings.specs.Answers.{System, HasType, IsDefaulted, IsUntypable, IsAmbiguous}
 use Rattle.typings.specs.CodeSystems.{function_setting, function_system, constant_system}
 use Rattle.typings.specs.SpecDemands.{spec_place_count}
-use Rattle.typings.specs.Clauses.{Block, FunctionBlock, StructBlock, ModuleBlock, LoopBlock, Names, IsLet, clause_setting, clause_system, clause_system_at, function_names, struct_names, module_names, loop_names, schema_arity, schema_names, spec_function_system}
+use Rattle.typings.specs.Clauses.{Block, FunctionBlock, StructBlock, ModuleBlock, LoopBlock, Names, IsLet, clause_setting, clause_system, function_names, struct_names, module_names, loop_names, schema_arity, schema_names, spec_function_system}
 use Rattle.typings.specs.Fitting.{Misfits}
 use Rattle.typings.specs.ConstantRuns.{run_of}
 use Rattle.typings.specs.Calls.{IsWrapping}
@@ -48,12 +48,12 @@ pub record Standing : Type 0 where
   pub place : Span
 
 abbrev pub standing_system : Program → Standing → System
-standing_system program c = clause_system_at program c.names c.block c.types c.clause
+standing_system program c = clause_system program c.names c.block c.types c.clause
 
 -- a clause with the number k of an owner
 pub record IsOwned (program : Program) (block : Block) (names : (ℕ → Option (Bool × TypeData)) → Names) (clauses : List Clause) (c : Standing) : Type 0 where
   pub lets : ℕ → Option (Bool × TypeData)
-  pub are_lets : IsLet (clause_system program (names lets) block) clauses lets
+  pub are_lets : IsLet (clause_system program (names lets) block NoTypes) clauses lets
   pub names_are : c.names ≡ names lets
   pub block_is : c.block ≡ block
   pub types_are : c.types ≡ NoTypes
@@ -81,9 +81,9 @@ pub record IsIncluded (program : Program) (from c : Standing) : Type 0 where
   pub lookup_is : lookup (same_schema schema) program.schemas ≡ Some declared
   pub same_length : schema_arity (Some declared) ≡ length (list_of_types c.types)
   pub arguments : (i : ℕ) (of : TypeData) → slice_get (list_of_types c.types) i ≡ Some of
-      → HasType (standing_system program from) (spec_place_count (clause_setting program from.names from.block from.clause) + i) of
+      → HasType (standing_system program from) (spec_place_count (clause_setting program from.names from.block from.types from.clause) + i) of
   pub lets : ℕ → Option (Bool × TypeData)
-  pub are_lets : IsLet (clause_system_at program (schema_names declared c.types lets) from.block c.types) declared.clauses lets
+  pub are_lets : IsLet (clause_system program (schema_names declared c.types lets) from.block c.types) declared.clauses lets
   pub names_are : c.names ≡ schema_names declared c.types lets
   pub block_is : c.block ≡ from.block
   pub one : Contains declared.clauses c.clause

@@ -4,7 +4,7 @@ use Rattle.std.specs.Prelude.{ℕ, zero, suc, ◌+◌, ◌==◌, Bool, List, [],
 use Rattle.std.specs.Map.{lookup}
 use Rattle.std.specs.Option.{option_map}
 use Rattle.std.specs.List.{flat_map}
-use Rattle.pv_base.specs.TypeData.{TypeData, BoolType, NumType, AddressType, SignerType, VectorType, list_of_types}
+use Rattle.pv_base.specs.TypeData.{TypeData, TypesData, BoolType, NumType, AddressType, SignerType, VectorType, list_of_types}
 use Rattle.pv_types.specs.declared.arena.Node.{Node}
 use Rattle.pv_types.specs.declared.arena.Node.TheVariants.{Leaf, Unary, Binary, If, Many}
 use Rattle.pv_types.specs.declared.operator.BinaryOperator.{BinaryOperator}
@@ -32,10 +32,9 @@ use Rattle.pv_types.specs.declared.declaration.SpecFunction.{SpecFunction}
 use Rattle.pv_types.specs.declared.declaration.Struct.{Struct}
 use Rattle.pv_types.specs.declared.program.Program.{Program}
 use Rattle.declaration_places.specs.Same.{same_function, same_struct}
-use Rattle.abilities.specs.Types.{Structs}
 use Rattle.typings.specs.declared.sort.Wrap.TheVariants.{Vector as vector_of}
 use Rattle.typings.specs.declared.sort.Sort.TheVariants.{Value}
-use Rattle.typings.specs.Instances.{spec_type}
+use Rattle.typings.specs.Instances.{argument_in, instance, spec_type}
 use Rattle.typings.specs.ProperTypes.{is_proper_single, is_proper_value}
 use Rattle.typings.specs.Demand.{Declared, Applied, Demand, Same, Has, MadeOf, IsOf, FieldOf, Barred}
 use Rattle.typings.specs.Settings.{Signature, signature, item, unit_type, struct_arity, arity_of}
@@ -46,13 +45,19 @@ abbrev pub SpecNode : Type 0
 SpecNode = Node SpecLeaf SpecUnary SpecBinary SpecMany
 
 -- Where a spec expression stands: what the names around it have for types, as specifications read them, where they may stand
--- there; whether `old` may; and how many variables its quantifiers have.
+-- there; whether `old` may; how many variables its quantifiers have; and what type parameters stand for, where it is of a schema
+-- that is included.
 pub record SpecSetting : Type 0 where
   pub program : Program
   pub nodes : List SpecNode
   pub named : SpecName → Option TypeData
   pub may_be_old : Bool
   pub variables : ℕ
+  pub types : TypesData
+
+-- a type that is written, as it is read there
+abbrev pub read_there : TypesData → TypeData → TypeData
+read_there types t = instance (argument_in types) (spec_type t)
 
 -- ---- signatures
 
@@ -93,15 +98,15 @@ spec_place_count s = (length s.nodes + s.variables) + sum_by (spec_node_arity s.
 
 -- ---- type arguments that are written, as specifications read them
 
-abbrev pub has_spec_arguments : Structs → ℕ → List TypeData → List Demand
-has_spec_arguments structs first [] = []
-has_spec_arguments structs first (t ∷ ts) =
-    (if is_proper_value structs t then has first (spec_type t) ∷ [] else Barred ∷ []) ++ has_spec_arguments structs (first + 1) ts
+abbrev pub has_spec_arguments : SpecSetting → ℕ → List TypeData → List Demand
+has_spec_arguments s first [] = []
+has_spec_arguments s first (t ∷ ts) =
+    (if is_proper_value s.program.structs t then has first (read_there s.types t) ∷ [] else Barred ∷ []) ++ has_spec_arguments s (first + 1) ts
 
-abbrev pub spec_argument_demands : Structs → ℕ → ℕ → List TypeData → List Demand
-spec_argument_demands structs first arity types =
+abbrev pub spec_argument_demands : SpecSetting → ℕ → ℕ → List TypeData → List Demand
+spec_argument_demands s first arity types =
     each_of Value (places_from first arity)
-    ++ (if (length types == 0) then [] else (if (length types == arity) then has_spec_arguments structs first types else Barred ∷ []))
+    ++ (if (length types == 0) then [] else (if (length types == arity) then has_spec_arguments s first types else Barred ∷ []))
 
 -- ---- what has no parts
 
@@ -168,10 +173,10 @@ spec_given_demands first count [] (p ∷ ps) = Barred ∷ []
 spec_given_demands first count (a ∷ more) [] = Barred ∷ []
 spec_given_demands first count (a ∷ more) (p ∷ ps) = Has a (Declared p first count) ∷ spec_given_demands first count more ps
 
-abbrev pub spec_signature_demands : Structs → ℕ → ℕ → Option Signature → List TypeData → List ℕ → List Demand
-spec_signature_demands structs n first None types parts = Barred ∷ []
-spec_signature_demands structs n first (Some s) types parts =
-    (spec_argument_demands structs first s.arity types ++ spec_given_demands first s.arity parts s.parameters) ++ Has n (Declared s.result first s.arity) ∷ []
+abbrev pub spec_signature_demands : SpecSetting → ℕ → ℕ → Option Signature → List TypeData → List ℕ → List Demand
+spec_signature_demands s n first None types parts = Barred ∷ []
+spec_signature_demands s n first (Some g) types parts =
+    (spec_argument_demands s first g.arity types ++ spec_given_demands first g.arity parts g.parameters) ++ Has n (Declared g.result first g.arity) ∷ []
 
 -- `old` stands in what speaks of two states alone
 abbrev pub callee_demands : Bool → SpecCallee → List Demand
@@ -208,10 +213,10 @@ quantified_parts (suc ranges) (range ∷ more ∷ rest) = has range unit_type �
 abbrev pub spec_many_demands : SpecSetting → ℕ → ℕ → SpecMany → List ℕ → List Demand
 spec_many_demands s n first (Call c) parts =
     callee_demands s.may_be_old c.callee
-    ++ spec_signature_demands s.program.structs n first (spec_callee_signature s.program c.callee) (list_of_types c.types) parts
+    ++ spec_signature_demands s n first (spec_callee_signature s.program c.callee) (list_of_types c.types) parts
 spec_many_demands s n first (Pack fields) parts =
     let d = lookup (same_struct fields.owner) s.program.structs in
-    (spec_argument_demands s.program.structs first (struct_arity d) (list_of_types fields.types) ++ spec_named_demands first d fields.fields parts)
+    (spec_argument_demands s first (struct_arity d) (list_of_types fields.types) ++ spec_named_demands first d fields.fields parts)
     ++ Has n (Applied fields.owner first (struct_arity d)) ∷ []
 spec_many_demands s n first (Quantified quantifier binds triggers) parts = has n BoolType ∷ quantified_parts (range_count binds) parts
 
@@ -233,7 +238,7 @@ spec_demands_from s n (node ∷ rest) = spec_demands_at s n (spec_first_argument
 -- a variable ranges over the values of its type; one behind `in` over whole numbers
 abbrev pub variable_demands : SpecSetting → ℕ → Domain → List Demand
 variable_demands s v (Of t) =
-    if is_proper_single s.program.structs t then has (variable_place s v) (spec_type t) ∷ [] else Barred ∷ []
+    if is_proper_single s.program.structs t then has (variable_place s v) (read_there s.types t) ∷ [] else Barred ∷ []
 variable_demands s v In = has (variable_place s v) NumType ∷ []
 
 abbrev pub bind_demands : SpecSetting → Bind → List Demand
