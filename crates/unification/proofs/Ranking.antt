@@ -1,0 +1,160 @@
+-- Ranks that are given, and what is left without.
+use Rattle.std.proofs.Common.{◌≡◌, ◌≢◌, ℕ, zero, suc, ◌+◌, ◌<◌, ◌≤◌, Bool, true, false, List, [], ◌∷◌, length, take, drop, replicate, ◌++◌, refl, sym, ap, subst, ◌∙◌, inl, inr, arith, get_or-set_other, get_or-set_same}
+use Rattle.std.proofs.lemmas.Bool.Decides.{eqb_tells}
+use Rattle.std.proofs.lemmas.List.Sums.{sum_by-set}
+use Rattle.std.proofs.lemmas.List.{append-nil}
+use Rattle.std.proofs.Math.Seq.{take-length, drop-length}
+use Rattle.std.proofs.Math.ListN.{set, length-set}
+use Rattle.std.specs.Prelude.{◌||◌}
+use Rattle.type_places.specs.Slots.{Typing, Meets, Fits, SlotFits, slot_at}
+use Rattle.type_places.specs.Ranks.{EachIn, EachLed, Lower, IsRank, rank_by}
+use Rattle.type_places.specs.declared.slots.Term.{Term}
+use Rattle.type_places.specs.declared.slots.Term.TheVariants.{Place, Closed, Made, Grouped}
+use Rattle.type_places.specs.declared.slots.Slot.{Slot}
+use Rattle.type_places.specs.declared.slots.Slot.TheVariants.{Open, Bound}
+use Rattle.type_places.proofs.Refill.{ranked}
+use Rattle.unification.specs.Ranked.{rank_at, HasLower, IsRanked, SomeIn, SomeLed, IsStuck, left, unranked, Settles, Passes}
+
+zeros : (n p : ℕ) → rank_at (replicate n zero) p ≡ zero
+zeros zero p = refl
+zeros (suc n) zero = refl
+zeros (suc n) (suc p) = zeros n p
+
+pub none_ranked : (slots : List Slot) (ranks : List ℕ) (n : ℕ) → ranks ≡ replicate n zero → length ranks ≡ length slots → IsRanked slots ranks 0
+none_ranked slots ranks n e len =
+    let zero_at : (p : ℕ) → rank_at ranks p ≡ 0 = λ p. ap (λ (r : List ℕ). rank_at r p) e ∙ zeros n p in
+    record {
+      same_length = len;
+      each = λ p lt h. absurd (let z = zero_at p in omega (arith, z, h));
+      most = λ p lt. let z = zero_at p in omega (arith, z);
+    }
+
+each_in : (P Q : ℕ → Type 0) (x : Term) → ((q : ℕ) → P q → Q q) → EachIn P x → EachIn Q x
+each_in P Q (Place q) f h = f q h
+each_in P Q (Closed of) f h = tt
+each_in P Q (Made w q) f h = f q h
+each_in P Q (Grouped g first count) f h = λ q a b. f q (h q a b)
+
+pub each_led : (P Q : ℕ → Type 0) (s : Slot) → ((q : ℕ) → P q → Q q) → EachLed P s → EachLed Q s
+each_led P Q (Open s) f h = tt
+each_led P Q (Bound x) f h = each_in P Q x f h
+
+-- both hold of the places of a slot
+both_in : (P Q : ℕ → Type 0) (x : Term) → EachIn P x → EachIn Q x → EachIn (λ q. P q × Q q) x
+both_in P Q (Place q) h g = (h, g)
+both_in P Q (Closed of) h g = tt
+both_in P Q (Made w q) h g = (h, g)
+both_in P Q (Grouped c first count) h g = λ q a b. (h q a b, g q a b)
+
+both_led : (P Q : ℕ → Type 0) (s : Slot) → EachLed P s → EachLed Q s → EachLed (λ q. P q × Q q) s
+both_led P Q (Open s) h g = tt
+both_led P Q (Bound x) h g = both_in P Q x h g
+
+-- the places of a slot that fits are there
+fits_in : (n p : ℕ) (s : Slot) → p < n → SlotFits n p s → EachLed (λ q. q < n) s
+fits_in n p (Open s) lt h = tt
+fits_in n p (Bound (Place q)) lt h = omega (arith, lt, h)
+fits_in n p (Bound (Closed of)) lt h = tt
+fits_in n p (Bound (Made w q)) lt h = h
+fits_in n p (Bound (Grouped g first k)) lt h = λ q a b. omega (arith, b, h)
+
+other : (ranks : List ℕ) (i p r : ℕ) → p ≢ i → rank_at (set ranks i r) p ≡ rank_at ranks p
+other ranks i p r ne = get_or-set_other ranks i p r _ ne
+
+here : (ranks : List ℕ) (i r : ℕ) → i < length ranks → rank_at (set ranks i r) i ≡ r
+here ranks i r h = get_or-set_same ranks i r _ h
+
+-- a place with a rank keeps it where another gets one
+kept_lower : (ranks : List ℕ) (i r k q : ℕ) → rank_at ranks i ≡ 0 → HasLower ranks k q → HasLower (set ranks i r) k q
+kept_lower ranks i r k q none h =
+    let ne : q ≢ i = λ e. (let z : rank_at ranks q ≡ 0 = ap (rank_at ranks) e ∙ none in absurd (let a = h.1 in omega (arith, z, a))) in
+    let same = other ranks i q r ne in
+    (subst (λ (n : ℕ). q < n) (sym (length-set ranks i r)) h.0, subst (λ (n : ℕ). 0 < n) (sym same) h.1, subst (λ (n : ℕ). n < k) (sym same) h.2)
+
+pub settled_one : (slots : List Slot) (ranks : List ℕ) (top i r : ℕ) → Fits slots → IsRanked slots ranks top → i < length slots → rank_at ranks i ≡ 0 → top < r →
+    EachLed (λ q. 0 < rank_at ranks q) (slot_at slots i) → IsRanked slots (set ranks i r) r
+settled_one slots ranks top i r fits is lt none more links =
+    let inside : i < length ranks = subst (λ (n : ℕ). i < n) (sym is.same_length) lt in
+    record {
+      same_length = length-set ranks i r ∙ is.same_length;
+      each = λ p lp h. elim (eqb_tells p i) [
+        | inl e ↦ subst (λ (x : ℕ). EachLed (HasLower (set ranks i r) (rank_at (set ranks i r) x)) (slot_at slots x)) (sym e.1)
+            (subst (λ (k : ℕ). EachLed (HasLower (set ranks i r) k) (slot_at slots i)) (sym (here ranks i r inside))
+            (each_led (λ q. (q < length slots) × (0 < rank_at ranks q)) (HasLower (set ranks i r) r) (slot_at slots i)
+            (λ q g. kept_lower ranks i r r q none (subst (λ (n : ℕ). q < n) (sym is.same_length) g.0, g.1, (let m = is.most q g.0 in omega (arith, m, more))))
+            (both_led (λ q. q < length slots) (λ q. 0 < rank_at ranks q) (slot_at slots i) (fits_in (length slots) i (slot_at slots i) lt (fits.each i lt)) links)))
+        | inr e ↦ (let same = other ranks i p r e.1 in
+            subst (λ (k : ℕ). EachLed (HasLower (set ranks i r) k) (slot_at slots p)) (sym same)
+            (each_led (HasLower ranks (rank_at ranks p)) (HasLower (set ranks i r) (rank_at ranks p)) (slot_at slots p) (λ q g. kept_lower ranks i r (rank_at ranks p) q none g)
+            (is.each p lp (subst (λ (n : ℕ). 0 < n) same h))))
+      ];
+      most = λ p lp. elim (eqb_tells p i) [
+        | inl e ↦ subst (λ (x : ℕ). rank_at (set ranks i r) x ≤ r) (sym e.1) (let m = here ranks i r inside in omega (arith, m))
+        | inr e ↦ (let same = other ranks i p r e.1 in let m = is.most p lp in omega (arith, same, m, more))
+      ];
+    }
+
+pub settled_less : (ranks : List ℕ) (i r : ℕ) → i < length ranks → rank_at ranks i ≡ 0 → 0 < r → unranked (set ranks i r) + 1 ≤ unranked ranks
+settled_less ranks i r lt none pos =
+    let e : unranked (set ranks i r) + left (rank_at ranks i) ≡ unranked ranks + left r = sum_by-set left ranks i r 0 lt in
+    let a : left (rank_at ranks i) ≡ 1 = ap left none in
+    let b : left r ≡ 0 = left_none r pos in
+    omega (arith, e, a, b)
+  where
+    left_none : (n : ℕ) → 0 < n → left n ≡ 0
+    left_none zero h = absurd (omega (arith, h))
+    left_none (suc n) h = refl
+
+-- one place more of a pass
+pub passes_one : (slots : List Slot) (p : ℕ) (old mid new : List ℕ) (changed one : Bool) → Passes slots p old mid changed → Settles slots p mid new one → Passes slots (p + 1) old new (changed || one)
+passes_one slots p old mid new true true a b = omega (arith, a, b)
+passes_one slots p old mid new true false a b = subst (λ (r : List ℕ). unranked r + 1 ≤ unranked old) (sym b.0) a
+passes_one slots p old mid new false true a b = subst (λ (r : List ℕ). unranked new + 1 ≤ unranked r) a.0 b
+passes_one slots p old mid new false false a b = (
+  b.0 ∙ a.0,
+  λ q lt. elim (eqb_tells q p) [
+    | inl e ↦ subst (λ (x : ℕ). IsStuck slots old x) (sym e.1) (subst (λ (r : List ℕ). IsStuck slots r p) a.0 b.1)
+    | inr e ↦ a.1 q (omega (arith, lt, e.1))
+  ],
+)
+
+-- where each place has a rank, the ranks are ranks
+pub all_are : (slots : List Slot) (ranks : List ℕ) (top : ℕ) → IsRanked slots ranks top → ((p : ℕ) → p < length ranks → 0 < rank_at ranks p) → IsRank slots (rank_at ranks)
+all_are slots ranks top is all = record {
+  each = λ p lt.
+      each_led (HasLower ranks (rank_at ranks p)) (Lower (length slots) (rank_at ranks) (rank_at ranks p)) (slot_at slots p)
+      (λ q g. (subst (λ (n : ℕ). q < n) is.same_length g.0, g.2))
+      (is.each p lt (all p (subst (λ (n : ℕ). p < n) (sym is.same_length) lt)));
+}
+
+-- one of the places of a slot is lower
+some_lower : (P Q : ℕ → Type 0) (x : Term) → SomeIn P x → EachIn Q x → (q : ℕ) × (P q × Q q)
+some_lower P Q (Place q) h g = (q, (h, g))
+some_lower P Q (Closed of) h g = absurd h
+some_lower P Q (Made w q) h g = (q, (h, g))
+some_lower P Q (Grouped c first count) h g = (h.0, (h.1.2, g h.0 h.1.0 h.1.1))
+
+some_led_lower : (P Q : ℕ → Type 0) (s : Slot) → SomeLed P s → EachLed Q s → (q : ℕ) × (P q × Q q)
+some_led_lower P Q (Open s) h g = absurd h
+some_led_lower P Q (Bound x) h g = some_lower P Q x h g
+
+-- a place that is stuck without a rank leads down without end
+descent : (slots : List Slot) (ranks : List ℕ) (r : ℕ → ℕ) → IsRank slots r → ((p : ℕ) → p < length slots → IsStuck slots ranks p) → (k p : ℕ) → p < length slots → r p < k → rank_at ranks p ≡ 0 → ⊥
+descent slots ranks r rank stuck zero p lt h none = absurd (omega (arith, h))
+descent slots ranks r rank stuck (suc k) p lt h none = elim (stuck p lt) [
+  | inl pos ↦ absurd (omega (arith, pos, none))
+  | inr some ↦ (let s = some_led_lower (λ q. rank_at ranks q ≡ 0) (Lower (length slots) r (r p)) (slot_at slots p) some (rank.each p lt) in
+      descent slots ranks r rank stuck k s.0 s.1.1.0 (let g = s.1.1.1 in omega (arith, g, h)) s.1.0)
+]
+
+pub no_typing : (slots : List Slot) (ranks : List ℕ) → Fits slots → ((p : ℕ) → p < length slots → IsStuck slots ranks p) → (p : ℕ) → p < length slots → rank_at ranks p ≡ 0 → (t : Typing) → Meets slots t → ⊥
+no_typing slots ranks fits stuck p lt none t m = descent slots ranks (rank_by slots t) (ranked slots t fits m) stuck (suc (rank_by slots t p)) p lt (omega arith) none
+
+-- a vector that was written as a slice
+pub written_back : (n : ℕ) (old new : List ℕ) → n ≡ length old → length new ≡ length old → take n (new ++ drop (length new) old) ≡ new
+written_back n old new e len = ap (λ (rest : List ℕ). take n (new ++ rest)) (ap (λ (k : ℕ). drop k old) len ∙ drop-length old) ∙ ap (take n) (append-nil new) ∙ ap (λ (k : ℕ). take k new) (e ∙ sym len) ∙ take-length new
+
+pub no_typing_in : (slots : List Slot) (ranks seen : List ℕ) → Fits slots → length ranks ≡ length slots → seen ≡ ranks → ((p : ℕ) → p < length slots → IsStuck slots ranks p) →
+    (p : ℕ) × ((p < length seen) × (rank_at seen p ≡ zero)) → (t : Typing) → Meets slots t → ⊥
+no_typing_in slots ranks seen fits len same stuck some = no_typing slots ranks fits stuck some.0
+    (subst (λ (n : ℕ). some.0 < n) (ap length same ∙ len) some.1.0) (ap (λ (r : List ℕ). rank_at r some.0) (sym same) ∙ some.1.1)

@@ -1,0 +1,24 @@
+use Rattle.std.proofs.Common.{◌≡◌, ◌<◌, ℕ, refl, length, List, take, subst, sym}
+use Rattle.type_places.specs.Slots.{Typing, Meets, slot_at}
+use Rattle.type_places.specs.Ranks.{IsRank}
+use Rattle.type_places.specs.declared.slots.Slot.{Slot}
+use Rattle.unification.specs.Unifiers.{HasNoUnifier}
+use Rattle.unification.specs.Ranked.{rank_at}
+use Rattle.unification.specs.Solved.{Solves}
+use Rattle.unification.proofs.Options.{at_none, at_some}
+use Rattle.unification.proofs.Solving.{no_unifier, has_unifier}
+use Rattle.unification.proofs.unify.solvable.Goals as goal
+
+pub returns-in-None-2 : goal.returns-in-None-2
+returns-in-None-2 c =
+    let solves : Solves c.args.variables (take c.args.count c.args.pairs.now) c.in-Some.slots.items = at_some _ (HasNoUnifier c.args.variables (take c.args.count c.args.pairs.now)) (λ s. Solves c.args.variables (take c.args.count c.args.pairs.now) s.items) c.in-Some.slots c.in-Some.is c.in_ok-solve.ensures in
+    no_unifier c.args.variables (take c.args.count c.args.pairs.now) c.in-Some.slots.items solves
+    (subst (λ (s : List Slot). (t : Typing) → Meets s t → ⊥) c.deref.ensures.value
+    (at_none _ ((t : Typing) → Meets c.deref.result.now t → ⊥) (λ r. IsRank c.deref.result.now (rank_at r.items)) c.in-None-2.is c.in_ok-ranks-in-Some.ensures))
+
+pub returns : goal.returns
+returns c =
+    let solves : Solves c.args.variables (take c.args.count c.args.pairs.now) c.in-Some.slots.items = at_some _ (HasNoUnifier c.args.variables (take c.args.count c.args.pairs.now)) (λ s. Solves c.args.variables (take c.args.count c.args.pairs.now) s.items) c.in-Some.slots c.in-Some.is c.in_ok-solve.ensures in
+    has_unifier c.args.variables (take c.args.count c.args.pairs.now) c.in-Some.slots.items (rank_at c.in-Some-2.field-0.items) solves
+    (subst (λ (s : List Slot). IsRank s (rank_at c.in-Some-2.field-0.items)) c.deref.ensures.value
+    (at_some _ ((t : Typing) → Meets c.deref.result.now t → ⊥) (λ r. IsRank c.deref.result.now (rank_at r.items)) c.in-Some-2.field-0 c.in-Some-2.is c.in_ok-ranks-in-Some.ensures))

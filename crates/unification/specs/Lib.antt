@@ -1,0 +1,5 @@
+pub mod Ranked
+pub mod Unifiers
+pub mod Solved
+pub mod Answers
+pub mod Faults

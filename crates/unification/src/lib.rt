@@ -1,0 +1,6 @@
+//! Unification of types.
+#![tactic(auto)]
+
+pub mod pairs;
+pub mod ranks;
+pub mod unify;

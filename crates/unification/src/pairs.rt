@@ -1,0 +1,118 @@
+//! Pairs of types that are to be made one.
+
+ghost use Rattle.std.specs.Prelude.{◌≡◌, ◌<◌, ◌≤◌, ℕ, IsTrue, true, IfOk, MatchOption, length, take};
+ghost use Rattle.type_places.specs.Slots.{Typing, Fits, slot_at};
+ghost use Rattle.type_places.specs.Grown.{Grows};
+ghost use Rattle.type_places.specs.Ranks.{IsRank};
+ghost use Rattle.unification.specs.Unifiers.{apply, IsMostGeneral, HasNoUnifier};
+ghost use Rattle.unification.specs.Solved.{Solves, IsPlain, unifier};
+
+use crate::ranks::ranks;
+use pv_base::types::TypeTerm;
+use std::alloc::{AllocError, Global};
+use type_places::open::open_slots;
+use type_places::places::one;
+use type_places::signature::{Parameters, has_parameter, instance};
+use type_places::slots::{Slot, Sort, Term};
+
+/// Two types that are to be made one.
+#[derive(Drop)]
+pub struct TypePair {
+    pub left: TypeTerm,
+    pub right: TypeTerm,
+}
+
+/// A unifier: what is known of the variables and of the parts of their types, and ranks. Types share their parts, so
+/// it is small where the types would be large if they were written out.
+#[derive(Drop)]
+pub struct Unifier<'a> {
+    pub slots: Vec<Slot<'a>>,
+    pub ranks: Vec<usize>,
+}
+
+/// Makes the types of a pair one.
+fn join<'a>(
+    alloc: Global,
+    slots: &mut Vec<Slot<'a>>,
+    left: &'a TypeTerm,
+    right: &'a TypeTerm,
+    variables: usize,
+) -> Result<bool, AllocError>
+    requires fits { Fits slots.old.items }
+    requires variables { variables ≤ length slots.old.items }
+    ensures { IfOk result (λ answer. Grows slots.old.items (λ t. apply variables t left.now ≡ apply variables t right.now) slots.new.items (λ t. IsTrue answer)) }
+{
+    let parameters = Parameters {
+        base: 0,
+        count: variables,
+    };
+    let first = instance(alloc, slots, left, parameters)?;
+    let second = instance(alloc, slots, right, parameters)?;
+    one(alloc, slots, first, second)
+}
+
+/// What the first so many pairs say of the variables; none where they have no unifier.
+pub fn solve<'a>(
+    alloc: Global,
+    pairs: &'a [TypePair],
+    count: usize,
+    variables: usize,
+) -> Result<Option<Vec<Slot<'a>>>, AllocError>
+    requires { count ≤ length pairs.now }
+    ensures { IfOk result (λ found. MatchOption found (HasNoUnifier variables (take count pairs.now)) (λ slots. Solves variables (take count pairs.now) slots.items)) }
+{
+    let mut slots = open_slots(alloc, variables)?;
+    for i in 0..count {
+        let pair = &pairs[i];
+        if !join(alloc, &mut slots, &pair.left, &pair.right, variables)? {
+            return Ok(None);
+        }
+    }
+    Ok(Some(slots))
+}
+
+fn plain_sort(sort: Sort) -> bool
+    ensures { IsTrue result → (n : ℕ) → IsPlain n (Slot.Open sort) }
+{
+    !matches!(&sort, Sort::Integer)
+}
+
+fn plain_term<'a>(term: Term<'a>, variables: usize) -> bool
+    ensures { IsTrue result → IsPlain variables (Slot.Bound term.entry) }
+{
+    match term {
+        Term::Closed(of) => !has_parameter(of, variables),
+        _ => true,
+    }
+}
+
+fn plain_slot<'a>(slot: Slot<'a>, variables: usize) -> bool
+    ensures { IsTrue result → IsPlain variables slot.entry }
+{
+    match slot {
+        Slot::Open(sort) => plain_sort(sort),
+        Slot::Bound(term) => plain_term(term, variables),
+    }
+}
+
+/// Whether no integer type is asked for, and no variable stands in a written type.
+pub fn all_plain<'a>(slots: &[Slot<'a>], variables: usize) -> bool
+    ensures { IsTrue result → (p : ℕ) → p < length slots.now → IsPlain variables (slot_at slots.now p) }
+{
+    for i in 0..slots.len() {
+        if !plain_slot(slots[i], variables) {
+            return false;
+        }
+    }
+    true
+}
+
+/// What was found of the first so many pairs.
+#[derive(Drop)]
+pub enum Found<'a> {
+    /// They have no unifier.
+    Clash,
+    Solved(Unifier<'a>),
+    /// Never found, since no integer type is asked for, and parts with variables have places; not proved.
+    Unfinished,
+}
