@@ -1,18 +1,15 @@
 -- What is asked for the parts of two types.
-use Rattle.std.proofs.Common.{zero, suc, [], ◌∷◌, ◌+◌, ◌-◌, ◌++◌, ◌≡◌, ◌≢◌, ℕ, ◌<◌, ◌≤◌, Bool, true, false, IsTrue, List, length, get_or, take, refl, sym, ap, subst, ◌∙◌, inl, inr, arith}
+use Rattle.std.proofs.Common.{zero, suc, [], ◌∷◌, ◌+◌, ◌++◌, ◌≡◌, ◌≢◌, ℕ, ◌<◌, ◌≤◌, Bool, true, false, List, length, get_or, take, refl, sym, ap, subst, ◌∙◌, inl, inr, arith}
 use Rattle.std.proofs.lemmas.List.Sums.{sum_by_push, sum_by-cons, sum_by-take-le}
 use Rattle.std.proofs.lemmas.Bool.Decides.{eqb_tells}
 use Rattle.std.specs.Prelude.{sum_by}
-use Rattle.pv_base.specs.TypeData.{TypeData, BoolType, IntType, NumType, AddressType, SignerType, VectorType, StructType, ParamType, SharedType, MutableType, TupleType, TypesData, NoTypes, MoreTypes, types_of, types_of_injective, type_size, types_size}
-use Rattle.pv_base.specs.declared.types.StructId.{StructId}
-use Rattle.type_places.specs.Slots.{Typing, value, list_at, wrapped, grouped, TermWithin, IsMade, HasParts, term_work}
-use Rattle.type_places.specs.Asks.{Has, EachHas, AsksWithin, asked_work, ask_work, asks_work, Adds, Says}
+use Rattle.pv_base.specs.TypeData.{TypeData, BoolType, IntType, NumType, AddressType, SignerType, VectorType, StructType, ParamType, SharedType, MutableType, TupleType, TypesData, types_of, types_of_injective, type_size, types_size}
+use Rattle.type_places.specs.Slots.{Typing, list_at, wrapped, grouped, TermWithin}
+use Rattle.type_places.specs.Asks.{Has, EachHas, AsksWithin, ask_work, asks_work, Adds, Says}
 use Rattle.type_places.specs.declared.slots.Wrap.{Wrap}
 use Rattle.type_places.specs.declared.slots.Wrap.TheVariants.{Vector, Shared, Mutable}
 use Rattle.type_places.specs.declared.slots.Group.{Group}
 use Rattle.type_places.specs.declared.slots.Group.TheVariants.{Struct, Tuple}
-use Rattle.type_places.specs.declared.slots.Term.{Term}
-use Rattle.type_places.specs.declared.slots.Term.TheVariants.{Place, Closed, Made, Grouped}
 use Rattle.type_places.specs.declared.slots.Ask.{Ask}
 
 pub each_more : (t : Typing) (asks : List Ask) (a : Ask) → EachHas t asks → Has t a → EachHas t (asks ++ a ∷ [])

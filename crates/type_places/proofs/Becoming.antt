@@ -1,12 +1,12 @@
 -- How slots and what is asked of a typing become other slots with the same typings.
-use Rattle.std.proofs.Common.{zero, suc, [], ◌∷◌, ◌+◌, ◌≡◌, ◌≢◌, ℕ, ◌<◌, ◌≤◌, Bool, true, false, IsTrue, List, length, get_or, refl, sym, ap, subst, ◌∙◌, inl, inr, arith, get_or-set_other, get_or-set_same}
+use Rattle.std.proofs.Common.{◌+◌, ◌≡◌, ◌≢◌, ℕ, ◌<◌, Bool, true, false, IsTrue, List, length, get_or, refl, sym, ap, subst, ◌∙◌, inl, inr, arith, get_or-set_other, get_or-set_same}
 use Rattle.std.proofs.lemmas.Bool.Decides.{eqb_tells}
 use Rattle.std.proofs.lemmas.List.{get_or_default}
 use Rattle.std.proofs.lemmas.List.Sums.{sum_by-set}
 use Rattle.std.proofs.Math.ListN.{set, length-set}
 use Rattle.pv_base.specs.TypeData.{TypeData}
 use Rattle.type_places.specs.Sorts.{is_of}
-use Rattle.type_places.specs.Slots.{Typing, value, TermFits, TermWithin, SlotMeets, SlotFits, Meets, Fits, Becomes, slot_at, IsMade, IsOpen, IsRoot, slot_work, term_work, work}
+use Rattle.type_places.specs.Slots.{Typing, value, TermFits, TermWithin, SlotMeets, SlotFits, Meets, Fits, Becomes, slot_at, IsMade, IsOpen, IsRoot, slot_work, work}
 use Rattle.type_places.specs.declared.slots.Sort.{Sort}
 use Rattle.type_places.specs.declared.slots.Sort.TheVariants.{Any}
 use Rattle.type_places.specs.declared.slots.Term.{Term}

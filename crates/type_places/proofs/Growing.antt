@@ -1,7 +1,7 @@
 -- How slots become more.
 use Rattle.std.proofs.Common.{◌≡◌, ℕ, suc, ◌+◌, ◌<◌, ◌≤◌, List, length, refl, sym, ap, subst, ◌∙◌, inl, inr, arith}
 use Rattle.std.proofs.lemmas.Bool.Decides.{leb_tells}
-use Rattle.type_places.specs.Slots.{Typing, value, TermWithin, Meets, Fits, Becomes, IsOpen, slot_at}
+use Rattle.type_places.specs.Slots.{Typing, value, TermWithin, Meets, Becomes}
 use Rattle.type_places.specs.Instances.{instance, arguments}
 use Rattle.type_places.specs.declared.slots.Term.{Term}
 use Rattle.type_places.proofs.Refill.{value-same}

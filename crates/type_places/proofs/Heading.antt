@@ -1,15 +1,14 @@
 -- What an open slot leaves of the head of a type, and what a bound one says of it.
-use Rattle.std.proofs.Common.{◌≡◌, ℕ, ◌+◌, ◌<◌, ◌≤◌, IsTrue, true, false, List, [], ◌∷◌, length, Option, Some, None, refl, sym, ap, subst, ◌∙◌}
+use Rattle.std.proofs.Common.{◌≡◌, ℕ, ◌<◌, IsTrue, true, false, List, [], length, None, refl, sym, ap, subst, ◌∙◌}
 use Rattle.pv_base.specs.TypeData.{TypeData, BoolType, IntType, NumType, AddressType, SignerType, VectorType, StructType, ParamType, SharedType, MutableType, TupleType, NoTypes}
 use Rattle.pv_base.specs.declared.types.Width.TheVariants.{U8}
 use Rattle.type_places.specs.Sorts.{is_of}
-use Rattle.type_places.specs.Slots.{Typing, value, SlotMeets, Meets, Fits, slot_at}
+use Rattle.type_places.specs.Slots.{Typing, value, Meets, Fits, slot_at}
 use Rattle.type_places.specs.Agree.{Agree}
-use Rattle.type_places.specs.Heads.{kind, struct_in, KindOf, KindIs, KindWithin, KindOpen, StructOf, StructIs, StructOpen, kind_left, struct_left}
+use Rattle.type_places.specs.Heads.{kind, struct_in, KindOf, KindIs, KindOpen, StructOf, StructIs, StructOpen, kind_left, struct_left}
 use Rattle.type_places.specs.declared.slots.Sort.{Sort}
 use Rattle.type_places.specs.declared.slots.Sort.TheVariants.{Any, Single, Value, Integer}
 use Rattle.type_places.specs.declared.slots.Term.{Term}
-use Rattle.type_places.specs.declared.slots.Term.TheVariants.{Place}
 use Rattle.type_places.specs.declared.slots.Slot.{Slot}
 use Rattle.type_places.specs.declared.slots.Slot.TheVariants.{Open, Bound}
 use Rattle.type_places.specs.declared.heads.KindSeen.{KindSeen}

@@ -1,10 +1,10 @@
 -- Written types with the types of places in the place of type parameters.
-use Rattle.std.proofs.Common.{◌≡◌, ℕ, zero, suc, ◌+◌, ◌<◌, ◌≤◌, ◌++◌, List, [], ◌∷◌, length, map, take, get_or, Bool, true, false, refl, sym, ap, subst, ◌∙◌, arith}
+use Rattle.std.proofs.Common.{◌≡◌, ℕ, zero, suc, ◌+◌, ◌<◌, ◌≤◌, ◌++◌, List, [], ◌∷◌, length, map, take, get_or, refl, sym, ap, ◌∙◌, arith}
 use Rattle.std.proofs.lemmas.List.{take_more, map-append}
 use Rattle.std.proofs.Math.Seq.{take-length}
 use Rattle.pv_base.specs.declared.types.StructId.{StructId}
-use Rattle.pv_base.specs.TypeData.{TypeData, StructType, TupleType, TypesData, NoTypes, MoreTypes, types_of, list_of_types, list_of_types-types_of}
-use Rattle.type_places.specs.Slots.{Typing, value, list_at, TermWithin, Meets}
+use Rattle.pv_base.specs.TypeData.{TypeData, StructType, TupleType, TypesData, MoreTypes, types_of}
+use Rattle.type_places.specs.Slots.{Typing, value, list_at, TermWithin}
 use Rattle.type_places.specs.Instances.{instance, instances}
 use Rattle.type_places.specs.Terms.{AllWithin}
 use Rattle.type_places.specs.declared.slots.Term.{Term}

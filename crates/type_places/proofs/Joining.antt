@@ -1,15 +1,14 @@
 -- How types that are made one leave the parts that are to be one.
-use Rattle.std.proofs.Common.{zero, suc, [], ◌∷◌, ◌+◌, ◌++◌, ◌≡◌, ◌≢◌, ◌↔◌, ℕ, ◌<◌, ◌≤◌, Bool, true, false, IsTrue, List, length, refl, sym, ap, subst, ◌∙◌, inl, inr, arith}
-use Rattle.std.proofs.Math.ListN.{set, length-set}
-use Rattle.pv_base.specs.TypeData.{TypeData}
-use Rattle.type_places.specs.Slots.{Typing, value, TermFits, TermWithin, SlotMeets, SlotFits, Meets, Fits, Becomes, slot_at, IsMade, IsOpen, HasParts, IsRoot, slot_work, term_work, work}
-use Rattle.type_places.specs.Asks.{Has, EachHas, AsksWithin, asked_work, ask_work, asks_work, Adds, Says}
+use Rattle.std.proofs.Common.{[], ◌∷◌, ◌++◌, ◌≡◌, ◌↔◌, ℕ, ◌<◌, Bool, true, false, IsTrue, List, length, refl, sym, subst, ◌∙◌, arith}
+use Rattle.std.proofs.Math.ListN.{set}
+use Rattle.type_places.specs.Slots.{Typing, value, TermFits, SlotMeets, Meets, Fits, Becomes, slot_at, IsMade, HasParts, term_work}
+use Rattle.type_places.specs.Asks.{Has, EachHas, asked_work, Says}
 use Rattle.type_places.specs.declared.slots.Term.{Term}
 use Rattle.type_places.specs.declared.slots.Term.TheVariants.{Place, Closed, Made, Grouped}
 use Rattle.type_places.specs.declared.slots.Slot.{Slot}
-use Rattle.type_places.specs.declared.slots.Slot.TheVariants.{Open, Bound}
+use Rattle.type_places.specs.declared.slots.Slot.TheVariants.{Bound}
 use Rattle.type_places.specs.declared.slots.Ask.{Ask}
-use Rattle.type_places.proofs.Becoming.{said, then, after, written, bound_says}
+use Rattle.type_places.proofs.Becoming.{said, then, written, bound_says}
 use Rattle.type_places.proofs.Asking.{each_more, each_less, type_size_pos}
 
 -- two written types

@@ -1,10 +1,10 @@
 -- From one typing that meets what is known, others: each open place may get any type of its sort.
-use Rattle.std.proofs.Common.{◌≡◌, ℕ, zero, suc, ◌+◌, ◌*◌, ◌<◌, ◌≤◌, Bool, true, false, IsTrue, List, [], ◌∷◌, length, refl, sym, ap, subst, ◌∙◌, inl, inr, arith}
+use Rattle.std.proofs.Common.{◌≡◌, ℕ, zero, suc, ◌+◌, ◌*◌, ◌<◌, ◌≤◌, IsTrue, List, ◌∷◌, length, refl, sym, ap, subst, ◌∙◌, inl, inr, arith}
 use Rattle.std.proofs.lemmas.Bool.Decides.{eqb_tells}
 use Rattle.std.proofs.Math.Nat.{mul-le-mul_right}
-use Rattle.pv_base.specs.TypeData.{TypeData, BoolType, VectorType, StructType, SharedType, MutableType, TupleType, TypesData, types_of, type_size, types_size}
+use Rattle.pv_base.specs.TypeData.{TypeData, TypesData, types_of, type_size, types_size}
 use Rattle.type_places.specs.Sorts.{is_of}
-use Rattle.type_places.specs.Slots.{Typing, value, list_at, wrapped, grouped, TermFits, SlotFits, SlotMeets, Meets, Fits, slot_at}
+use Rattle.type_places.specs.Slots.{Typing, value, list_at, wrapped, grouped, SlotFits, SlotMeets, Meets, Fits, slot_at}
 use Rattle.type_places.specs.Ranks.{EachIn, EachLed, Lower, IsRank, filled, fill, refill_by, rank_by}
 use Rattle.type_places.specs.Agree.{Agree}
 use Rattle.type_places.specs.declared.slots.Sort.{Sort}

@@ -1,5 +1,5 @@
 -- Places that are to have types.
-use Rattle.std.specs.Prelude.{◌≡◌, ℕ, ◌+◌, ◌<◌, Bool, true, false, List, [], ◌∷◌, sum_by}
+use Rattle.std.specs.Prelude.{◌≡◌, ℕ, ◌<◌, Bool, true, false, List, [], ◌∷◌, sum_by}
 use Rattle.type_places.specs.Slots.{Typing, value, TermWithin, term_work}
 use Rattle.type_places.specs.declared.slots.Term.{Term}
 use Rattle.type_places.specs.declared.slots.Term.TheVariants.{Place, Closed, Made, Grouped}

@@ -1,15 +1,14 @@
 -- What was seen of the head of a type (The Move Book, "References": the kind; "Structs and Resources": the struct).
-use Rattle.std.specs.Prelude.{◌≡◌, ℕ, ◌+◌, ◌<◌, ◌≤◌, Bool, true, false, List, Option, Some, None}
-use Rattle.pv_base.specs.TypeData.{TypeData, BoolType, IntType, NumType, AddressType, SignerType, VectorType, StructType, ParamType, SharedType, MutableType, TupleType, types_of}
+use Rattle.std.specs.Prelude.{◌≡◌, ℕ, ◌+◌, ◌≤◌, Bool, true, false, List, Option, Some, None}
+use Rattle.pv_base.specs.TypeData.{TypeData, StructType, SharedType, MutableType, types_of}
 use Rattle.pv_base.specs.declared.types.StructId.{StructId}
 use Rattle.type_places.specs.Slots.{Typing, value, wrapped, list_at, Meets, TermWithin}
 use Rattle.type_places.specs.Agree.{Agree}
 use Rattle.type_places.specs.declared.slots.Sort.{Sort}
 use Rattle.type_places.specs.declared.slots.Sort.TheVariants.{Any, Single, Value, Integer}
 use Rattle.type_places.specs.declared.slots.Wrap.{Wrap}
-use Rattle.type_places.specs.declared.slots.Wrap.TheVariants.{Vector, Shared, Mutable}
+use Rattle.type_places.specs.declared.slots.Wrap.TheVariants.{Shared, Mutable}
 use Rattle.type_places.specs.declared.slots.Term.{Term}
-use Rattle.type_places.specs.declared.slots.Term.TheVariants.{Place}
 use Rattle.type_places.specs.declared.slots.Slot.{Slot}
 use Rattle.type_places.specs.declared.heads.KindSeen.{KindSeen}
 use Rattle.type_places.specs.declared.heads.KindSeen.TheVariants.{Unsettled, Plain, To}

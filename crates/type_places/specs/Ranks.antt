@@ -1,5 +1,5 @@
 -- Ranks of places below which each leads, and typings that give the open places types.
-use Rattle.std.specs.Prelude.{◌≡◌, ℕ, zero, suc, ◌+◌, ◌*◌, ◌<◌, ◌≤◌, List, length}
+use Rattle.std.specs.Prelude.{ℕ, zero, suc, ◌+◌, ◌*◌, ◌<◌, ◌≤◌, List, length}
 use Rattle.pv_base.specs.TypeData.{TypeData, BoolType, type_size}
 use Rattle.type_places.specs.Slots.{Typing, value, slot_at}
 use Rattle.type_places.specs.declared.slots.Sort.{Sort}

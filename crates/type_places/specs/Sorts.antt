@@ -1,6 +1,6 @@
 -- Which types a sort has.
 use Rattle.std.specs.Prelude.{Bool, true, false}
-use Rattle.pv_base.specs.TypeData.{TypeData, BoolType, IntType, NumType, AddressType, SignerType, VectorType, StructType, ParamType, SharedType, MutableType, TupleType}
+use Rattle.pv_base.specs.TypeData.{TypeData, IntType, SharedType, MutableType, TupleType}
 use Rattle.type_places.specs.declared.slots.Sort.{Sort}
 use Rattle.type_places.specs.declared.slots.Sort.TheVariants.{Any, Single, Value, Integer}
 

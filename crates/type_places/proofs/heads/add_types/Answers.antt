@@ -1,5 +1,5 @@
-use Rattle.std.proofs.Common.{◌≡◌, ◌+◌, ◌<◌, ◌≤◌, ℕ, length, sym, ap, ◌∙◌, arith}
-use Rattle.type_places.specs.Slots.{Typing, list_at}
+use Rattle.std.proofs.Common.{◌≡◌, ◌≤◌, length, sym, ap, ◌∙◌, arith}
+use Rattle.type_places.specs.Slots.{list_at}
 use Rattle.type_places.proofs.Growing.{grown}
 use Rattle.type_places.proofs.Instancing.{types_more, all_taken}
 use Rattle.type_places.proofs.heads.add_types.Goals as goal

@@ -1,4 +1,4 @@
-use Rattle.std.proofs.Common.{◌≡◌, ◌+◌, ℕ, take, length}
+use Rattle.std.proofs.Common.{◌≡◌, ◌+◌, take, length}
 use Rattle.type_places.specs.Slots.{Typing, list_at, Meets}
 use Rattle.type_places.specs.Grown.{Grows}
 use Rattle.type_places.proofs.heads.add_types.Given as goal

@@ -1,6 +1,6 @@
-use Rattle.std.proofs.Common.{◌≡◌, ℕ, sym, ◌∙◌}
+use Rattle.std.proofs.Common.{sym, ◌∙◌}
 use Rattle.pv_base.specs.TypeData.{BoolType}
-use Rattle.type_places.specs.Slots.{Typing, value}
+use Rattle.type_places.specs.Slots.{value}
 use Rattle.type_places.proofs.Becoming.{slot_read, bound_within, root_made}
 use Rattle.type_places.proofs.Heading.{kind_open, kind_closed, kind_bound, kind_seen_open}
 use Rattle.type_places.proofs.heads.kind_seen.Goals as goal

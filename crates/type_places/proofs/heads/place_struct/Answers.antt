@@ -1,12 +1,11 @@
-use Rattle.std.proofs.Common.{◌≡◌, sym, ◌∙◌}
+use Rattle.std.proofs.Common.{sym, ◌∙◌}
 use Rattle.std.proofs.lemmas.Result.{IfOk-weaker}
-use Rattle.type_places.specs.Slots.{Typing, value, Meets}
+use Rattle.type_places.specs.Slots.{value}
 use Rattle.type_places.specs.declared.heads.StructSeen.{StructSeen}
-use Rattle.type_places.specs.declared.slots.Term.TheVariants.{Place}
 use Rattle.type_places.proofs.Becoming.{slot_read, bound_says}
 use Rattle.type_places.proofs.Growing.{grown}
 use Rattle.type_places.proofs.Results.{if_ok_two}
-use Rattle.type_places.proofs.Heading.{struct_open, struct_of_is, struct_is_open}
+use Rattle.type_places.proofs.Heading.{struct_open, struct_of_is}
 use Rattle.type_places.proofs.heads.place_struct.Goals as goal
 
 pub returns-then-leaves_struct-clause-open : goal.returns-then-leaves_struct-clause-open

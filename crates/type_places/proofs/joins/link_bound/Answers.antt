@@ -1,7 +1,7 @@
 use Rattle.std.proofs.Common.{◌≡◌, Bool, IsTrue}
 use Rattle.std.proofs.lemmas.Result.{IfOk-weaker}
 use Rattle.std.proofs.Math.ListN.{set}
-use Rattle.type_places.specs.Slots.{Typing, value, Becomes}
+use Rattle.type_places.specs.Slots.{value, Becomes}
 use Rattle.type_places.specs.Asks.{EachHas}
 use Rattle.type_places.specs.declared.slots.Term.TheVariants.{Place}
 use Rattle.type_places.specs.declared.slots.Slot.TheVariants.{Bound}

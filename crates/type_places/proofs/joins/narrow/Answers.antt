@@ -1,5 +1,5 @@
 use Rattle.std.proofs.Common.{◌∙◌}
-use Rattle.type_places.proofs.Becoming.{narrow_in, narrow_bound, slot_read}
+use Rattle.type_places.proofs.Becoming.{narrow_in, slot_read}
 use Rattle.type_places.proofs.joins.narrow.Goals as goal
 
 pub returns-in-Open-clause-becomes : goal.returns-in-Open-clause-becomes

@@ -1,8 +1,8 @@
-use Rattle.std.proofs.Common.{◌≡◌, ◌+◌, true, false, Bool, IsTrue, subst, arith}
-use Rattle.type_places.specs.Slots.{Typing, Becomes}
+use Rattle.std.proofs.Common.{Bool, IsTrue, subst}
+use Rattle.type_places.specs.Slots.{Becomes}
 use Rattle.type_places.specs.Asks.{Has, EachHas}
 use Rattle.type_places.proofs.Becoming.{then}
-use Rattle.type_places.proofs.Asking.{within_less, work_pushed}
+use Rattle.type_places.proofs.Asking.{within_less}
 use Rattle.type_places.proofs.Joining.{taken, refused, accepted}
 use Rattle.type_places.proofs.joins.run.Goals as goal
 

@@ -1,5 +1,5 @@
-use Rattle.std.proofs.Common.{◌≡◌, ◌+◌, ◌<◌, length, ℕ}
-use Rattle.type_places.specs.Slots.{Typing, Becomes, work}
+use Rattle.std.proofs.Common.{◌+◌, length}
+use Rattle.type_places.specs.Slots.{Becomes, work}
 use Rattle.type_places.specs.Asks.{EachHas, AsksWithin, asks_work}
 use Rattle.type_places.proofs.joins.run.Given as goal
 

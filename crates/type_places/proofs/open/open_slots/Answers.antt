@@ -1,5 +1,5 @@
-use Rattle.std.proofs.Common.{◌≡◌, ◌+◌, ◌∙◌, length, ℕ, List, ap, sym, subst, arith}
-use Rattle.type_places.specs.Slots.{Typing, Meets, Fits}
+use Rattle.std.proofs.Common.{◌+◌, ◌∙◌, length, ℕ, List, ap, sym, subst}
+use Rattle.type_places.specs.Slots.{Meets, Fits}
 use Rattle.type_places.specs.declared.slots.Sort.TheVariants.{Any}
 use Rattle.type_places.specs.declared.slots.Slot.{Slot}
 use Rattle.type_places.specs.declared.slots.Slot.TheVariants.{Open}

@@ -1,4 +1,4 @@
-use Rattle.std.proofs.Common.{◌≡◌, length, ℕ, List}
+use Rattle.std.proofs.Common.{◌≡◌, length}
 use Rattle.type_places.specs.Slots.{Typing, Meets, Fits}
 use Rattle.type_places.proofs.open.open_slots.Given as goal
 

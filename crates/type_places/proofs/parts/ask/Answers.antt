@@ -1,5 +1,5 @@
 use Rattle.std.proofs.Common.{◌≡◌, List, sym, subst}
-use Rattle.type_places.specs.Slots.{Typing, value}
+use Rattle.type_places.specs.Slots.{value}
 use Rattle.type_places.specs.Asks.{AsksWithin}
 use Rattle.type_places.specs.declared.slots.Ask.{Ask}
 use Rattle.type_places.proofs.Asking.{adds_one, within_more}

@@ -1,7 +1,7 @@
-use Rattle.std.proofs.Common.{◌≡◌, ◌∙◌, Bool, ap, sym}
+use Rattle.std.proofs.Common.{◌≡◌, ◌∙◌, ap, sym}
 use Rattle.std.proofs.lemmas.Result.{IfOk-weaker}
 use Rattle.pv_base.specs.TypeData.{types_of}
-use Rattle.type_places.specs.Slots.{Typing, value, wrapped, grouped, list_at}
+use Rattle.type_places.specs.Slots.{value, wrapped, grouped, list_at}
 use Rattle.type_places.specs.Asks.{Says}
 use Rattle.type_places.proofs.Asking.{says_said}
 use Rattle.type_places.proofs.parts.ask_parts.Goals as goal

@@ -1,6 +1,6 @@
-use Rattle.std.proofs.Common.{◌≡◌, ◌+◌, ◌<◌, ℕ, arith, subst, length}
-use Rattle.type_places.specs.Slots.{Typing, list_at}
-use Rattle.type_places.proofs.Asking.{adds_none, adds_more, adds_said, lists_same, lists_each}
+use Rattle.std.proofs.Common.{◌≡◌, ◌+◌, ◌<◌, ℕ, arith}
+use Rattle.type_places.specs.Slots.{list_at}
+use Rattle.type_places.proofs.Asking.{adds_more, adds_said, lists_same, lists_each}
 use Rattle.type_places.proofs.parts.ask_places.Goals as goal
 
 pub loop-i-preserved : goal.loop-i-preserved

@@ -1,5 +1,4 @@
 use Rattle.std.proofs.Common.{◌≡◌, ◌+◌, ◌<◌, ℕ}
-use Rattle.type_places.specs.Slots.{Typing}
 use Rattle.type_places.specs.Asks.{Adds, AsksWithin, asks_work}
 use Rattle.type_places.proofs.parts.ask_places.Given as goal
 

@@ -1,8 +1,8 @@
-use Rattle.std.proofs.Common.{◌≡◌, ◌+◌, ◌<◌, ℕ, arith, subst, length, get_or, take, sym, ◌∙◌, List, ap}
+use Rattle.std.proofs.Common.{◌≡◌, ◌+◌, ◌<◌, ℕ, arith, subst, length, get_or, ◌∙◌, ap}
 use Rattle.std.proofs.lemmas.List.{get_or_default}
 use Rattle.std.proofs.lemmas.List.Sums.{sum_by_more}
 use Rattle.pv_base.specs.TypeData.{TypeData, BoolType, type_size}
-use Rattle.type_places.specs.Slots.{Typing, list_at}
+use Rattle.type_places.specs.Slots.{list_at}
 use Rattle.type_places.specs.Asks.{Adds}
 use Rattle.type_places.proofs.Asking.{adds_more, adds_said, list_is, list_each, some_weight}
 use Rattle.type_places.proofs.parts.ask_types.Goals as goal

@@ -1,7 +1,6 @@
 use Rattle.std.proofs.Common.{◌≡◌, ◌+◌, ◌<◌, ℕ, get_or, take}
 use Rattle.std.specs.Prelude.{sum_by}
 use Rattle.pv_base.specs.TypeData.{BoolType, type_size}
-use Rattle.type_places.specs.Slots.{Typing}
 use Rattle.type_places.specs.Asks.{Adds, AsksWithin, asks_work}
 use Rattle.type_places.proofs.parts.ask_types.Given as goal
 

@@ -1,6 +1,5 @@
-use Rattle.std.proofs.Common.{◌≡◌, ◌∙◌, arith, ap, sym, subst}
-use Rattle.pv_base.specs.TypeData.{TypeData}
-use Rattle.type_places.specs.Slots.{Typing, wrapped}
+use Rattle.std.proofs.Common.{◌≡◌, ◌∙◌, arith, ap, sym}
+use Rattle.type_places.specs.Slots.{wrapped}
 use Rattle.type_places.proofs.Asking.{adds_said, wrapped_same, type_size_pos}
 use Rattle.type_places.proofs.parts.closed_part.Goals as goal
 

@@ -1,6 +1,6 @@
-use Rattle.std.proofs.Common.{◌≡◌, ◌∙◌, ℕ, List, arith, ap, sym, subst, length}
+use Rattle.std.proofs.Common.{◌≡◌, ◌∙◌, List, arith, ap, sym, length}
 use Rattle.pv_base.specs.TypeData.{TypeData, types_of}
-use Rattle.type_places.specs.Slots.{Typing, grouped, list_at}
+use Rattle.type_places.specs.Slots.{grouped, list_at}
 use Rattle.type_places.proofs.Asking.{adds_said, grouped_same, type_size_pos, length-list_at}
 use Rattle.type_places.proofs.parts.closed_parts.Goals as goal
 

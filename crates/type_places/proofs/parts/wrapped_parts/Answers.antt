@@ -1,6 +1,6 @@
-use Rattle.std.proofs.Common.{◌≡◌, ◌∙◌, Bool, ap, sym, refl}
+use Rattle.std.proofs.Common.{◌≡◌, ◌∙◌, ap, sym, refl}
 use Rattle.std.proofs.lemmas.Result.{IfOk-weaker}
-use Rattle.type_places.specs.Slots.{Typing, value, wrapped}
+use Rattle.type_places.specs.Slots.{value, wrapped}
 use Rattle.type_places.specs.Asks.{Says}
 use Rattle.type_places.proofs.Asking.{adds_said, says_said, wrapped_same}
 use Rattle.type_places.proofs.parts.wrapped_parts.Goals as goal

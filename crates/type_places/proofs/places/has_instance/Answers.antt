@@ -1,6 +1,6 @@
-use Rattle.std.proofs.Common.{◌≡◌, ◌∙◌, Bool, IsTrue, length, sym}
+use Rattle.std.proofs.Common.{◌≡◌, ◌∙◌, Bool, length, sym}
 use Rattle.std.proofs.lemmas.Result.{IfOk-weaker}
-use Rattle.type_places.specs.Slots.{Typing, value}
+use Rattle.type_places.specs.Slots.{value}
 use Rattle.type_places.specs.Instances.{instance, arguments}
 use Rattle.type_places.proofs.Growing.{grown_said, instance_kept}
 use Rattle.type_places.proofs.places.has_instance.Goals as goal

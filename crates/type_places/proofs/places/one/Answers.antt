@@ -1,6 +1,6 @@
-use Rattle.std.proofs.Common.{◌≡◌, Bool, IsTrue, sym, subst}
+use Rattle.std.proofs.Common.{◌≡◌, IsTrue, sym, subst}
 use Rattle.std.specs.Prelude.{IfOk}
-use Rattle.type_places.specs.Slots.{Typing, value}
+use Rattle.type_places.specs.Slots.{value}
 use Rattle.type_places.specs.Grown.{Grows}
 use Rattle.type_places.specs.declared.slots.Term.{Term}
 use Rattle.type_places.proofs.places.one.Goals as goal

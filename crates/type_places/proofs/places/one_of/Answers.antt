@@ -1,6 +1,6 @@
-use Rattle.std.proofs.Common.{◌≡◌, ◌∙◌, Bool, IsTrue, length, sym, ap}
+use Rattle.std.proofs.Common.{◌≡◌, ◌∙◌, Bool, length, sym, ap}
 use Rattle.std.proofs.lemmas.Result.{IfOk-weaker}
-use Rattle.type_places.specs.Slots.{Typing, value}
+use Rattle.type_places.specs.Slots.{value}
 use Rattle.type_places.proofs.Growing.{grown_said, value_kept}
 use Rattle.type_places.proofs.places.one_of.Goals as goal
 

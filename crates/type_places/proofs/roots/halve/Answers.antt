@@ -1,4 +1,4 @@
-use Rattle.type_places.proofs.Becoming.{halved, halved_same, halved_stays}
+use Rattle.type_places.proofs.Becoming.{halved, halved_same}
 use Rattle.type_places.proofs.roots.halve.Goals as goal
 
 pub returns-in-Some-clause-same : goal.returns-in-Some-clause-same

@@ -1,7 +1,7 @@
-use Rattle.std.proofs.Common.{◌≡◌, ◌∙◌, List, map, sym, ap}
-use Rattle.pv_base.specs.TypeData.{TypeData, TypesData, StructType, TupleType, types_of}
+use Rattle.std.proofs.Common.{◌∙◌, map, sym, ap}
+use Rattle.pv_base.specs.TypeData.{StructType, TupleType}
 use Rattle.pv_base.specs.TypeView.{type_of_node}
-use Rattle.type_places.specs.Instances.{instance, instances, arguments}
+use Rattle.type_places.specs.Instances.{instance, arguments}
 use Rattle.type_places.proofs.Instancing.{struct_instance, tuple_instance}
 use Rattle.type_places.proofs.signature.+has_parameter.Goals as goal
 

@@ -1,5 +1,4 @@
-use Rattle.std.proofs.Common.{◌≡◌, ◌+◌, ◌*◌, ℕ, map, take}
-use Rattle.pv_base.specs.TypeData.{type_size, types_size, types_of}
+use Rattle.std.proofs.Common.{◌≡◌, ℕ, map, take}
 use Rattle.type_places.specs.Slots.{Typing}
 use Rattle.type_places.specs.Instances.{instance, arguments}
 use Rattle.type_places.proofs.signature.+has_parameter.Given as goal

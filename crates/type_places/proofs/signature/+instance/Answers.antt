@@ -1,11 +1,10 @@
-use Rattle.std.proofs.Common.{◌≡◌, ◌+◌, ◌<◌, ◌≤◌, ◌∙◌, ℕ, List, length, map, sym, ap, subst, arith}
+use Rattle.std.proofs.Common.{◌≤◌, ◌∙◌, List, length, map, sym, ap, subst, arith}
 use Rattle.std.proofs.lemmas.Result.{IfOk-weaker}
-use Rattle.pv_base.specs.TypeData.{TypeData, TypesData, StructType, TupleType, types_of}
+use Rattle.pv_base.specs.TypeData.{StructType, TupleType}
 use Rattle.pv_base.specs.TypeView.{type_of_node}
-use Rattle.type_places.specs.Slots.{Typing, value, Meets, grouped}
-use Rattle.type_places.specs.Grown.{Grows}
+use Rattle.type_places.specs.Slots.{value}
 use Rattle.type_places.specs.Terms.{AllWithin}
-use Rattle.type_places.specs.Instances.{instance, instances, arguments}
+use Rattle.type_places.specs.Instances.{instance, arguments}
 use Rattle.type_places.specs.declared.slots.Term.{Term}
 use Rattle.type_places.proofs.Growing.{grown}
 use Rattle.type_places.proofs.Results.{if_ok_two}

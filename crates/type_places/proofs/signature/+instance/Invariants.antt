@@ -1,5 +1,4 @@
-use Rattle.std.proofs.Common.{◌≡◌, ◌+◌, ◌*◌, ◌≤◌, ℕ, map, take, length}
-use Rattle.pv_base.specs.TypeData.{type_size, types_size, types_of}
+use Rattle.std.proofs.Common.{◌≡◌, map, take, length}
 use Rattle.type_places.specs.Slots.{Typing, value, Meets}
 use Rattle.type_places.specs.Grown.{Grows}
 use Rattle.type_places.specs.Terms.{AllWithin}

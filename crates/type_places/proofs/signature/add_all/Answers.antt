@@ -1,6 +1,5 @@
-use Rattle.std.proofs.Common.{◌≡◌, ◌+◌, ◌<◌, ◌≤◌, ℕ, List, length, map, get_or, sym, ap, subst, ◌∙◌, arith}
-use Rattle.pv_base.specs.TypeData.{TypeData}
-use Rattle.type_places.specs.Slots.{Typing, value, list_at, TermWithin}
+use Rattle.std.proofs.Common.{◌≡◌, ◌≤◌, length, map, sym, ap, subst, ◌∙◌, arith}
+use Rattle.type_places.specs.Slots.{value, list_at, TermWithin}
 use Rattle.type_places.specs.declared.slots.Term.{Term}
 use Rattle.type_places.proofs.Growing.{grown}
 use Rattle.type_places.proofs.Instancing.{all_at, term_more, have_more, all_taken}

@@ -1,4 +1,4 @@
-use Rattle.std.proofs.Common.{◌≡◌, ◌+◌, ℕ, map, take, length}
+use Rattle.std.proofs.Common.{◌≡◌, ◌+◌, map, take, length}
 use Rattle.type_places.specs.Slots.{Typing, value, list_at, Meets}
 use Rattle.type_places.specs.Grown.{Grows}
 use Rattle.type_places.proofs.signature.add_all.Given as goal
