@@ -1,7 +1,7 @@
 -- Slots that say of substitutions that they are unifiers.
-use Rattle.std.proofs.Common.{◌≡◌, ◌≢◌, ℕ, zero, suc, ◌+◌, ◌<◌, ◌≤◌, ◌++◌, Bool, true, false, IsTrue, List, [], ◌∷◌, length, take, get_or, refl, sym, ap, subst, ◌∙◌, inl, inr, arith}
+use Rattle.std.proofs.Common.{◌≡◌, ℕ, zero, suc, ◌+◌, ◌<◌, ◌≤◌, ◌++◌, true, false, IsTrue, List, [], ◌∷◌, length, take, get_or, refl, sym, ap, subst, ◌∙◌, inl, inr, arith}
 use Rattle.std.proofs.lemmas.Bool.Decides.{leb_tells}
-use Rattle.pv_base.specs.TypeData.{TypeData, IntType, ParamType, TypesData, NoTypes, MoreTypes, types_of, VectorType, StructType, SharedType, MutableType, TupleType}
+use Rattle.pv_base.specs.TypeData.{TypeData, ParamType, TypesData, MoreTypes, types_of}
 use Rattle.type_places.specs.Sorts.{is_of}
 use Rattle.type_places.specs.Slots.{Typing, value, list_at, wrapped, grouped, Meets, Fits, IsOpen, SlotMeets, slot_at}
 use Rattle.type_places.specs.Grown.{SameTo, Grows}

@@ -8,7 +8,6 @@ use Rattle.type_places.specs.Ranks.{refill_by}
 use Rattle.type_places.specs.Instances.{instance, arguments}
 use Rattle.type_places.specs.declared.slots.Sort.{Sort}
 use Rattle.type_places.specs.declared.slots.Sort.TheVariants.{Any, Single, Value, Integer}
-use Rattle.type_places.specs.declared.slots.Term.{Term}
 use Rattle.type_places.specs.declared.slots.Term.TheVariants.{Place, Closed, Made, Grouped}
 use Rattle.type_places.specs.declared.slots.Slot.{Slot}
 use Rattle.type_places.specs.declared.slots.Slot.TheVariants.{Open, Bound}

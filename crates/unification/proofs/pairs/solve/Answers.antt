@@ -1,4 +1,4 @@
-use Rattle.std.proofs.Common.{◌≡◌, ◌<◌, Bool, true, false, IsTrue, length, subst, arith}
+use Rattle.std.proofs.Common.{◌<◌, Bool, IsTrue, length, subst, arith}
 use Rattle.type_places.specs.Grown.{Grows}
 use Rattle.unification.specs.Unifiers.{Joins}
 use Rattle.unification.proofs.Solving.{start, more_at, clash_at}

@@ -1,4 +1,4 @@
-use Rattle.std.proofs.Common.{◌≡◌, ◌+◌, Bool, sym, subst}
+use Rattle.std.proofs.Common.{◌+◌, Bool, sym, subst}
 use Rattle.unification.specs.Ranked.{Passes}
 use Rattle.unification.proofs.Ranking.{passes_one}
 use Rattle.unification.proofs.ranks.pass.Goals as goal

@@ -1,4 +1,4 @@
-use Rattle.std.proofs.Common.{◌≡◌, ◌∙◌, refl, ap, length}
+use Rattle.std.proofs.Common.{◌∙◌, refl, ap, length}
 use Rattle.unification.proofs.Ranking.{no_typing_in, written_back}
 use Rattle.unification.proofs.ranks.ranks.Goals as goal
 

@@ -1,4 +1,4 @@
-use Rattle.std.proofs.Common.{◌≡◌, ◌<◌, ℕ, refl, length, List, take, subst, sym}
+use Rattle.std.proofs.Common.{◌<◌, ℕ, refl, length, List, take, subst}
 use Rattle.type_places.specs.Slots.{Typing, Meets, slot_at}
 use Rattle.type_places.specs.Ranks.{IsRank}
 use Rattle.type_places.specs.declared.slots.Slot.{Slot}

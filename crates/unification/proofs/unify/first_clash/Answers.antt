@@ -1,4 +1,4 @@
-use Rattle.std.proofs.Common.{◌≡◌, ◌+◌, ◌<◌, length, take, subst, arith, ℕ}
+use Rattle.std.proofs.Common.{◌≡◌, ◌+◌, length, take, subst, arith, ℕ}
 use Rattle.pv_base.specs.TypeData.{BoolType}
 use Rattle.unification.specs.Unifiers.{HasNoUnifier}
 use Rattle.unification.proofs.Solving.{some_pairs}

@@ -1,5 +1,5 @@
-use Rattle.std.proofs.Common.{◌≡◌, ◌<◌, ℕ, refl, length, List, take, subst, sym}
-use Rattle.type_places.specs.Slots.{Typing, Meets, slot_at}
+use Rattle.std.proofs.Common.{List, take, subst}
+use Rattle.type_places.specs.Slots.{Typing, Meets}
 use Rattle.type_places.specs.Ranks.{IsRank}
 use Rattle.type_places.specs.declared.slots.Slot.{Slot}
 use Rattle.unification.specs.Unifiers.{HasNoUnifier}
