@@ -13,7 +13,7 @@ use std::alloc::{AllocError, Global};
 /// Why there is no unifier.
 #[derive(Clone, Copy, Debug, PartialEq, Eq)]
 pub enum UnifyFault {
-    OutOfMemory,
+    NoMemory,
     /// The pairs up to and with this one, counted from 0, have none, and those before it have one.
     Clash(usize),
     /// Never answered, since no integer type is asked for, and parts in which variables stand have places of their
@@ -84,12 +84,12 @@ fn first_clash(alloc: Global, pairs: &[TypePair], variables: usize) -> Result<us
 }
 
 impl From<AllocError> for UnifyFault {
-    ghost use Rattle.unification.specs.declared.unify.UnifyFault.TheVariants.{OutOfMemory};
+    ghost use Rattle.unification.specs.declared.unify.UnifyFault.TheVariants.{NoMemory};
 
-    ghost from_gives = { λ _ fault. fault ≡ OutOfMemory };
+    ghost from_gives = { λ _ fault. fault ≡ NoMemory };
 
     fn from(_: AllocError) -> UnifyFault {
-        UnifyFault::OutOfMemory
+        UnifyFault::NoMemory
     }
 }
 
