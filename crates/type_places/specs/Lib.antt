@@ -3,6 +3,7 @@ pub mod Slots
 pub mod Asks
 pub mod Ranks
 pub mod Grown
+pub mod Knows
 pub mod Agree
 pub mod Instances
 pub mod Terms

@@ -1,5 +1,5 @@
 -- What the rules of typing demand at a node. Places are numbers; a typing gives each of them a type.
-use Rattle.std.specs.Prelude.{ℕ, ◌+◌, zero, suc, ltb, List, if◌then◌else◌}
+use Rattle.std.specs.Prelude.{ℕ, ◌+◌, zero, suc, nat_lt, List, if◌then◌else◌}
 use Rattle.pv_base.specs.TypeData.{TypeData, TypesData, ParamType, StructType, NoTypes, MoreTypes}
 use Rattle.pv_base.specs.declared.types.StructId.{StructId}
 use Rattle.typings.specs.declared.sort.Wrap.{Wrap}
@@ -26,7 +26,7 @@ types_at t first (suc n) = MoreTypes (t first) (types_at t (first + 1) n)
 
 -- what type parameters stand for: the types of so many places, from this one on
 abbrev pub arguments : Typing → ℕ → ℕ → ℕ → TypeData
-arguments t first count n = if ltb n count then t (first + n) else ParamType n
+arguments t first count n = if nat_lt n count then t (first + n) else ParamType n
 
 abbrev pub form_type : Typing → TypeForm → TypeData
 form_type t (Written of) = of
