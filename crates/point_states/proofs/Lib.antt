@@ -1,0 +1,4 @@
+pub mod Begun
+pub mod Nodes
+pub mod Passing
+pub mod Tabled
