@@ -1,6 +1,6 @@
 -- What functions call, and what they carry to it. Source: The Move Book, "Generics": a generic function has as many instances as
 -- its callers give it types; where a type parameter comes back to itself inside another type they have no end.
-use Rattle.std.specs.Prelude.{◌≡◌, ◌⊎◌, ℕ, ◌+◌, Bool, true, false, ◌||◌, List, Some, slice_get}
+use Rattle.std.specs.Prelude.{◌≡◌, ◌⊎◌, ℕ, ◌+◌, ◌<◌, Bool, true, false, ◌||◌, List, Some, slice_get}
 use Rattle.std.specs.Map.{lookup}
 use Rattle.pv_base.specs.TypeData.{TypeData, TypesData, BoolType, IntType, NumType, AddressType, SignerType, VectorType, StructType, ParamType, SharedType, MutableType, TupleType, NoTypes, MoreTypes}
 use Rattle.pv_base.specs.declared.types.FunctionId.{FunctionId}
@@ -12,7 +12,8 @@ use Rattle.pv_types.specs.declared.code.Callee.TheVariants.{Function as plain_fu
 use Rattle.pv_types.specs.declared.declaration.Function.{Function}
 use Rattle.pv_types.specs.declared.program.Program.{Program}
 use Rattle.declaration_places.specs.Same.{same_function}
-use Rattle.typings.specs.Settings.{first_argument}
+use Rattle.visibility.specs.Visible.{CodeNode}
+use Rattle.typings.specs.Settings.{first_argument, node_arity}
 use Rattle.typings.specs.Answers.{HasType, NodeIsRead}
 use Rattle.typings.specs.CodeSystems.{function_setting, function_system}
 
@@ -26,10 +27,12 @@ pub record CallsAt (program : Program) (f : Function) (n : ℕ) (callee : Callee
   pub callee_is : call.callee ≡ callee
   pub is_read : NodeIsRead (function_system program f) n
 
--- the type argument with the number i of the node with the number n, where it is forced
-abbrev pub HasArgument : Program → Function → ℕ → ℕ → TypeData → Type 0
-HasArgument program f n i of =
-    HasType (function_system program f) (first_argument (function_setting program f) n + i) of
+-- the node with the number n has a type argument with the number i, and this is it, where it is forced
+pub record HasArgument (program : Program) (f : Function) (n i : ℕ) (of : TypeData) : Type 0 where
+  pub form : CodeNode
+  pub stands : slice_get f.body.nodes n ≡ Some form
+  pub within : i < node_arity program form
+  pub is_type : HasType (function_system program f) (first_argument (function_setting program f) n + i) of
 
 -- ---- wrapping
 
