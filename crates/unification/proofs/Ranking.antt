@@ -1,11 +1,11 @@
 -- Ranks that are given, and what is left without.
-use Rattle.std.proofs.Common.{◌≡◌, ◌≢◌, ℕ, zero, suc, ◌+◌, ◌<◌, ◌≤◌, Bool, true, false, List, length, take, drop, replicate, ◌++◌, refl, sym, ap, subst, ◌∙◌, inl, inr, arith, get_or-set_other, get_or-set_same}
+use Rattle.std.proofs.Common.{◌≡◌, ◌≢◌, ℕ, zero, suc, ◌+◌, ◌<◌, ◌≤◌, Bool, true, false, List, [], ◌∷◌, length, length-append, take, drop, replicate, ◌++◌, refl, sym, ap, subst, ◌∙◌, inl, inr, arith, get_or-set_other, get_or-set_same}
 use Rattle.std.proofs.lemmas.Bool.Decides.{eqb_tells}
 use Rattle.std.proofs.lemmas.List.Sums.{sum_by-set}
-use Rattle.std.proofs.lemmas.List.{append-nil}
+use Rattle.std.proofs.lemmas.List.{append-nil, get_or_push, get_or_append_left}
 use Rattle.std.proofs.Math.Seq.{take-length, drop-length}
 use Rattle.std.proofs.Math.ListN.{set, length-set}
-use Rattle.std.specs.Prelude.{◌||◌}
+use Rattle.std.specs.Prelude.{◌||◌, slice_index}
 use Rattle.type_places.specs.Slots.{Typing, Meets, Fits, SlotFits, slot_at}
 use Rattle.type_places.specs.Ranks.{EachIn, EachLed, Lower, IsRank, rank_by}
 use Rattle.type_places.specs.declared.slots.Term.{Term}
@@ -13,20 +13,22 @@ use Rattle.type_places.specs.declared.slots.Term.TheVariants.{Place, Closed, Mad
 use Rattle.type_places.specs.declared.slots.Slot.{Slot}
 use Rattle.type_places.specs.declared.slots.Slot.TheVariants.{Open, Bound}
 use Rattle.type_places.proofs.Refill.{ranked}
-use Rattle.unification.specs.Ranked.{rank_at, HasLower, IsRanked, SomeIn, SomeLed, IsStuck, left, unranked, Settles, Passes}
+use Rattle.unification.specs.Ranked.{rank_at, HasLower, IsRanked, IsRanking, SomeIn, SomeLed, IsStuck, left, unranked, Settles, Passes}
 
 zeros : (n p : ℕ) → rank_at (replicate n zero) p ≡ zero
 zeros zero p = refl
 zeros (suc n) zero = refl
 zeros (suc n) (suc p) = zeros n p
 
-pub none_ranked : (slots : List Slot) (ranks : List ℕ) (n : ℕ) → ranks ≡ replicate n zero → length ranks ≡ length slots → IsRanked slots ranks 0
+pub none_ranked : (slots : List Slot) (ranks : List ℕ) (n : ℕ) → ranks ≡ replicate n zero → length ranks ≡ length slots → IsRanked slots ranks []
 none_ranked slots ranks n e len =
     let zero_at : (p : ℕ) → rank_at ranks p ≡ 0 = λ p. ap (λ (r : List ℕ). rank_at r p) e ∙ zeros n p in
     record {
       same_length = len;
       each = λ p lt h. absurd (let z = zero_at p in omega (arith, z, h));
       most = λ p lt. let z = zero_at p in omega (arith, z);
+      listed = λ k lt. absurd (omega (arith, lt));
+      placed = λ p k lt e. absurd (let z = zero_at p in omega (arith, z, e));
     }
 
 each_in : (P Q : ℕ → Type 0) (x : Term) → ((q : ℕ) → P q → Q q) → EachIn P x → EachIn Q x
@@ -71,10 +73,11 @@ kept_lower ranks i r k q none h =
     let same = other ranks i q r ne in
     (subst (λ (n : ℕ). q < n) (sym (length-set ranks i r)) h.0, subst (λ (n : ℕ). 0 < n) (sym same) h.1, subst (λ (n : ℕ). n < k) (sym same) h.2)
 
-pub settled_one : (slots : List Slot) (ranks : List ℕ) (top i r : ℕ) → Fits slots → IsRanked slots ranks top → i < length slots → rank_at ranks i ≡ 0 → top < r →
-    EachLed (λ q. 0 < rank_at ranks q) (slot_at slots i) → IsRanked slots (set ranks i r) r
-settled_one slots ranks top i r fits is lt none more links =
+pub settled_one : (slots : List Slot) (ranks order : List ℕ) (i r : ℕ) → Fits slots → IsRanked slots ranks order → i < length slots → rank_at ranks i ≡ 0 → r ≡ length order + 1 →
+    EachLed (λ q. 0 < rank_at ranks q) (slot_at slots i) → IsRanked slots (set ranks i r) (order ++ i ∷ [])
+settled_one slots ranks order i r fits is lt none more links =
     let inside : i < length ranks = subst (λ (n : ℕ). i < n) (sym is.same_length) lt in
+    let long : length (order ++ i ∷ []) ≡ length order + 1 = length-append order (i ∷ []) in
     record {
       same_length = length-set ranks i r ∙ is.same_length;
       each = λ p lp h. elim (eqb_tells p i) [
@@ -89,8 +92,23 @@ settled_one slots ranks top i r fits is lt none more links =
             (is.each p lp (subst (λ (n : ℕ). 0 < n) same h))))
       ];
       most = λ p lp. elim (eqb_tells p i) [
-        | inl e ↦ subst (λ (x : ℕ). rank_at (set ranks i r) x ≤ r) (sym e.1) (let m = here ranks i r inside in omega (arith, m))
-        | inr e ↦ (let same = other ranks i p r e.1 in let m = is.most p lp in omega (arith, same, m, more))
+        | inl e ↦ subst (λ (x : ℕ). rank_at (set ranks i r) x ≤ length (order ++ i ∷ [])) (sym e.1) (let m = here ranks i r inside in omega (arith, m, long, more))
+        | inr e ↦ (let same = other ranks i p r e.1 in let m = is.most p lp in omega (arith, same, m, long))
+      ];
+      listed = λ k lk. elim (eqb_tells k (length order)) [
+        | inl e ↦ (let at : slice_index (order ++ i ∷ []) k ≡ i = get_or_push order i 0 k (sym e.1) in
+            (subst (λ (x : ℕ). x < length slots) (sym at) lt, ap (rank_at (set ranks i r)) at ∙ here ranks i r inside ∙ more ∙ ap (λ (x : ℕ). x + 1) (sym e.1)))
+        | inr e ↦ (let less : k < length order = omega (arith, lk, long, e.1) in
+            let at : slice_index (order ++ i ∷ []) k ≡ slice_index order k = get_or_append_left order (i ∷ []) 0 k less in
+            let old = is.listed k less in
+            let ne : slice_index order k ≢ i = λ x. (let z : rank_at ranks (slice_index order k) ≡ 0 = ap (rank_at ranks) x ∙ none in absurd (let o = old.1 in omega (arith, z, o))) in
+            (subst (λ (x : ℕ). x < length slots) (sym at) old.0, ap (rank_at (set ranks i r)) at ∙ other ranks i (slice_index order k) r ne ∙ old.1))
+      ];
+      placed = λ p k lp h. elim (eqb_tells p i) [
+        | inl e ↦ (let top : rank_at (set ranks i r) p ≡ r = ap (rank_at (set ranks i r)) e.1 ∙ here ranks i r inside in
+            get_or_push order i 0 k (omega (arith, top, h, more)) ∙ sym e.1)
+        | inr e ↦ (let old : rank_at ranks p ≡ k + 1 = sym (other ranks i p r e.1) ∙ h in
+            get_or_append_left order (i ∷ []) 0 k (let m = is.most p lp in omega (arith, old, m)) ∙ is.placed p k lp old)
       ];
     }
 
@@ -119,12 +137,19 @@ passes_one slots p old mid new false false a b = (
 )
 
 -- where each place has a rank, the ranks are ranks
-pub all_are : (slots : List Slot) (ranks : List ℕ) (top : ℕ) → IsRanked slots ranks top → ((p : ℕ) → p < length ranks → 0 < rank_at ranks p) → IsRank slots (rank_at ranks)
-all_are slots ranks top is all = record {
+is_rank : (slots : List Slot) (ranks order : List ℕ) → IsRanked slots ranks order → ((p : ℕ) → p < length ranks → 0 < rank_at ranks p) → IsRank slots (rank_at ranks)
+is_rank slots ranks order is all = record {
   each = λ p lt.
       each_led (HasLower ranks (rank_at ranks p)) (Lower (length slots) (rank_at ranks) (rank_at ranks p)) (slot_at slots p)
       (λ q g. (subst (λ (n : ℕ). q < n) is.same_length g.0, g.2))
       (is.each p lt (all p (subst (λ (n : ℕ). p < n) (sym is.same_length) lt)));
+}
+
+pub all_are : (slots : List Slot) (ranks order : List ℕ) → IsRanked slots ranks order → ((p : ℕ) → p < length ranks → 0 < rank_at ranks p) → IsRanking slots ranks order
+all_are slots ranks order is all = record {
+  ranked = is;
+  all = λ p lt. all p (subst (λ (n : ℕ). p < n) (sym is.same_length) lt);
+  is_rank = is_rank slots ranks order is all;
 }
 
 -- one of the places of a slot is lower

@@ -2,11 +2,18 @@
 
 ghost use Rattle.std.specs.Prelude.{◌≡◌, ◌<◌, ◌≤◌, ◌+◌, ◌||◌, ℕ, IsTrue, true, false, IfOk, OnOk, MatchOption, length};
 ghost use Rattle.type_places.specs.Slots.{Typing, Meets, Fits, SlotFits, TermFits, slot_at};
-ghost use Rattle.type_places.specs.Ranks.{EachIn, EachLed, IsRank};
-ghost use Rattle.unification.specs.Ranked.{rank_at, IsRanked, SomeIn, SomeLed, IsStuck, Settles, Passes, unranked};
+ghost use Rattle.type_places.specs.Ranks.{EachIn, EachLed};
+ghost use Rattle.unification.specs.Ranked.{rank_at, IsRanked, IsRanking, SomeIn, SomeLed, IsStuck, Settles, Passes, unranked};
 
 use std::alloc::{AllocError, Global};
 use type_places::slots::{Slot, Term};
+
+/// Ranks of all places, from 1 on, and the places in the order of their ranks.
+#[derive(Drop)]
+pub struct Ranking {
+    pub ranks: Vec<usize>,
+    pub order: Vec<usize>,
+}
 
 /// Whether so many consecutive places, from this one on, have ranks.
 fn all_have_ranks(ranks: &[usize], first: usize, count: usize) -> bool
@@ -58,9 +65,9 @@ fn settle<'a>(
     place: usize,
 ) -> Result<bool, AllocError>
     requires fits { Fits slots.now }
-    requires ranked { IsRanked slots.now ranks.old (length settled.old.items) }
+    requires ranked { IsRanked slots.now ranks.old settled.old.items }
     requires within { place < length slots.now }
-    ensures ranked { IfOk result (λ answer. IsRanked slots.now ranks.new (length settled.new.items)) }
+    ensures ranked { IfOk result (λ answer. IsRanked slots.now ranks.new settled.new.items) }
     ensures says { IfOk result (Settles slots.now place ranks.old ranks.new) }
 {
     if ranks[place] != 0 {
@@ -87,8 +94,8 @@ fn pass<'a>(
     settled: &mut Vec<usize>,
 ) -> Result<bool, AllocError>
     requires fits { Fits slots.now }
-    requires ranked { IsRanked slots.now ranks.old (length settled.old.items) }
-    ensures ranked { IfOk result (λ answer. IsRanked slots.now ranks.new (length settled.new.items)) }
+    requires ranked { IsRanked slots.now ranks.old settled.old.items }
+    ensures ranked { IfOk result (λ answer. IsRanked slots.now ranks.new settled.new.items) }
     ensures says { IfOk result (Passes slots.now (length slots.now) ranks.old ranks.new) }
 {
     let mut changed = false;
@@ -106,8 +113,8 @@ fn passes<'a>(
     settled: &mut Vec<usize>,
 ) -> Result<(), AllocError>
     requires fits { Fits slots.now }
-    requires ranked { IsRanked slots.now ranks.old (length settled.old.items) }
-    ensures ranked { OnOk result (IsRanked slots.now ranks.new (length settled.new.items)) }
+    requires ranked { IsRanked slots.now ranks.old settled.old.items }
+    ensures ranked { OnOk result (IsRanked slots.now ranks.new settled.new.items) }
     ensures stuck { OnOk result ((p : ℕ) → p < length slots.now → IsStuck slots.now ranks.new p) }
 {
     loop {
@@ -132,15 +139,15 @@ fn all_ranked(ranks: &[usize]) -> bool
 }
 
 /// Ranks of all places; none where no typing meets the slots, since a type would be a part of itself.
-pub fn ranks<'a>(alloc: Global, slots: &[Slot<'a>]) -> Result<Option<Vec<usize>>, AllocError>
+pub fn ranks<'a>(alloc: Global, slots: &[Slot<'a>]) -> Result<Option<Ranking>, AllocError>
     requires { Fits slots.now }
-    ensures { IfOk result (λ found. MatchOption found ((t : Typing) → Meets slots.now t → ⊥) (λ ranks. IsRank slots.now (rank_at ranks.items))) }
+    ensures { IfOk result (λ found. MatchOption found ((t : Typing) → Meets slots.now t → ⊥) (λ ranking. IsRanking slots.now ranking.ranks.items ranking.order.items)) }
 {
     let mut ranks = vec![in alloc; 0; slots.len()]?;
-    let mut settled = Vec::new(alloc);
-    passes(slots, &mut ranks, &mut settled)?;
+    let mut order = Vec::new(alloc);
+    passes(slots, &mut ranks, &mut order)?;
     if all_ranked(&ranks) {
-        Ok(Some(ranks))
+        Ok(Some(Ranking { ranks, order }))
     } else {
         Ok(None)
     }

@@ -35,8 +35,9 @@ fn attempt<'a>(
         None => Ok(Found::Clash),
         Some(slots) => match ranks(alloc, &slots)? {
             None => Ok(Found::Clash),
-            Some(ranks) => {
+            Some(ranking) => {
                 if all_plain(&slots, variables) {
+                    let ranks = ranking.ranks;
                     Ok(Found::Solved(Unifier { slots, ranks }))
                 } else {
                     Ok(Found::Unfinished)

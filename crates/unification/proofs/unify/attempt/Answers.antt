@@ -3,7 +3,7 @@ use Rattle.type_places.specs.Slots.{Typing, Meets, slot_at}
 use Rattle.type_places.specs.Ranks.{IsRank}
 use Rattle.type_places.specs.declared.slots.Slot.{Slot}
 use Rattle.unification.specs.Unifiers.{HasNoUnifier}
-use Rattle.unification.specs.Ranked.{rank_at}
+use Rattle.unification.specs.Ranked.{rank_at, IsRanking}
 use Rattle.unification.specs.Solved.{Solves, IsPlain}
 use Rattle.unification.proofs.Options.{at_none, at_some}
 use Rattle.unification.proofs.Solving.{no_unifier, most_general}
@@ -14,12 +14,12 @@ returns-in-None-2 c =
     let solves : Solves c.args.variables (take c.args.count c.args.pairs.now) c.in-Some.slots.items = at_some _ (HasNoUnifier c.args.variables (take c.args.count c.args.pairs.now)) (λ s. Solves c.args.variables (take c.args.count c.args.pairs.now) s.items) c.in-Some.slots c.in-Some.is c.in_ok-solve.ensures in
     no_unifier c.args.variables (take c.args.count c.args.pairs.now) c.in-Some.slots.items solves
     (subst (λ (s : List Slot). (t : Typing) → Meets s t → ⊥) c.deref.ensures.value
-    (at_none _ ((t : Typing) → Meets c.deref.result.now t → ⊥) (λ r. IsRank c.deref.result.now (rank_at r.items)) c.in-None-2.is c.in_ok-ranks-in-Some.ensures))
+    (at_none _ ((t : Typing) → Meets c.deref.result.now t → ⊥) (λ r. IsRanking c.deref.result.now r.ranks.items r.order.items) c.in-None-2.is c.in_ok-ranks-in-Some.ensures))
 
 pub returns-then-all_plain : goal.returns-then-all_plain
 returns-then-all_plain c =
     let solves : Solves c.args.variables (take c.args.count c.args.pairs.now) c.in-Some.slots.items = at_some _ (HasNoUnifier c.args.variables (take c.args.count c.args.pairs.now)) (λ s. Solves c.args.variables (take c.args.count c.args.pairs.now) s.items) c.in-Some.slots c.in-Some.is c.in_ok-solve.ensures in
-    most_general c.args.variables (take c.args.count c.args.pairs.now) c.in-Some.slots.items c.in-Some-2.ranks.items solves
-    (subst (λ (s : List Slot). IsRank s (rank_at c.in-Some-2.ranks.items)) c.deref.ensures.value
-    (at_some _ ((t : Typing) → Meets c.deref.result.now t → ⊥) (λ r. IsRank c.deref.result.now (rank_at r.items)) c.in-Some-2.ranks c.in-Some-2.is c.in_ok-ranks-in-Some.ensures))
+    most_general c.args.variables (take c.args.count c.args.pairs.now) c.in-Some.slots.items c.in-Some-2.ranking.ranks.items solves
+    (subst (λ (s : List Slot). IsRank s (rank_at c.in-Some-2.ranking.ranks.items)) c.deref.ensures.value
+    (at_some _ ((t : Typing) → Meets c.deref.result.now t → ⊥) (λ r. IsRanking c.deref.result.now r.ranks.items r.order.items) c.in-Some-2.ranking c.in-Some-2.is c.in_ok-ranks-in-Some.ensures).is_rank)
     (subst (λ (s : List Slot). (p : ℕ) → p < length s → IsPlain c.args.variables (slot_at s p)) c.deref-in-Some-2.ensures.value (c.if-all_plain.ensures refl))

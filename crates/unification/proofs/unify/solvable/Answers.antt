@@ -3,7 +3,7 @@ use Rattle.type_places.specs.Slots.{Typing, Meets}
 use Rattle.type_places.specs.Ranks.{IsRank}
 use Rattle.type_places.specs.declared.slots.Slot.{Slot}
 use Rattle.unification.specs.Unifiers.{HasNoUnifier}
-use Rattle.unification.specs.Ranked.{rank_at}
+use Rattle.unification.specs.Ranked.{rank_at, IsRanking}
 use Rattle.unification.specs.Solved.{Solves}
 use Rattle.unification.proofs.Options.{at_none, at_some}
 use Rattle.unification.proofs.Solving.{no_unifier, has_unifier}
@@ -14,11 +14,11 @@ returns-in-None-2 c =
     let solves : Solves c.args.variables (take c.args.count c.args.pairs.now) c.in-Some.slots.items = at_some _ (HasNoUnifier c.args.variables (take c.args.count c.args.pairs.now)) (λ s. Solves c.args.variables (take c.args.count c.args.pairs.now) s.items) c.in-Some.slots c.in-Some.is c.in_ok-solve.ensures in
     no_unifier c.args.variables (take c.args.count c.args.pairs.now) c.in-Some.slots.items solves
     (subst (λ (s : List Slot). (t : Typing) → Meets s t → ⊥) c.deref.ensures.value
-    (at_none _ ((t : Typing) → Meets c.deref.result.now t → ⊥) (λ r. IsRank c.deref.result.now (rank_at r.items)) c.in-None-2.is c.in_ok-ranks-in-Some.ensures))
+    (at_none _ ((t : Typing) → Meets c.deref.result.now t → ⊥) (λ r. IsRanking c.deref.result.now r.ranks.items r.order.items) c.in-None-2.is c.in_ok-ranks-in-Some.ensures))
 
 pub returns : goal.returns
 returns c =
     let solves : Solves c.args.variables (take c.args.count c.args.pairs.now) c.in-Some.slots.items = at_some _ (HasNoUnifier c.args.variables (take c.args.count c.args.pairs.now)) (λ s. Solves c.args.variables (take c.args.count c.args.pairs.now) s.items) c.in-Some.slots c.in-Some.is c.in_ok-solve.ensures in
-    has_unifier c.args.variables (take c.args.count c.args.pairs.now) c.in-Some.slots.items (rank_at c.in-Some-2.field-0.items) solves
-    (subst (λ (s : List Slot). IsRank s (rank_at c.in-Some-2.field-0.items)) c.deref.ensures.value
-    (at_some _ ((t : Typing) → Meets c.deref.result.now t → ⊥) (λ r. IsRank c.deref.result.now (rank_at r.items)) c.in-Some-2.field-0 c.in-Some-2.is c.in_ok-ranks-in-Some.ensures))
+    has_unifier c.args.variables (take c.args.count c.args.pairs.now) c.in-Some.slots.items (rank_at c.in-Some-2.field-0.ranks.items) solves
+    (subst (λ (s : List Slot). IsRank s (rank_at c.in-Some-2.field-0.ranks.items)) c.deref.ensures.value
+    (at_some _ ((t : Typing) → Meets c.deref.result.now t → ⊥) (λ r. IsRanking c.deref.result.now r.ranks.items r.order.items) c.in-Some-2.field-0 c.in-Some-2.is c.in_ok-ranks-in-Some.ensures).is_rank)
