@@ -2,7 +2,8 @@
 """Times the checker of certificates, the length of certificates, instances, axioms and substitution.
 
 Writes a program over a copy of the crates below it into a folder of its own, proves and runs it, and prints what it
-measured: of each row the time, and how it grew from the row of half the size before it.
+measured: of each row the processor time, the least of several runs, and how it grew from the row of half the size
+before it. What stands proved in this repository, in the crates' out/, is taken over and not proved again.
 
     bench/certificates.py [FOLDER]      FOLDER: where the copy is made; a temporary one if it is left out
 """
@@ -31,30 +32,52 @@ use instances::substitute::substitute;
 use pv_base::memory::NoMemory;
 use pv_base::types::{TypeNode, TypeTerm};
 use std::alloc::Global;
-use std::time::Instant;
+use std::time::CpuClock;
 use substitution::instance::is_instance;
 
+// How often each call is made; the least time counts.
+const RUNS: u32 = 7;
+
 fn main(rt: HostRuntime) -> anyhow::Result<()> {
+    time_checks(&rt)?;
+    time_formulas(&rt)
+}
+
+fn time_checks(rt: &HostRuntime) -> anyhow::Result<()> {
     let alloc = rt.alloc();
     for cuts in [13, 26, 52] {
-        timed(&rt, "moves in branches of 3,900 entries", &seven(alloc)?, &long(alloc, cuts, 3_900)?)?;
+        timed(rt, "moves in branches of 3,900 entries", &seven(alloc)?, &long(alloc, cuts, 3_900)?)?;
     }
     for count in [999, 1_999, 3_999] {
-        timed(&rt, "moves of one branch", &seven(alloc)?, &long(alloc, 0, count)?)?;
+        timed(rt, "moves of one branch", &seven(alloc)?, &long(alloc, 0, count)?)?;
     }
     for count in [975, 1_950, 3_900] {
-        timed(&rt, "names on one branch", &unnamed(alloc)?, &named(alloc, count)?)?;
+        timed(rt, "names on one branch", &unnamed(alloc)?, &named(alloc, count)?)?;
     }
     for count in [250, 500, 1_000] {
-        timed(&rt, "rows, each with unknowns of its own", &unordered(alloc, count)?, &ordered(alloc, count)?)?;
-    }
-    for count in [12_500, 25_000, 50_000, 100_000] {
-        let body = wide(alloc, count)?;
-        timed_put(&rt, "put in", count, &body, &Term::variable(2))?;
-        timed_put(&rt, "put in, with binders renamed", count, &body, &Term::variable(1))?;
-        timed_axiom(&rt, count)?;
+        timed(rt, "rows, each with unknowns of its own", &unordered(alloc, count)?, &ordered(alloc, count)?)?;
     }
     Ok(())
+}
+
+fn time_formulas(rt: &HostRuntime) -> anyhow::Result<()> {
+    let alloc = rt.alloc();
+    for count in [12_500, 25_000, 50_000, 100_000] {
+        let body = wide(alloc, count)?;
+        timed_put(rt, "put in", count, &body, &Term::variable(2))?;
+        timed_put(rt, "put in, with binders renamed", count, &body, &Term::variable(1))?;
+        timed_axiom(rt, count)?;
+    }
+    for count in [125, 250, 500, 1_000] {
+        let body = nested(alloc, count)?;
+        timed_put(rt, "put in, below nested quantifiers", count, &body, &Term::variable(0))?;
+    }
+    Ok(())
+}
+
+// The processor time so far, in microseconds.
+fn spent(rt: &HostRuntime) -> anyhow::Result<u128> {
+    Ok(rt.thread_cpu_time()?.as_micros())
 }
 
 fn whole() -> TypeTerm {
@@ -165,15 +188,22 @@ fn ordered(alloc: Global, count: u32) -> Result<Cert, NoMemory> {
 
 fn timed(rt: &HostRuntime, name: &str, formula: &Formula, cert: &Cert) -> anyhow::Result<()> {
     let shapes = Shapes::new(rt.alloc());
-    let start = Instant::now(rt)?;
-    let accepted = check(&shapes, formula, cert);
-    let micros = start.elapsed(rt)?.as_micros();
     let moves = cert.moves.len();
-    println!(rt; "{name}, accepted {accepted}|{moves}|{micros}")?;
-    let start = Instant::now(rt)?;
-    let bytes = cert_len(cert);
-    let micros = start.elapsed(rt)?.as_micros();
-    println!(rt; "length of {name}|{bytes}|{micros}")?;
+    let mut accepted = false;
+    let mut bytes = 0;
+    let mut checked = u128::MAX;
+    let mut counted = u128::MAX;
+    for _ in 0..RUNS {
+        let start = spent(rt)?;
+        accepted = check(&shapes, formula, cert);
+        let between = spent(rt)?;
+        bytes = cert_len(cert);
+        let end = spent(rt)?;
+        checked = checked.min(between.saturating_sub(start));
+        counted = counted.min(end.saturating_sub(between));
+    }
+    println!(rt; "{name}, accepted {accepted}|{moves}|{checked}")?;
+    println!(rt; "length of {name}|{bytes}|{counted}")?;
     Ok(())
 }
 
@@ -187,6 +217,20 @@ fn wide(alloc: Global, count: u32) -> Result<Formula, NoMemory> {
     Ok(Formula::all_of(formulas))
 }
 
+// So many quantifiers, each over those further inside and an equation of its variable and 0.
+fn nested(alloc: Global, count: u32) -> Result<Formula, NoMemory> {
+    let mut body = equal(alloc, 0, 0)?;
+    for i in 0..count {
+        let bound = i.saturating_add(1);
+        let mut both = Vec::new(alloc);
+        both.push(equal(alloc, 0, bound)?)?;
+        both.push(body)?;
+        let both = Box::new(alloc, Formula::all_of(both))?;
+        body = Formula::for_all(bound, Vec::new(alloc), both);
+    }
+    Ok(body)
+}
+
 fn timed_put(
     rt: &HostRuntime,
     name: &str,
@@ -194,14 +238,20 @@ fn timed_put(
     body: &Formula,
     term: &Term,
 ) -> anyhow::Result<()> {
-    let start = Instant::now(rt)?;
-    let made = substitute(rt.alloc(), body, 0, term)?;
-    let micros = start.elapsed(rt)?.as_micros();
-    println!(rt; "{name}|{count}|{micros}")?;
-    let start = Instant::now(rt)?;
-    let is_one = is_instance(body, 0, term, &made);
-    let micros = start.elapsed(rt)?.as_micros();
-    println!(rt; "instance, {name}, {is_one}|{count}|{micros}")?;
+    let mut is_one = false;
+    let mut put = u128::MAX;
+    let mut told = u128::MAX;
+    for _ in 0..RUNS {
+        let start = spent(rt)?;
+        let made = substitute(rt.alloc(), body, 0, term)?;
+        let between = spent(rt)?;
+        is_one = is_instance(body, 0, term, &made);
+        let end = spent(rt)?;
+        put = put.min(between.saturating_sub(start));
+        told = told.min(end.saturating_sub(between));
+    }
+    println!(rt; "{name}|{count}|{put}")?;
+    println!(rt; "instance, {name}, {is_one}|{count}|{told}")?;
     Ok(())
 }
 
@@ -210,10 +260,14 @@ fn timed_axiom(rt: &HostRuntime, count: u32) -> anyhow::Result<()> {
     let left = pack(alloc, count)?;
     let same = Formula::equal(Box::new(alloc, left)?, Box::new(alloc, pack(alloc, count)?)?);
     let shapes = Shapes::new(alloc);
-    let start = Instant::now(rt)?;
-    let is_one = is_axiom(&shapes, Axiom::Equal(Equation::Itself), &same);
-    let micros = start.elapsed(rt)?.as_micros();
-    println!(rt; "axiom, {is_one}|{count}|{micros}")?;
+    let mut is_one = false;
+    let mut told = u128::MAX;
+    for _ in 0..RUNS {
+        let start = spent(rt)?;
+        is_one = is_axiom(&shapes, Axiom::Equal(Equation::Itself), &same);
+        told = told.min(spent(rt)?.saturating_sub(start));
+    }
+    println!(rt; "axiom, {is_one}|{count}|{told}")?;
     Ok(())
 }
 
@@ -234,12 +288,21 @@ def crates_below():
         return "".join(line for line in file if line.split(":")[0] in NAMES)
 
 
-def main() -> int:
-    folder = sys.argv[1] if len(sys.argv) > 1 else tempfile.mkdtemp(prefix="certificates.")
+def copy(crates, name):
+    """Copies a crate, with the library that was proved of it, if there is one; rt tells whether it is of this text."""
+    source, target = os.path.join(ROOT, "crates", name), os.path.join(crates, name)
+    left_out = shutil.ignore_patterns("out", "must-fail")
+    shutil.copytree(source, target, dirs_exist_ok=True, ignore=left_out)
+    proved = os.path.join(source, "out", "rlib")
+    if os.path.isdir(proved):
+        shutil.copytree(proved, os.path.join(target, "out", "rlib"), dirs_exist_ok=True)
+
+
+def prepare(folder):
+    """Writes the program and the crates below it, and gives the program's folder."""
     crates = os.path.join(folder, "crates")
     for name in NAMES:
-        target = os.path.join(crates, name)
-        shutil.copytree(os.path.join(ROOT, "crates", name), target, dirs_exist_ok=True, ignore=shutil.ignore_patterns("out", "must-fail"))
+        copy(crates, name)
     with open(os.path.join(folder, "crates.txt"), "w", encoding="utf-8") as file:
         file.write(crates_below() + "times: pv_base fol substitution instances axioms cert certificate_bytes anyhow\n")
     target = os.path.join(crates, "times")
@@ -248,11 +311,17 @@ def main() -> int:
         file.write(PROGRAM)
     open(os.path.join(target, "stdin"), "w", encoding="utf-8").close()
     open(os.path.join(target, "stdout"), "w", encoding="utf-8").close()
+    return target
+
+
+def measure(folder) -> int:
+    target = prepare(folder)
     made = subprocess.run(["rt", "run", "--jobs", "1"], cwd=target, check=False, capture_output=True, text=True)
-    if not os.path.exists(os.path.join(target, "out", "times")):
+    program = os.path.join(target, "out", "times")
+    if not os.path.exists(program):
         print(made.stdout[-3000:], made.stderr[-3000:])
         return 1
-    done = subprocess.run([os.path.join(target, "out", "times")], check=False, capture_output=True, text=True)
+    done = subprocess.run([program], check=False, capture_output=True, text=True)
     last = {}
     for line in done.stdout.splitlines():
         name, size, micros = line.rsplit("|", 2)
@@ -263,6 +332,13 @@ def main() -> int:
         last[name] = int(size), int(micros)
         print(f"{name}: {int(size):,}, {int(micros) / 1000:.1f} ms{grown}")
     return done.returncode
+
+
+def main() -> int:
+    if len(sys.argv) > 1:
+        return measure(sys.argv[1])
+    with tempfile.TemporaryDirectory(prefix="certificates.") as folder:
+        return measure(folder)
 
 
 if __name__ == "__main__":
