@@ -2,6 +2,8 @@
 #![tactic(auto)]
 
 #[cfg(test)]
+mod form_tests;
+#[cfg(test)]
 mod length_tests;
 #[cfg(test)]
 mod long_tests;
