@@ -1,0 +1,4 @@
+pub mod Congruence
+pub mod Links
+pub mod Signatures
+pub mod States

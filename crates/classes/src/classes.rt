@@ -1,0 +1,110 @@
+//! The classes of nodes.
+
+ghost use Rattle.std.specs.Prelude.{◌≡◌, ◌↔◌, ◌<◌, [], ◌∷◌, ◌++◌, length, IsTrue, IfOk};
+ghost use Rattle.classes.specs.Congruence.{Congruent, IsWithin};
+ghost use Rattle.classes.specs.Signatures.{class_in};
+ghost use Rattle.classes.specs.States.{AreClasses};
+
+use crate::link::Link;
+use crate::state::State;
+use formula_pool::node::Node;
+use pv_base::memory::NoMemory;
+use std::alloc::Global;
+use std::marker::Model;
+
+/// Nodes and equations between them, by number, with the classes of the least congruence that joins the sides of each
+/// equation, and with links that show why numbers are of one class.
+#[derive(Drop)]
+pub struct Classes {
+    state: State,
+}
+
+impl Model for Classes {
+    ghost use Rattle.formula_pool.specs.NodeCodes.{same_node};
+    ghost use Rattle.indexmap.specs.IndexMap.{get};
+    ghost use Rattle.std.specs.Prelude.{◌≡◌, []};
+    ghost use Rattle.classes.specs.States.{IsKept, ClassesData};
+
+    ghost Value = { ClassesData };
+
+    ghost view = { λ c. record { nodes = c.state.nodes.items; equations = c.state.equations.items; names = c.state.classes.items; links = c.state.links.items } };
+
+    ghost invariant = { λ c. (c.state.waiting.items ≡ []) × IsKept c.state.nodes.items c.state.equations.items c.state.classes.items c.state.members.items c.state.users.items (get same_node c.state.table) c.state.links.items c.state.waiting.items };
+}
+
+impl Classes {
+    /// No nodes, and no equations.
+    pub fn new(alloc: Global) -> Classes
+        ensures nodes { result.nodes ≡ [] }
+        ensures equations { result.equations ≡ [] }
+    {
+        Classes {
+            state: State::new(alloc),
+        }
+    }
+
+    /// The classes with one more node, which has the next number; its parts have numbers.
+    pub fn with_node(self, node: Node) -> Result<Classes, NoMemory>
+        requires { IsWithin (length self.nodes) node }
+        ensures nodes { IfOk result (λ new. new.nodes ≡ self.nodes ++ node ∷ []) }
+        ensures equations { IfOk result (λ new. new.equations ≡ self.equations) }
+    {
+        let mut state = self.state;
+        state.add_node(node)?;
+        state.settle()?;
+        Ok(Classes { state })
+    }
+
+    /// The classes with one more equation, whose sides have numbers.
+    pub fn with_equation(self, left: usize, right: usize) -> Result<Classes, NoMemory>
+        requires left { left < length self.nodes }
+        requires right { right < length self.nodes }
+        ensures nodes { IfOk result (λ new. new.nodes ≡ self.nodes) }
+        ensures equations { IfOk result (λ new. new.equations ≡ self.equations ++ record { left = left; right = right } ∷ []) }
+    {
+        let mut state = self.state;
+        state.add_equation(left, right)?;
+        state.settle()?;
+        Ok(Classes { state })
+    }
+
+    /// How many nodes there are.
+    pub fn len(&self) -> usize
+        ensures { result ≡ length self.now.nodes }
+    {
+        self.state.nodes.len()
+    }
+
+    /// The name of the class of a number: a number of the class, the same one for each of them.
+    pub fn class(&self, number: usize) -> usize
+        requires { number < length self.now.nodes }
+        ensures { result ≡ class_in self.now.names number }
+    {
+        self.state.classes[number]
+    }
+
+    /// Whether two numbers are of one class.
+    pub fn are_joined(&self, left: usize, right: usize) -> bool
+        requires left { left < length self.now.nodes }
+        requires right { right < length self.now.nodes }
+        ensures { IsTrue result ↔ Congruent self.now.nodes self.now.equations left right }
+    {
+        self.exact();
+        self.class(left) == self.class(right)
+    }
+
+    /// What joined classes, in order. Numbers are of one class exactly where links lead from one to the other; each
+    /// link is an equation, or joins nodes with one head whose parts are joined by the links before it.
+    pub fn links(&self) -> &[Link]
+        ensures { result.now ≡ self.now.links }
+    {
+        self.state.links.as_slice()
+    }
+
+    /// The classes are exactly the least congruence, and links show them.
+    pub fn exact(&self)
+        ensures { AreClasses self.now.nodes self.now.equations self.now.names self.now.links }
+    {
+        let _state = &self.state;
+    }
+}
