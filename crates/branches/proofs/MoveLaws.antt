@@ -96,11 +96,11 @@ module _ (shapes : List Shape) where
   links_longer ps [] = omega arith
   links_longer ps (s ∷ ss) = (let l = length-append ps (added s) in let k = links_longer (ps ++ added s) ss in omega (arith, l, k))
 
-  by_chain : (ps : List FormulaData) (others : OpenData) (ss : List StepData) (by : CloseData) (moves : List MoveData) → AreLinks shapes ps ss → length (after_links ps ss) ≤ most_entries → IsClose (after_links ps ss) by → Closes shapes others moves → Closes shapes (ps ∷ others) (map StraightMove ss ++ ClosedMove by ∷ moves)
-  by_chain ps others [] by moves links short closes rest = ((closes, All-nil IsShort), rest)
-  by_chain ps others (s ∷ ss) by moves links short closes rest = (
+  by_chain : (b : Branch) (ps : List FormulaData) (others : OpenData) (ss : List StepData) (by : CloseData) (moves : List MoveData) → AreLinks shapes b ps ss → length (after_links ps ss) ≤ most_entries → IsClose (after_links ps ss) by → Closes shapes others moves → Closes shapes (ps ∷ others) (map StraightMove ss ++ ClosedMove by ∷ moves)
+  by_chain b ps others [] by moves links short closes rest = ((closes, All-nil IsShort), rest)
+  by_chain b ps others (s ∷ ss) by moves links short closes rest = (
     (links.1, All-cons IsShort (ps ++ added s) [] (let k = links_longer (ps ++ added s) ss in omega (arith, k, short)) (All-nil IsShort)),
-    by_chain (ps ++ added s) others ss by moves links.2 short closes rest,
+    by_chain b (ps ++ added s) others ss by moves links.2 short closes rest,
   )
 
   closes : (turns : List Turn) (bs : OpenBranches) → AreDue shapes bs turns → after_turns bs turns ≡ [] → Closes shapes (map formulas bs) (all_moves turns)
@@ -143,7 +143,7 @@ module _ (shapes : List Shape) where
       (forked b _ _ (LeFormula t (NumTerm k) ∷ LeFormula (NumTerm (k +ℤ pos 1)) t ∷ [])) due.0.1 (closes turns _ due.1 e)
   closes (CloseTurn chain by ∷ turns) (b ∷ bs) due e =
       let d : ClosesBranch shapes b chain by = due.0.0 in
-      by_chain (formulas b) (map formulas bs) chain by (all_moves turns) d.links d.short d.closes (closes turns bs due.1 e)
+      by_chain b (formulas b) (map formulas bs) chain by (all_moves turns) d.links d.short d.closes (closes turns bs due.1 e)
 
   pub certified : (p : FormulaData) (turns : List Turn) → IsProof shapes p turns → Certifies shapes (all_moves turns) p
   certified p turns proof = closes turns (begun p) proof.due proof.closed

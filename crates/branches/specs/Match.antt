@@ -5,8 +5,8 @@ use Rattle.std.specs.Prelude.{◌≡◌, ℕ, true, false, List, [], ◌∷◌, 
 use Rattle.pv_base.specs.TypeData.{TypeData}
 use Rattle.fol.specs.declared.operators.Connective.TheVariants.{Implies}
 use Rattle.fol.specs.declared.operators.Junction.TheVariants.{AllOf}
-use Rattle.fol.specs.FormulaData.{TermData, VarTerm, TermsData, TriggersData, FormulaData, CompareFormula, IsFormula, HoldsFormula, NotFormula, JoinFormula, ConnectFormula, QuantifyFormula, FormulasData, NoFormulas, MoreFormulas, list_of_terms, list_of_triggers}
-use Rattle.substitution.specs.Free.{free_in_terms}
+use Rattle.fol.specs.FormulaData.{TermData, VarTerm, IfTerm, TermsData, TriggersData, FormulaData, CompareFormula, IsFormula, HoldsFormula, NotFormula, JoinFormula, ConnectFormula, QuantifyFormula, FormulasData, NoFormulas, MoreFormulas, list_of_terms, list_of_triggers}
+use Rattle.substitution.specs.Free.{free_in, free_in_terms}
 use Rattle.branches.specs.Parts.{parts_of_term, with_parts}
 use Rattle.branches.specs.Branch.{Branch, IsTerm, Stands}
 
@@ -25,12 +25,17 @@ abbrev mutual
   bound_in_all NoFormulas = []
   bound_in_all (MoreFormulas p ps) = bound_in p ++ bound_in_all ps
 
--- the second term is the first with terms for these variables
+-- none of the variables is free in the condition of the term, where it has one
+abbrev pub IsFreeCondition : List ℕ → TermData → Type 0
+IsFreeCondition bound (IfTerm p t u) = All (λ n. free_in n p ≡ false) bound
+IsFreeCondition bound t = Unit {0}
+
+-- the second term is the first with terms for these variables, which stand in no condition of it
 mutual
   pub data IsFilled (bound : List ℕ) (at : ℕ → TermData) : TermData → TermData → Type 0 where
     OfVariable : (n : ℕ) → Contains bound n → IsFilled bound at (VarTerm n) (at n)
     OfOther : (n : ℕ) → (Contains bound n → ⊥) → IsFilled bound at (VarTerm n) (VarTerm n)
-    OfParts : (t u : TermData) → ((n : ℕ) → t ≡ VarTerm n → ⊥) → with_parts t (parts_of_term u) ≡ u → AreFilled bound at (parts_of_term t) (parts_of_term u) → IsFilled bound at t u
+    OfParts : (t u : TermData) → ((n : ℕ) → t ≡ VarTerm n → ⊥) → IsFreeCondition bound t → with_parts t (parts_of_term u) ≡ u → AreFilled bound at (parts_of_term t) (parts_of_term u) → IsFilled bound at t u
 
   pub data AreFilled (bound : List ℕ) (at : ℕ → TermData) : List TermData → List TermData → Type 0 where
     NoneFilled : AreFilled bound at [] []

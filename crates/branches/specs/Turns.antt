@@ -1,6 +1,6 @@
 -- The text of a search tree: its turns in the order in which a reader meets them who goes down the first branch and,
 -- where a turn closes it, on with the next one that is open. Each turn is due on its branch.
-use Rattle.std.specs.Prelude.{◌≡◌, ℕ, suc, ◌+◌, ◌≤◌, ℤ, pos, ◌+ℤ◌, ◌*ℤ◌, List, [], ◌∷◌, ◌++◌, length, map, slice_get, Option, Some, None, All}
+use Rattle.std.specs.Prelude.{◌≡◌, ℕ, suc, ◌+◌, ◌≤◌, ℤ, pos, ◌+ℤ◌, ◌*ℤ◌, List, [], ◌∷◌, ◌++◌, length, map, slice_get, Option, Some, None, All, Contains}
 use Rattle.std.proofs.Common.{◌<ℤ◌}
 use Rattle.pv_base.specs.TypeData.{NumType}
 use Rattle.fol.specs.declared.shapes.Shape.{Shape}
@@ -19,7 +19,7 @@ use Rattle.linear_rows.specs.declared.rows.Fraction.{Fraction}
 use Rattle.lin_arith.specs.Answer.{IsSolution}
 use Rattle.lin_arith.specs.Values.{AreAllChosen}
 use Rattle.lin_arith.specs.Wide.{IsWide}
-use Rattle.branches.specs.Branch.{Branch, Entry, formulas, Says}
+use Rattle.branches.specs.Branch.{Branch, Entry, formulas, Says, IsTerm}
 use Rattle.branches.specs.Due.{PartsDue, SplitDue, NameDue, InstanceDue, AxiomDue, CutDue, AreGenerations, IsNotClosed, IsSaturated, IsRange, IsShallow}
 use Rattle.branches.specs.Rows.{AreBranchRows, IsWholeIfNumber, Meets, MeetsWhole}
 use Rattle.branches.specs.declared.origin.Origin.{Origin}
@@ -111,16 +111,28 @@ pub record BoundDue (shapes : List Shape) (b : Branch) (i : ℕ) (t : TermData) 
 
 -- ---- closing
 
+-- a term of the branch is itself
+pub record IsItself (b : Branch) (name : Axiom) (p : FormulaData) : Type 0 where
+  pub is_axiom : name ≡ Equal Itself
+  pub term : TermData
+  pub stands : IsTerm b term
+  pub is : p ≡ EqFormula term term
+
 -- a step by which a branch is closed up to its classes: a term is itself, or equals are put for equals
-abbrev pub IsLink : StepData → Type 0
-IsLink (AxiomStep name p) = name ≡ Equal Itself
-IsLink (RewriteStep i j x c p) = Unit {0}
-IsLink _ = ⊥
+abbrev pub IsLinkStep : Branch → StepData → Type 0
+IsLinkStep b (AxiomStep name p) = IsItself b name p
+IsLinkStep b (RewriteStep i j x c p) = Unit {0}
+IsLinkStep b _ = ⊥
+
+-- it adds what did not stand among these formulas
+pub record IsLink (b : Branch) (ps : List FormulaData) (s : StepData) : Type 0 where
+  pub step : IsLinkStep b s
+  pub news : All (λ p. Contains ps p → ⊥) (added s)
 
 -- such steps, one after another
-abbrev pub AreLinks : List Shape → List FormulaData → List StepData → Type 0
-AreLinks shapes ps [] = Unit {0}
-AreLinks shapes ps (s ∷ ss) = IsLink s × IsStep shapes ps s × AreLinks shapes (ps ++ added s) ss
+abbrev pub AreLinks : List Shape → Branch → List FormulaData → List StepData → Type 0
+AreLinks shapes b ps [] = Unit {0}
+AreLinks shapes b ps (s ∷ ss) = IsLink b ps s × IsStep shapes ps s × AreLinks shapes b (ps ++ added s) ss
 
 abbrev pub after_links : List FormulaData → List StepData → List FormulaData
 after_links ps [] = ps
@@ -128,7 +140,7 @@ after_links ps (s ∷ ss) = after_links (ps ++ added s) ss
 
 -- a chain of such steps, and a step that closes what they lead to
 pub record ClosesBranch (shapes : List Shape) (b : Branch) (chain : List StepData) (by : CloseData) : Type 0 where
-  pub links : AreLinks shapes (formulas b) chain
+  pub links : AreLinks shapes b (formulas b) chain
   pub short : length (after_links (formulas b) chain) ≤ most_entries
   pub closes : IsClose (after_links (formulas b) chain) by
 
