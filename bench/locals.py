@@ -1,9 +1,9 @@
 #!/usr/bin/env python3
-"""locals.py: how long the rules on locals take for bodies of nearly 200,000 tokens with 256 locals.
+"""locals.py: how long the rules on locals, and the states of locals at all nodes, take for bodies of nearly 200,000 tokens with 256 locals.
 
 Makes a program of its own in crates/locals_bench, proves, builds and runs it over bodies of branches in a row, alone and in
 20 and in 40 nested loops, and takes the program away again. Prints what the program prints: of each body the microseconds
-that `broken_rules` took; ends with status 1 where one took a second or more.
+that `broken_rules` and `local_states` took; ends with status 1 where one took a second or more.
 """
 import os
 import re
@@ -11,7 +11,7 @@ import shutil
 import subprocess
 import sys
 
-LINE = "locals_bench: pv_base move_tokens expression_tree expression_parse pv_types pv_names code_names local_states\n"
+LINE = "locals_bench: pv_base move_tokens expression_tree expression_parse pv_types pv_names code_names local_states point_states\n"
 
 MAIN = r'''
 //! How long the rules on locals take.
@@ -21,6 +21,7 @@ use code_names::body::{ResolvedBody, resolve_body};
 use code_names::context::Context;
 use expression_parse::block::read_block;
 use local_states::rules::broken_rules;
+use point_states::states::local_states;
 use move_tokens::scanner::tokens;
 use pv_base::memory::NoMemory;
 use pv_base::name::Name;
@@ -118,6 +119,13 @@ fn main(rt: HostRuntime) -> io::Result<()> {
                 let nodes = resolved.body.len();
                 println!(rt; "{branches} branches, {loops} loops, {nodes} nodes: {took} microseconds {broken:?}")?;
             }
+            let start = Instant::now(&rt)?;
+            if let Ok(states) = local_states(alloc, &kinds, 256, &resolved.body) {
+                let took = start.elapsed(&rt)?;
+                let took = took.as_micros();
+                let last = states.at(resolved.body.len() - 1, 255);
+                println!(rt; "  the states at all nodes: {took} microseconds {last:?}")?;
+            }
         }
     }
     Ok(())
@@ -145,7 +153,7 @@ def main():
     lines = [line for line in ended.stdout.decode().splitlines() if " microseconds " in line]
     print("\n".join(lines))
     took = [int(re.search(r"(\d+) microseconds", line).group(1)) for line in lines]
-    sys.exit(0 if len(took) == 4 and max(took) < 1000000 else 1)
+    sys.exit(0 if len(took) == 8 and max(took) < 1000000 else 1)
 
 
 if __name__ == "__main__":

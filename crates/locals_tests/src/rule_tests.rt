@@ -1,4 +1,4 @@
-//! Bodies in one line, and the rules on locals that they break.
+//! Bodies in one line, the rules on locals that they break, and the states of locals in them.
 
 use code_names::body::{ResolvedBody, resolve_body};
 use code_names::context::Context;
@@ -7,12 +7,15 @@ use expression_tree::expression::Block;
 use local_states::rules::{BrokenRules, broken_rules};
 use move_tokens::scanner::tokens;
 use move_tokens::token::Tokens;
+use point_states::states::{LocalState, local_states};
 use pv_base::name::Name;
 use pv_base::span::Span;
 use pv_names::addresses::Addresses;
 use pv_names::environment::Environment;
 use pv_names::member::{MemberId, MemberKind, NameOfKind};
 use pv_names::types::TypePlace;
+use pv_types::arena::Node;
+use pv_types::code::{Body, CodeLeaf};
 use pv_types::declaration::AbilitySet;
 use pv_types::program::ModuleId;
 use pv_types::sequence::Sequence;
@@ -251,5 +254,102 @@ fn rules_on_many_locals(rt: HostRuntime) -> Result<(), Fail> {
     }
     text.push_str("let x: u64; x }").expect(&rt, "memory");
     assert_eq!(rt; rules_of(&rt, alloc, &[], "", text.as_str()), "unassigned");
+    Ok(())
+}
+
+/// The last node at which a local is used by its name.
+fn last_use(body: &Body, local: usize) -> Option<usize> {
+    let mut found = None;
+    for place in 0..body.len() {
+        if let Node::Leaf(CodeLeaf::Local(_, used)) = body.node(place) {
+            if *used == local {
+                found = Some(place);
+            }
+        }
+    }
+    found
+}
+
+/// The state of a local at its last use in a body.
+fn state_at_last_use(
+    rt: &impl Abort,
+    alloc: Global,
+    letters: &str,
+    local: usize,
+    text: &str,
+) -> Option<LocalState> {
+    let parameters = ["s", "c"];
+    let block = block_of(rt, alloc, text)?;
+    let found = resolved(rt, alloc, &parameters, &block)?;
+    let types = types_of(rt, alloc, letters, found.locals.as_slice().len());
+    let states = local_states(alloc, &types, parameters.len(), &found.body).expect(rt, "memory");
+    let node = last_use(&found.body, local)?;
+    Some(states.at(node, local))
+}
+
+#[test]
+fn states_of_locals(rt: HostRuntime) -> Result<(), Fail> {
+    let alloc = rt.alloc();
+    for (letters, local, text, wanted) in [
+        ("DC", 0, "f(s) }", LocalState::Assigned),
+        ("DC", 0, "f(&s); s }", LocalState::Assigned),
+        ("DC", 0, "f(s); s }", LocalState::Unassigned),
+        ("DC", 0, "if (c) { f(s); }; s }", LocalState::Unsure),
+        ("DC", 0, "while (c) { f(s); } }", LocalState::Unsure),
+        (
+            "DC",
+            0,
+            "while (c) { f(s); s = f(); } }",
+            LocalState::Unassigned,
+        ),
+        ("DC", 0, "loop { f(s); break }; s }", LocalState::Unassigned),
+        (
+            "DC",
+            0,
+            "loop { if (c) { f(s); }; break }; s }",
+            LocalState::Unsure,
+        ),
+        ("DC", 0, "return; s }", LocalState::Unreached),
+        ("DC", 0, "abort 1; s }", LocalState::Unreached),
+        ("DC", 0, "s = f(s); s }", LocalState::Assigned),
+        ("DC", 0, "s = { f(s); f(s) } }", LocalState::Unassigned),
+        ("DCC", 2, "let x: u64; x }", LocalState::Unassigned),
+        (
+            "DCC",
+            2,
+            "let x: u64; if (c) { x = 1 }; x }",
+            LocalState::Unsure,
+        ),
+        (
+            "DCC",
+            2,
+            "let x: u64; if (c) { x = 1 } else { x = 2 }; x }",
+            LocalState::Assigned,
+        ),
+        (
+            "DCC",
+            2,
+            "let x: u64; if (c) { x = 1 } else { return }; x }",
+            LocalState::Assigned,
+        ),
+        (
+            "DCC",
+            2,
+            "let x: u64; while (c) { x; x = 1; } }",
+            LocalState::Unsure,
+        ),
+        (
+            "DCC",
+            2,
+            "let x: u64; c && ({ x = 1; c }); x }",
+            LocalState::Unsure,
+        ),
+    ] {
+        assert_eq!(rt;
+            state_at_last_use(&rt, alloc, letters, local, text),
+            Some(wanted),
+            "{text}"
+        );
+    }
     Ok(())
 }
