@@ -1,0 +1,50 @@
+-- What is chosen of what slots know of a system.
+use Rattle.std.specs.Prelude.{◌≡◌, ℕ, ◌<◌, false, List, length, map, Option, Some, None}
+use Rattle.pv_base.specs.TypeData.{IntType}
+use Rattle.pv_base.specs.declared.types.Width.{Width}
+use Rattle.type_places.specs.Slots.{Typing, Fits, slot_at}
+use Rattle.type_places.specs.Knows.{Knows}
+use Rattle.type_places.specs.declared.slots.Sort.TheVariants.{Integer}
+use Rattle.type_places.specs.declared.slots.Slot.{Slot}
+use Rattle.type_places.specs.declared.slots.Slot.TheVariants.{Open}
+use Rattle.unification.specs.Ranked.{IsRanking}
+use Rattle.typings.specs.Sorts.{is_integer}
+use Rattle.typings.specs.Rules.{HasOpenHead}
+use Rattle.typings.specs.Settings.{u64_type}
+use Rattle.typings.specs.Answers.{System, Typings, HasTyping, IsDefaulted, IsTyped, IsAmbiguous, IsUntypable}
+use Rattle.typed_program.specs.Pools.{type_at, types}
+use Rattle.typed_program.specs.declared.pool.PoolType.{PoolType}
+use Rattle.chosen_types.specs.Roots.{AreRoots}
+use Rattle.chosen_types.specs.declared.choice.Defaulted.{Defaulted}
+
+-- the parts fit together, and no integer type is open
+pub record IsSound (d : Defaulted) : Type 0 where
+  pub fits : Fits d.slots.items
+  pub roots : AreRoots d.slots.items d.roots.items (length d.slots.items)
+  pub ranking : IsRanking d.slots.items d.ranking.ranks.items d.ranking.order.items
+  pub chosen : (p : ℕ) → p < length d.slots.items → slot_at d.slots.items p ≡ Open Integer → ⊥
+
+-- the system has typings, and what is known is those in which open integer types are chosen
+pub record HasDefaults (s : System) (d : Defaulted) : Type 0 where
+  pub exists : HasTyping s
+  pub knows : Knows d.slots.items s.places (IsDefaulted s)
+
+pub record DefaultsOf (slots : List Slot) (d : Defaulted) : Type 0 where
+  pub sound : IsSound d
+  pub has : (s : System) → s.open_integer ≡ u64_type → Knows slots s.places (Typings s) → HasDefaults s d
+
+-- of each system of which the slots know the typings
+abbrev pub DefaultsSay : List Slot → Option Defaulted → Type 0
+DefaultsSay slots None = (s : System) → Knows slots s.places (Typings s) → IsUntypable s
+DefaultsSay slots (Some d) = DefaultsOf slots d
+
+-- whether the type of a place is an integer type, and of which width
+abbrev pub WidthSays : Defaulted → ℕ → Option Width → Type 0
+WidthSays d p None = (s : System) → HasDefaults s d → p < s.places → (t : Typing) × (IsDefaulted s t × (is_integer (t p) ≡ false))
+WidthSays d p (Some w) = (s : System) → HasDefaults s d → p < s.places → (t : Typing) → IsDefaulted s t → t p ≡ IntType w
+
+-- the numbers are those of the types of all places, or a place is not forced
+abbrev pub ChoiceSays : Defaulted → List ℕ → ℕ → List PoolType → Option (List ℕ) → Type 0
+ChoiceSays d dropped places pool None = (s : System) → HasDefaults s d → s.dropped ≡ dropped → s.places ≡ places → IsAmbiguous s
+ChoiceSays d dropped places pool (Some numbers) =
+    (s : System) → HasDefaults s d → s.dropped ≡ dropped → s.places ≡ places → (HasOpenHead s.reading s.steps → ⊥) → IsTyped s (map (type_at (types pool)) numbers)

@@ -1,0 +1,4 @@
+pub mod Given
+pub mod Roots
+pub mod Numbers
+pub mod Choices

@@ -1,0 +1,120 @@
+//! The typing that is chosen: first the integer types that nothing determines, then the types of what is dropped.
+
+ghost use Rattle.std.specs.Prelude.{◌≡◌, ◌<◌, ◌≤◌, ℕ, false, length, slice_index, IfOk, MatchOption};
+ghost use Rattle.pv_base.specs.TypeData.{IntType};
+ghost use Rattle.type_places.specs.Slots.{Fits, slot_at};
+ghost use Rattle.typings.specs.Sorts.{is_integer};
+ghost use Rattle.typings.specs.Settings.{u64_type, unit_type};
+ghost use Rattle.chosen_types.specs.Numbers.{Keeps};
+ghost use Rattle.chosen_types.specs.Given.{WidthOf};
+ghost use Rattle.chosen_types.specs.Choices.{IsSound, DefaultsSay, WidthSays, ChoiceSays};
+
+use crate::given::{with_integers, with_units};
+use crate::numbers::table;
+use crate::roots::all_roots;
+use pv_base::memory::NoMemory;
+use pv_base::types::{TypeNode, TypeTerm, Width};
+use pv_types::sequence::Sequence;
+use std::alloc::Global;
+use type_places::slots::{Slot, Term};
+use typed_program::pool::TypePool;
+use unification::ranks::{Ranking, ranks};
+
+/// What is known of the types of places once open integer types are chosen: the slots, for each place the one that
+/// stands for it, and an order in which each place stands behind those to which it leads.
+#[derive(Drop)]
+pub struct Defaulted<'a> {
+    pub slots: Vec<Slot<'a>>,
+    pub roots: Vec<usize>,
+    pub ranking: Ranking,
+}
+
+/// What is known once each open integer type is `u64`, which `integer` is; none where there is no typing.
+pub fn with_defaults<'a>(
+    alloc: Global,
+    slots: &[Slot<'a>],
+    integer: &'a TypeTerm,
+) -> Result<Option<Defaulted<'a>>, NoMemory>
+    requires fits { Fits slots.now }
+    requires integer { integer.now ≡ u64_type }
+    ensures { IfOk result (DefaultsSay slots.now) }
+{
+    match ranks(alloc, slots)? {
+        None => Ok(None),
+        Some(ranking) => {
+            let roots = all_roots(alloc, slots)?;
+            let slots = with_integers(alloc, slots, integer)?;
+            Ok(Some(Defaulted {
+                slots,
+                roots,
+                ranking,
+            }))
+        }
+    }
+}
+
+fn written_width(of: &TypeTerm) -> Option<Width>
+    ensures { MatchOption result (is_integer of.now ≡ false) (λ width. of.now ≡ IntType width) }
+{
+    match &of.node {
+        TypeNode::Int(width) => Some(*width),
+        _ => None,
+    }
+}
+
+fn slot_width<'a>(slot: Slot<'a>) -> Option<Width>
+    ensures { WidthOf slot.entry result }
+{
+    match slot {
+        Slot::Bound(term) => match term {
+            Term::Closed(of) => written_width(of),
+            _ => None,
+        },
+        Slot::Open(_) => None,
+    }
+}
+
+/// The width of the type that stands for that of a place.
+fn width_at<'a>(slots: &[Slot<'a>], roots: &[usize], place: usize) -> Option<Width>
+    requires within { place < length roots.now }
+    requires root { slice_index roots.now place < length slots.now }
+    ensures { WidthOf (slot_at slots.now (slice_index roots.now place)) result }
+{
+    slot_width(slots[roots[place]])
+}
+
+/// The width of the type of a place, where it is an integer type.
+pub fn integer_width<'a>(defaulted: &Defaulted<'a>, place: usize) -> Option<Width>
+    requires sound { IsSound defaulted.now }
+    requires within { place < length defaulted.now.slots.items }
+    ensures { WidthSays defaulted.now place result }
+{
+    width_at(&defaulted.slots, &defaulted.roots, place)
+}
+
+/// The numbers of the types of the places, the first so many, once the values that are dropped are `()` where nothing
+/// determines them. None where the type of a place is still open. After `NoMemory` some of the types may stand in the
+/// pool.
+pub fn choose<'a>(
+    alloc: Global,
+    pool: &mut TypePool,
+    defaulted: Defaulted<'a>,
+    places: usize,
+    dropped: &[usize],
+    unit: &'a TypeTerm,
+) -> Result<Option<Sequence<usize>>, NoMemory>
+    requires sound { IsSound defaulted }
+    requires places { places ≤ length defaulted.slots.items }
+    requires dropped { (k : ℕ) → k < length dropped.now → slice_index dropped.now k < places }
+    requires unit { unit.now ≡ unit_type }
+    ensures keeps { IfOk result (λ numbers. Keeps pool.old pool.new) }
+    ensures says { IfOk result (ChoiceSays defaulted.entry dropped.now places pool.new) }
+{
+    let Defaulted {
+        slots,
+        roots,
+        ranking,
+    } = defaulted;
+    let given = with_units(slots, &roots, dropped, unit);
+    table(alloc, pool, &given, &ranking.order, places)
+}

@@ -1,0 +1,8 @@
+//! The types that are chosen, from what is known of the types of places.
+#![tactic(auto)]
+
+pub mod choice;
+mod given;
+mod numbers;
+mod pooled;
+mod roots;

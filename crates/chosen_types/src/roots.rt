@@ -1,0 +1,48 @@
+//! The places that stand for those that were made one.
+
+ghost use Rattle.std.specs.Prelude.{◌≡◌, ◌<◌, length, IfOk, MatchOption};
+ghost use Rattle.type_places.specs.Slots.{Fits, IsRoot};
+ghost use Rattle.chosen_types.specs.Roots.{IsRootOf, AreRoots};
+
+use pv_base::memory::NoMemory;
+use std::alloc::Global;
+use type_places::slots::{Slot, Term};
+
+/// The place to which a slot leads as to one of the same type.
+fn link<'a>(slot: Slot<'a>) -> Option<usize>
+    ensures { MatchOption result (IsRoot slot.entry) (λ next. slot.entry ≡ Slot.Bound (Term.Place next)) }
+{
+    match slot {
+        Slot::Open(_) => None,
+        Slot::Bound(term) => match term {
+            Term::Place(next) => Some(next),
+            _ => None,
+        },
+    }
+}
+
+/// The place that stands for this one, where those that stand for the places before it are known.
+fn root_of<'a>(slots: &[Slot<'a>], roots: &[usize], place: usize) -> usize
+    requires fits { Fits slots.now }
+    requires roots { AreRoots slots.now roots.now place }
+    requires within { place < length slots.now }
+    ensures { IsRootOf slots.now place result }
+{
+    match link(slots[place]) {
+        None => place,
+        Some(next) => roots[next],
+    }
+}
+
+/// For each place the one that stands for it. Places lead to smaller ones, so that one pass finds them all.
+pub fn all_roots<'a>(alloc: Global, slots: &[Slot<'a>]) -> Result<Vec<usize>, NoMemory>
+    requires { Fits slots.now }
+    ensures { IfOk result (λ roots. AreRoots slots.now roots.items (length slots.now)) }
+{
+    let mut roots = Vec::new(alloc);
+    for place in 0..slots.len() {
+        let root = root_of(slots, &roots, place);
+        roots.push(root)?;
+    }
+    Ok(roots)
+}
