@@ -1,11 +1,13 @@
 //! The classes of nodes.
 
-ghost use Rattle.std.specs.Prelude.{◌≡◌, ◌↔◌, ◌<◌, [], ◌∷◌, ◌++◌, length, IsTrue, IfOk};
+ghost use Rattle.std.specs.Prelude.{◌≡◌, ◌↔◌, ℕ, ◌<◌, [], ◌∷◌, ◌++◌, Some, length, slice_get, IsTrue, IfOk};
+ghost use Rattle.formula_pool.specs.declared.node.Node.{Node};
 ghost use Rattle.classes.specs.Congruence.{Congruent, IsWithin};
 ghost use Rattle.classes.specs.Signatures.{class_in};
+ghost use Rattle.classes.specs.declared.link.Equation.{Equation};
 ghost use Rattle.classes.specs.States.{AreClasses};
 
-use crate::link::Link;
+use crate::link::{Equation, Link};
 use crate::state::State;
 use formula_pool::node::Node;
 use pv_base::memory::NoMemory;
@@ -41,6 +43,25 @@ impl Classes {
         Classes {
             state: State::new(alloc),
         }
+    }
+
+    /// The classes of these nodes and equations. The parts of each node have lesser numbers, and the sides of each
+    /// equation have numbers.
+    pub fn of(alloc: Global, nodes: &[Node], equations: &[Equation]) -> Result<Classes, NoMemory>
+        requires parts { (k : ℕ) (n : Node) → slice_get nodes.now k ≡ Some n → IsWithin k n }
+        requires left { (k : ℕ) (e : Equation) → slice_get equations.now k ≡ Some e → e.left < length nodes.now }
+        requires right { (k : ℕ) (e : Equation) → slice_get equations.now k ≡ Some e → e.right < length nodes.now }
+        ensures nodes { IfOk result (λ classes. classes.nodes ≡ nodes.now) }
+        ensures equations { IfOk result (λ classes. classes.equations ≡ equations.now) }
+    {
+        let mut classes = Classes::new(alloc);
+        for node in nodes {
+            classes = classes.with_node(*node)?;
+        }
+        for equation in equations {
+            classes = classes.with_equation(equation.left, equation.right)?;
+        }
+        Ok(classes)
     }
 
     /// The classes with one more node, which has the next number; its parts have numbers.
