@@ -4,7 +4,7 @@ use Rattle.std.proofs.lemmas.List.{get_or_past}
 use Rattle.std.proofs.lemmas.Bool.{cases_lt}
 use Rattle.circles.specs.declared.walk.Mark.{Mark}
 use Rattle.circles.specs.declared.walk.Mark.TheVariants.{Finished}
-use Rattle.circles.specs.Circles.{IsEdge, Reaches, Here, Along, AreMirrored}
+use Rattle.circles.specs.Circles.{IsEdge, Reaches, Here, Along, AreMirrored, AreTogether}
 use Rattle.circles.specs.Walking.{mark, IsSeen, IsWalk}
 use Rattle.circles.specs.Labelling.{label, IsAtLeast, NoneIsOpen, IsLabelling}
 use Rattle.circles.proofs.ReachLemmas.{reach_join, reach_turned}
@@ -95,4 +95,35 @@ module _ (graph sources : List (List ℕ)) (marks : List Mark) (order : List ℕ
       let s2 = s.2 in
       let n : s.0 ≡ o.0 = cc in
       let same : r.0 ≡ o.0 = omega arith in
+      cc
+
+  -- a number and the root that its label tells lead to each other
+  pub root_together : (i : ℕ) → i < length graph → (m : ℕ) × (label labels i ≡ Some m) × (m < length order) × AreTogether graph i (get_or order m 0)
+  root_together i b =
+      let f = finished i b in
+      let o = own i f.0 f.1 in
+      let led = labelling.led i o.0 o.1 in
+      let root = walk.ordered o.0 led.1 in
+      let up : Reaches graph i (get_or order o.0 0) = reach_turned mirrored led.2 in
+      let down : Reaches graph (get_or order o.0 0) i = covered o.0 o.0 f.0 i f.0 up root o.1 (omega arith) f.1 f.1 (omega arith) o.2 in
+      (o.0, o.1, led.1, record { there = up; back = down })
+
+  -- numbers that lead to each other have one label
+  pub same_label : (i j : ℕ) → i < length graph → j < length graph → AreTogether graph i j → label labels i ≡ label labels j
+  same_label i j b d h =
+      let f = finished i b in
+      let o = own i f.0 f.1 in
+      let g = finished j d in
+      let p = own j g.0 g.1 in
+      let r = falls_along o.0 h.back o.1 in
+      let s = falls_along p.0 h.there p.1 in
+      let o1 = o.1 in
+      let p1 = p.1 in
+      let r1 = r.1 in
+      let r2 = r.2 in
+      let s1 = s.1 in
+      let s2 = s.2 in
+      let n : r.0 ≡ p.0 = cc in
+      let k : s.0 ≡ o.0 = cc in
+      let same : o.0 ≡ p.0 = omega arith in
       cc

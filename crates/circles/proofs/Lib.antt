@@ -3,4 +3,5 @@ pub mod EdgeLemmas
 pub mod LabelLemmas
 pub mod OnCircleLemmas
 pub mod ReachLemmas
+pub mod RootLemmas
 pub mod WalkLemmas

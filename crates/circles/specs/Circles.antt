@@ -28,3 +28,15 @@ pub record AreMirrored (graph sources : List (List ℕ)) : Type 0 where
   pub within : IsWithin graph
   pub turned : (i j : ℕ) → IsEdge graph i j → IsEdge sources j i
   pub back : (i j : ℕ) → IsEdge sources j i → IsEdge graph i j
+
+-- each leads to the other, or they are one number: they are in one strongly connected component
+pub record AreTogether (graph : List (List ℕ)) (i j : ℕ) : Type 0 where
+  pub there : Reaches graph i j
+  pub back : Reaches graph j i
+
+-- for each number one of those in its component, the same for all of these
+pub record AreRoots (graph : List (List ℕ)) (roots : List ℕ) : Type 0 where
+  pub same : length roots ≡ length graph
+  pub within : (i : ℕ) → i < length graph → slice_index roots i < length graph
+  pub led : (i : ℕ) → i < length graph → AreTogether graph i (slice_index roots i)
+  pub one : (i j : ℕ) → i < length graph → j < length graph → AreTogether graph i j → slice_index roots i ≡ slice_index roots j

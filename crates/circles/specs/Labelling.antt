@@ -32,6 +32,11 @@ pub record IsLabelling (sources : List (List ℕ)) (order : List ℕ) (place : �
   pub closed : (y k l : ℕ) → label labels y ≡ Some l → k < length (slice_index_or sources y []) → IsAtLeast l (label labels (slice_index (slice_index_or sources y []) k)) ⊎ (IsIn y work ⊎ IsOpen y k)
   pub above : (k : ℕ) → place ≤ k → k < length order → IsAtLeast k (label labels (slice_index order k))
 
+-- the number at the place that a label tells
+abbrev pub root_of : List ℕ → Option ℕ → ℕ
+root_of order None = 0
+root_of order (Some place) = slice_index order place
+
 -- how many numbers have no label
 abbrev pub unlabelled : List (Option ℕ) → ℕ
 unlabelled [] = 0
