@@ -1,0 +1,2 @@
+pub mod MadeGraphs
+pub mod Components
