@@ -1,0 +1,3 @@
+pub mod Bridges
+pub mod Emitting
+pub mod Forming

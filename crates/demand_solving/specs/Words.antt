@@ -1,0 +1,19 @@
+-- The words of the solver for those of the rules.
+use Rattle.typings.specs.declared.sort.Sort.{Sort as RuleSort}
+use Rattle.typings.specs.declared.sort.Sort.TheVariants.{Single as rule_single, Value as rule_value, Integer as rule_integer}
+use Rattle.typings.specs.declared.sort.Wrap.{Wrap as RuleWrap}
+use Rattle.typings.specs.declared.sort.Wrap.TheVariants.{Vector as rule_vector, Shared as rule_shared, Mutable as rule_mutable}
+use Rattle.type_places.specs.declared.slots.Sort.{Sort}
+use Rattle.type_places.specs.declared.slots.Sort.TheVariants.{Single, Value, Integer}
+use Rattle.type_places.specs.declared.slots.Wrap.{Wrap}
+use Rattle.type_places.specs.declared.slots.Wrap.TheVariants.{Vector, Shared, Mutable}
+
+abbrev pub sort_word : RuleSort → Sort
+sort_word rule_single = Single
+sort_word rule_value = Value
+sort_word rule_integer = Integer
+
+abbrev pub wrap_word : RuleWrap → Wrap
+wrap_word rule_vector = Vector
+wrap_word rule_shared = Shared
+wrap_word rule_mutable = Mutable
