@@ -135,14 +135,14 @@ behind_plain w a b e s lt = record {
   within = tt;
 }
 
-shared_kind : (a b : List Slot) (e : ℕ) (x : Term) → KindSaid a b e (To Shared x) → (t : Typing) → Meets b t → t e ≡ SharedType (value t x)
+pub shared_kind : (a b : List Slot) (e : ℕ) (x : Term) → KindSaid a b e (To Shared x) → (t : Typing) → Meets b t → t e ≡ SharedType (value t x)
 shared_kind a b e x s t m = (s.of t m).0
 
-mutable_kind : (a b : List Slot) (e : ℕ) (x : Term) → KindSaid a b e (To Mutable x) → (t : Typing) → Meets b t → t e ≡ MutableType (value t x)
+pub mutable_kind : (a b : List Slot) (e : ℕ) (x : Term) → KindSaid a b e (To Mutable x) → (t : Typing) → Meets b t → t e ≡ MutableType (value t x)
 mutable_kind a b e x s t m = (s.of t m).0
 
 -- no type of a kind is a vector
-no_vector : (a b : List Slot) (e : ℕ) (x : Term) → KindSaid a b e (To Vector x) → (t : Typing) → Meets b t → ⊥
+pub no_vector : (a b : List Slot) (e : ℕ) (x : Term) → KindSaid a b e (To Vector x) → (t : Typing) → Meets b t → ⊥
 no_vector a b e x s t m = let o = s.of t m in (let z = sym (ap H.kind o.0) ∙ o.1 in cc)
 
 pub through_shared : (w : TypeReading) (a b : List Slot) (e : ℕ) (x : Term) → KindSaid a b e (To Shared x) → e < length a → Says w a b (D.Through e) Never

@@ -2,3 +2,8 @@ pub mod Words
 pub mod Plain
 pub mod Within
 pub mod Equations
+pub mod Owners
+pub mod Lending
+pub mod Steps
+pub mod Walking
+pub mod Walked
