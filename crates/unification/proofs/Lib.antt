@@ -1,3 +1,5 @@
 pub mod Ranking
+pub mod Stepping
+pub mod Composing
 pub mod Solving
 pub mod Options

@@ -1,21 +1,19 @@
 -- Ranks that are given, and what is left without.
-use Rattle.std.proofs.Common.{◌≡◌, ◌≢◌, ℕ, zero, suc, ◌+◌, ◌<◌, ◌≤◌, Bool, true, false, List, [], ◌∷◌, length, length-append, take, drop, replicate, ◌++◌, refl, sym, ap, subst, ◌∙◌, inl, inr, arith, get_or-set_other, get_or-set_same}
+use Rattle.std.proofs.Common.{◌≡◌, ◌≢◌, ℕ, zero, suc, ◌+◌, ◌<◌, ◌≤◌, List, [], ◌∷◌, length, length-append, replicate, ◌++◌, refl, sym, ap, subst, ◌∙◌, inl, inr, arith, get_or-set_other, get_or-set_same}
 use Rattle.std.proofs.lemmas.Bool.Decides.{eqb_tells}
 use Rattle.std.proofs.lemmas.List.Sums.{sum_by-set}
-use Rattle.std.proofs.lemmas.List.{append-nil, get_or_push, get_or_append_left}
-use Rattle.std.proofs.Math.Seq.{take-length, drop-length}
+use Rattle.std.proofs.lemmas.List.{get_or_push, get_or_append_left}
 use Rattle.std.proofs.Math.ListN.{set, length-set}
-use Rattle.std.specs.Prelude.{◌||◌, slice_index}
-use Rattle.type_places.specs.Slots.{Typing, Meets, Fits, SlotFits, slot_at}
-use Rattle.type_places.specs.Ranks.{EachIn, EachLed, Lower, IsRank, rank_by}
+use Rattle.std.specs.Prelude.{slice_index}
+use Rattle.type_places.specs.Slots.{Fits, SlotFits, slot_at}
+use Rattle.type_places.specs.Ranks.{EachIn, EachLed, Lower, IsRank}
 use Rattle.type_places.specs.declared.slots.Term.{Term}
 use Rattle.type_places.specs.declared.slots.Term.TheVariants.{Place, Closed, Made, Grouped}
 use Rattle.type_places.specs.declared.slots.Slot.{Slot}
 use Rattle.type_places.specs.declared.slots.Slot.TheVariants.{Open, Bound}
-use Rattle.type_places.proofs.Refill.{ranked}
-use Rattle.unification.specs.Ranked.{rank_at, HasLower, IsRanked, IsRanking, SomeIn, SomeLed, IsStuck, left, unranked, Settles, Passes}
+use Rattle.unification.specs.Ranked.{rank_at, HasLower, IsRanked, IsRanking, left, unranked}
 
-zeros : (n p : ℕ) → rank_at (replicate n zero) p ≡ zero
+pub zeros : (n p : ℕ) → rank_at (replicate n zero) p ≡ zero
 zeros zero p = refl
 zeros (suc n) zero = refl
 zeros (suc n) (suc p) = zeros n p
@@ -60,10 +58,10 @@ fits_in n p (Bound (Closed of)) lt h = tt
 fits_in n p (Bound (Made w q)) lt h = h
 fits_in n p (Bound (Grouped g first k)) lt h = λ q a b. omega (arith, b, h)
 
-other : (ranks : List ℕ) (i p r : ℕ) → p ≢ i → rank_at (set ranks i r) p ≡ rank_at ranks p
+pub other : (ranks : List ℕ) (i p r : ℕ) → p ≢ i → rank_at (set ranks i r) p ≡ rank_at ranks p
 other ranks i p r ne = get_or-set_other ranks i p r _ ne
 
-here : (ranks : List ℕ) (i r : ℕ) → i < length ranks → rank_at (set ranks i r) i ≡ r
+pub here : (ranks : List ℕ) (i r : ℕ) → i < length ranks → rank_at (set ranks i r) i ≡ r
 here ranks i r h = get_or-set_same ranks i r _ h
 
 -- a place with a rank keeps it where another gets one
@@ -123,19 +121,6 @@ settled_less ranks i r lt none pos =
     left_none zero h = absurd (omega (arith, h))
     left_none (suc n) h = refl
 
--- one place more of a pass
-pub passes_one : (slots : List Slot) (p : ℕ) (old mid new : List ℕ) (changed one : Bool) → Passes slots p old mid changed → Settles slots p mid new one → Passes slots (p + 1) old new (changed || one)
-passes_one slots p old mid new true true a b = omega (arith, a, b)
-passes_one slots p old mid new true false a b = subst (λ (r : List ℕ). unranked r + 1 ≤ unranked old) (sym b.0) a
-passes_one slots p old mid new false true a b = subst (λ (r : List ℕ). unranked new + 1 ≤ unranked r) a.0 b
-passes_one slots p old mid new false false a b = (
-  b.0 ∙ a.0,
-  λ q lt. elim (eqb_tells q p) [
-    | inl e ↦ subst (λ (x : ℕ). IsStuck slots old x) (sym e.1) (subst (λ (r : List ℕ). IsStuck slots r p) a.0 b.1)
-    | inr e ↦ a.1 q (omega (arith, lt, e.1))
-  ],
-)
-
 -- where each place has a rank, the ranks are ranks
 is_rank : (slots : List Slot) (ranks order : List ℕ) → IsRanked slots ranks order → ((p : ℕ) → p < length ranks → 0 < rank_at ranks p) → IsRank slots (rank_at ranks)
 is_rank slots ranks order is all = record {
@@ -151,35 +136,3 @@ all_are slots ranks order is all = record {
   all = λ p lt. all p (subst (λ (n : ℕ). p < n) (sym is.same_length) lt);
   is_rank = is_rank slots ranks order is all;
 }
-
--- one of the places of a slot is lower
-some_lower : (P Q : ℕ → Type 0) (x : Term) → SomeIn P x → EachIn Q x → (q : ℕ) × (P q × Q q)
-some_lower P Q (Place q) h g = (q, (h, g))
-some_lower P Q (Closed of) h g = absurd h
-some_lower P Q (Made w q) h g = (q, (h, g))
-some_lower P Q (Grouped c first count) h g = (h.0, (h.1.2, g h.0 h.1.0 h.1.1))
-
-some_led_lower : (P Q : ℕ → Type 0) (s : Slot) → SomeLed P s → EachLed Q s → (q : ℕ) × (P q × Q q)
-some_led_lower P Q (Open s) h g = absurd h
-some_led_lower P Q (Bound x) h g = some_lower P Q x h g
-
--- a place that is stuck without a rank leads down without end
-descent : (slots : List Slot) (ranks : List ℕ) (r : ℕ → ℕ) → IsRank slots r → ((p : ℕ) → p < length slots → IsStuck slots ranks p) → (k p : ℕ) → p < length slots → r p < k → rank_at ranks p ≡ 0 → ⊥
-descent slots ranks r rank stuck zero p lt h none = absurd (omega (arith, h))
-descent slots ranks r rank stuck (suc k) p lt h none = elim (stuck p lt) [
-  | inl pos ↦ absurd (omega (arith, pos, none))
-  | inr some ↦ (let s = some_led_lower (λ q. rank_at ranks q ≡ 0) (Lower (length slots) r (r p)) (slot_at slots p) some (rank.each p lt) in
-      descent slots ranks r rank stuck k s.0 s.1.1.0 (let g = s.1.1.1 in omega (arith, g, h)) s.1.0)
-]
-
-pub no_typing : (slots : List Slot) (ranks : List ℕ) → Fits slots → ((p : ℕ) → p < length slots → IsStuck slots ranks p) → (p : ℕ) → p < length slots → rank_at ranks p ≡ 0 → (t : Typing) → Meets slots t → ⊥
-no_typing slots ranks fits stuck p lt none t m = descent slots ranks (rank_by slots t) (ranked slots t fits m) stuck (suc (rank_by slots t p)) p lt (omega arith) none
-
--- a vector that was written as a slice
-pub written_back : (n : ℕ) (old new : List ℕ) → n ≡ length old → length new ≡ length old → take n (new ++ drop (length new) old) ≡ new
-written_back n old new e len = ap (λ (rest : List ℕ). take n (new ++ rest)) (ap (λ (k : ℕ). drop k old) len ∙ drop-length old) ∙ ap (take n) (append-nil new) ∙ ap (λ (k : ℕ). take k new) (e ∙ sym len) ∙ take-length new
-
-pub no_typing_in : (slots : List Slot) (ranks seen : List ℕ) → Fits slots → length ranks ≡ length slots → seen ≡ ranks → ((p : ℕ) → p < length slots → IsStuck slots ranks p) →
-    (p : ℕ) × ((p < length seen) × (rank_at seen p ≡ zero)) → (t : Typing) → Meets slots t → ⊥
-no_typing_in slots ranks seen fits len same stuck some = no_typing slots ranks fits stuck some.0
-    (subst (λ (n : ℕ). some.0 < n) (ap length same ∙ len) some.1.0) (ap (λ (r : List ℕ). rank_at r some.0) (sym same) ∙ some.1.1)

@@ -1,28 +1,23 @@
 -- Slots that say of substitutions that they are unifiers.
-use Rattle.std.proofs.Common.{◌≡◌, ℕ, zero, suc, ◌+◌, ◌<◌, ◌≤◌, ◌++◌, true, false, IsTrue, List, [], ◌∷◌, length, take, get_or, refl, sym, ap, subst, ◌∙◌, inl, inr, arith}
-use Rattle.std.proofs.lemmas.Bool.Decides.{leb_tells}
-use Rattle.pv_base.specs.TypeData.{TypeData, ParamType, TypesData, MoreTypes, types_of}
+use Rattle.std.proofs.Common.{◌≡◌, ℕ, zero, suc, ◌+◌, ◌<◌, ◌≤◌, ◌++◌, true, false, IsTrue, List, [], ◌∷◌, length, take, get_or, refl, sym, ap, subst, ◌∙◌, arith}
+use Rattle.pv_base.specs.TypeData.{TypeData, BoolType, IntType, ParamType}
+use Rattle.pv_base.specs.declared.types.Width.TheVariants.{U8, U16}
 use Rattle.type_places.specs.Sorts.{is_of}
-use Rattle.type_places.specs.Slots.{Typing, value, list_at, wrapped, grouped, Meets, Fits, IsOpen, SlotMeets, slot_at}
-use Rattle.type_places.specs.Grown.{SameTo, Grows}
-use Rattle.type_places.specs.Ranks.{EachIn, EachLed, Lower, IsRank, filled, fill, refill_by}
-use Rattle.type_places.specs.Instances.{instance, instances, arguments}
+use Rattle.type_places.specs.Slots.{Typing, Meets, Fits, IsOpen, SlotMeets, slot_at}
+use Rattle.type_places.specs.Grown.{Grows}
+use Rattle.type_places.specs.Ranks.{EachLed, Lower, IsRank, refill_by}
 use Rattle.type_places.specs.declared.slots.Sort.{Sort}
 use Rattle.type_places.specs.declared.slots.Sort.TheVariants.{Any, Single, Value, Integer}
-use Rattle.type_places.specs.declared.slots.Wrap.{Wrap}
-use Rattle.type_places.specs.declared.slots.Wrap.TheVariants.{Vector, Shared, Mutable}
-use Rattle.type_places.specs.declared.slots.Group.{Group}
-use Rattle.type_places.specs.declared.slots.Group.TheVariants.{Struct, Tuple}
-use Rattle.type_places.specs.declared.slots.Term.{Term}
-use Rattle.type_places.specs.declared.slots.Term.TheVariants.{Place, Closed, Made, Grouped}
 use Rattle.type_places.specs.declared.slots.Slot.{Slot}
 use Rattle.type_places.specs.declared.slots.Slot.TheVariants.{Open, Bound}
 use Rattle.type_places.proofs.Growing.{instance_kept}
-use Rattle.type_places.proofs.Refill.{refill_by-meets}
+use Rattle.type_places.proofs.Becoming.{open_says}
+use Rattle.type_places.proofs.Refill.{value-same, refill_by-meets, refill_by-open}
 use Rattle.unification.specs.declared.pairs.TypePair.{TypePair}
 use Rattle.unification.specs.Unifiers.{apply, Joins, Unifies, IsMostGeneral, HasNoUnifier, HasUnifier}
-use Rattle.unification.specs.Solved.{Solves, own, unifier, IsPlain}
+use Rattle.unification.specs.Solved.{Solves, own, unifier}
 use Rattle.unification.specs.Ranked.{rank_at}
+use Rattle.unification.proofs.Composing.{variable, after, after_unifies, mix, mixed, mixed_unifies}
 use Rattle.std.proofs.lemmas.List.{take_more}
 
 unifies_more : (n : ℕ) (t : Typing) (ps : List TypePair) (p : TypePair) → Unifies n t ps → Joins n t p → Unifies n t (ps ++ p ∷ [])
@@ -75,26 +70,50 @@ pub clash_at : (n : ℕ) (pairs : List TypePair) (i j : ℕ) (p : TypePair) (slo
 clash_at n pairs i j p slots new lt le e s g t h = clashes n (take i pairs) p slots new s g t
     (subst (λ (ps : List TypePair). Unifies n t ps) (take_more pairs i p lt ∙ ap (λ (q : TypePair). take i pairs ++ q ∷ []) (sym e)) (fewer n t pairs (i + 1) j le h))
 
--- what is made of types that are instances is an instance
-wrapped_instance : (s : ℕ → TypeData) (w : Wrap) (a : TypeData) → instance s (wrapped w a) ≡ wrapped w (instance s a)
-wrapped_instance s Vector a = refl
-wrapped_instance s Shared a = refl
-wrapped_instance s Mutable a = refl
+-- ---- what is open is no integer type
 
-grouped_instance : (s : ℕ → TypeData) (g : Group) (ts : TypesData) → instance s (grouped g ts) ≡ grouped g (instances s ts)
-grouped_instance s (Struct id) ts = refl
-grouped_instance s Tuple ts = refl
+small_is : (s : Sort) → IsTrue (is_of s (IntType U8))
+small_is Any = refl
+small_is Single = refl
+small_is Value = refl
+small_is Integer = refl
 
-list_instance : (s : ℕ → TypeData) (f g : Typing) (first count : ℕ) → ((q : ℕ) → first ≤ q → q < first + count → instance s (f q) ≡ g q) → instances s (types_of (list_at f first count)) ≡ types_of (list_at g first count)
-list_instance s f g first zero h = refl
-list_instance s f g first (suc count) h = λ i. MoreTypes (h first (omega arith) (omega arith) i) (list_instance s f g (first + 1) count (λ q a b. h q (omega (arith, a)) (omega (arith, b))) i)
+wide_is : (s : Sort) → IsTrue (is_of s (IntType U16))
+wide_is Any = refl
+wide_is Single = refl
+wide_is Value = refl
+wide_is Integer = refl
 
-value_instance : (n : ℕ) (s f g : Typing) (P : ℕ → Type 0) (x : Term) → IsPlain n (Bound x) → EachIn P x → ((q : ℕ) → P q → apply n s (f q) ≡ g q) → apply n s (value f x) ≡ value g x
-value_instance n s f g P (Place q) plain h e = e q h
-value_instance n s f g P (Closed of) plain h e = plain s
-value_instance n s f g P (Made w q) plain h e = wrapped_instance (arguments s 0 n) w (f q) ∙ ap (wrapped w) (e q h)
-value_instance n s f g P (Grouped c first count) plain h e = grouped_instance (arguments s 0 n) c (types_of (list_at f first count))
-    ∙ ap (grouped c) (list_instance (arguments s 0 n) f g first count (λ q a b. e q (h q a b)))
+no_integer : (a : TypeData) → a ≡ BoolType → IsTrue (is_of Integer a) → ⊥
+no_integer a e h = let g : false ≡ true = sym (ap (is_of Integer) e) ∙ h in cc
+
+-- with `u8` and with `u16` for it there would be a unifier with `bool`
+no_open_integer : (n : ℕ) (pairs : List TypePair) (slots : List Slot) (r : ℕ → ℕ) → Solves n pairs slots → IsRank slots r → (p : ℕ) → p < length slots → slot_at slots p ≡ Open Integer → ⊥
+no_open_integer n pairs slots r solves rank p lt e =
+    let inside : p < n = solves.opens p lt (subst (λ (x : Slot). IsOpen x) (sym e) tt) in
+    let t : Typing = refill_by slots (λ q s. IntType U8) r in
+    let u : Typing = refill_by slots (λ q s. IntType U16) r in
+    let g = solves.back t (refill_by-meets slots (λ q s. IntType U8) r rank (λ q. small_is)) in
+    let h = solves.back u (refill_by-meets slots (λ q s. IntType U16) r rank (λ q. wide_is)) in
+    let w = solves.forth (mixed t u) (mixed_unifies n t u pairs g h) in
+    let et : t p ≡ IntType U8 = refill_by-open slots (λ q s. IntType U8) r p Integer e in
+    let eu : u p ≡ IntType U16 = refill_by-open slots (λ q s. IntType U16) r p Integer e in
+    let is : w.0 p ≡ BoolType = w.1.0 p inside ∙ (λ i. mix (et i) (eu i)) in
+    no_integer (w.0 p) is (open_says slots p Integer w.0 lt e w.1.1)
+
+-- ---- the unifier is most general
+
+-- typings that give the open places the same types are one
+same_slot : (t u : Typing) (P : ℕ → Type 0) (p : ℕ) (x : Slot) → SlotMeets t p x → SlotMeets u p x → EachLed P x → (IsOpen x → t p ≡ u p) → ((q : ℕ) → P q → t q ≡ u q) → t p ≡ u p
+same_slot t u P p (Open s) mt mu led free e = free tt
+same_slot t u P p (Bound x) mt mu led free e = mt ∙ value-same P t u x led e ∙ sym mu
+
+same_typing : (slots : List Slot) (r : ℕ → ℕ) → IsRank slots r → (t u : Typing) → Meets slots t → Meets slots u → ((p : ℕ) → p < length slots → IsOpen (slot_at slots p) → t p ≡ u p) →
+    (k p : ℕ) → p < length slots → r p < k → t p ≡ u p
+same_typing slots r rank t u mt mu free zero p lt h = absurd (omega (arith, h))
+same_typing slots r rank t u mt mu free (suc k) p lt h =
+    same_slot t u (Lower (length slots) r (r p)) p (slot_at slots p) (mt.each p lt) (mu.each p lt) (rank.each p lt) (free p lt)
+    (λ q lower. same_typing slots r rank t u mt mu free k q lower.0 (let a = lower.1 in omega (arith, a, h)))
 
 own_is : (p : ℕ) (s : Sort) → IsTrue (is_of s (own p s))
 own_is p Any = refl
@@ -102,37 +121,42 @@ own_is p Single = refl
 own_is p Value = refl
 own_is p Integer = refl
 
-variable : (n : ℕ) (s : Typing) (p : ℕ) → p < n → arguments s 0 n p ≡ s p
-variable n s p lt = elim (leb_tells (suc p) n) [
-  | inl e ↦ simp e.0 (ap s (let k : 0 + p ≡ p = omega arith in k))
-  | inr e ↦ absurd (omega (arith, lt, e.1))
-]
+own_instance : (n : ℕ) (s : Typing) (p : ℕ) (sort : Sort) → (sort ≡ Integer → ⊥) → p < n → apply n s (own p sort) ≡ s p
+own_instance n s p Any free lt = variable n s p lt
+own_instance n s p Single free lt = variable n s p lt
+own_instance n s p Value free lt = variable n s p lt
+own_instance n s p Integer free lt = absurd (free refl)
 
-own_instance : (n : ℕ) (s : Typing) (p : ℕ) (sort : Sort) → IsPlain n (Open sort) → p < n → apply n s (own p sort) ≡ s p
-own_instance n s p Any plain lt = variable n s p lt
-own_instance n s p Single plain lt = variable n s p lt
-own_instance n s p Value plain lt = variable n s p lt
-own_instance n s p Integer plain lt = absurd plain
+open_sort : (x : Slot) → IsOpen x → (s : Sort) × (x ≡ Open s)
+open_sort (Open s) h = (s, refl)
+open_sort (Bound y) h = absurd h
 
-slot_instance : (n : ℕ) (s u f : Typing) (P : ℕ → Type 0) (p : ℕ) (x : Slot) → IsPlain n x → EachLed P x → SlotMeets u p x → (IsOpen x → p < n) → SameTo n s u →
-    ((q : ℕ) → P q → apply n s (f q) ≡ u q) → apply n s (filled f (own p) x) ≡ u p
-slot_instance n s u f P p (Open sort) plain led meets inside same e = own_instance n s p sort plain (inside tt) ∙ sym (same p (inside tt))
-slot_instance n s u f P p (Bound x) plain led meets inside same e = value_instance n s f u P x plain led e ∙ sym meets
+-- the unifier with another one after it is that one
+own_after : (n : ℕ) (pairs : List TypePair) (slots : List Slot) (r : ℕ → ℕ) → Solves n pairs slots → IsRank slots r → (s : Typing) (p : ℕ) → p < length slots → IsOpen (slot_at slots p) →
+    apply n s (refill_by slots own r p) ≡ s p
+own_after n pairs slots r solves rank s p lt o =
+    let free = open_sort (slot_at slots p) o in
+    ap (apply n s) (refill_by-open slots own r p free.0 free.1)
+    ∙ own_instance n s p free.0 (λ e. no_open_integer n pairs slots r solves rank p lt (free.1 ∙ ap (λ (x : Sort). Open x) e)) (solves.opens p lt o)
 
-filled_instance : (n : ℕ) (pairs : List TypePair) (slots : List Slot) (r : ℕ → ℕ) → Solves n pairs slots → IsRank slots r → ((p : ℕ) → p < length slots → IsPlain n (slot_at slots p)) →
-    (s u : Typing) → SameTo n s u → Meets slots u → (k p : ℕ) → p < length slots → r p < k → apply n s (fill slots own k p) ≡ u p
-filled_instance n pairs slots r solves rank plain s u same m zero p lt h = absurd (omega (arith, h))
-filled_instance n pairs slots r solves rank plain s u same m (suc k) p lt h =
-    slot_instance n s u (fill slots own k) (Lower (length slots) r (r p)) p (slot_at slots p) (plain p lt) (rank.each p lt) (m.each p lt) (solves.opens p lt) same
-    (λ q lower. filled_instance n pairs slots r solves rank plain s u same m k q lower.0 (let a = lower.1 in omega (arith, a, h)))
+general : (n : ℕ) (pairs : List TypePair) (slots : List Slot) (r : ℕ → ℕ) → Solves n pairs slots → IsRank slots r → Unifies n (refill_by slots own r) pairs →
+    (s : Typing) → Unifies n s pairs → (v : ℕ) → v < n → apply n s (refill_by slots own r v) ≡ s v
+general n pairs slots r solves rank is s h v lt =
+    let m : Typing = refill_by slots own r in
+    let u = solves.forth s h in
+    let w = solves.forth (after n s m) (after_unifies n s m pairs is) in
+    let same : w.0 v ≡ u.0 v = same_typing slots r rank w.0 u.0 w.1.1 u.1.1
+    (λ p lp o. (let inside : p < n = solves.opens p lp o in w.1.0 p inside ∙ own_after n pairs slots r solves rank s p lp o ∙ sym (u.1.0 p inside)))
+    (suc (r v)) v (let a = solves.longer in omega (arith, a, lt)) (omega arith) in
+    sym (w.1.0 v lt) ∙ same ∙ u.1.0 v lt
 
-pub most_general : (n : ℕ) (pairs : List TypePair) (slots : List Slot) (ranks : List ℕ) → Solves n pairs slots → IsRank slots (rank_at ranks) →
-    ((p : ℕ) → p < length slots → IsPlain n (slot_at slots p)) → IsMostGeneral n (unifier slots ranks) pairs
-most_general n pairs slots ranks solves rank plain = record {
-  unifies = solves.back (unifier slots ranks) (refill_by-meets slots own (rank_at ranks) rank own_is);
-  general = λ s h v lt. let r = solves.forth s h in
-      filled_instance n pairs slots (rank_at ranks) solves rank plain s r.0 r.1.0 r.1.1 (suc (rank_at ranks v)) v (let a = solves.longer in omega (arith, a, lt)) (omega arith) ∙ r.1.0 v lt;
-}
+pub most_general : (n : ℕ) (pairs : List TypePair) (slots : List Slot) (ranks : List ℕ) → Solves n pairs slots → IsRank slots (rank_at ranks) → IsMostGeneral n (unifier slots ranks) pairs
+most_general n pairs slots ranks solves rank =
+    let is : Unifies n (unifier slots ranks) pairs = solves.back (unifier slots ranks) (refill_by-meets slots own (rank_at ranks) rank own_is) in
+    record {
+      unifies = is;
+      general = λ s h v lt. general n pairs slots (rank_at ranks) solves rank is s h v lt;
+    }
 
 pub has_unifier : (n : ℕ) (pairs : List TypePair) (slots : List Slot) (r : ℕ → ℕ) → Solves n pairs slots → IsRank slots r → HasUnifier n pairs
 has_unifier n pairs slots r solves rank = (refill_by slots own r, solves.back (refill_by slots own r) (refill_by-meets slots own r rank own_is))

@@ -1,4 +1,5 @@
 pub mod Ranked
+pub mod Walking
 pub mod Unifiers
 pub mod Solved
 pub mod Answers

@@ -1,11 +1,8 @@
 -- Places that have a rank so far: 0 is none.
-use Rattle.std.specs.Prelude.{◌≡◌, ℕ, zero, suc, ◌+◌, ◌<◌, ◌≤◌, ◌⊎◌, Bool, true, false, List, length, slice_index, sum_by}
+use Rattle.std.specs.Prelude.{◌≡◌, ℕ, zero, suc, ◌+◌, ◌<◌, ◌≤◌, List, length, slice_index, sum_by}
 use Rattle.type_places.specs.Slots.{slot_at}
 use Rattle.type_places.specs.Ranks.{EachLed, IsRank}
-use Rattle.type_places.specs.declared.slots.Term.{Term}
-use Rattle.type_places.specs.declared.slots.Term.TheVariants.{Place, Closed, Made, Grouped}
 use Rattle.type_places.specs.declared.slots.Slot.{Slot}
-use Rattle.type_places.specs.declared.slots.Slot.TheVariants.{Open, Bound}
 
 abbrev pub rank_at : List ℕ → ℕ → ℕ
 rank_at ranks p = slice_index ranks p
@@ -28,21 +25,6 @@ pub record IsRanking (slots : List Slot) (ranks order : List ℕ) : Type 0 where
   pub all : (p : ℕ) → p < length slots → 0 < rank_at ranks p
   pub is_rank : IsRank slots (rank_at ranks)
 
--- a place that a term speaks of
-abbrev pub SomeIn : (ℕ → Type 0) → Term → Type 0
-SomeIn P (Place q) = P q
-SomeIn P (Closed of) = ⊥
-SomeIn P (Made w q) = P q
-SomeIn P (Grouped g first count) = (q : ℕ) × ((first ≤ q) × (q < first + count) × P q)
-
-abbrev pub SomeLed : (ℕ → Type 0) → Slot → Type 0
-SomeLed P (Open s) = ⊥
-SomeLed P (Bound x) = SomeIn P x
-
--- a place has a rank, or leads to one that has none
-abbrev pub IsStuck : List Slot → List ℕ → ℕ → Type 0
-IsStuck slots ranks p = (0 < rank_at ranks p) ⊎ SomeLed (λ q. rank_at ranks q ≡ 0) (slot_at slots p)
-
 abbrev pub left : ℕ → ℕ
 left zero = 1
 left (suc n) = 0
@@ -50,12 +32,3 @@ left (suc n) = 0
 -- how many places have no rank
 abbrev pub unranked : List ℕ → ℕ
 unranked ranks = sum_by left ranks
-
--- whether one got a rank: fewer are left, or nothing changed, and this one is stuck
-abbrev pub Settles : List Slot → ℕ → List ℕ → List ℕ → Bool → Type 0
-Settles slots p old new true = unranked new + 1 ≤ unranked old
-Settles slots p old new false = (new ≡ old) × IsStuck slots old p
-
-abbrev pub Passes : List Slot → ℕ → List ℕ → List ℕ → Bool → Type 0
-Passes slots n old new true = unranked new + 1 ≤ unranked old
-Passes slots n old new false = (new ≡ old) × ((p : ℕ) → p < n → IsStuck slots old p)

@@ -1,16 +1,13 @@
 -- Slots that say of substitutions that they are unifiers.
-use Rattle.std.specs.Prelude.{◌≡◌, ℕ, ◌<◌, ◌≤◌, List, length}
+use Rattle.std.specs.Prelude.{ℕ, ◌<◌, ◌≤◌, List, length}
 use Rattle.pv_base.specs.TypeData.{TypeData, IntType, ParamType}
 use Rattle.pv_base.specs.declared.types.Width.TheVariants.{U8}
 use Rattle.type_places.specs.Slots.{Typing, Meets, Fits, IsOpen, slot_at}
 use Rattle.type_places.specs.Grown.{SameTo}
 use Rattle.type_places.specs.Ranks.{refill_by}
-use Rattle.type_places.specs.Instances.{instance, arguments}
 use Rattle.type_places.specs.declared.slots.Sort.{Sort}
 use Rattle.type_places.specs.declared.slots.Sort.TheVariants.{Any, Single, Value, Integer}
-use Rattle.type_places.specs.declared.slots.Term.TheVariants.{Place, Closed, Made, Grouped}
 use Rattle.type_places.specs.declared.slots.Slot.{Slot}
-use Rattle.type_places.specs.declared.slots.Slot.TheVariants.{Open, Bound}
 use Rattle.unification.specs.declared.pairs.TypePair.{TypePair}
 use Rattle.unification.specs.Unifiers.{Unifies}
 use Rattle.unification.specs.Ranked.{rank_at}
@@ -33,14 +30,3 @@ own p Integer = IntType U8
 -- the substitution that slots and ranks give
 abbrev pub unifier : List Slot → List ℕ → Typing
 unifier slots ranks = refill_by slots own (rank_at ranks)
-
--- no integer type is asked for, and no variable stands in a written type
-abbrev pub IsPlain : ℕ → Slot → Type 0
-IsPlain n (Open Any) = Unit {0}
-IsPlain n (Open Single) = Unit {0}
-IsPlain n (Open Value) = Unit {0}
-IsPlain n (Open Integer) = ⊥
-IsPlain n (Bound (Place q)) = Unit {0}
-IsPlain n (Bound (Closed of)) = (s : Typing) → instance (arguments s 0 n) of.now ≡ of.now
-IsPlain n (Bound (Made w q)) = Unit {0}
-IsPlain n (Bound (Grouped g first count)) = Unit {0}

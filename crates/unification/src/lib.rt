@@ -4,3 +4,4 @@
 pub mod pairs;
 pub mod ranks;
 pub mod unify;
+mod walk;

@@ -1,19 +1,17 @@
 //! Pairs of types that are to be made one.
 
-ghost use Rattle.std.specs.Prelude.{◌≡◌, ◌<◌, ◌≤◌, ℕ, IsTrue, true, IfOk, MatchOption, length, take};
-ghost use Rattle.type_places.specs.Slots.{Typing, Fits, slot_at};
+ghost use Rattle.std.specs.Prelude.{◌≡◌, ◌≤◌, IsTrue, IfOk, MatchOption, length, take};
+ghost use Rattle.type_places.specs.Slots.{Fits};
 ghost use Rattle.type_places.specs.Grown.{Grows};
-ghost use Rattle.type_places.specs.Ranks.{IsRank};
-ghost use Rattle.unification.specs.Unifiers.{apply, IsMostGeneral, HasNoUnifier};
-ghost use Rattle.unification.specs.Solved.{Solves, IsPlain, unifier};
+ghost use Rattle.unification.specs.Unifiers.{apply, HasNoUnifier};
+ghost use Rattle.unification.specs.Solved.{Solves};
 
-use crate::ranks::ranks;
 use pv_base::types::TypeTerm;
 use std::alloc::{AllocError, Global};
 use type_places::open::open_slots;
 use type_places::places::one;
-use type_places::signature::{Parameters, has_parameter, instance};
-use type_places::slots::{Slot, Sort, Term};
+use type_places::signature::{Parameters, instance};
+use type_places::slots::Slot;
 
 /// Two types that are to be made one.
 #[derive(Drop)]
@@ -69,50 +67,4 @@ pub fn solve<'a>(
         }
     }
     Ok(Some(slots))
-}
-
-fn plain_sort(sort: Sort) -> bool
-    ensures { IsTrue result → (n : ℕ) → IsPlain n (Slot.Open sort) }
-{
-    !matches!(&sort, Sort::Integer)
-}
-
-fn plain_term<'a>(term: Term<'a>, variables: usize) -> bool
-    ensures { IsTrue result → IsPlain variables (Slot.Bound term.entry) }
-{
-    match term {
-        Term::Closed(of) => !has_parameter(of, variables),
-        _ => true,
-    }
-}
-
-fn plain_slot<'a>(slot: Slot<'a>, variables: usize) -> bool
-    ensures { IsTrue result → IsPlain variables slot.entry }
-{
-    match slot {
-        Slot::Open(sort) => plain_sort(sort),
-        Slot::Bound(term) => plain_term(term, variables),
-    }
-}
-
-/// Whether no integer type is asked for, and no variable stands in a written type.
-pub fn all_plain<'a>(slots: &[Slot<'a>], variables: usize) -> bool
-    ensures { IsTrue result → (p : ℕ) → p < length slots.now → IsPlain variables (slot_at slots.now p) }
-{
-    for i in 0..slots.len() {
-        if !plain_slot(slots[i], variables) {
-            return false;
-        }
-    }
-    true
-}
-
-/// What was found of the first so many pairs.
-#[derive(Drop)]
-pub enum Found<'a> {
-    /// They have no unifier.
-    Clash,
-    Solved(Unifier<'a>),
-    /// Never found, since no integer type is asked for, and parts with variables have places; not proved.
-    Unfinished,
 }

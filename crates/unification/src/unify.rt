@@ -1,12 +1,12 @@
 //! Unification.
 
-ghost use Rattle.std.specs.Prelude.{◌≡◌, ◌<◌, ◌≤◌, ◌+◌, ℕ, IsTrue, true, false, IfOk, IfErr, length, take};
-ghost use Rattle.unification.specs.Unifiers.{IsMostGeneral, IsFirstClash, HasUnifier, HasNoUnifier};
+ghost use Rattle.std.specs.Prelude.{◌≡◌, ◌≤◌, IfOk, IfErr, MatchOption, length, take};
+ghost use Rattle.unification.specs.Unifiers.{IsMostGeneral, IsFirstClash, HasNoUnifier};
 ghost use Rattle.unification.specs.Solved.{unifier};
-ghost use Rattle.unification.specs.Answers.{FoundSays, SolvableSays};
+ghost use Rattle.unification.specs.Answers.{SolvableSays};
 ghost use Rattle.unification.specs.Faults.{FaultSays};
 
-use crate::pairs::{Found, TypePair, Unifier, all_plain, solve};
+use crate::pairs::{TypePair, Unifier, solve};
 use crate::ranks::ranks;
 use std::alloc::{AllocError, Global};
 
@@ -16,32 +16,25 @@ pub enum UnifyFault {
     NoMemory,
     /// The pairs up to and with this one, counted from 0, have none, and those before it have one.
     Clash(usize),
-    /// Never answered, since no integer type is asked for, and parts in which variables stand have places of their
-    /// own. That it is never answered is not proved.
-    Unfinished,
 }
 
-/// What is found of the first so many pairs.
+/// A most general unifier of the first so many pairs; none where they have no unifier.
 fn attempt<'a>(
     alloc: Global,
     pairs: &'a [TypePair],
     count: usize,
     variables: usize,
-) -> Result<Found<'a>, AllocError>
+) -> Result<Option<Unifier<'a>>, AllocError>
     requires { count ≤ length pairs.now }
-    ensures { IfOk result (FoundSays variables (take count pairs.now)) }
+    ensures { IfOk result (λ answer. MatchOption answer (HasNoUnifier variables (take count pairs.now)) (λ found. IsMostGeneral variables (unifier found.slots.items found.ranks.items) (take count pairs.now))) }
 {
     match solve(alloc, pairs, count, variables)? {
-        None => Ok(Found::Clash),
+        None => Ok(None),
         Some(slots) => match ranks(alloc, &slots)? {
-            None => Ok(Found::Clash),
+            None => Ok(None),
             Some(ranking) => {
-                if all_plain(&slots, variables) {
-                    let ranks = ranking.ranks;
-                    Ok(Found::Solved(Unifier { slots, ranks }))
-                } else {
-                    Ok(Found::Unfinished)
-                }
+                let ranks = ranking.ranks;
+                Ok(Some(Unifier { slots, ranks }))
             }
         },
     }
@@ -104,8 +97,7 @@ pub fn unify<'a>(
     ensures clash { IfErr result (FaultSays variables pairs.now) }
 {
     match attempt(alloc, pairs, pairs.len(), variables)? {
-        Found::Clash => Err(UnifyFault::Clash(first_clash(alloc, pairs, variables)?)),
-        Found::Solved(found) => Ok(found),
-        Found::Unfinished => Err(UnifyFault::Unfinished),
+        None => Err(UnifyFault::Clash(first_clash(alloc, pairs, variables)?)),
+        Some(found) => Ok(found),
     }
 }
