@@ -1,9 +1,9 @@
 -- The answers, of what the slots know.
-use Rattle.std.proofs.Common.{◌≡◌, ℕ, zero, suc, ◌+◌, ◌<◌, ◌≤◌, false, List, length, map, get_or, refl, sym, ap, subst, ◌∙◌, inl, inr, arith, Option, Some, None}
+use Rattle.std.proofs.Common.{◌≡◌, ℕ, zero, suc, ◌<◌, false, List, [], ◌∷◌, ◌+◌, length, map, get_or, refl, sym, ap, subst, ◌∙◌, inl, inr, arith, Option, Some, None}
 use Rattle.std.specs.Prelude.{slice_index}
 use Rattle.pv_base.specs.TypeData.{TypeData, IntType}
 use Rattle.pv_base.specs.declared.types.Width.{Width}
-use Rattle.type_places.specs.Slots.{Typing, Meets, Fits, IsOpen, IsRoot, slot_at}
+use Rattle.type_places.specs.Slots.{Typing, Meets, Fits, IsRoot, slot_at}
 use Rattle.type_places.specs.Ranks.{IsRank, refill_by}
 use Rattle.type_places.specs.Knows.{Knows}
 use Rattle.type_places.specs.declared.slots.Sort.TheVariants.{Any, Single, Value, Integer}
@@ -16,16 +16,16 @@ use Rattle.unification.specs.Ranked.{rank_at, IsRanking}
 use Rattle.typings.specs.Sorts.{is_integer}
 use Rattle.typings.specs.Rules.{HasOpenHead}
 use Rattle.typings.specs.Settings.{u64_type, unit_type}
-use Rattle.typings.specs.Answers.{System, Typings, HasTyping, IsSettledTyping, IsTyped, IsUntypable}
+use Rattle.typings.specs.Answers.{System, Typings, IsSettledTyping, HasType, IsTyped, IsAmbiguous, IsUntypable}
 use Rattle.typed_program.specs.declared.pool.PoolType.{PoolType}
 use Rattle.typed_program.specs.Pools.{type_at, types}
 use Rattle.chosen_types.specs.Roots.{IsRootOf, AreRoots}
 use Rattle.chosen_types.specs.Given.{IsGiven, GivesNoInteger, WidthOf, Gives, AnyPlace, IsDropped}
-use Rattle.chosen_types.specs.Numbers.{numbers_at, IsNumberOf, TableSays}
-use Rattle.chosen_types.specs.Choices.{IsSound, DefaultsOf, WidthSays, ChoiceSays}
+use Rattle.chosen_types.specs.Numbers.{number_at, AreParts, PartsSay, NumberSays, TableSays}
+use Rattle.chosen_types.specs.Choices.{IsSound, DefaultsOf, WidthSays, PlaceSays, AreTypes, TypesSay, ChoiceSays}
 use Rattle.chosen_types.specs.declared.choice.Defaulted.{Defaulted}
 use Rattle.chosen_types.proofs.Giving.{given_value, given_not_open, gives_fits, gives_rank, gives_ranking, gives_roots}
-use Rattle.chosen_types.proofs.Refilling.{plain, plain_typing, not_forced, open_sort}
+use Rattle.chosen_types.proofs.Refilling.{plain, plain_typing}
 use Rattle.chosen_types.proofs.Defaulting.{defaults_known, made_no_integer, grouped_no_integer}
 use Rattle.chosen_types.proofs.Settling.{settled_known}
 
@@ -90,57 +90,71 @@ width_is_none d p sound lt none s has inside =
       ),
     )
 
--- ---- the choice
+-- ---- types of places
 
-ambiguous : (d : Defaulted) (slots : List Slot) (dropped : List ℕ) (places : ℕ) (pool : List PoolType) (p : ℕ) → IsSound d → places ≤ length d.slots.items →
-    ((k : ℕ) → k < length dropped → slice_index dropped k < places) → Gives d.slots.items slots Any unit_type (IsDropped d.roots.items dropped (length dropped)) →
-    p < length slots → IsOpen (slot_at slots p) → ChoiceSays d dropped places pool None
-ambiguous d slots dropped places pool p sound le within g lt is s has are count =
-    let r : ℕ → ℕ = rank_at d.ranking.ranks.items in
-    let k : Knows slots s.places (IsSettledTyping s) = settled_known s d.slots.items slots d.roots.items dropped r has.knows sound.ranking.is_rank sound.roots are
-    (λ i li. subst (λ (n : ℕ). slice_index dropped i < n) (sym count) (within i li)) g in
-    let free = open_sort (slot_at slots p) is in
-    record {
-      exists = has.exists;
-      why = inr (p, k.opens p lt is, not_forced k r (gives_rank g r sound.ranking.is_rank) p p free.0 free.1 (λ t m. refl));
-    }
-
-length-numbers : (f : ℕ → TypeData) (ns : List ℕ) (first n : ℕ) → length (map f (numbers_at ns first n)) ≡ n
-length-numbers f ns first zero = refl
-length-numbers f ns first (suc n) = ap suc (length-numbers f ns (first + 1) n)
-
-number_at : (f : ℕ → TypeData) (ns : List ℕ) (first n p : ℕ) (d : TypeData) → p < n → get_or (map f (numbers_at ns first n)) p d ≡ f (slice_index ns (first + p))
-number_at f ns first zero p d lt = absurd (omega (arith, lt))
-number_at f ns first (suc n) zero d lt = ap (λ (q : ℕ). f (slice_index ns q)) (let e : first ≡ first + 0 = omega arith in e)
-number_at f ns first (suc n) (suc p) d lt =
-    number_at f ns (first + 1) n p d (omega (arith, lt)) ∙ ap (λ (q : ℕ). f (slice_index ns q)) (let e : (first + 1) + p ≡ first + suc p = omega arith in e)
-
-typed : (s : System) (slots : List Slot) (numbers : List ℕ) (r : ℕ → ℕ) (pool : List PoolType) → HasTyping s → Knows slots s.places (IsSettledTyping s) → IsRank slots r →
-    ((p : ℕ) → p < length slots → IsNumberOf slots pool p (slice_index numbers p)) → (HasOpenHead s.reading s.steps → ⊥) → IsTyped s (map (type_at (types pool)) (numbers_at numbers 0 s.places))
-typed s slots numbers r pool exists k rank are whole = record {
-  whole = whole;
-  exists = exists;
-  same_length = length-numbers (type_at (types pool)) numbers 0 s.places;
-  each = λ p lt. record {
+place_type : (s : System) (slots : List Slot) (pool : List PoolType) (r : ℕ → ℕ) → Knows slots s.places (IsSettledTyping s) → IsRank slots r → (p : ℕ) → p < s.places → (found : Option ℕ) →
+    NumberSays slots pool p found → PlaceSays s pool p found
+place_type s slots pool r k rank p lt None h = λ of has.
+    h (refill_by slots (λ a. plain) r) (plain_typing slots r rank) (λ t u mt mu. has.each t (k.from t mt) ∙ sym (has.each u (k.from u mu)))
+place_type s slots pool r k rank p lt (Some n) h = (
+  h.within,
+  record {
     typing = refill_by slots (λ a. plain) r;
     settled = k.from _ (plain_typing slots r rank);
-    each = λ t h. let u = k.to t h in
-        let a = are p (let b = k.longer in omega (arith, lt, b)) in
-        let none : 0 + p ≡ p = omega arith in
-        sym (u.1.0 p lt) ∙ a.is u.0 u.1.1 ∙ sym (number_at (type_at (types pool)) numbers 0 s.places p unit_type lt ∙ ap (λ (q : ℕ). type_at (types pool) (slice_index numbers q)) none);
-  };
-}
+    each = λ t is. let u = k.to t is in sym (u.1.0 p lt) ∙ h.is u.0 u.1.1;
+  },
+)
 
-pub choice_says : (d : Defaulted) (slots : List Slot) (dropped : List ℕ) (places : ℕ) (pool : List PoolType) → IsSound d → places ≤ length d.slots.items →
+pub types_say : (d : Defaulted) (slots : List Slot) (dropped : List ℕ) (places : ℕ) (pool : List PoolType) (numbers : List (Option ℕ)) → IsSound d →
     ((k : ℕ) → k < length dropped → slice_index dropped k < places) → Gives d.slots.items slots Any unit_type (IsDropped d.roots.items dropped (length dropped)) →
-    (found : Option (List ℕ)) → TableSays slots places pool found → ChoiceSays d dropped places pool found
-choice_says d slots dropped places pool sound le within g None h = ambiguous d slots dropped places pool h.0 sound le within g h.1.0 h.1.1
-choice_says d slots dropped places pool sound le within g (Some found) h = λ s has same count whole.
+    TableSays slots places pool numbers → TypesSay d dropped places pool numbers
+types_say d slots dropped places pool numbers sound within g h = λ s has same count.
     let r : ℕ → ℕ = rank_at d.ranking.ranks.items in
+    let rank : IsRank slots r = gives_rank g r sound.ranking.is_rank in
     let k : Knows slots s.places (IsSettledTyping s) = settled_known s d.slots.items slots d.roots.items dropped r has.knows sound.ranking.is_rank sound.roots same
     (λ i li. subst (λ (n : ℕ). slice_index dropped i < n) (sym count) (within i li)) g in
-    subst (λ (ns : List ℕ). IsTyped s (map (type_at (types pool)) ns)) (ap (numbers_at h.0 0) count ∙ sym h.1.0)
-    (typed s slots h.0 r pool has.exists k (gives_rank g r sound.ranking.is_rank) h.1.1 whole)
+    record {
+      settles = (refill_by slots (λ a. plain) r, k.from _ (plain_typing slots r rank));
+      same_length = h.same_length ∙ sym count;
+      each = λ p lt. place_type s slots pool r k rank p lt (number_at numbers p) (h.each p (subst (λ (n : ℕ). p < n) count lt));
+    }
+
+-- ---- the choice
+
+length-types : (f : ℕ → TypeData) (ns : List ℕ) → length (map f ns) ≡ length ns
+length-types f [] = refl
+length-types f (n ∷ ns) = ap suc (length-types f ns)
+
+type_in : (f : ℕ → TypeData) (ns : List ℕ) (p : ℕ) (d : TypeData) → p < length ns → get_or (map f ns) p d ≡ f (slice_index ns p)
+type_in f [] p d lt = absurd (omega (arith, lt))
+type_in f (n ∷ ns) zero d lt = refl
+type_in f (n ∷ ns) (suc p) d lt = type_in f ns p d (omega (arith, lt))
+
+ambiguous : (s : System) (pool : List PoolType) (numbers : List (Option ℕ)) (p : ℕ) → AreTypes s pool numbers → p < s.places → number_at numbers p ≡ None → IsAmbiguous s
+ambiguous s pool numbers p are lt none =
+    let t : Typing = are.settles.0 in
+    let says : PlaceSays s pool p None = subst (λ (o : Option ℕ). PlaceSays s pool p o) none (are.each p lt) in
+    record {
+      exists = (t, are.settles.1.defaulted.typing);
+      why = inr (p, lt, λ forced. says (t p) (record { typing = t; settled = are.settles.1; each = λ u is. forced u t is are.settles.1 }));
+    }
+
+typed : (s : System) (pool : List PoolType) (numbers : List (Option ℕ)) (found : List ℕ) → AreTypes s pool numbers → AreParts numbers 0 (length numbers) found → (HasOpenHead s.reading s.steps → ⊥) →
+    IsTyped s (map (type_at (types pool)) found)
+typed s pool numbers found are parts whole = record {
+  whole = whole;
+  exists = (are.settles.0, are.settles.1.defaulted.typing);
+  same_length = length-types (type_at (types pool)) found ∙ parts.same_length ∙ are.same_length;
+  each = λ p lt.
+      let inside : p < length numbers = subst (λ (n : ℕ). p < n) (sym are.same_length) lt in
+      let at : number_at numbers p ≡ Some (slice_index found p) = ap (number_at numbers) (let z : p ≡ 0 + p = omega arith in z) ∙ parts.each p inside in
+      let says : PlaceSays s pool p (Some (slice_index found p)) = subst (λ (o : Option ℕ). PlaceSays s pool p o) at (are.each p lt) in
+      subst (λ (of : TypeData). HasType s p of) (sym (type_in (type_at (types pool)) found p unit_type (subst (λ (n : ℕ). p < n) (sym parts.same_length) inside))) says.1;
+}
+
+pub choice_says : (numbers : List (Option ℕ)) (found : Option (List ℕ)) → PartsSay numbers 0 (length numbers) found → ChoiceSays numbers found
+choice_says numbers None h = λ s pool are. ambiguous s pool numbers h.0 are (let a = h.1.1 in let b = are.same_length in omega (arith, a, b)) h.1.2
+choice_says numbers (Some found) h = λ s pool are whole. typed s pool numbers found are h whole
 
 -- the width that the slot of the root tells
 pub width_says : (d : Defaulted) (p : ℕ) (found : Option Width) → IsSound d → p < length d.slots.items → WidthOf (slot_at d.slots.items (slice_index d.roots.items p)) found → WidthSays d p found

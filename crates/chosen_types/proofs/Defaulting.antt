@@ -21,6 +21,7 @@ use Rattle.typings.specs.Settings.{u64_type}
 use Rattle.typings.specs.Answers.{System, Typings, IsForced, IsIntegerPlace, IsDefaulted}
 use Rattle.chosen_types.specs.Roots.{IsRootOf, AreRoots}
 use Rattle.chosen_types.specs.Given.{Gives, AnyPlace}
+use Rattle.chosen_types.specs.Choices.{ChoosesU64}
 use Rattle.chosen_types.proofs.Giving.{given_value, meets_old, meets_new, gives_fits, gives_opens}
 use Rattle.chosen_types.proofs.Refilling.{plain, plain_typing, not_forced, forced_by}
 
@@ -78,9 +79,9 @@ open_integer {slots} k p lt inside e t h =
     let u = k.to t h in
     integer_too (t p) (subst (λ (a : TypeData). IsTrue (is_integer_of a)) (u.1.0 p inside) (let i : IsTrue (is_integer_of (u.0 p)) = open_says slots p Integer u.0 lt e u.1.1 in i))
 
-pub defaults_known : (s : System) (slots given : List Slot) (roots : List ℕ) (r : ℕ → ℕ) → s.open_integer ≡ u64_type → Knows slots s.places (Typings s) → IsRank slots r →
+pub defaults_known : (s : System) (slots given : List Slot) (roots : List ℕ) (r : ℕ → ℕ) → ChoosesU64 s slots → Knows slots s.places (Typings s) → IsRank slots r →
     AreRoots slots roots (length slots) → Gives slots given Integer u64_type AnyPlace → Knows given s.places (IsDefaulted s)
-defaults_known s slots given roots r of k rank are g = record {
+defaults_known s slots given roots r wide k rank are g = record {
   fits = gives_fits g k.fits;
   longer = (let a = k.longer in let b = g.same_length in omega (arith, a, b));
   opens = λ p lt o. k.opens p (subst (λ (n : ℕ). p < n) g.same_length lt) (gives_opens g p lt o);
@@ -90,7 +91,7 @@ defaults_known s slots given roots r of k rank are g = record {
       u.1.0,
       meets_new g u.0 u.1.1 (λ p lt asked e.
           let inside : p < s.places = k.opens p lt (subst (λ (x : Slot). IsOpen x) (sym e) tt) in
-          u.1.0 p inside ∙ d.integers p inside (open_integer k p lt inside e) (not_forced k r rank p p Integer e (λ v m. refl)) ∙ of),
+          u.1.0 p inside ∙ d.integers p inside (open_integer k p lt inside e) (not_forced k r rank p p Integer e (λ v m. refl)) ∙ wide p lt e),
     ),
   );
   from = λ t m. let old : Meets slots t = meets_old g refl t m in record {
@@ -100,6 +101,6 @@ defaults_known s slots given roots r of k rank are g = record {
         let root = are.each p inside in
         let q : ℕ = slice_index roots p in
         let e : slot_at slots q ≡ Open Integer = integer_root k r rank p q lt root all free (slot_at slots q) refl root.is_root in
-        root.same t old ∙ given_value u64_type t q (slot_at given q) (g.given q root.within tt e) (m.each q (subst (λ (n : ℕ). q < n) (sym g.same_length) root.within)) ∙ sym of;
+        root.same t old ∙ given_value u64_type t q (slot_at given q) (g.given q root.within tt e) (m.each q (subst (λ (n : ℕ). q < n) (sym g.same_length) root.within)) ∙ sym (wide q root.within e);
   };
 }

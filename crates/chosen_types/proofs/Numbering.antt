@@ -1,7 +1,8 @@
 -- Numbers of the types of places.
-use Rattle.std.proofs.Common.{◌≡◌, ℕ, zero, suc, ◌+◌, ◌-◌, ◌<◌, ◌≤◌, List, [], ◌∷◌, ◌++◌, length, map, get_or, refl, sym, ap, subst, ◌∙◌, inl, inr, arith, get_or-set_other, get_or-set_same}
+use Rattle.std.proofs.Common.{◌≡◌, ℕ, zero, suc, ◌+◌, ◌-◌, ◌<◌, ◌≤◌, List, [], ◌∷◌, ◌++◌, length, length-append, map, take, get_or, refl, sym, ap, subst, ◌∙◌, inl, inr, arith, Option, Some, None, get_or-set_other, get_or-set_same}
 use Rattle.std.specs.Prelude.{slice_index}
 use Rattle.std.proofs.lemmas.Bool.Decides.{eqb_tells}
+use Rattle.std.proofs.lemmas.List.{get_or_default, get_or_push, get_or_append_left, get_or-take, length-take}
 use Rattle.std.proofs.Math.ListN.{set, length-set}
 use Rattle.pv_base.specs.TypeData.{TypeData}
 use Rattle.pv_base.specs.TypeData.{types_of}
@@ -9,36 +10,57 @@ use Rattle.typings.specs.Sorts.{made}
 use Rattle.typings.specs.declared.sort.Wrap.{Wrap}
 use Rattle.type_places.specs.declared.slots.Wrap.{Wrap as PlaceWrap}
 use Rattle.type_places.specs.declared.slots.Group.{Group}
-use Rattle.type_places.specs.Slots.{Typing, value, wrapped, grouped, list_at, Meets, Fits, TermFits, TermWithin, SlotFits, slot_at}
+use Rattle.type_places.specs.Slots.{Typing, wrapped, grouped, list_at, Meets, Fits, TermFits, TermWithin, SlotFits, slot_at}
 use Rattle.type_places.specs.Ranks.{EachIn, EachLed}
+use Rattle.type_places.specs.Agree.{IsForced}
+use Rattle.type_places.specs.declared.slots.Sort.{Sort}
 use Rattle.type_places.specs.declared.slots.Term.{Term}
 use Rattle.type_places.specs.declared.slots.Term.TheVariants.{Place, Closed, Made, Grouped}
 use Rattle.type_places.specs.declared.slots.Slot.{Slot}
-use Rattle.type_places.specs.declared.slots.Slot.TheVariants.{Bound}
+use Rattle.type_places.specs.declared.slots.Slot.TheVariants.{Open, Bound}
+use Rattle.type_places.proofs.Asking.{wrapped_same, grouped_same}
+use Rattle.type_places.proofs.Becoming.{bound_says}
+use Rattle.type_places.proofs.Refill.{told_apart}
 use Rattle.typed_program.specs.declared.pool.PoolType.{PoolType}
 use Rattle.typed_program.specs.Pools.{type_at, types}
 use Rattle.unification.specs.Ranked.{rank_at, HasLower, IsRanking}
 use Rattle.unification.proofs.Ranking.{each_led}
-use Rattle.type_places.proofs.Becoming.{bound_says}
-use Rattle.chosen_types.specs.Numbers.{Keeps, numbers_at, IsNumberOf, IsBefore, IsOrder, AreNumbers}
+use Rattle.chosen_types.specs.Numbers.{Keeps, number_at, AreParts, IsInPool, IsTypeAt, SomeIn, TermSays, NumberSays, IsBefore, IsOrder, AreNumbers, TableSays}
+use Rattle.chosen_types.proofs.Refilling.{small, wide, small_is, wide_is, widths_differ}
 
 -- ---- consecutive places
 
-pub numbers_push : (ns : List ℕ) (first n : ℕ) → numbers_at ns first (n + 1) ≡ numbers_at ns first n ++ slice_index ns (first + n) ∷ []
-numbers_push ns first zero = λ i. slice_index ns ((let e : first ≡ first + 0 = omega arith in e) i) ∷ []
-numbers_push ns first (suc n) =
-    let rest : numbers_at ns (first + 1) (n + 1) ≡ numbers_at ns (first + 1) n ++ slice_index ns ((first + 1) + n) ∷ [] = numbers_push ns (first + 1) n in
-    let at : (first + 1) + n ≡ first + suc n = omega arith in
-    (let e : suc n + 1 ≡ suc (n + 1) = omega arith in ap (numbers_at ns first) e) ∙ ap (λ (xs : List ℕ). slice_index ns first ∷ xs) (rest ∙ ap (λ (q : ℕ). numbers_at ns (first + 1) n ++ slice_index ns q ∷ []) at)
+pub parts_none : (numbers : List (Option ℕ)) (first : ℕ) → AreParts numbers first 0 []
+parts_none numbers first = record {
+  same_length = refl;
+  each = λ i lt. absurd (omega (arith, lt));
+}
 
-pub numbers_below : (ns : List ℕ) (first n m : ℕ) → ((q : ℕ) → first ≤ q → q < first + n → slice_index ns q < m) → (k d : ℕ) → k < length (numbers_at ns first n) → get_or (numbers_at ns first n) k d < m
-numbers_below ns first zero m h k d lt = absurd (omega (arith, lt))
-numbers_below ns first (suc n) m h zero d lt = h first (omega arith) (omega arith)
-numbers_below ns first (suc n) m h (suc k) d lt = numbers_below ns (first + 1) n m (λ q a b. h q (omega (arith, a)) (omega (arith, b))) k d (omega (arith, lt))
+-- one place more
+pub parts_push : (numbers : List (Option ℕ)) (first i n : ℕ) (parts more : List ℕ) → AreParts numbers first i parts → number_at numbers (first + i) ≡ Some n → more ≡ parts ++ n ∷ [] → AreParts numbers first (i + 1) more
+parts_push numbers first i n parts more are at e = subst (λ (ps : List ℕ). AreParts numbers first (i + 1) ps) (sym e) (record {
+  same_length = length-append parts (n ∷ []) ∙ ap (λ (m : ℕ). m + 1) are.same_length;
+  each = λ j lt. elim (eqb_tells j i) [
+    | inl same ↦ ap (λ (k : ℕ). number_at numbers (first + k)) same.1 ∙ at ∙ ap Some (sym (get_or_push parts n 0 j (are.same_length ∙ sym same.1)))
+    | inr ne ↦ (let less : j < i = omega (arith, lt, ne.1) in
+        are.each j less ∙ ap Some (sym (get_or_append_left parts (n ∷ []) 0 j (subst (λ (m : ℕ). j < m) (sym are.same_length) less))))
+  ];
+})
 
-pub numbers_types : (t : Typing) (f : ℕ → TypeData) (ns : List ℕ) (first n : ℕ) → ((q : ℕ) → first ≤ q → q < first + n → t q ≡ f (slice_index ns q)) → list_at t first n ≡ map f (numbers_at ns first n)
-numbers_types t f ns first zero h = refl
-numbers_types t f ns first (suc n) h = λ i. h first (omega arith) (omega arith) i ∷ numbers_types t f ns (first + 1) n (λ q a b. h q (omega (arith, a)) (omega (arith, b))) i
+pub parts_below : (numbers : List (Option ℕ)) (pool : List PoolType) (first count : ℕ) (parts : List ℕ) → AreParts numbers first count parts →
+    ((q : ℕ) → first ≤ q → q < first + count → IsInPool pool (number_at numbers q)) → (k d : ℕ) → k < length parts → get_or parts k d < length pool
+parts_below numbers pool first count parts are h k d lt =
+    let inside : k < count = subst (λ (m : ℕ). k < m) are.same_length lt in
+    let there : slice_index parts k < length pool = subst (λ (o : Option ℕ). IsInPool pool o) (are.each k inside) (h (first + k) (omega arith) (omega (arith, inside))) in
+    subst (λ (x : ℕ). x < length pool) (sym (get_or_default parts k d 0 lt)) there
+
+types_at : (t : Typing) (f : ℕ → TypeData) (first : ℕ) (parts : List ℕ) → ((i : ℕ) → i < length parts → t (first + i) ≡ f (slice_index parts i)) → list_at t first (length parts) ≡ map f parts
+types_at t f first [] h = refl
+types_at t f first (n ∷ parts) h =
+    let here : t first ≡ f n = ap t (let e : first ≡ first + 0 = omega arith in e) ∙ h 0 (omega arith) in
+    let rest : list_at t (first + 1) (length parts) ≡ map f parts =
+    types_at t f (first + 1) parts (λ i lt. ap t (let e : (first + 1) + i ≡ first + suc i = omega arith in e) ∙ h (suc i) (omega (arith, lt))) in
+    λ j. here j ∷ rest j
 
 -- ---- one place
 
@@ -52,35 +74,107 @@ pub term_within : (slots : List Slot) (p : ℕ) (x : Term) (n : ℕ) → Fits sl
 term_within slots p x n fits lt e is = subst (λ (k : ℕ). TermWithin k x) (sym e)
     (fits_within (length slots) p x lt (let h : TermFits (length slots) p x = subst (λ (y : Slot). SlotFits (length slots) p y) is (fits.each p lt) in h))
 
-pub parts_below : (slots : List Slot) (pool : List PoolType) (numbers : List ℕ) (p : ℕ) (x : Term) → slot_at slots p ≡ Bound x →
-    EachLed (λ q. IsNumberOf slots pool q (slice_index numbers q)) (slot_at slots p) → EachIn (λ q. slice_index numbers q < length pool) x
-parts_below slots pool numbers p x e h =
-    each_led (λ q. IsNumberOf slots pool q (slice_index numbers q)) (λ q. slice_index numbers q < length pool) (Bound x) (λ q is. is.within)
-    (subst (λ (y : Slot). EachLed (λ q. IsNumberOf slots pool q (slice_index numbers q)) y) e h)
+in_pool : (slots : List Slot) (pool : List PoolType) (q : ℕ) (o : Option ℕ) → NumberSays slots pool q o → IsInPool pool o
+in_pool slots pool q None h = tt
+in_pool slots pool q (Some n) h = h.within
 
-parts_have : (slots : List Slot) (pool : List PoolType) (numbers : List ℕ) (p : ℕ) (x : Term) → slot_at slots p ≡ Bound x →
-    EachLed (λ q. IsNumberOf slots pool q (slice_index numbers q)) (slot_at slots p) → (t : Typing) → Meets slots t → EachIn (λ q. t q ≡ type_at (types pool) (slice_index numbers q)) x
-parts_have slots pool numbers p x e h t m =
-    each_led (λ q. IsNumberOf slots pool q (slice_index numbers q)) (λ q. t q ≡ type_at (types pool) (slice_index numbers q)) (Bound x) (λ q is. is.is t m)
-    (subst (λ (y : Slot). EachLed (λ q. IsNumberOf slots pool q (slice_index numbers q)) y) e h)
+pub parts_in_pool : (slots : List Slot) (pool : List PoolType) (numbers : List (Option ℕ)) (p : ℕ) (x : Term) → slot_at slots p ≡ Bound x →
+    EachLed (λ q. NumberSays slots pool q (number_at numbers q)) (slot_at slots p) → EachIn (λ q. IsInPool pool (number_at numbers q)) x
+parts_in_pool slots pool numbers p x e h =
+    each_led (λ q. NumberSays slots pool q (number_at numbers q)) (λ q. IsInPool pool (number_at numbers q)) (Bound x) (λ q is. in_pool slots pool q (number_at numbers q) is)
+    (subst (λ (y : Slot). EachLed (λ q. NumberSays slots pool q (number_at numbers q)) y) e h)
 
-pub place_is : (slots : List Slot) (old new : List PoolType) (numbers : List ℕ) (p : ℕ) (x : Term) (n : ℕ) → p < length slots → slot_at slots p ≡ Bound x →
-    EachLed (λ q. IsNumberOf slots old q (slice_index numbers q)) (slot_at slots p) → n < length new →
-    ((t : Typing) → EachIn (λ q. t q ≡ type_at (types old) (slice_index numbers q)) x → value t x ≡ type_at (types new) n) → IsNumberOf slots new p n
-place_is slots old new numbers p x n lt e h within values = record {
-  within = within;
-  is = λ t m. bound_says slots p x t lt e m ∙ values t (parts_have slots old numbers p x e h t m);
+type_at_number : (slots : List Slot) (pool : List PoolType) (q : ℕ) (o : Option ℕ) → NumberSays slots pool q o → (t : Typing) → Meets slots t → IsTypeAt pool (t q) o
+type_at_number slots pool q None h t m = tt
+type_at_number slots pool q (Some n) h t m = h.is t m
+
+parts_have : (slots : List Slot) (pool : List PoolType) (numbers : List (Option ℕ)) (x : Term) → EachIn (λ q. NumberSays slots pool q (number_at numbers q)) x →
+    (t : Typing) → Meets slots t → EachIn (λ q. IsTypeAt pool (t q) (number_at numbers q)) x
+parts_have slots pool numbers x h t m =
+    each_led (λ q. NumberSays slots pool q (number_at numbers q)) (λ q. IsTypeAt pool (t q) (number_at numbers q)) (Bound x) (λ q is. type_at_number slots pool q (number_at numbers q) is t m) h
+
+-- ---- parts of one type are of one type
+
+cons_same : (a b : TypeData) (as_ bs : List TypeData) → a ∷ as_ ≡ b ∷ bs → (a ≡ b) × (as_ ≡ bs)
+cons_same a b as_ bs e = (cc, cc)
+
+list_same : (t u : Typing) (first count : ℕ) → list_at t first count ≡ list_at u first count → (q : ℕ) → first ≤ q → q < first + count → t q ≡ u q
+list_same t u first zero e q a b = absurd (omega (arith, a, b))
+list_same t u first (suc count) e q a b =
+    let both = cons_same (t first) (u first) (list_at t (first + 1) count) (list_at u (first + 1) count) e in
+    elim (eqb_tells q first) [
+      | inl same ↦ ap t same.1 ∙ both.0 ∙ ap u (sym same.1)
+      | inr ne ↦ list_same t u (first + 1) count both.1 q (omega (arith, a, ne.1)) (omega (arith, b))
+    ]
+
+some_each : (P Q : ℕ → Type 0) (x : Term) → SomeIn P x → EachIn Q x → (q : ℕ) × (P q × Q q)
+some_each P Q (Place q) h g = (q, (h, g))
+some_each P Q (Closed of) h g = absurd h
+some_each P Q (Made w q) h g = (q, (h, g))
+some_each P Q (Grouped c first count) h g = (h.0, (h.1.2, g h.0 h.1.0 h.1.1))
+
+both_in : (P Q : ℕ → Type 0) (x : Term) → EachIn P x → EachIn Q x → EachIn (λ q. P q × Q q) x
+both_in P Q (Place q) h g = (h, g)
+both_in P Q (Closed of) h g = tt
+both_in P Q (Made w q) h g = (h, g)
+both_in P Q (Grouped c first count) h g = λ q a b. (h q a b, g q a b)
+
+forced_in : (slots : List Slot) (p : ℕ) (x : Term) → p < length slots → slot_at slots p ≡ Bound x → IsForced (Meets slots) p → EachIn (λ q. IsForced (Meets slots) q) x
+forced_in slots p (Place q) lt e f = λ t u mt mu. sym (bound_says slots p (Place q) t lt e mt) ∙ f t u mt mu ∙ bound_says slots p (Place q) u lt e mu
+forced_in slots p (Closed of) lt e f = tt
+forced_in slots p (Made w q) lt e f = λ t u mt mu. wrapped_same w (t q) (u q) (sym (bound_says slots p (Made w q) t lt e mt) ∙ f t u mt mu ∙ bound_says slots p (Made w q) u lt e mu)
+forced_in slots p (Grouped g first count) lt e f = λ q a b t u mt mu.
+    list_same t u first count (grouped_same g (list_at t first count) (list_at u first count)
+    (sym (bound_says slots p (Grouped g first count) t lt e mt) ∙ f t u mt mu ∙ bound_says slots p (Grouped g first count) u lt e mu)) q a b
+
+-- a place that leads to one that is not forced is not forced
+none_led : (slots : List Slot) (pool : List PoolType) (numbers : List (Option ℕ)) (p : ℕ) (x : Term) → p < length slots → slot_at slots p ≡ Bound x →
+    EachIn (λ q. NumberSays slots pool q (number_at numbers q)) x → SomeIn (λ q. number_at numbers q ≡ None) x → (t : Typing) → Meets slots t → IsForced (Meets slots) p → ⊥
+none_led slots pool numbers p x lt e says some t m forced =
+    let s = some_each (λ q. number_at numbers q ≡ None) (λ q. NumberSays slots pool q (number_at numbers q) × IsForced (Meets slots) q) x some
+    (both_in (λ q. NumberSays slots pool q (number_at numbers q)) (λ q. IsForced (Meets slots) q) x says (forced_in slots p x lt e forced)) in
+    let none : NumberSays slots pool s.0 None = subst (λ (o : Option ℕ). NumberSays slots pool s.0 o) s.1.0 s.1.1.0 in
+    none t m s.1.1.1
+
+pub place_says : (slots : List Slot) (old new : List PoolType) (numbers : List (Option ℕ)) (p : ℕ) (x : Term) (found : Option ℕ) → p < length slots → slot_at slots p ≡ Bound x →
+    EachLed (λ q. NumberSays slots old q (number_at numbers q)) (slot_at slots p) → TermSays old new numbers x found → NumberSays slots new p found
+place_says slots old new numbers p x None lt e h says = λ t m forced.
+    none_led slots old numbers p x lt e (subst (λ (y : Slot). EachLed (λ q. NumberSays slots old q (number_at numbers q)) y) e h) says t m forced
+place_says slots old new numbers p x (Some n) lt e h says = record {
+  within = says.0;
+  is = λ t m. bound_says slots p x t lt e m ∙ says.1 t (parts_have slots old numbers x (subst (λ (y : Slot). EachLed (λ q. NumberSays slots old q (number_at numbers q)) y) e h) t m);
 }
 
-pub wrapped_is : (numbers : List ℕ) (old new : List PoolType) (of : Wrap) (wrap : PlaceWrap) (p n : ℕ) → ((t : TypeData) → made of t ≡ wrapped wrap t) →
-    type_at (types new) n ≡ made of (type_at (types old) (slice_index numbers p)) → (t : Typing) → t p ≡ type_at (types old) (slice_index numbers p) → wrapped wrap (t p) ≡ type_at (types new) n
-wrapped_is numbers old new of wrap p n same is t e = ap (wrapped wrap) e ∙ sym (same _) ∙ sym is
+-- an open place is not forced
+pub open_says_none : (slots : List Slot) (pool : List PoolType) (p : ℕ) (s : Sort) → Fits slots → slot_at slots p ≡ Open s → NumberSays slots pool p None
+open_says_none slots pool p s fits e = λ t m forced. told_apart (λ a. a) small wide small_is wide_is slots p p s fits e (λ v w. refl) widths_differ t m forced
 
-pub grouped_is : (numbers parts : List ℕ) (old new : List PoolType) (group : Group) (first count n : ℕ) → parts ≡ numbers_at numbers first count →
-    type_at (types new) n ≡ grouped group (types_of (map (type_at (types old)) parts)) → (t : Typing) →
-    ((q : ℕ) → first ≤ q → q < first + count → t q ≡ type_at (types old) (slice_index numbers q)) → grouped group (types_of (list_at t first count)) ≡ type_at (types new) n
-grouped_is numbers parts old new group first count n e is t h =
-    ap (λ (ts : List TypeData). grouped group (types_of ts)) (numbers_types t (type_at (types old)) numbers first count h ∙ ap (map (type_at (types old))) (sym e)) ∙ sym is
+-- ---- one term
+
+pub place_term : (old : List PoolType) (numbers : List (Option ℕ)) (q : ℕ) (found : Option ℕ) → IsInPool old (number_at numbers q) → found ≡ number_at numbers q → TermSays old old numbers (Place q) found
+place_term old numbers q None h e = sym e
+place_term old numbers q (Some n) h e = (
+  subst (λ (o : Option ℕ). IsInPool old o) (sym e) h,
+  λ t is. subst (λ (o : Option ℕ). IsTypeAt old (t q) o) (sym e) is,
+)
+
+pub wrapped_term : (numbers : List (Option ℕ)) (old new : List PoolType) (of : Wrap) (wrap : PlaceWrap) (p m n : ℕ) → ((t : TypeData) → made of t ≡ wrapped wrap t) → number_at numbers p ≡ Some m →
+    n < length new → type_at (types new) n ≡ made of (type_at (types old) m) → TermSays old new numbers (Made wrap p) (Some n)
+wrapped_term numbers old new of wrap p m n same at within is = (
+  within,
+  λ t h. ap (wrapped wrap) (let e : t p ≡ type_at (types old) m = subst (λ (o : Option ℕ). IsTypeAt old (t p) o) at h in e) ∙ sym (same (type_at (types old) m)) ∙ sym is,
+)
+
+pub grouped_term : (numbers : List (Option ℕ)) (old new : List PoolType) (group : Group) (first count : ℕ) (parts : List ℕ) (n : ℕ) → AreParts numbers first count parts →
+    n < length new → type_at (types new) n ≡ grouped group (types_of (map (type_at (types old)) parts)) → TermSays old new numbers (Grouped group first count) (Some n)
+grouped_term numbers old new group first count parts n are within is = (
+  within,
+  λ t h. ap (λ (m : ℕ). grouped group (types_of (list_at t first m))) (sym are.same_length)
+      ∙ ap (λ (ts : List TypeData). grouped group (types_of ts)) (types_at t (type_at (types old)) first parts (λ i lt.
+      let inside : i < count = subst (λ (m : ℕ). i < m) are.same_length lt in
+      let e : t (first + i) ≡ type_at (types old) (slice_index parts i) = subst (λ (o : Option ℕ). IsTypeAt old (t (first + i)) o) (are.each i inside) (h (first + i) (omega arith) (omega (arith, inside))) in e))
+      ∙ sym is,
+)
 
 -- ---- all places
 
@@ -102,45 +196,51 @@ is_order slots ranks order is = record {
       (j, ((let m = is.ranked.most p lt in omega (arith, e, m)), is.ranked.placed p j lt e));
 }
 
-pub order_parts : (slots : List Slot) (pool : List PoolType) (order numbers : List ℕ) (k : ℕ) → IsOrder slots order → AreNumbers slots pool order numbers k → k < length order →
-    EachLed (λ q. IsNumberOf slots pool q (slice_index numbers q)) (slot_at slots (slice_index order k))
+pub order_parts : (slots : List Slot) (pool : List PoolType) (order : List ℕ) (numbers : List (Option ℕ)) (k : ℕ) → IsOrder slots order → AreNumbers slots pool order numbers k → k < length order →
+    EachLed (λ q. NumberSays slots pool q (number_at numbers q)) (slot_at slots (slice_index order k))
 order_parts slots pool order numbers k is are lt =
-    each_led (IsBefore order k) (λ q. IsNumberOf slots pool q (slice_index numbers q)) (slot_at slots (slice_index order k))
-    (λ q h. subst (λ (x : ℕ). IsNumberOf slots pool x (slice_index numbers x)) h.1.1 (are.each h.0 h.1.0)) (is.behind k lt)
+    each_led (IsBefore order k) (λ q. NumberSays slots pool q (number_at numbers q)) (slot_at slots (slice_index order k))
+    (λ q h. subst (λ (x : ℕ). NumberSays slots pool x (number_at numbers x)) h.1.1 (are.each h.0 h.1.0)) (is.behind k lt)
 
-pub no_numbers : (slots : List Slot) (pool : List PoolType) (order numbers : List ℕ) → length numbers ≡ length slots → AreNumbers slots pool order numbers 0
+pub no_numbers : (slots : List Slot) (pool : List PoolType) (order : List ℕ) (numbers : List (Option ℕ)) → length numbers ≡ length slots → AreNumbers slots pool order numbers 0
 no_numbers slots pool order numbers e = record {
   same_length = e;
   each = λ k lt. absurd (omega (arith, lt));
 }
 
-still : {old new : List PoolType} (slots : List Slot) (p n : ℕ) → Keeps old new → IsNumberOf slots old p n → IsNumberOf slots new p n
-still slots p n k h = record {
+still : {old new : List PoolType} (slots : List Slot) (p : ℕ) (o : Option ℕ) → Keeps old new → NumberSays slots old p o → NumberSays slots new p o
+still slots p None k h = h
+still slots p (Some n) k h = record {
   within = (let a = h.within in let b = k.longer in omega (arith, a, b));
   is = λ t m. h.is t m ∙ sym (k.same n h.within);
 }
 
-pub number_more : (slots : List Slot) (old new : List PoolType) (order numbers : List ℕ) (top n : ℕ) → IsOrder slots order → AreNumbers slots old order numbers top → Keeps old new →
-    top < length order → IsNumberOf slots new (slice_index order top) n → AreNumbers slots new order (set numbers (slice_index order top) n) (top + 1)
-number_more slots old new order numbers top n is are k lt h =
+pub number_more : (slots : List Slot) (old new : List PoolType) (order : List ℕ) (numbers : List (Option ℕ)) (top : ℕ) (found : Option ℕ) → IsOrder slots order → AreNumbers slots old order numbers top →
+    Keeps old new → top < length order → NumberSays slots new (slice_index order top) found → AreNumbers slots new order (set numbers (slice_index order top) found) (top + 1)
+number_more slots old new order numbers top found is are k lt h =
     let at : ℕ = slice_index order top in
     let inside : at < length numbers = subst (λ (m : ℕ). at < m) (sym are.same_length) (is.within top lt) in
-    let here : slice_index (set numbers at n) at ≡ n = get_or-set_same numbers at n 0 inside in
-    let right : IsNumberOf slots new at (slice_index (set numbers at n) at) = subst (λ (m : ℕ). IsNumberOf slots new at m) (sym here) h in
+    let here : number_at (set numbers at found) at ≡ found = get_or-set_same numbers at found None inside in
+    let right : NumberSays slots new at (number_at (set numbers at found) at) = subst (λ (o : Option ℕ). NumberSays slots new at o) (sym here) h in
     record {
-      same_length = length-set numbers at n ∙ are.same_length;
+      same_length = length-set numbers at found ∙ are.same_length;
       each = λ j lj. elim (eqb_tells (slice_index order j) at) [
-        | inl e ↦ subst (λ (q : ℕ). IsNumberOf slots new q (slice_index (set numbers at n) q)) (sym e.1) right
-        | inr e ↦ subst (λ (m : ℕ). IsNumberOf slots new (slice_index order j) m) (sym (get_or-set_other numbers at (slice_index order j) n 0 e.1))
-            (still slots (slice_index order j) (slice_index numbers (slice_index order j)) k (are.each j (elim (eqb_tells j top) [
+        | inl e ↦ subst (λ (q : ℕ). NumberSays slots new q (number_at (set numbers at found) q)) (sym e.1) right
+        | inr e ↦ subst (λ (o : Option ℕ). NumberSays slots new (slice_index order j) o) (sym (get_or-set_other numbers at (slice_index order j) found None e.1))
+            (still slots (slice_index order j) (number_at numbers (slice_index order j)) k (are.each j (elim (eqb_tells j top) [
               | inl same ↦ absurd (e.1 (ap (slice_index order) same.1))
               | inr other ↦ omega (arith, lj, other.1)
             ])))
       ];
     }
 
-pub all_numbers : (slots : List Slot) (pool : List PoolType) (order numbers : List ℕ) → IsOrder slots order → AreNumbers slots pool order numbers (length order) →
-    (p : ℕ) → p < length slots → IsNumberOf slots pool p (slice_index numbers p)
-all_numbers slots pool order numbers is are p lt =
-    let h = is.all p lt in
-    subst (λ (x : ℕ). IsNumberOf slots pool x (slice_index numbers x)) h.1.1 (are.each h.0 h.1.0)
+-- the first so many places
+pub table_says : (slots : List Slot) (pool : List PoolType) (order : List ℕ) (numbers found : List (Option ℕ)) (places : ℕ) → IsOrder slots order → AreNumbers slots pool order numbers (length order) →
+    places ≤ length slots → found ≡ take places numbers → TableSays slots places pool found
+table_says slots pool order numbers found places is are le e = subst (λ (ns : List (Option ℕ)). TableSays slots places pool ns) (sym e) (record {
+  same_length = (let a = length-take places numbers in let b = are.same_length in omega (arith, a, b, le));
+  each = λ p lt.
+      let h = is.all p (omega (arith, lt, le)) in
+      let says : NumberSays slots pool p (number_at numbers p) = subst (λ (x : ℕ). NumberSays slots pool x (number_at numbers x)) h.1.1 (are.each h.0 h.1.0) in
+      subst (λ (o : Option ℕ). NumberSays slots pool p o) (sym (get_or-take places numbers p None lt)) says;
+})

@@ -78,7 +78,3 @@ pub ok_type : {E : Type 0} (r : Result ℕ E) (old new : List PoolType) (e : Poo
     OnOk r (types new ≡ types old ++ type_of (types old) e ∷ []) → IfOk r (λ n. type_at (types new) n ≡ of)
 ok_type (Ok n) old new e of is at are = added_type old new e n at are ∙ is
 ok_type (Err x) old new e of is at are = tt
-
-pub both_ok : {X E : Type 0} (r : Result X E) (P Q R : X → Type 0) → ((x : X) → P x → Q x → R x) → IfOk r P → IfOk r Q → IfOk r R
-both_ok (Ok x) P Q R f p q = f x p q
-both_ok (Err e) P Q R f p q = tt

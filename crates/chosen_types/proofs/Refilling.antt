@@ -3,13 +3,13 @@ use Rattle.std.proofs.Common.{◌≡◌, ℕ, ◌<◌, IsTrue, List, refl, sym, 
 use Rattle.pv_base.specs.TypeData.{TypeData, BoolType, IntType, TupleType, NoTypes}
 use Rattle.pv_base.specs.declared.types.Width.TheVariants.{U8, U16}
 use Rattle.type_places.specs.Sorts.{is_of}
-use Rattle.type_places.specs.Slots.{Typing, Meets, IsOpen, slot_at}
+use Rattle.type_places.specs.Slots.{Typing, Meets, slot_at}
 use Rattle.type_places.specs.Ranks.{IsRank, refill_by}
 use Rattle.type_places.specs.Knows.{Knows}
 use Rattle.type_places.specs.declared.slots.Sort.{Sort}
 use Rattle.type_places.specs.declared.slots.Sort.TheVariants.{Any, Single, Value, Integer}
 use Rattle.type_places.specs.declared.slots.Slot.{Slot}
-use Rattle.type_places.specs.declared.slots.Slot.TheVariants.{Open, Bound}
+use Rattle.type_places.specs.declared.slots.Slot.TheVariants.{Open}
 use Rattle.type_places.proofs.Refill.{refill_by-meets, refill_by-open}
 use Rattle.typings.specs.Answers.{IsForced}
 
@@ -32,13 +32,13 @@ nothing Single = BoolType
 nothing Value = BoolType
 nothing Integer = IntType U8
 
-small_is : (s : Sort) → IsTrue (is_of s (small s))
+pub small_is : (s : Sort) → IsTrue (is_of s (small s))
 small_is Any = refl
 small_is Single = refl
 small_is Value = refl
 small_is Integer = refl
 
-wide_is : (s : Sort) → IsTrue (is_of s (wide s))
+pub wide_is : (s : Sort) → IsTrue (is_of s (wide s))
 wide_is Any = refl
 wide_is Single = refl
 wide_is Value = refl
@@ -66,7 +66,7 @@ nothing_typing slots r rank = refill_by-meets slots (λ p. nothing) r rank (λ p
 
 -- ---- what is forced
 
-widths_differ : IntType U8 ≡ IntType U16 → ⊥
+pub widths_differ : IntType U8 ≡ IntType U16 → ⊥
 widths_differ e = cc
 
 pub not_forced : {slots : List Slot} {n : ℕ} {These : Typing → Type 0} → Knows slots n These → (r : ℕ → ℕ) → IsRank slots r → (p at : ℕ) (s : Sort) → slot_at slots at ≡ Open s →
@@ -83,7 +83,3 @@ forced_by k p lt one t u ht hu =
     let v = k.to t ht in
     let w = k.to u hu in
     sym (v.1.0 p lt) ∙ one v.0 w.0 v.1.1 w.1.1 ∙ w.1.0 p lt
-
-pub open_sort : (x : Slot) → IsOpen x → (s : Sort) × (x ≡ Open s)
-open_sort (Open s) h = (s, refl)
-open_sort (Bound y) h = absurd h

@@ -1,7 +1,11 @@
 -- The numbers of types in a pool.
-use Rattle.std.specs.Prelude.{◌≡◌, ℕ, zero, suc, ◌+◌, ◌<◌, ◌≤◌, List, [], ◌∷◌, length, slice_index, Option, Some, None}
-use Rattle.type_places.specs.Slots.{Typing, Meets, IsOpen, slot_at}
-use Rattle.type_places.specs.Ranks.{EachLed}
+use Rattle.std.specs.Prelude.{◌≡◌, ℕ, ◌+◌, ◌<◌, ◌≤◌, List, length, slice_index, slice_index_or, Option, Some, None}
+use Rattle.pv_base.specs.TypeData.{TypeData}
+use Rattle.type_places.specs.Slots.{Typing, value, Meets, slot_at}
+use Rattle.type_places.specs.Ranks.{EachIn, EachLed}
+use Rattle.type_places.specs.Agree.{IsForced}
+use Rattle.type_places.specs.declared.slots.Term.{Term}
+use Rattle.type_places.specs.declared.slots.Term.TheVariants.{Place, Closed, Made, Grouped}
 use Rattle.type_places.specs.declared.slots.Slot.{Slot}
 use Rattle.typed_program.specs.Pools.{type_at, types}
 use Rattle.typed_program.specs.declared.pool.PoolType.{PoolType}
@@ -11,15 +15,51 @@ pub record Keeps (old new : List PoolType) : Type 0 where
   pub longer : length old ≤ length new
   pub same : (n : ℕ) → n < length old → type_at (types new) n ≡ type_at (types old) n
 
--- numbers of consecutive places
-abbrev pub numbers_at : List ℕ → ℕ → ℕ → List ℕ
-numbers_at numbers first zero = []
-numbers_at numbers first (suc n) = slice_index numbers first ∷ numbers_at numbers (first + 1) n
+-- the number of a place, where it has one
+abbrev pub number_at : List (Option ℕ) → ℕ → Option ℕ
+number_at numbers p = slice_index_or numbers p None
+
+-- consecutive places have these numbers
+pub record AreParts (numbers : List (Option ℕ)) (first count : ℕ) (parts : List ℕ) : Type 0 where
+  pub same_length : length parts ≡ count
+  pub each : (i : ℕ) → i < count → number_at numbers (first + i) ≡ Some (slice_index parts i)
+
+-- the numbers of consecutive places, or one of them has none
+abbrev pub PartsSay : List (Option ℕ) → ℕ → ℕ → Option (List ℕ) → Type 0
+PartsSay numbers first count None = (q : ℕ) × ((first ≤ q) × (q < first + count) × (number_at numbers q ≡ None))
+PartsSay numbers first count (Some parts) = AreParts numbers first count parts
+
+-- where there is a number, a type in the pool has it
+abbrev pub IsInPool : List PoolType → Option ℕ → Type 0
+IsInPool pool None = Unit {0}
+IsInPool pool (Some n) = n < length pool
+
+-- where there is a number, it is that of the type
+abbrev pub IsTypeAt : List PoolType → TypeData → Option ℕ → Type 0
+IsTypeAt pool of None = Unit {0}
+IsTypeAt pool of (Some n) = of ≡ type_at (types pool) n
+
+-- a place of which a term speaks
+abbrev pub SomeIn : (ℕ → Type 0) → Term → Type 0
+SomeIn P (Place q) = P q
+SomeIn P (Closed of) = ⊥
+SomeIn P (Made w q) = P q
+SomeIn P (Grouped g first count) = (q : ℕ) × ((first ≤ q) × (q < first + count) × P q)
+
+-- the number of the type of a term, of those that its places have, or one of these has none
+abbrev pub TermSays : List PoolType → List PoolType → List (Option ℕ) → Term → Option ℕ → Type 0
+TermSays old new numbers x None = SomeIn (λ q. number_at numbers q ≡ None) x
+TermSays old new numbers x (Some n) = (n < length new) × ((t : Typing) → EachIn (λ q. IsTypeAt old (t q) (number_at numbers q)) x → value t x ≡ type_at (types new) n)
 
 -- the number is that of the type that the place has in every typing
 pub record IsNumberOf (slots : List Slot) (pool : List PoolType) (p number : ℕ) : Type 0 where
   pub within : number < length pool
   pub is : (t : Typing) → Meets slots t → t p ≡ type_at (types pool) number
+
+-- the number of the type of a place, or typings give it different types, if there are any
+abbrev pub NumberSays : List Slot → List PoolType → ℕ → Option ℕ → Type 0
+NumberSays slots pool p None = (t : Typing) → Meets slots t → IsForced (Meets slots) p → ⊥
+NumberSays slots pool p (Some n) = IsNumberOf slots pool p n
 
 -- the place stands in the order before this index
 abbrev pub IsBefore : List ℕ → ℕ → ℕ → Type 0
@@ -32,11 +72,11 @@ pub record IsOrder (slots : List Slot) (order : List ℕ) : Type 0 where
   pub all : (p : ℕ) → p < length slots → IsBefore order (length order) p
 
 -- of each of the first so many places of the order
-pub record AreNumbers (slots : List Slot) (pool : List PoolType) (order numbers : List ℕ) (n : ℕ) : Type 0 where
+pub record AreNumbers (slots : List Slot) (pool : List PoolType) (order : List ℕ) (numbers : List (Option ℕ)) (n : ℕ) : Type 0 where
   pub same_length : length numbers ≡ length slots
-  pub each : (k : ℕ) → k < n → IsNumberOf slots pool (slice_index order k) (slice_index numbers (slice_index order k))
+  pub each : (k : ℕ) → k < n → NumberSays slots pool (slice_index order k) (number_at numbers (slice_index order k))
 
--- a place is open, or these are the numbers of the first so many places
-abbrev pub TableSays : List Slot → ℕ → List PoolType → Option (List ℕ) → Type 0
-TableSays slots places pool None = (p : ℕ) × ((p < length slots) × IsOpen (slot_at slots p))
-TableSays slots places pool (Some found) = (numbers : List ℕ) × ((found ≡ numbers_at numbers 0 places) × ((p : ℕ) → p < length slots → IsNumberOf slots pool p (slice_index numbers p)))
+-- of the first so many places
+pub record TableSays (slots : List Slot) (places : ℕ) (pool : List PoolType) (numbers : List (Option ℕ)) : Type 0 where
+  pub same_length : length numbers ≡ places
+  pub each : (p : ℕ) → p < places → NumberSays slots pool p (number_at numbers p)

@@ -1,16 +1,18 @@
 //! The typing that is chosen: first the integer types that nothing determines, then the types of what is dropped.
 
-ghost use Rattle.std.specs.Prelude.{◌≡◌, ◌<◌, ◌≤◌, ℕ, false, length, slice_index, IfOk, MatchOption};
+ghost use Rattle.std.specs.Prelude.{◌≡◌, ◌<◌, ◌≤◌, ℕ, true, false, length, slice_index, IfOk, MatchOption};
 ghost use Rattle.pv_base.specs.TypeData.{IntType};
 ghost use Rattle.type_places.specs.Slots.{Fits, slot_at};
+ghost use Rattle.type_places.specs.declared.slots.Sort.TheVariants.{Integer};
+ghost use Rattle.type_places.specs.declared.slots.Slot.TheVariants.{Open};
 ghost use Rattle.typings.specs.Sorts.{is_integer};
 ghost use Rattle.typings.specs.Settings.{u64_type, unit_type};
 ghost use Rattle.chosen_types.specs.Numbers.{Keeps};
 ghost use Rattle.chosen_types.specs.Given.{WidthOf};
-ghost use Rattle.chosen_types.specs.Choices.{IsSound, DefaultsSay, WidthSays, ChoiceSays};
+ghost use Rattle.chosen_types.specs.Choices.{NoOpenInteger, IsSound, DefaultsSay, WidthSays, TypesSay, ChoiceSays};
 
-use crate::given::{with_integers, with_units};
-use crate::numbers::table;
+use crate::given::{is_open_integer, with_integers, with_units};
+use crate::numbers::{part_numbers, table};
 use crate::roots::all_roots;
 use pv_base::memory::NoMemory;
 use pv_base::types::{TypeNode, TypeTerm, Width};
@@ -27,6 +29,19 @@ pub struct Defaulted<'a> {
     pub slots: Vec<Slot<'a>>,
     pub roots: Vec<usize>,
     pub ranking: Ranking,
+}
+
+/// Whether an integer type is open.
+pub fn has_open_integer<'a>(slots: &[Slot<'a>]) -> bool
+    ensures no { result ≡ false → NoOpenInteger slots.now }
+    ensures yes { result ≡ true → (p : ℕ) × ((p < length slots.now) × (slot_at slots.now p ≡ Open Integer)) }
+{
+    for place in 0..slots.len() {
+        if is_open_integer(slots[place]) {
+            return true;
+        }
+    }
+    false
 }
 
 /// What is known once each open integer type is `u64`, which `integer` is; none where there is no typing.
@@ -92,23 +107,22 @@ pub fn integer_width<'a>(defaulted: &Defaulted<'a>, place: usize) -> Option<Widt
     width_at(&defaulted.slots, &defaulted.roots, place)
 }
 
-/// The numbers of the types of the places, the first so many, once the values that are dropped are `()` where nothing
-/// determines them. None where the type of a place is still open. After `NoMemory` some of the types may stand in the
-/// pool.
-pub fn choose<'a>(
+/// For each of the first so many places the number of its type, once the values that are dropped are `()` where nothing
+/// determines them; none where its type is still not forced. After `NoMemory` some of the types may stand in the pool.
+pub fn types_of_places<'a>(
     alloc: Global,
     pool: &mut TypePool,
     defaulted: Defaulted<'a>,
     places: usize,
     dropped: &[usize],
     unit: &'a TypeTerm,
-) -> Result<Option<Sequence<usize>>, NoMemory>
+) -> Result<Vec<Option<usize>>, NoMemory>
     requires sound { IsSound defaulted }
     requires places { places ≤ length defaulted.slots.items }
     requires dropped { (k : ℕ) → k < length dropped.now → slice_index dropped.now k < places }
     requires unit { unit.now ≡ unit_type }
     ensures keeps { IfOk result (λ numbers. Keeps pool.old pool.new) }
-    ensures says { IfOk result (ChoiceSays defaulted.entry dropped.now places pool.new) }
+    ensures says { IfOk result (λ numbers. TypesSay defaulted.entry dropped.now places pool.new numbers.items) }
 {
     let Defaulted {
         slots,
@@ -117,4 +131,11 @@ pub fn choose<'a>(
     } = defaulted;
     let given = with_units(slots, &roots, dropped, unit);
     table(alloc, pool, &given, &ranking.order, places)
+}
+
+/// The numbers of the types of all places, where the types of all are forced.
+pub fn choose(alloc: Global, numbers: &[Option<usize>]) -> Result<Option<Sequence<usize>>, NoMemory>
+    ensures { IfOk result (ChoiceSays numbers.now) }
+{
+    part_numbers(alloc, numbers, 0, numbers.len())
 }

@@ -11,7 +11,8 @@ use pv_base::types::TypeTerm;
 use std::alloc::Global;
 use type_places::slots::{Slot, Sort, Term};
 
-fn is_open_integer<'a>(slot: Slot<'a>) -> bool
+/// Whether the slot is an open integer type.
+pub fn is_open_integer<'a>(slot: Slot<'a>) -> bool
     ensures yes { result ≡ true → slot.entry ≡ Open Integer }
     ensures no { result ≡ false → slot.entry ≡ Open Integer → ⊥ }
 {

@@ -1,12 +1,12 @@
 //! The number of the type of each place.
 
-ghost use Rattle.std.specs.Prelude.{◌≡◌, ◌<◌, ◌≤◌, ◌+◌, ℕ, true, false, length, map, All, slice_index, IfOk, MatchOption};
+ghost use Rattle.std.specs.Prelude.{◌≡◌, ◌<◌, ◌≤◌, ◌+◌, length, map, All, IfOk};
 ghost use Rattle.pv_base.specs.TypeData.{TypeData, types_of};
-ghost use Rattle.type_places.specs.Slots.{Typing, value, wrapped, grouped, Fits, TermWithin, IsOpen, slot_at};
+ghost use Rattle.type_places.specs.Slots.{wrapped, grouped, Fits, TermWithin, slot_at};
 ghost use Rattle.type_places.specs.Ranks.{EachIn, EachLed};
 ghost use Rattle.typings.specs.Sorts.{made};
 ghost use Rattle.typed_program.specs.Pools.{type_at, types};
-ghost use Rattle.chosen_types.specs.Numbers.{Keeps, numbers_at, IsNumberOf, IsOrder, AreNumbers, TableSays};
+ghost use Rattle.chosen_types.specs.Numbers.{Keeps, number_at, PartsSay, IsInPool, TermSays, NumberSays, IsOrder, AreNumbers, TableSays};
 
 use crate::pooled::{add_made, add_struct, add_tuple, add_type};
 use pv_base::memory::NoMemory;
@@ -26,21 +26,24 @@ fn wrap_of(wrap: Wrap) -> typings::sort::Wrap
     }
 }
 
-/// The numbers of consecutive places, from this one on and so many.
-fn part_numbers(
+/// The numbers of consecutive places, from this one on and so many; none where one of them has none.
+pub fn part_numbers(
     alloc: Global,
-    numbers: &[usize],
+    numbers: &[Option<usize>],
     first: usize,
     count: usize,
-) -> Result<Sequence<usize>, NoMemory>
+) -> Result<Option<Sequence<usize>>, NoMemory>
     requires { first + count ≤ length numbers.now }
-    ensures { IfOk result (λ parts. parts ≡ numbers_at numbers.now first count) }
+    ensures { IfOk result (PartsSay numbers.now first count) }
 {
     let mut parts = Sequence::new(alloc);
     for i in 0..count {
-        parts.push(numbers[first + i])?;
+        match numbers[first + i] {
+            None => return Ok(None),
+            Some(number) => parts.push(number)?,
+        }
     }
-    Ok(parts)
+    Ok(Some(parts))
 }
 
 fn add_group<'a>(
@@ -63,94 +66,107 @@ fn add_group<'a>(
 fn add_parts<'a>(
     alloc: Global,
     pool: &mut TypePool,
-    numbers: &[usize],
+    numbers: &[Option<usize>],
     group: Group<'a>,
     first: usize,
     count: usize,
-) -> Result<usize, NoMemory>
+) -> Result<Option<usize>, NoMemory>
     requires within { first + count ≤ length numbers.now }
-    requires parts { EachIn (λ q. slice_index numbers.now q < length pool.old) (Term.Grouped group first count) }
-    ensures keeps { IfOk result (λ number. Keeps pool.old pool.new) }
-    ensures within { IfOk result (λ number. number < length pool.new) }
-    ensures is { IfOk result (λ number. (t : Typing) → EachIn (λ q. t q ≡ type_at (types pool.old) (slice_index numbers.now q)) (Term.Grouped group.entry first count) → value t (Term.Grouped group.entry first count) ≡ type_at (types pool.new) number) }
+    requires parts { EachIn (λ q. IsInPool pool.old (number_at numbers.now q)) (Term.Grouped group first count) }
+    ensures keeps { IfOk result (λ found. Keeps pool.old pool.new) }
+    ensures says { IfOk result (TermSays pool.old pool.new numbers.now (Term.Grouped group.entry first count)) }
 {
-    let parts = part_numbers(alloc, numbers, first, count)?;
-    add_group(alloc, pool, group, parts)
+    match part_numbers(alloc, numbers, first, count)? {
+        None => Ok(None),
+        Some(parts) => Ok(Some(add_group(alloc, pool, group, parts)?)),
+    }
 }
 
 fn add_wrapped(
     pool: &mut TypePool,
-    numbers: &[usize],
+    numbers: &[Option<usize>],
     wrap: Wrap,
     place: usize,
-) -> Result<usize, NoMemory>
+) -> Result<Option<usize>, NoMemory>
     requires within { place < length numbers.now }
-    requires part { slice_index numbers.now place < length pool.old }
-    ensures keeps { IfOk result (λ number. Keeps pool.old pool.new) }
-    ensures within { IfOk result (λ number. number < length pool.new) }
-    ensures is { IfOk result (λ number. (t : Typing) → t place ≡ type_at (types pool.old) (slice_index numbers.now place) → wrapped wrap (t place) ≡ type_at (types pool.new) number) }
+    requires part { IsInPool pool.old (number_at numbers.now place) }
+    ensures keeps { IfOk result (λ found. Keeps pool.old pool.new) }
+    ensures says { IfOk result (TermSays pool.old pool.new numbers.now (Term.Made wrap place)) }
 {
-    add_made(pool, wrap_of(wrap), numbers[place])
+    match numbers[place] {
+        None => Ok(None),
+        Some(number) => Ok(Some(add_made(pool, wrap_of(wrap), number)?)),
+    }
 }
 
-/// The number of the type of a term, of those that its places have.
+/// The number of the type of a term, of those that its places have; none where one of them has none.
 fn term_number<'a>(
     alloc: Global,
     pool: &mut TypePool,
-    numbers: &[usize],
+    numbers: &[Option<usize>],
     term: Term<'a>,
-) -> Result<usize, NoMemory>
+) -> Result<Option<usize>, NoMemory>
     requires within { TermWithin (length numbers.now) term }
-    requires parts { EachIn (λ q. slice_index numbers.now q < length pool.old) term }
-    ensures keeps { IfOk result (λ number. Keeps pool.old pool.new) }
-    ensures within { IfOk result (λ number. number < length pool.new) }
-    ensures is { IfOk result (λ number. (t : Typing) → EachIn (λ q. t q ≡ type_at (types pool.old) (slice_index numbers.now q)) term.entry → value t term.entry ≡ type_at (types pool.new) number) }
+    requires parts { EachIn (λ q. IsInPool pool.old (number_at numbers.now q)) term }
+    ensures keeps { IfOk result (λ found. Keeps pool.old pool.new) }
+    ensures says { IfOk result (TermSays pool.old pool.new numbers.now term.entry) }
 {
     match term {
         Term::Place(place) => Ok(numbers[place]),
-        Term::Closed(of) => add_type(alloc, pool, of),
+        Term::Closed(of) => Ok(Some(add_type(alloc, pool, of)?)),
         Term::Made(wrap, place) => add_wrapped(pool, numbers, wrap, place),
         Term::Grouped(group, first, count) => add_parts(alloc, pool, numbers, group, first, count),
     }
 }
 
-/// The number of the type of a place, where the places to which it leads have numbers.
+/// The number of the type of a place, where it is known of the places to which it leads which number they have; none
+/// where the type is not forced.
 fn place_number<'a>(
     alloc: Global,
     pool: &mut TypePool,
     slots: &[Slot<'a>],
-    numbers: &[usize],
+    numbers: &[Option<usize>],
     place: usize,
-) -> Result<usize, NoMemory>
+) -> Result<Option<usize>, NoMemory>
     requires fits { Fits slots.now }
     requires within { place < length slots.now }
-    requires bound { IsOpen (slot_at slots.now place) → ⊥ }
     requires numbers { length numbers.now ≡ length slots.now }
-    requires parts { EachLed (λ q. IsNumberOf slots.now pool.old q (slice_index numbers.now q)) (slot_at slots.now place) }
-    ensures keeps { IfOk result (λ number. Keeps pool.old pool.new) }
-    ensures is { IfOk result (λ number. IsNumberOf slots.now pool.new place number) }
+    requires parts { EachLed (λ q. NumberSays slots.now pool.old q (number_at numbers.now q)) (slot_at slots.now place) }
+    ensures keeps { IfOk result (λ found. Keeps pool.old pool.new) }
+    ensures says { IfOk result (NumberSays slots.now pool.new place) }
 {
     let slot = slots[place];
     match slot {
-        Slot::Open(_) => Ok(0),
+        Slot::Open(_) => Ok(None),
         Slot::Bound(term) => term_number(alloc, pool, numbers, term),
     }
 }
 
-/// Puts the types of all places into the pool, in their order. Answers the number of the type of each place.
+/// No number for any of so many places.
+fn no_numbers(alloc: Global, count: usize) -> Result<Vec<Option<usize>>, NoMemory>
+    ensures { IfOk result (λ numbers. length numbers.items ≡ count) }
+{
+    let mut numbers = Vec::new(alloc);
+    for _ in 0..count {
+        numbers.push(None)?;
+    }
+    Ok(numbers)
+}
+
+/// For each place the number of its type, where it is forced: in one pass along an order in which each place stands
+/// behind those to which it leads.
 fn number_places<'a>(
     alloc: Global,
     pool: &mut TypePool,
     slots: &[Slot<'a>],
     order: &[usize],
-) -> Result<Vec<usize>, NoMemory>
+) -> Result<Vec<Option<usize>>, NoMemory>
     requires fits { Fits slots.now }
     requires order { IsOrder slots.now order.now }
-    requires bound { (p : ℕ) → p < length slots.now → IsOpen (slot_at slots.now p) → ⊥ }
     ensures keeps { IfOk result (λ numbers. Keeps pool.old pool.new) }
     ensures are { IfOk result (λ numbers. AreNumbers slots.now pool.new order.now numbers.items (length order.now)) }
 {
-    let mut numbers = vec![in alloc; 0; slots.len()]?;
+    let mut numbers = no_numbers(alloc, slots.len())?;
     for top in 0..order.len() {
         let place = order[top];
         let number = place_number(alloc, pool, slots, &numbers, place)?;
@@ -159,46 +175,22 @@ fn number_places<'a>(
     Ok(numbers)
 }
 
-fn is_open<'a>(slot: Slot<'a>) -> bool
-    ensures yes { result ≡ true → IsOpen slot.entry }
-    ensures no { result ≡ false → IsOpen slot.entry → ⊥ }
-{
-    matches!(&slot, Slot::Open(_))
-}
-
-/// The first place of which the type is open.
-fn first_open<'a>(slots: &[Slot<'a>]) -> Option<usize>
-    ensures { MatchOption result ((p : ℕ) → p < length slots.now → IsOpen (slot_at slots.now p) → ⊥) (λ p. (p < length slots.now) × IsOpen (slot_at slots.now p)) }
-{
-    for place in 0..slots.len() {
-        if is_open(slots[place]) {
-            return Some(place);
-        }
-    }
-    None
-}
-
-/// The numbers of the types of the first so many places, where no place is open. After `NoMemory` some of the types
-/// may stand in the pool.
+/// For each of the first so many places the number of its type, and none where the type is not forced. After
+/// `NoMemory` some of the types may stand in the pool.
 pub fn table<'a>(
     alloc: Global,
     pool: &mut TypePool,
     slots: &[Slot<'a>],
     order: &[usize],
     places: usize,
-) -> Result<Option<Sequence<usize>>, NoMemory>
+) -> Result<Vec<Option<usize>>, NoMemory>
     requires fits { Fits slots.now }
     requires order { IsOrder slots.now order.now }
     requires places { places ≤ length slots.now }
-    ensures keeps { IfOk result (λ found. Keeps pool.old pool.new) }
-    ensures says { IfOk result (TableSays slots.now places pool.new) }
+    ensures keeps { IfOk result (λ numbers. Keeps pool.old pool.new) }
+    ensures says { IfOk result (λ numbers. TableSays slots.now places pool.new numbers.items) }
 {
-    match first_open(slots) {
-        Some(_) => Ok(None),
-        None => {
-            let numbers = number_places(alloc, pool, slots, order)?;
-            let found = part_numbers(alloc, &numbers, 0, places)?;
-            Ok(Some(found))
-        }
-    }
+    let mut numbers = number_places(alloc, pool, slots, order)?;
+    numbers.truncate(places);
+    Ok(numbers)
 }
