@@ -1,0 +1,3 @@
+pub mod Told
+pub mod Edges
+pub mod Rows

@@ -1,0 +1,24 @@
+-- What is known of the types of a function's places.
+use Rattle.std.specs.Prelude.{◌≡◌, ◌↔◌, ℕ, ◌<◌, List, length, Some, None, slice_get}
+use Rattle.pv_base.specs.TypeData.{TypeData}
+use Rattle.pv_base.specs.declared.types.FunctionId.{FunctionId}
+use Rattle.pv_types.specs.declared.declaration.Function.{Function}
+use Rattle.pv_types.specs.declared.program.Program.{Program}
+use Rattle.typings.specs.Settings.{place_count}
+use Rattle.typings.specs.Answers.{HasType, NodeIsRead}
+use Rattle.typings.specs.CodeSystems.{function_setting, function_system}
+use Rattle.typed_program.specs.Pools.{type_at, types}
+use Rattle.wrapping.specs.declared.told.PlaceTypes.{PlaceTypes}
+
+-- each place has the type whose number is told, and none where no number is; and so many nodes, the first ones, are read
+pub record IsTold (program : Program) (f : Function) (p : PlaceTypes) : Type 0 where
+  pub places : length p.types.now ≡ place_count (function_setting program f)
+  pub within : (q n : ℕ) → slice_get p.types.now q ≡ Some (Some n) → n < length p.pool.now
+  pub has : (q n : ℕ) → slice_get p.types.now q ≡ Some (Some n) → HasType (function_system program f) q (type_at (types p.pool.now) n)
+  pub lacks : (q : ℕ) (of : TypeData) → slice_get p.types.now q ≡ Some None → HasType (function_system program f) q of → ⊥
+  pub read : (n : ℕ) → n < length f.body.nodes → (n < p.read) ↔ NodeIsRead (function_system program f) n
+
+-- of each function of the program, in their order
+pub record AreTold (program : Program) (told : List PlaceTypes) : Type 0 where
+  pub same_length : length told ≡ length program.functions
+  pub each : (n : ℕ) (p : PlaceTypes) → slice_get told n ≡ Some p → (id : FunctionId) (f : Function) → slice_get program.functions n ≡ Some (id, f) → IsTold program f p
