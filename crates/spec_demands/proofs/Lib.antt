@@ -1,0 +1,4 @@
+pub mod Reading
+pub mod Named
+pub mod Given
+pub mod Sums

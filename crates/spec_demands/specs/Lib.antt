@@ -1,0 +1,4 @@
+pub mod Seen
+pub mod Settings
+pub mod Packs
+pub mod Told

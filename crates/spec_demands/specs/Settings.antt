@@ -1,0 +1,62 @@
+-- Settings in the program as those that typings speak of.
+use Rattle.std.specs.Prelude.{ℕ, Bool, List, [], length, sum_by, Option, Some, None, slice_get}
+use Rattle.pv_base.specs.TypeData.{TypeData, TypesData, NoTypes, types_of}
+use Rattle.pv_types.specs.declared.declaration.SpecFunction.{SpecFunction}
+use Rattle.typings.specs.Clauses as C
+use Rattle.typings.specs.SpecDemands as S
+use Rattle.spec_demands.specs.declared.setting.Owner.{Owner}
+use Rattle.spec_demands.specs.declared.setting.Owner.TheVariants.{Function, Struct, Module, Loop, Schema, SpecFunction as spec_function}
+use Rattle.spec_demands.specs.declared.setting.LetType.{LetType}
+use Rattle.spec_demands.specs.declared.setting.Names.{Names}
+use Rattle.spec_demands.specs.declared.setting.Allowed.{Allowed}
+use Rattle.spec_demands.specs.declared.setting.SpecSetting.{SpecSetting}
+
+-- the types of `let`s, by the numbers of their clauses
+abbrev pub let_of : Option LetType → Option (Bool × TypeData)
+let_of None = None
+let_of (Some l) = Some (l.is_post, l.of.now)
+
+abbrev pub let_there : Option (Option LetType) → Option (Bool × TypeData)
+let_there None = None
+let_there (Some l) = let_of l
+
+abbrev pub lets_of : List (Option LetType) → ℕ → Option (Bool × TypeData)
+lets_of lets k = let_there (slice_get lets k)
+
+-- a spec function has parameters alone
+abbrev pub spec_function_names : SpecFunction → C.Names
+spec_function_names f = record { parameters = C.spec_types_of f.parameters; locals = []; results = []; fields = []; variables = []; lets = C.no_lets }
+
+-- the names that an owner gives to its specifications
+abbrev pub owner_names : Owner → (ℕ → Option (Bool × TypeData)) → C.Names
+owner_names (Function f) lets = C.function_names f.now lets
+owner_names (Struct s) lets = C.struct_names s.now lets
+owner_names Module lets = C.module_names lets
+owner_names (Loop returned locals) lets = C.loop_names returned.now locals.now
+owner_names (Schema s types) lets = C.schema_names s.now (types_of types.now) lets
+owner_names (spec_function f) lets = spec_function_names f.now
+
+abbrev pub names_of : Names → C.Names
+names_of n = owner_names n.owner (lets_of n.lets.now)
+
+-- what the type parameters of a schema stand for
+abbrev pub owner_types : Owner → TypesData
+owner_types (Schema s types) = types_of types.now
+owner_types _ = NoTypes
+
+abbrev pub allowed_of : Allowed → C.Allowed
+allowed_of a = record { old = a.old; results = a.results; exits = a.exits }
+
+abbrev pub setting_of : SpecSetting → S.SpecSetting
+setting_of s = record {
+  program = s.program.now;
+  nodes = s.body.now.nodes;
+  named = C.named_by (names_of s.names) (allowed_of s.allowed);
+  may_be_old = s.allowed.old;
+  variables = s.variables;
+  types = owner_types s.names.owner;
+}
+
+-- how many variables the quantifiers among these nodes have
+abbrev pub variables_of : List S.SpecNode → ℕ
+variables_of nodes = sum_by (λ node. length (S.binds_in node)) nodes

@@ -1,0 +1,204 @@
+//! The types of names.
+
+ghost use Rattle.std.specs.Prelude.{◌≡◌, ◌∷◌, [], ℕ, Bool, Option, Some, slice_get};
+ghost use Rattle.std.specs.Option.{option_map};
+ghost use Rattle.pv_base.specs.TypeData.{TupleType, TypeData, types_of};
+ghost use Rattle.typings.specs.Clauses as C;
+ghost use Rattle.typings.specs.Instances.{spec_type};
+ghost use Rattle.typings.specs.SpecDemands.{read_there};
+ghost use Rattle.spec_demands.specs.Seen.{read_data};
+ghost use Rattle.spec_demands.specs.Settings.{allowed_of, let_of, lets_of, names_of, owner_names, owner_types};
+
+use crate::demand::ReadType;
+use crate::setting::{Allowed, LetType, Names, Owner};
+use pv_base::types::{TypeNode, TypeTerm};
+use pv_types::declaration::TypedName;
+use pv_types::spec::SpecName;
+
+/// A type that is written, as it is read where the owner's specifications stand.
+#[tactic(auto, using(crate::proofs::Reading::read_plain))]
+pub fn read_there<'a>(owner: Owner<'a>, of: &'a TypeTerm) -> ReadType<'a>
+    ensures { read_data result ≡ read_there (owner_types owner.entry) of.now }
+{
+    match owner {
+        Owner::Schema(_, types) => ReadType::ReadIn(of, types),
+        _ => ReadType::Read(of),
+    }
+}
+
+/// The type of the name with this number.
+#[tactic(auto, using(crate::proofs::Named::names_at))]
+fn read_name<'a>(names: &'a [TypedName], number: usize) -> Option<ReadType<'a>>
+    ensures { option_map read_data result ≡ slice_get (C.spec_types_of names.now) number }
+{
+    match names.get(number) {
+        Some(found) => Some(ReadType::Read(&found.annotation)),
+        None => None,
+    }
+}
+
+/// The type of the variable of a schema with this number, where these types stand for the type parameters.
+fn read_variable<'a>(
+    names: &'a [TypedName],
+    types: &'a [TypeTerm],
+    number: usize,
+) -> Option<ReadType<'a>>
+    ensures { option_map read_data result ≡ option_map (λ n. read_there (types_of types.now) n.annotation) (slice_get names.now number) }
+{
+    match names.get(number) {
+        Some(found) => Some(ReadType::ReadIn(&found.annotation, types)),
+        None => None,
+    }
+}
+
+/// The type with this number.
+fn read_term<'a>(terms: &'a [TypeTerm], number: usize) -> Option<ReadType<'a>>
+    ensures { option_map read_data result ≡ option_map spec_type (slice_get terms.now number) }
+{
+    match terms.get(number) {
+        Some(found) => Some(ReadType::Read(found)),
+        None => None,
+    }
+}
+
+/// The type of the result with this number, where these are returned together.
+#[tactic(auto, using(crate::proofs::Named::parts_at))]
+fn read_part<'a>(terms: &'a [TypeTerm], number: usize) -> Option<ReadType<'a>>
+    ensures { option_map read_data result ≡ slice_get (C.results_of (TupleType (types_of terms.now))) number }
+{
+    read_term(terms, number)
+}
+
+/// The type of the only result.
+fn read_whole<'a>(returned: &'a TypeTerm, number: usize) -> Option<ReadType<'a>>
+    ensures { option_map read_data result ≡ slice_get (spec_type returned.now ∷ []) number }
+{
+    if number == 0 {
+        Some(ReadType::Read(returned))
+    } else {
+        None
+    }
+}
+
+/// The type of the result with this number.
+fn read_result<'a>(returned: &'a TypeTerm, number: usize) -> Option<ReadType<'a>>
+    ensures { option_map read_data result ≡ slice_get (C.results_of returned.now) number }
+{
+    match &returned.node {
+        TypeNode::Tuple(types) => read_part(&types.items, number),
+        _ => read_whole(returned, number),
+    }
+}
+
+/// The type of a `let`, where names of the state at the exit may stand.
+fn let_type<'a>(found: LetType<'a>, exits: bool) -> Option<ReadType<'a>>
+    ensures { option_map read_data result ≡ C.let_type exits (Some (found.entry.is_post, found.entry.of.now)) }
+{
+    if found.is_post && !exits {
+        None
+    } else {
+        Some(ReadType::Known(found.of))
+    }
+}
+
+/// The same of a clause, which may be no `let`.
+fn let_told<'a>(told: Option<LetType<'a>>, exits: bool) -> Option<ReadType<'a>>
+    ensures { option_map read_data result ≡ C.let_type exits (let_of told.entry) }
+{
+    match told {
+        Some(found) => let_type(found, exits),
+        None => None,
+    }
+}
+
+/// The type of the `let` with this number.
+fn let_at<'a>(lets: &'a [Option<LetType<'a>>], exits: bool, number: usize) -> Option<ReadType<'a>>
+    ensures { option_map read_data result ≡ C.let_type exits (lets_of lets.now number) }
+{
+    match lets.get(number) {
+        Some(found) => let_told(*found, exits),
+        None => None,
+    }
+}
+
+fn parameter_type<'a>(owner: Owner<'a>, number: usize) -> Option<ReadType<'a>>
+    ensures { (lets : ℕ → Option (Bool × TypeData)) → option_map read_data result ≡ slice_get (owner_names owner.entry lets).parameters number }
+{
+    match owner {
+        Owner::Function(function) => read_name(function.parameters.as_slice(), number),
+        Owner::SpecFunction(function) => read_name(function.parameters.as_slice(), number),
+        _ => None,
+    }
+}
+
+#[tactic(auto, using(crate::proofs::Named::terms_at))]
+fn local_type<'a>(owner: Owner<'a>, number: usize) -> Option<ReadType<'a>>
+    ensures { (lets : ℕ → Option (Bool × TypeData)) → option_map read_data result ≡ slice_get (owner_names owner.entry lets).locals number }
+{
+    match owner {
+        Owner::Loop(_, locals) => read_term(locals, number),
+        _ => None,
+    }
+}
+
+fn result_type<'a>(owner: Owner<'a>, number: usize) -> Option<ReadType<'a>>
+    ensures { (lets : ℕ → Option (Bool × TypeData)) → option_map read_data result ≡ slice_get (owner_names owner.entry lets).results number }
+{
+    match owner {
+        Owner::Function(function) => read_result(&function.result, number),
+        Owner::Loop(returned, _) => read_result(returned, number),
+        _ => None,
+    }
+}
+
+#[tactic(auto, using(crate::proofs::Named::variables_at))]
+fn variable_type<'a>(owner: Owner<'a>, number: usize) -> Option<ReadType<'a>>
+    ensures { (lets : ℕ → Option (Bool × TypeData)) → option_map read_data result ≡ slice_get (owner_names owner.entry lets).variables number }
+{
+    match owner {
+        Owner::Schema(schema, types) => {
+            read_variable(schema.variables.as_slice(), types, number)
+        }
+        _ => None,
+    }
+}
+
+fn field_type<'a>(owner: Owner<'a>, number: usize) -> Option<ReadType<'a>>
+    ensures { (lets : ℕ → Option (Bool × TypeData)) → option_map read_data result ≡ slice_get (owner_names owner.entry lets).fields number }
+{
+    match owner {
+        Owner::Struct(found) => read_name(found.fields.as_slice(), number),
+        _ => None,
+    }
+}
+
+/// The type of a `let`; loops and spec functions have none.
+fn let_named<'a>(names: Names<'a>, exits: bool, number: usize) -> Option<ReadType<'a>>
+    ensures { option_map read_data result ≡ C.let_type exits ((names_of names.entry).lets number) }
+{
+    match names.owner {
+        Owner::Loop(_, _) | Owner::SpecFunction(_) => None,
+        _ => let_at(names.lets, exits, number),
+    }
+}
+
+/// The type of a name, if it has one and may stand there.
+pub fn named_type<'a>(names: Names<'a>, allowed: Allowed, name: SpecName) -> Option<ReadType<'a>>
+    ensures { option_map read_data result ≡ C.named_by (names_of names.entry) (allowed_of allowed) name }
+{
+    match name {
+        SpecName::Parameter(number) => parameter_type(names.owner, number),
+        SpecName::Local(number) => local_type(names.owner, number),
+        SpecName::Result(number) => {
+            if allowed.results {
+                result_type(names.owner, number)
+            } else {
+                None
+            }
+        }
+        SpecName::Let(number) => let_named(names, allowed.exits, number),
+        SpecName::Variable(number) => variable_type(names.owner, number),
+        SpecName::Field(number) => field_type(names.owner, number),
+        SpecName::Quantified(_) => None,
+    }
+}
