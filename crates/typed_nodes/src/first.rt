@@ -1,0 +1,36 @@
+//! Where the type arguments of nodes stand.
+
+ghost use Rattle.std.specs.Prelude.{◌≡◌, ◌+◌, ◌<◌, ◌≤◌, length};
+ghost use Rattle.pv_types.specs.declared.program.Program.{Program};
+ghost use Rattle.typings.specs.CodeSystems.{function_setting};
+ghost use Rattle.typings.specs.Settings.{first_argument, place_count};
+
+use node_demands::arity::node_arity;
+use pv_types::declaration::Function;
+use pv_types::program::Program;
+
+/// The place of the first type argument of the first node, where there are so many places.
+pub fn first_of_all(function: &Function, count: usize) -> usize
+    requires { length function.now.body.nodes + length function.now.locals ≤ count }
+    ensures { (program : Program) → result ≡ first_argument (function_setting program function.now) 0 }
+{
+    function.body.len() + function.locals.as_slice().len()
+}
+
+/// The place of the first type argument of the next node: that of this one's first, and as many more as it has.
+pub fn first_of_next(
+    program: &Program,
+    function: &Function,
+    place: usize,
+    first: usize,
+    count: usize,
+) -> usize
+    requires node { place < length function.now.body.nodes }
+    requires first { first ≡ first_argument (function_setting program.now function.now) place }
+    requires count { count ≡ place_count (function_setting program.now function.now) }
+    ensures next { result ≡ first_argument (function_setting program.now function.now) (place + 1) }
+    ensures within { result ≤ count }
+{
+    let arity = node_arity(program, function.body.node(place));
+    first + arity
+}
