@@ -1,0 +1,11 @@
+pub mod Arguments
+pub mod Asks
+pub mod Bodies
+pub mod Common
+pub mod Entries
+pub mod Fields
+pub mod Functions
+pub mod LocalSets
+pub mod Marks
+pub mod Signatures
+pub mod Within
