@@ -24,7 +24,7 @@ fn bits_of(width: Width) -> u128
 }
 
 /// The greatest value.
-fn greatest(width: Width) -> u128
+pub fn greatest(width: Width) -> u128
     ensures { suc result ≡ 2 ^ bits_of width }
 {
     match width {

@@ -2,5 +2,5 @@
 #![tactic(auto)]
 
 pub mod initialiser;
-mod integer;
+pub mod integer;
 mod operator;

@@ -1,0 +1,4 @@
+pub mod Misfitting
+pub mod Dropping
+pub mod Choosing
+pub mod Running
