@@ -117,11 +117,6 @@ told_more structs params ts old new n entry judged tells parts h long same push 
           ];
     }
 
-pub none_told : (structs : Structs) (params : List AbilitySet) (ts : List TypeData) (table : JudgedTypes) → table.judged.items ≡ [] → TellsTypes structs params ts table
-none_told structs params ts table e =
-    let size = ap (λ (xs : List Judged). length xs) e in
-    record { each = λ m t. (let begins = t.begins in let ends = t.ends in absurd (omega arith)) }
-
 -- ---- one part more
 
 common_by : (told : ℕ → Judged) (parameters : List TypeParameter) (n m : ℕ) (rest : List ℕ) (found : AbilitySet) (b : Bool)

@@ -4,41 +4,15 @@ use Rattle.std.specs.Bool.{IsTrue}
 use Rattle.std.specs.Map.{lookup}
 use Rattle.std.proofs.lemmas.Bool.{and_parts, eqb-true, or_cases}
 use Rattle.std.specs.Cmp.Lexicographic.{same_text}
-use Rattle.pv_base.specs.TypeData.{TypeData}
 use Rattle.pv_base.specs.declared.types.FunctionId.{FunctionId}
 use Rattle.pv_base.specs.declared.types.StructId.{StructId}
 use Rattle.pv_types.specs.declared.declaration.Function.{Function}
-use Rattle.pv_types.specs.declared.operator.StorageOperation.{StorageOperation}
 use Rattle.pv_types.specs.declared.program.ModuleId.{ModuleId}
 use Rattle.pv_types.specs.declared.program.Program.{Program}
 use Rattle.declaration_places.specs.Homes.{function_home}
 use Rattle.declaration_places.specs.Same.{same_function}
-use Rattle.typings.specs.Acquires.{Takes}
-use Rattle.typings.specs.Sorts.{made}
-use Rattle.typings.specs.declared.sort.Wrap.{Wrap}
-use Rattle.typings.specs.declared.sort.Wrap.TheVariants.{Vector, Shared, Mutable}
-use Rattle.typed_program.specs.Pools.{plain_type}
-use Rattle.typed_program.specs.declared.pool.PlainType.{PlainType}
-use Rattle.typed_program.specs.declared.pool.PlainType.TheVariants.{Bool as bool_type, Int, Num, Address, Signer, Param}
-use Rattle.listed_acquires.specs.Missing.{AreLooked, CalleeLacks, DeclaredLacks, FunctionSet, HasMissing, IsMissing, IsSetOf, StructSet, Tells, has_function}
+use Rattle.listed_acquires.specs.Missing.{AreLooked, CalleeLacks, DeclaredLacks, FunctionSet, HasMissing, IsSetOf, StructSet, Tells, has_function}
 use Rattle.listed_acquires.proofs.Sets.{put_is}
-
--- ---- types
-
-pub no_plain : (listed : List StructId) (p : PlainType) → IsMissing listed (plain_type p) → ⊥
-no_plain listed bool_type h = h
-no_plain listed (Int w) h = h
-no_plain listed Num h = h
-no_plain listed Address h = h
-no_plain listed Signer h = h
-no_plain listed (Param n) h = h
-
-pub no_made : (listed : List StructId) (wrap : Wrap) (t : TypeData) → IsMissing listed (made wrap t) → ⊥
-no_made listed Vector t h = h
-no_made listed Shared t h = h
-no_made listed Mutable t h = h
-
--- ---- functions
 
 pub function_equal : (f g : FunctionId) → same_function f g ≡ true → f ≡ g
 function_equal f g h =
@@ -96,23 +70,3 @@ module _ (program : Program) (own : ModuleId) (set : StructSet) (old : FunctionS
     where
       no_truth : false ≡ true → ⊥
       no_truth t = cc
-
--- ---- operations on storage
-
-pub storage_is : (operation : StorageOperation) (takes missing : Bool) (Missing : Type 0) → (IsTrue takes ↔ Takes operation) → (IsTrue missing ↔ Missing) → takes ≡ true → IsTrue missing ↔ Takes operation × Missing
-storage_is operation takes missing Missing t m e = (λ h. (t.0 e, m.0 h), λ h. m.1 h.1)
-
-pub storage_not : (operation : StorageOperation) (takes : Bool) (Missing : Type 0) → (IsTrue takes ↔ Takes operation) → takes ≡ false → IsTrue false ↔ Takes operation × Missing
-storage_not operation takes Missing t e = (λ h. absurd (cc), λ h. absurd (never (t.1 h.0)))
-  where
-    never : takes ≡ true → ⊥
-    never h = cc
-
--- what looks at no function
-pub tells_same : (program : Program) (own : ModuleId) (set : StructSet) (seen : FunctionSet) (Lacks : List StructId → Type 0) (lacks : Bool) → ((listed : List StructId) → IsSetOf set listed → IsTrue lacks ↔ Lacks listed) → Tells program own set seen seen Lacks lacks
-tells_same program own set seen Lacks lacks h = record {
-  each = λ listed is looked. record { answer = h listed is; looked = λ e. looked };
-}
-
-pub tells_none : (program : Program) (own : ModuleId) (set : StructSet) (seen : FunctionSet) (Lacks : List StructId → Type 0) → ((listed : List StructId) → Lacks listed → ⊥) → Tells program own set seen seen Lacks false
-tells_none program own set seen Lacks none = tells_same program own set seen Lacks false (λ listed is. (λ t. absurd (cc), λ h. absurd (none listed h)))

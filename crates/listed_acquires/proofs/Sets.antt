@@ -1,6 +1,6 @@
 -- Sets of structs and of functions, member by member.
 use Rattle.std.proofs.Common.{◌≡◌, ◌↔◌, ℕ, ◌+◌, ◌<◌, ◌≤◌, Bool, true, false, ◌||◌, inl, inr, List, [], ◌∷◌, ◌++◌, length, get_or, take, Option, Some, None, add-one, refl, sym, ◌∙◌, ap, subst, arith, if◌then◌else◌}
-use Rattle.std.specs.Prelude.{All, Contains, cond, is_some, not}
+use Rattle.std.specs.Prelude.{All, Contains, cond, is_some}
 use Rattle.std.specs.Bool.{IsTrue}
 use Rattle.std.specs.Map.{lookup}
 use Rattle.std.proofs.Math.Seq.{take-suc}
@@ -93,7 +93,3 @@ missing_found set listed structs k id is b at h = (λ t. (id, (k, b, sym at), λ
 
 pub none_missing : (set : StructSet) (listed structs : List StructId) → IsSetOf set listed → AreIn set structs → IsTrue false ↔ HasMissing listed structs
 none_missing set listed structs is all = (λ t. absurd (cc), λ h. absurd (h.2 (is.only h.0 (All-contains (λ (s : StructId). has_struct set s ≡ true) structs h.0 all h.1))))
-
-pub missing_is : (set : StructSet) (listed : List StructId) (s : StructId) (b : Bool) → IsSetOf set listed → b ≡ has_struct set s → IsTrue (not b) ↔ (Contains listed s → ⊥)
-missing_is set listed s true is e = (λ t. absurd (cc), λ out. absurd (out (is.only s (sym e))))
-missing_is set listed s false is e = (λ t. λ c. both_ways (has_struct set s) (sym e) (is.has s c), λ out. refl)
