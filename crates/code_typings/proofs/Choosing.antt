@@ -16,7 +16,7 @@ use Rattle.demand_solving.specs.declared.walk.Reading.TheVariants.{Whole, Stoppe
 use Rattle.demand_solving.specs.declared.walk.Progress.{Progress}
 use Rattle.typed_program.specs.Pools.{type_at, types}
 use Rattle.typed_program.specs.declared.pool.PoolType.{PoolType}
-use Rattle.chosen_types.specs.Choices.{HasDefaults, DefaultsSay, ChoiceSays}
+use Rattle.chosen_types.specs.Choices.{HasDefaults, DefaultsSay, ChoiceSays, AreTypes, TypesSay}
 use Rattle.chosen_types.specs.declared.choice.Defaulted.{Defaulted}
 use Rattle.code_walks.specs.declared.systems.Walk.{Walk}
 use Rattle.code_typings.specs.Judged.{ReadsSteps}
@@ -69,7 +69,7 @@ pub some_typable : (s : System) (slots seen : List Slot) (found : Option Default
     IsKnownOf s known.places slots known.progress → IsTypable s known
 some_typable s slots seen found known same e h k =
     let says : DefaultsSay slots (Some known.defaulted) = subst (λ (x : Option Defaulted). DefaultsSay slots x) e (subst (λ (xs : List Slot). DefaultsSay xs found) same h) in
-    let has : HasDefaults s known.defaulted = says.has s k.integer k.knows in
+    let has : HasDefaults s known.defaulted = says.has s (λ p lt o. k.integer) k.knows in
     record { sound = says.sound; has = has; count = k.count; reads = k.reads has.exists; heads = k.heads has.exists }
 
 pub none_says : (s : System) (found : Option Typable) → found ≡ None → TypableSays s found → IsUntypable s
@@ -106,17 +106,21 @@ ambiguous_by_head s known e is = record { exists = is.has.exists; why = inl (ope
 
 -- ---- choices
 
-pub ambiguous_by_place : (s : System) (nodes : List CodeNode) (known : Typable) (dropped : List ℕ) (pool : List PoolType) (found : Option (List ℕ)) → found ≡ None → dropped ≡ flat_map dropped_by nodes →
-    ChoiceSays known.defaulted dropped known.places pool found → IsTypable s known → IsCode s nodes → IsAmbiguous s
-ambiguous_by_place s nodes known dropped pool found e are h is code =
-    let says : ChoiceSays known.defaulted dropped known.places pool None = subst (λ (x : Option (List ℕ)). ChoiceSays known.defaulted dropped known.places pool x) e h in
-    says s is.has (code.dropped ∙ sym are) is.count
+-- what is told of the places
+pub types_known : (s : System) (nodes : List CodeNode) (known : Typable) (dropped : List ℕ) (pool : List PoolType) (numbers : List (Option ℕ)) → dropped ≡ flat_map dropped_by nodes →
+    TypesSay known.defaulted dropped known.places pool numbers → IsTypable s known → IsCode s nodes → AreTypes s pool numbers
+types_known s nodes known dropped pool numbers are h is code = h s is.has (code.dropped ∙ sym are) is.count
 
-pub typed_by : (s : System) (nodes : List CodeNode) (known : Typable) (dropped numbers : List ℕ) (pool : List PoolType) (found : Option (List ℕ)) → found ≡ Some numbers → dropped ≡ flat_map dropped_by nodes →
-    is_whole known.progress.reading ≡ true → ChoiceSays known.defaulted dropped known.places pool found → IsTypable s known → IsCode s nodes → IsTyped s (map (type_at (types pool)) numbers)
-typed_by s nodes known dropped numbers pool found e are whole h is code =
-    let says : ChoiceSays known.defaulted dropped known.places pool (Some numbers) = subst (λ (x : Option (List ℕ)). ChoiceSays known.defaulted dropped known.places pool x) e h in
-    says s is.has (code.dropped ∙ sym are) is.count (no_open_head s known.progress.reading whole is.heads)
+pub ambiguous_by_place : (s : System) (pool : List PoolType) (numbers told : List (Option ℕ)) (found : Option (List ℕ)) → found ≡ None → told ≡ numbers → ChoiceSays told found → AreTypes s pool numbers → IsAmbiguous s
+ambiguous_by_place s pool numbers told found e same h types =
+    let says : ChoiceSays numbers None = subst (λ (x : Option (List ℕ)). ChoiceSays numbers x) e (subst (λ (xs : List (Option ℕ)). ChoiceSays xs found) same h) in
+    says s pool types
+
+pub typed_by : (s : System) (known : Typable) (pool : List PoolType) (numbers told : List (Option ℕ)) (chosen : List ℕ) (found : Option (List ℕ)) → found ≡ Some chosen → told ≡ numbers →
+    is_whole known.progress.reading ≡ true → ChoiceSays told found → AreTypes s pool numbers → IsTypable s known → IsTyped s (map (type_at (types pool)) chosen)
+typed_by s known pool numbers told chosen found e same whole h types_are is =
+    let says : ChoiceSays numbers (Some chosen) = subst (λ (x : Option (List ℕ)). ChoiceSays numbers x) e (subst (λ (xs : List (Option ℕ)). ChoiceSays xs found) same h) in
+    says s pool types_are (no_open_head s known.progress.reading whole is.heads)
 
 -- ---- systems
 

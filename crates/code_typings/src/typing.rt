@@ -12,7 +12,7 @@ use crate::dropped::dropped_places;
 use crate::fitting::{Judged, judge};
 use crate::plain::CodeTypes;
 use crate::typable::{Typable, known_typings};
-use chosen_types::choice::choose;
+use chosen_types::choice::{choose, types_of_places};
 use code_walks::systems::{read_constant, read_function};
 use demand_solving::walk::Reading;
 use pv_base::memory::NoMemory;
@@ -28,8 +28,9 @@ use typed_program::pool::TypePool;
 pub enum CodeTyping {
     /// There is no typing.
     Untypable,
-    /// There are typings, and a head is open, or the type of a place is not determined.
-    Ambiguous(Judged),
+    /// There are typings, and a head is open, or the type of a place is not determined: for each place the number in
+    /// the pool of the type that it has, if it has one.
+    Ambiguous(Vec<Option<usize>>, Judged),
     /// The types of all places, by their numbers in the pool.
     Typed(Sequence<usize>, Judged),
 }
@@ -59,13 +60,14 @@ fn typing_of<'a>(
         progress,
     } = known;
     let judged = judge(body, &defaulted, progress.count);
-    if !is_whole(progress.reading) {
-        return Ok(CodeTyping::Ambiguous(judged));
-    }
     let dropped = dropped_places(alloc, body)?;
-    match choose(alloc, pool, defaulted, places, &dropped, &types.unit)? {
-        None => Ok(CodeTyping::Ambiguous(judged)),
-        Some(numbers) => Ok(CodeTyping::Typed(numbers, judged)),
+    let numbers = types_of_places(alloc, pool, defaulted, places, &dropped, &types.unit)?;
+    if !is_whole(progress.reading) {
+        return Ok(CodeTyping::Ambiguous(numbers, judged));
+    }
+    match choose(alloc, &numbers)? {
+        None => Ok(CodeTyping::Ambiguous(numbers, judged)),
+        Some(chosen) => Ok(CodeTyping::Typed(chosen, judged)),
     }
 }
 
