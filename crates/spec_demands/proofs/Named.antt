@@ -8,6 +8,8 @@ use Rattle.pv_types.specs.declared.declaration.TypedName.{TypedName}
 use Rattle.typings.specs.Clauses.{spec_types_of}
 use Rattle.typings.specs.Instances.{instance, argument_in, spec_type}
 use Rattle.typings.specs.SpecDemands.{read_there}
+use Rattle.spec_demands.specs.declared.setting.LetType.{LetType}
+use Rattle.spec_demands.specs.Settings.{let_of, lets_of}
 
 option_twice : {A B C : Type 0} (g : B → C) (f : A → B) (o : Option A) → option_map g (option_map f o) ≡ option_map (λ x. g (f x)) o
 option_twice g f None = refl
@@ -24,6 +26,9 @@ variables_at names types k =
 
 pub terms_at : (terms : List TypeData) (k : ℕ) → slice_get (map spec_type terms) k ≡ option_map spec_type (slice_get terms k)
 terms_at terms k = slice_get-map spec_type terms k
+
+pub lets_at : (lets : List (Option LetType)) (k : ℕ) → slice_get (lets_of lets) k ≡ option_map let_of (slice_get lets k)
+lets_at lets k = slice_get-map let_of lets k
 
 pub parts_at : (terms : List TypeData) (k : ℕ) → slice_get (map spec_type (list_of_types (types_of terms))) k ≡ option_map spec_type (slice_get terms k)
 parts_at terms k = ap (λ ts. slice_get (map spec_type ts) k) (list_of_types-types_of terms) ∙ terms_at terms k

@@ -1,5 +1,5 @@
 -- Settings in the program as those that typings speak of.
-use Rattle.std.specs.Prelude.{ℕ, Bool, List, [], length, sum_by, Option, Some, None, slice_get}
+use Rattle.std.specs.Prelude.{ℕ, List, [], length, map, sum_by, Option, Some, None}
 use Rattle.pv_base.specs.TypeData.{TypeData, TypesData, NoTypes, types_of}
 use Rattle.pv_types.specs.declared.declaration.SpecFunction.{SpecFunction}
 use Rattle.typings.specs.Clauses as C
@@ -11,24 +11,20 @@ use Rattle.spec_demands.specs.declared.setting.Names.{Names}
 use Rattle.spec_demands.specs.declared.setting.Allowed.{Allowed}
 use Rattle.spec_demands.specs.declared.setting.SpecSetting.{SpecSetting}
 
--- the types of `let`s, by the numbers of their clauses
-abbrev pub let_of : Option LetType → Option (Bool × TypeData)
+-- the type of a clause's `let`
+abbrev pub let_of : Option LetType → Option C.LetType
 let_of None = None
 let_of (Some l) = Some (l.is_post, l.of.now)
 
-abbrev pub let_there : Option (Option LetType) → Option (Bool × TypeData)
-let_there None = None
-let_there (Some l) = let_of l
-
-abbrev pub lets_of : List (Option LetType) → ℕ → Option (Bool × TypeData)
-lets_of lets k = let_there (slice_get lets k)
+abbrev pub lets_of : List (Option LetType) → List (Option C.LetType)
+lets_of lets = map let_of lets
 
 -- a spec function has parameters alone
 abbrev pub spec_function_names : SpecFunction → C.Names
-spec_function_names f = record { parameters = C.spec_types_of f.parameters; locals = []; results = []; fields = []; variables = []; lets = C.no_lets }
+spec_function_names f = record { parameters = C.spec_types_of f.parameters; locals = []; results = []; fields = []; variables = []; lets = [] }
 
 -- the names that an owner gives to its specifications
-abbrev pub owner_names : Owner → (ℕ → Option (Bool × TypeData)) → C.Names
+abbrev pub owner_names : Owner → List (Option C.LetType) → C.Names
 owner_names (Function f) lets = C.function_names f.now lets
 owner_names (Struct s) lets = C.struct_names s.now lets
 owner_names Module lets = C.module_names lets

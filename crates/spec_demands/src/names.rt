@@ -1,8 +1,8 @@
 //! The types of names.
 
-ghost use Rattle.std.specs.Prelude.{◌≡◌, ◌∷◌, [], ℕ, Bool, Option, Some, slice_get};
+ghost use Rattle.std.specs.Prelude.{◌≡◌, ◌∷◌, [], List, Option, Some, slice_get};
 ghost use Rattle.std.specs.Option.{option_map};
-ghost use Rattle.pv_base.specs.TypeData.{TupleType, TypeData, types_of};
+ghost use Rattle.pv_base.specs.TypeData.{TupleType, types_of};
 ghost use Rattle.typings.specs.Clauses as C;
 ghost use Rattle.typings.specs.Instances.{spec_type};
 ghost use Rattle.typings.specs.SpecDemands.{read_there};
@@ -92,7 +92,7 @@ fn read_result<'a>(returned: &'a TypeTerm, number: usize) -> Option<ReadType<'a>
 
 /// The type of a `let`, where names of the state at the exit may stand.
 fn let_type<'a>(found: LetType<'a>, exits: bool) -> Option<ReadType<'a>>
-    ensures { option_map read_data result ≡ C.let_type exits (Some (found.entry.is_post, found.entry.of.now)) }
+    ensures { option_map read_data result ≡ C.let_type exits (Some (Some (found.entry.is_post, found.entry.of.now))) }
 {
     if found.is_post && !exits {
         None
@@ -103,7 +103,7 @@ fn let_type<'a>(found: LetType<'a>, exits: bool) -> Option<ReadType<'a>>
 
 /// The same of a clause, which may be no `let`.
 fn let_told<'a>(told: Option<LetType<'a>>, exits: bool) -> Option<ReadType<'a>>
-    ensures { option_map read_data result ≡ C.let_type exits (let_of told.entry) }
+    ensures { option_map read_data result ≡ C.let_type exits (Some (let_of told.entry)) }
 {
     match told {
         Some(found) => let_type(found, exits),
@@ -112,8 +112,9 @@ fn let_told<'a>(told: Option<LetType<'a>>, exits: bool) -> Option<ReadType<'a>>
 }
 
 /// The type of the `let` with this number.
+#[tactic(auto, using(crate::proofs::Named::lets_at))]
 fn let_at<'a>(lets: &'a [Option<LetType<'a>>], exits: bool, number: usize) -> Option<ReadType<'a>>
-    ensures { option_map read_data result ≡ C.let_type exits (lets_of lets.now number) }
+    ensures { option_map read_data result ≡ C.let_type exits (slice_get (lets_of lets.now) number) }
 {
     match lets.get(number) {
         Some(found) => let_told(*found, exits),
@@ -122,7 +123,7 @@ fn let_at<'a>(lets: &'a [Option<LetType<'a>>], exits: bool, number: usize) -> Op
 }
 
 fn parameter_type<'a>(owner: Owner<'a>, number: usize) -> Option<ReadType<'a>>
-    ensures { (lets : ℕ → Option (Bool × TypeData)) → option_map read_data result ≡ slice_get (owner_names owner.entry lets).parameters number }
+    ensures { (lets : List (Option C.LetType)) → option_map read_data result ≡ slice_get (owner_names owner.entry lets).parameters number }
 {
     match owner {
         Owner::Function(function) => read_name(function.parameters.as_slice(), number),
@@ -133,7 +134,7 @@ fn parameter_type<'a>(owner: Owner<'a>, number: usize) -> Option<ReadType<'a>>
 
 #[tactic(auto, using(crate::proofs::Named::terms_at))]
 fn local_type<'a>(owner: Owner<'a>, number: usize) -> Option<ReadType<'a>>
-    ensures { (lets : ℕ → Option (Bool × TypeData)) → option_map read_data result ≡ slice_get (owner_names owner.entry lets).locals number }
+    ensures { (lets : List (Option C.LetType)) → option_map read_data result ≡ slice_get (owner_names owner.entry lets).locals number }
 {
     match owner {
         Owner::Loop(_, locals) => read_term(locals, number),
@@ -142,7 +143,7 @@ fn local_type<'a>(owner: Owner<'a>, number: usize) -> Option<ReadType<'a>>
 }
 
 fn result_type<'a>(owner: Owner<'a>, number: usize) -> Option<ReadType<'a>>
-    ensures { (lets : ℕ → Option (Bool × TypeData)) → option_map read_data result ≡ slice_get (owner_names owner.entry lets).results number }
+    ensures { (lets : List (Option C.LetType)) → option_map read_data result ≡ slice_get (owner_names owner.entry lets).results number }
 {
     match owner {
         Owner::Function(function) => read_result(&function.result, number),
@@ -153,7 +154,7 @@ fn result_type<'a>(owner: Owner<'a>, number: usize) -> Option<ReadType<'a>>
 
 #[tactic(auto, using(crate::proofs::Named::variables_at))]
 fn variable_type<'a>(owner: Owner<'a>, number: usize) -> Option<ReadType<'a>>
-    ensures { (lets : ℕ → Option (Bool × TypeData)) → option_map read_data result ≡ slice_get (owner_names owner.entry lets).variables number }
+    ensures { (lets : List (Option C.LetType)) → option_map read_data result ≡ slice_get (owner_names owner.entry lets).variables number }
 {
     match owner {
         Owner::Schema(schema, types) => {
@@ -164,7 +165,7 @@ fn variable_type<'a>(owner: Owner<'a>, number: usize) -> Option<ReadType<'a>>
 }
 
 fn field_type<'a>(owner: Owner<'a>, number: usize) -> Option<ReadType<'a>>
-    ensures { (lets : ℕ → Option (Bool × TypeData)) → option_map read_data result ≡ slice_get (owner_names owner.entry lets).fields number }
+    ensures { (lets : List (Option C.LetType)) → option_map read_data result ≡ slice_get (owner_names owner.entry lets).fields number }
 {
     match owner {
         Owner::Struct(found) => read_name(found.fields.as_slice(), number),
@@ -174,7 +175,7 @@ fn field_type<'a>(owner: Owner<'a>, number: usize) -> Option<ReadType<'a>>
 
 /// The type of a `let`; loops and spec functions have none.
 fn let_named<'a>(names: Names<'a>, exits: bool, number: usize) -> Option<ReadType<'a>>
-    ensures { option_map read_data result ≡ C.let_type exits ((names_of names.entry).lets number) }
+    ensures { option_map read_data result ≡ C.let_type exits (slice_get (names_of names.entry).lets number) }
 {
     match names.owner {
         Owner::Loop(_, _) | Owner::SpecFunction(_) => None,

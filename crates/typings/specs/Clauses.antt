@@ -1,6 +1,6 @@
 -- What is demanded of clauses, where they stand. Source: the Move Specification Language reference, "Spec Blocks and Conditions",
 -- "Pre and Post State", "Let Bindings", "Invariants" and "Schemas".
-use Rattle.std.specs.Prelude.{◌≡◌, ℕ, ◌+◌, Bool, true, false, List, [], ◌∷◌, ◌++◌, length, map, Option, Some, None, slice_get, sum_by, if◌then◌else◌}
+use Rattle.std.specs.Prelude.{◌≡◌, ℕ, ◌+◌, Bool, true, false, List, [], ◌∷◌, ◌++◌, length, map, take, Option, Some, None, slice_get, sum_by, if◌then◌else◌}
 use Rattle.std.specs.Map.{lookup}
 use Rattle.std.specs.List.{flat_map}
 use Rattle.pv_base.specs.TypeData.{TypeData, TypesData, NoTypes, BoolType, NumType, TupleType, list_of_types}
@@ -33,15 +33,19 @@ use Rattle.typings.specs.Answers.{System, HasType}
 
 -- ---- names
 
+-- the type of a `let`, as specifications read it, with whether it is of the state at the exit
+abbrev pub LetType : Type 0
+LetType = Bool × TypeData
+
 -- The types of what clauses speak of, as specifications read them: those of parameters, locals, results, fields and variables, by
--- their numbers, and of each `let`, by the number of its clause, with whether it is of the state at the exit.
+-- their numbers, and of each clause that stands before this one the type of its `let`, if it is one and has a type.
 pub record Names : Type 0 where
   pub parameters : List TypeData
   pub locals : List TypeData
   pub results : List TypeData
   pub fields : List TypeData
   pub variables : List TypeData
-  pub lets : ℕ → Option (Bool × TypeData)
+  pub lets : List (Option LetType)
 
 -- what may stand in an expression beside the rest: `old`, the results, and what is of the state at the exit
 pub record Allowed : Type 0 where
@@ -52,16 +56,17 @@ pub record Allowed : Type 0 where
 abbrev pub only_if : Bool → Option TypeData → Option TypeData
 only_if may of = if may then of else None
 
-abbrev pub let_type : Bool → Option (Bool × TypeData) → Option TypeData
+abbrev pub let_type : Bool → Option (Option LetType) → Option TypeData
 let_type exits None = None
-let_type exits (Some (false, of)) = Some of
-let_type exits (Some (true, of)) = only_if exits (Some of)
+let_type exits (Some None) = None
+let_type exits (Some (Some (false, of))) = Some of
+let_type exits (Some (Some (true, of))) = only_if exits (Some of)
 
 abbrev pub named_by : Names → Allowed → SpecName → Option TypeData
 named_by names may (Parameter k) = slice_get names.parameters k
 named_by names may (Local k) = slice_get names.locals k
 named_by names may (Result k) = only_if may.results (slice_get names.results k)
-named_by names may (let_name k) = let_type may.exits (names.lets k)
+named_by names may (let_name k) = let_type may.exits (slice_get names.lets k)
 named_by names may (Variable k) = slice_get names.variables k
 named_by names may (Field k) = slice_get names.fields k
 named_by names may (Quantified v) = None
@@ -185,23 +190,20 @@ abbrev pub results_of : TypeData → List TypeData
 results_of (TupleType ts) = map spec_type (list_of_types ts)
 results_of of = spec_type of ∷ []
 
-abbrev pub no_lets : ℕ → Option (Bool × TypeData)
-no_lets n = None
-
-abbrev pub function_names : Function → (ℕ → Option (Bool × TypeData)) → Names
+abbrev pub function_names : Function → List (Option LetType) → Names
 function_names f lets = record { parameters = spec_types_of f.parameters; locals = []; results = results_of f.result; fields = []; variables = []; lets = lets }
 
-abbrev pub struct_names : Struct → (ℕ → Option (Bool × TypeData)) → Names
+abbrev pub struct_names : Struct → List (Option LetType) → Names
 struct_names s lets = record { parameters = []; locals = []; results = []; fields = spec_types_of s.fields; variables = []; lets = lets }
 
-abbrev pub module_names : (ℕ → Option (Bool × TypeData)) → Names
+abbrev pub module_names : List (Option LetType) → Names
 module_names lets = record { parameters = []; locals = []; results = []; fields = []; variables = []; lets = lets }
 
 -- the locals of the function have the types that its typing gives them
 abbrev pub loop_names : TypeData → List TypeData → Names
-loop_names returned locals = record { parameters = []; locals = map spec_type locals; results = results_of returned; fields = []; variables = []; lets = no_lets }
+loop_names returned locals = record { parameters = []; locals = map spec_type locals; results = results_of returned; fields = []; variables = []; lets = [] }
 
-abbrev pub schema_names : Schema → TypesData → (ℕ → Option (Bool × TypeData)) → Names
+abbrev pub schema_names : Schema → TypesData → List (Option LetType) → Names
 schema_names s types lets = record { parameters = []; locals = []; results = []; fields = []; variables = map (instance (argument_in types)) (spec_types_of s.variables); lets = lets }
 
 -- a spec function
@@ -210,7 +212,7 @@ spec_function_system program f =
     let s : SpecSetting = record {
       program = program;
       nodes = f.body.nodes;
-      named = named_by (record { parameters = spec_types_of f.parameters; locals = []; results = []; fields = []; variables = []; lets = no_lets }) entry_alone;
+      named = named_by (record { parameters = spec_types_of f.parameters; locals = []; results = []; fields = []; variables = []; lets = [] }) entry_alone;
       may_be_old = false;
       variables = sum_by (λ node. length (binds_in node)) f.body.nodes;
       types = NoTypes;
@@ -219,9 +221,11 @@ spec_function_system program f =
 
 -- ---- lets
 
--- a `let` of a clause with the number k has the type of its value, and is none where this has no type
-pub record IsLet (system : Clause → System) (clauses : List Clause) (lets : ℕ → Option (Bool × TypeData)) : Type 0 where
-  pub told : (k : ℕ) (is_post : Bool) (of : TypeData) → lets k ≡ Some (is_post, of)
-      → (clause : Clause) × (value : ℕ) × (slice_get clauses k ≡ Some clause) × (clause.form ≡ Let is_post value) × HasType (system clause) value of
+-- The types of the `let`s of an owner, one for each clause: a `let` has the type that its value has where the `let`s of the
+-- clauses before it are known, and those alone, if its value has one; another clause has none.
+pub record AreLets (system : List (Option LetType) → Clause → System) (clauses : List Clause) (lets : List (Option LetType)) : Type 0 where
+  pub same_length : length lets ≡ length clauses
+  pub told : (k : ℕ) (is_post : Bool) (of : TypeData) → slice_get lets k ≡ Some (Some (is_post, of))
+      → (clause : Clause) × (value : ℕ) × (slice_get clauses k ≡ Some clause) × (clause.form ≡ Let is_post value) × HasType (system (take k lets) clause) value of
   pub typed : (k : ℕ) (clause : Clause) (is_post : Bool) (value : ℕ) (of : TypeData) → slice_get clauses k ≡ Some clause → clause.form ≡ Let is_post value
-      → HasType (system clause) value of → lets k ≡ Some (is_post, of)
+      → HasType (system (take k lets) clause) value of → slice_get lets k ≡ Some (Some (is_post, of))

@@ -1,6 +1,6 @@
 -- Which declaration of a program breaks a rule of typing, and which of them is the first one. A declaration is named by its first
 -- token; a clause by that of its spec block.
-use Rattle.std.specs.Prelude.{◌≡◌, ℕ, ◌+◌, Bool, false, ◌&&◌, List, length, map, Contains, Option, Some, None, slice_get}
+use Rattle.std.specs.Prelude.{◌≡◌, ℕ, ◌+◌, Bool, false, ◌&&◌, List, length, map, take, Contains, Option, Some, None, slice_get}
 use Rattle.std.specs.Map.{lookup}
 use Rattle.std.specs.List.{list_all}
 use Rattle.pv_base.specs.TypeData.{TypeData, TypesData, NoTypes, list_of_types}
@@ -27,7 +27,7 @@ use Rattle.typings.specs.Settings.{local_place}
 use Rattle.typings.specs.Answers.{System, HasType, IsDefaulted, IsUntypable, IsAmbiguous}
 use Rattle.typings.specs.CodeSystems.{function_setting, function_system, constant_system}
 use Rattle.typings.specs.SpecDemands.{spec_place_count}
-use Rattle.typings.specs.Clauses.{Block, FunctionBlock, StructBlock, ModuleBlock, LoopBlock, Names, IsLet, clause_setting, clause_system, function_names, struct_names, module_names, loop_names, schema_arity, schema_names, spec_function_system}
+use Rattle.typings.specs.Clauses.{Block, FunctionBlock, StructBlock, ModuleBlock, LoopBlock, Names, LetType, AreLets, clause_setting, clause_system, function_names, struct_names, module_names, loop_names, schema_arity, schema_names, spec_function_system}
 use Rattle.typings.specs.Fitting.{Misfits}
 use Rattle.typings.specs.ConstantRuns.{run_of}
 use Rattle.typings.specs.Calls.{IsWrapping}
@@ -50,14 +50,15 @@ pub record Standing : Type 0 where
 abbrev pub standing_system : Program → Standing → System
 standing_system program c = clause_system program c.names c.block c.types c.clause
 
--- a clause with the number k of an owner
-pub record IsOwned (program : Program) (block : Block) (names : (ℕ → Option (Bool × TypeData)) → Names) (clauses : List Clause) (c : Standing) : Type 0 where
-  pub lets : ℕ → Option (Bool × TypeData)
-  pub are_lets : IsLet (clause_system program (names lets) block NoTypes) clauses lets
-  pub names_are : c.names ≡ names lets
+-- a clause of an owner: it knows the `let`s of the clauses before it
+pub record IsOwned (program : Program) (block : Block) (names : List (Option LetType) → Names) (clauses : List Clause) (c : Standing) : Type 0 where
+  pub lets : List (Option LetType)
+  pub are_lets : AreLets (λ before. clause_system program (names before) block NoTypes) clauses lets
+  pub number : ℕ
+  pub one : slice_get clauses number ≡ Some c.clause
+  pub names_are : c.names ≡ names (take number lets)
   pub block_is : c.block ≡ block
   pub types_are : c.types ≡ NoTypes
-  pub one : Contains clauses c.clause
   pub place_is : c.place ≡ c.clause.block
 
 -- a clause of a loop: the locals have the types that the typing of the function gives them
@@ -82,11 +83,12 @@ pub record IsIncluded (program : Program) (from c : Standing) : Type 0 where
   pub same_length : schema_arity (Some declared) ≡ length (list_of_types c.types)
   pub arguments : (i : ℕ) (of : TypeData) → slice_get (list_of_types c.types) i ≡ Some of
       → HasType (standing_system program from) (spec_place_count (clause_setting program from.names from.block from.types from.clause) + i) of
-  pub lets : ℕ → Option (Bool × TypeData)
-  pub are_lets : IsLet (clause_system program (schema_names declared c.types lets) from.block c.types) declared.clauses lets
-  pub names_are : c.names ≡ schema_names declared c.types lets
+  pub lets : List (Option LetType)
+  pub are_lets : AreLets (λ before. clause_system program (schema_names declared c.types before) from.block c.types) declared.clauses lets
+  pub number : ℕ
+  pub one : slice_get declared.clauses number ≡ Some c.clause
+  pub names_are : c.names ≡ schema_names declared c.types (take number lets)
   pub block_is : c.block ≡ from.block
-  pub one : Contains declared.clauses c.clause
   pub place_is : c.place ≡ from.place
 
 -- where a clause of a program stands
