@@ -1,5 +1,5 @@
 -- The slots in which open integer types are chosen know the typings in which they are.
-use Rattle.std.proofs.Common.{◌≡◌, ℕ, ◌<◌, IsTrue, true, false, List, length, refl, sym, ap, subst, ◌∙◌, arith}
+use Rattle.std.proofs.Common.{◌≡◌, ℕ, ◌<◌, IsTrue, true, false, List, length, Some, refl, sym, ap, subst, ◌∙◌, arith}
 use Rattle.std.specs.Prelude.{slice_index}
 use Rattle.pv_base.specs.TypeData.{TypeData, BoolType, IntType, NumType, AddressType, SignerType, VectorType, StructType, ParamType, SharedType, MutableType, TupleType, TypesData}
 use Rattle.type_places.specs.Sorts.{is_integer as is_integer_of}
@@ -79,6 +79,9 @@ open_integer {slots} k p lt inside e t h =
     let u = k.to t h in
     integer_too (t p) (subst (λ (a : TypeData). IsTrue (is_integer_of a)) (u.1.0 p inside) (let i : IsTrue (is_integer_of (u.0 p)) = open_says slots p Integer u.0 lt e u.1.1 in i))
 
+some_same : {x y : TypeData} → Some x ≡ Some y → x ≡ y
+some_same e = cc
+
 pub defaults_known : (s : System) (slots given : List Slot) (roots : List ℕ) (r : ℕ → ℕ) → ChoosesU64 s slots → Knows slots s.places (Typings s) → IsRank slots r →
     AreRoots slots roots (length slots) → Gives slots given Integer u64_type AnyPlace → Knows given s.places (IsDefaulted s)
 defaults_known s slots given roots r wide k rank are g = record {
@@ -91,16 +94,16 @@ defaults_known s slots given roots r wide k rank are g = record {
       u.1.0,
       meets_new g u.0 u.1.1 (λ p lt asked e.
           let inside : p < s.places = k.opens p lt (subst (λ (x : Slot). IsOpen x) (sym e) tt) in
-          u.1.0 p inside ∙ d.integers p inside (open_integer k p lt inside e) (not_forced k r rank p p Integer e (λ v m. refl)) ∙ wide p lt e),
+          u.1.0 p inside ∙ d.integers u64_type (wide p lt e) p inside (open_integer k p lt inside e) (not_forced k r rank p p Integer e (λ v m. refl))),
     ),
   );
   from = λ t m. let old : Meets slots t = meets_old g refl t m in record {
     typing = k.from t old;
-    integers = λ p lt all free.
+    integers = λ of is p lt all free.
         let inside : p < length slots = (let a = k.longer in omega (arith, lt, a)) in
         let root = are.each p inside in
         let q : ℕ = slice_index roots p in
         let e : slot_at slots q ≡ Open Integer = integer_root k r rank p q lt root all free (slot_at slots q) refl root.is_root in
-        root.same t old ∙ given_value u64_type t q (slot_at given q) (g.given q root.within tt e) (m.each q (subst (λ (n : ℕ). q < n) (sym g.same_length) root.within)) ∙ sym (wide q root.within e);
+        root.same t old ∙ given_value u64_type t q (slot_at given q) (g.given q root.within tt e) (m.each q (subst (λ (n : ℕ). q < n) (sym g.same_length) root.within)) ∙ some_same (sym (wide q root.within e) ∙ is);
   };
 }

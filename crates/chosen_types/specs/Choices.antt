@@ -34,9 +34,9 @@ pub record HasDefaults (s : System) (d : Defaulted) : Type 0 where
   pub exists : HasTyping s
   pub knows : Knows d.slots.items s.places (IsDefaulted s)
 
--- where an integer type is open, it is `u64` that is chosen. The numbers of specifications are `num`, but no rule of theirs asks for an integer type
+-- where an integer type is open, it is `u64` that is chosen
 abbrev pub ChoosesU64 : System → List Slot → Type 0
-ChoosesU64 s slots = (p : ℕ) → p < length slots → slot_at slots p ≡ Open Integer → s.open_integer ≡ u64_type
+ChoosesU64 s slots = (p : ℕ) → p < length slots → slot_at slots p ≡ Open Integer → s.open_integer ≡ Some u64_type
 
 pub record DefaultsOf (slots : List Slot) (d : Defaulted) : Type 0 where
   pub sound : IsSound d

@@ -25,7 +25,7 @@ pub record IsCode (s : System) (nodes : List CodeNode) : Type 0 where
 pub record IsWalkOf (s : System) (walk : Walk) : Type 0 where
   pub walked : Walked s walk.slots.items walk.progress
   pub count : s.places ≡ walk.places
-  pub integer : s.open_integer ≡ u64_type
+  pub integer : s.open_integer ≡ Some u64_type
 
 abbrev pub is_whole : Reading → Bool
 is_whole Whole = true
@@ -41,7 +41,7 @@ HeadsSay s Clash = ⊥
 pub record IsKnownOf (s : System) (places : ℕ) (slots : List Slot) (progress : Progress) : Type 0 where
   pub knows : Knows slots s.places (Typings s)
   pub count : s.places ≡ places
-  pub integer : s.open_integer ≡ u64_type
+  pub integer : s.open_integer ≡ Some u64_type
   pub reads : HasTyping s → ReadsSteps s progress.count
   pub heads : HasTyping s → HeadsSay s progress.reading
 

@@ -1,5 +1,5 @@
 -- What is typed together, which typing is chosen, and when there is none.
-use Rattle.std.specs.Prelude.{◌≡◌, ◌⊎◌, ◌<◌, ℕ, suc, IsTrue, List, length, Contains, slice_index_or}
+use Rattle.std.specs.Prelude.{◌≡◌, ◌⊎◌, ◌<◌, ℕ, suc, IsTrue, List, length, Contains, Option, Some, slice_index_or}
 use Rattle.pv_base.specs.TypeData.{TypeData}
 use Rattle.typings.specs.Sorts.{is_integer}
 use Rattle.typings.specs.Demand.{Typing, Demand}
@@ -15,8 +15,8 @@ pub record System : Type 0 where
   pub places : ℕ
   -- the places of the whole values of `e;`
   pub dropped : List ℕ
-  -- the integer type where nothing determines one
-  pub open_integer : TypeData
+  -- the integer type where nothing determines one; none in specifications, where no rule asks for an integer type of Move
+  pub open_integer : Option TypeData
 
 abbrev pub Typings : System → Typing → Type 0
 Typings s = IsTyping s.reading s.steps
@@ -29,10 +29,10 @@ IsForced These p = (t u : Typing) → These t → These u → t p ≡ u p
 abbrev pub IsIntegerPlace : (Typing → Type 0) → ℕ → Type 0
 IsIntegerPlace These p = (t : Typing) → These t → IsTrue (is_integer (t p))
 
--- A typing in which an integer type that is not forced is the one for this, wherever it stands
+-- A typing in which an integer type that is not forced is the one for this, if there is one, wherever it stands
 pub record IsDefaulted (s : System) (t : Typing) : Type 0 where
   pub typing : Typings s t
-  pub integers : (p : ℕ) → p < s.places → IsIntegerPlace (Typings s) p → (IsForced (Typings s) p → ⊥) → t p ≡ s.open_integer
+  pub integers : (of : TypeData) → s.open_integer ≡ Some of → (p : ℕ) → p < s.places → IsIntegerPlace (Typings s) p → (IsForced (Typings s) p → ⊥) → t p ≡ of
 
 -- and in which the whole value of an `e;`, where these typings do not force it, is `()` if it can be
 pub record IsSettledTyping (s : System) (t : Typing) : Type 0 where

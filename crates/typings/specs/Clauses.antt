@@ -3,7 +3,7 @@
 use Rattle.std.specs.Prelude.{◌≡◌, ℕ, ◌+◌, Bool, true, false, List, [], ◌∷◌, ◌++◌, length, map, take, Option, Some, None, slice_get, sum_by, if◌then◌else◌}
 use Rattle.std.specs.Map.{lookup}
 use Rattle.std.specs.List.{flat_map}
-use Rattle.pv_base.specs.TypeData.{TypeData, TypesData, NoTypes, BoolType, NumType, TupleType, list_of_types}
+use Rattle.pv_base.specs.TypeData.{TypeData, TypesData, NoTypes, BoolType, TupleType, list_of_types}
 use Rattle.pv_types.specs.declared.arena.Node.TheVariants.{Many}
 use Rattle.pv_types.specs.declared.clause.Clause.{Clause}
 use Rattle.pv_types.specs.declared.clause.ClauseForm.{ClauseForm}
@@ -161,7 +161,7 @@ spec_system s more whole = record {
   steps = declared_variables s ∷ (spec_demands_from s 0 s.nodes ++ whole ∷ []);
   places = spec_place_count s + more;
   dropped = [];
-  open_integer = NumType;
+  open_integer = None;
 }
 
 abbrev pub clause_setting : Program → Names → Block → TypesData → Clause → SpecSetting

@@ -30,7 +30,7 @@ code_system s declared nodes whole = record {
   steps = declared ∷ (nodes ++ whole ∷ []);
   places = place_count s;
   dropped = flat_map dropped_by s.nodes;
-  open_integer = u64_type;
+  open_integer = Some u64_type;
 }
 
 -- what is asked of the whole, which is the last node
