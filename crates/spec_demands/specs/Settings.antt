@@ -14,7 +14,7 @@ use Rattle.spec_demands.specs.declared.setting.SpecSetting.{SpecSetting}
 -- the type of a clause's `let`
 abbrev pub let_of : Option LetType → Option C.LetType
 let_of None = None
-let_of (Some l) = Some (l.is_post, l.of.now)
+let_of (Some l) = Some (l.is_post, l.of)
 
 abbrev pub lets_of : List (Option LetType) → List (Option C.LetType)
 lets_of lets = map let_of lets

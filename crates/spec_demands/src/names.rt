@@ -91,19 +91,19 @@ fn read_result<'a>(returned: &'a TypeTerm, number: usize) -> Option<ReadType<'a>
 }
 
 /// The type of a `let`, where names of the state at the exit may stand.
-fn let_type<'a>(found: LetType<'a>, exits: bool) -> Option<ReadType<'a>>
-    ensures { option_map read_data result ≡ C.let_type exits (Some (Some (found.entry.is_post, found.entry.of.now))) }
+fn let_type<'a>(found: &'a LetType, exits: bool) -> Option<ReadType<'a>>
+    ensures { option_map read_data result ≡ C.let_type exits (Some (Some (found.now.is_post, found.now.of))) }
 {
     if found.is_post && !exits {
         None
     } else {
-        Some(ReadType::Known(found.of))
+        Some(ReadType::Known(&found.of))
     }
 }
 
 /// The same of a clause, which may be no `let`.
-fn let_told<'a>(told: Option<LetType<'a>>, exits: bool) -> Option<ReadType<'a>>
-    ensures { option_map read_data result ≡ C.let_type exits (Some (let_of told.entry)) }
+fn let_told<'a>(told: &'a Option<LetType>, exits: bool) -> Option<ReadType<'a>>
+    ensures { option_map read_data result ≡ C.let_type exits (Some (let_of told.now)) }
 {
     match told {
         Some(found) => let_type(found, exits),
@@ -113,11 +113,11 @@ fn let_told<'a>(told: Option<LetType<'a>>, exits: bool) -> Option<ReadType<'a>>
 
 /// The type of the `let` with this number.
 #[tactic(auto, using(crate::proofs::Named::lets_at))]
-fn let_at<'a>(lets: &'a [Option<LetType<'a>>], exits: bool, number: usize) -> Option<ReadType<'a>>
+fn let_at<'a>(lets: &'a [Option<LetType>], exits: bool, number: usize) -> Option<ReadType<'a>>
     ensures { option_map read_data result ≡ C.let_type exits (slice_get (lets_of lets.now) number) }
 {
     match lets.get(number) {
-        Some(found) => let_told(*found, exits),
+        Some(found) => let_told(found, exits),
         None => None,
     }
 }

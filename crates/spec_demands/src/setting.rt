@@ -23,10 +23,10 @@ pub enum Owner<'a> {
 }
 
 /// The type of a `let`, which is of the state at the exit where `is_post` is true.
-#[derive(Clone, Copy)]
-pub struct LetType<'a> {
+#[derive(Drop)]
+pub struct LetType {
     pub is_post: bool,
-    pub of: &'a TypeTerm,
+    pub of: TypeTerm,
 }
 
 /// The names that specifications speak of: those of their owner, and `let`s by the numbers of their clauses. A
@@ -34,7 +34,7 @@ pub struct LetType<'a> {
 #[derive(Clone, Copy)]
 pub struct Names<'a> {
     pub owner: Owner<'a>,
-    pub lets: &'a [Option<LetType<'a>>],
+    pub lets: &'a [Option<LetType>],
 }
 
 /// What may stand in an expression beside the rest: `old`, the results, and what is of the state at the exit.
