@@ -10,7 +10,7 @@ use pv_types::clause::{ClauseForm, ConditionKind};
 use spec_demands::setting::Allowed;
 
 /// The blocks that clauses stand in.
-#[derive(Clone, Copy)]
+#[derive(Clone, Copy, Debug, PartialEq, Eq, Hash)]
 pub enum Block {
     Function,
     Struct,

@@ -104,9 +104,10 @@ fn intern_tuple(pool: &mut Pool, ts: &[TypeTerm]) -> Result<usize, NoMemory>
     one(pool, One::TypeTuple, ts)
 }
 
+/// The number of a list of types.
 #[cycle(types)]
 #[tactic(auto, using(crate::proofs::GrowthLemmas::extends_then, fol::proofs::Smaller::type_smaller))]
-fn intern_types(pool: &mut Pool, types: &[TypeTerm]) -> Result<usize, NoMemory>
+pub fn intern_types(pool: &mut Pool, types: &[TypeTerm]) -> Result<usize, NoMemory>
     ensures extends { Extends pool.old pool.new }
     ensures is { IfOk result (λ number. IsItem pool.new number (TypesItem (types_of types.now))) }
 {
