@@ -1,6 +1,7 @@
 pub mod Bridges
 pub mod Emitting
 pub mod Forming
+pub mod Tupling
 pub mod Returning
 pub mod Fielding
 pub mod Moving

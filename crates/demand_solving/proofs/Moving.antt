@@ -8,7 +8,12 @@ use Rattle.typings.specs.Rules.{TypeReading, Agree, PointAtOne, Fits, PartsFit, 
 use Rattle.type_places.specs.Slots.{Typing}
 use Rattle.type_places.specs.Grown.{SameTo}
 use Rattle.type_places.proofs.Growing.{arguments_same}
-use Rattle.demand_solving.specs.Within.{FormWithin, PlacesWithin, DemandWithin, AllWithin}
+use Rattle.demand_solving.specs.Within.{FormWithin, IsWritten, PlacesWithin, DemandWithin, AllWithin}
+
+pub written_within : (n : ℕ) (form : TypeForm) → IsWritten form → FormWithin n form
+written_within n (Written of) h = tt
+written_within n (Declared of first count) h = absurd h
+written_within n (Applied s first count) h = absurd h
 
 -- each typing of the one set is, as far as the first n places go, one of the other
 pub record Covers (n : ℕ) (P Q : Typing → Type 0) : Type 0 where
@@ -125,7 +130,7 @@ holds_kept w n P t u same (Alike a b) lt h = elim h [
 holds_kept w n P t u same (Takes e form) lt h =
     subst (λ (x : TypeData). Fits P e x (form_type u form)) (sym (same e lt.0)) (subst (λ (y : TypeData). Fits P e (t e) y) (sym (form_kept n t u form same lt.1)) h)
 holds_kept w n P t u same (Returns e form) lt h =
-    subst (λ (x : TypeData). ReturnFits P e x (form_type u form)) (sym (same e lt.0)) (subst (λ (y : TypeData). ReturnFits P e (t e) y) (sym (form_kept n t u form same lt.1)) h)
+    subst (λ (x : TypeData). ReturnFits P e x (form_type u form)) (sym (same e lt.0)) (subst (λ (y : TypeData). ReturnFits P e (t e) y) (sym (form_kept n t u form same (written_within n form lt.1))) h)
 holds_kept w n P t u same (FieldOf p e name) lt h = ap (λ (x : TypeData). field_type w (behind x) name) (same e lt.1) ∙ h ∙ sym (ap Some (same p lt.0))
 holds_kept w n P t u same (TargetOf p e) lt h = ap target (same e lt.1) ∙ h ∙ sym (ap Some (same p lt.0))
 holds_kept w n P t u same (Through e) lt h = λ is. h (sym (ap kind (same e lt)) ∙ is)

@@ -83,7 +83,7 @@ demand_more n m (D.TupleOf p parts) le h = (let x = h.0 in omega (arith, le, x),
 demand_more n m (D.IsOf sort p) le h = omega (arith, le, h)
 demand_more n m (D.Alike a b) le h = (let x = h.0 in omega (arith, le, x), let y = h.1 in omega (arith, le, y))
 demand_more n m (D.Takes e form) le h = (let x = h.0 in omega (arith, le, x), form_within n m form le h.1)
-demand_more n m (D.Returns e form) le h = (let x = h.0 in omega (arith, le, x), form_within n m form le h.1)
+demand_more n m (D.Returns e form) le h = (let x = h.0 in omega (arith, le, x), h.1)
 demand_more n m (D.FieldOf p e name) le h = (let x = h.0 in omega (arith, le, x), let y = h.1 in omega (arith, le, y))
 demand_more n m (D.TargetOf p e) le h = (let x = h.0 in omega (arith, le, x), let y = h.1 in omega (arith, le, y))
 demand_more n m (D.Through e) le h = omega (arith, le, h)

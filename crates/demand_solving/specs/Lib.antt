@@ -3,7 +3,7 @@ pub mod Plain
 pub mod Within
 pub mod Equations
 pub mod Owners
-pub mod Lending
+pub mod Tuples
 pub mod Steps
 pub mod Walking
 pub mod Walked

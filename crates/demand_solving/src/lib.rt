@@ -10,6 +10,7 @@ pub mod kinds;
 pub mod plain;
 pub mod returned;
 pub mod step;
+pub mod tuples;
 pub mod walk;
 pub mod within;
 pub mod words;

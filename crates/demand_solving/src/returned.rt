@@ -1,25 +1,32 @@
 //! What is returned.
 
-ghost use Rattle.std.specs.Prelude.{◌≡◌, ◌<◌, ℕ, List, IfOk, length, IsTrue, true, false};
-ghost use Rattle.std.specs.List.{list_any};
+ghost use Rattle.std.specs.Prelude.{◌≡◌, ◌<◌, ◌≤◌, ◌+◌, ℕ, List, IfOk, length, true, false};
 ghost use Rattle.node_demands.specs.Seen.{seen_form};
-ghost use Rattle.pv_base.specs.TypeData.{TypeData};
+ghost use Rattle.pv_base.specs.TypeData.{TypeData, TupleType, types_of};
 ghost use Rattle.typings.specs.Demand as D;
 ghost use Rattle.typings.specs.Rules.{TypeReading};
-ghost use Rattle.type_places.specs.Slots.{Fits};
+ghost use Rattle.type_places.specs.Slots.{Fits, TermWithin};
+ghost use Rattle.type_places.specs.Heads.{KindWithin};
+ghost use Rattle.type_places.specs.Terms.{AllWithin};
+ghost use Rattle.type_places.specs.declared.slots.Slot.{Slot as SlotData};
+ghost use Rattle.type_places.specs.declared.heads.KindSeen.{KindSeen as KindData};
 ghost use Rattle.demand_solving.specs.Plain.{ArePlain};
-ghost use Rattle.demand_solving.specs.Within.{FormWithin};
-ghost use Rattle.demand_solving.specs.Equations.{Keeps, Emits};
-ghost use Rattle.demand_solving.specs.Lending.{is_shared, has_shared_part};
+ghost use Rattle.demand_solving.specs.Within.{IsWritten};
+ghost use Rattle.demand_solving.specs.Equations.{Keeps, KindSaid, Emits};
+ghost use Rattle.demand_solving.specs.Tuples.{is_shared, TupleSaid, PartAt, PartSaid, PartsSaid};
 
 use crate::demands::takes;
 use crate::equation::Equation;
+use crate::kinds::kind_at;
 use crate::plain::PlainTypes;
+use crate::tuples::{Parts, tuple_at, tuple_types};
 use node_demands::demand::TypeForm;
 use pv_base::memory::NoMemory;
 use pv_base::types::{TypeNode, TypeTerm};
 use std::alloc::Global;
-use type_places::slots::Slot;
+use type_places::heads::KindSeen;
+use type_places::signature::{group_terms, wrap_term};
+use type_places::slots::{Group, Slot, Term, Wrap};
 
 fn is_shared(of: &TypeTerm) -> bool
     ensures { result ≡ is_shared of.now }
@@ -27,29 +34,160 @@ fn is_shared(of: &TypeTerm) -> bool
     matches!(&of.node, TypeNode::Shared(_))
 }
 
-fn some_shared(types: &[TypeTerm]) -> bool
-    ensures { result ≡ list_any is_shared types.now }
+/// What is returned of a part that is a reference of this kind, where a shared one is.
+fn lent_to<'a>(
+    slots: &mut Vec<Slot<'a>>,
+    wrap: Wrap,
+    place: usize,
+    to: Term<'a>,
+) -> Result<Term<'a>, NoMemory>
+    requires fits { Fits slots.old.items }
+    requires place { place < length slots.old.items }
+    requires to { TermWithin (length slots.old.items) to }
+    ensures keeps { IfOk result (λ term. Keeps slots.old.items slots.new.items) }
+    ensures within { IfOk result (λ term. TermWithin (length slots.new.items) term) }
+    ensures said { IfOk result (λ term. (before seen : List SlotData) (e i : ℕ) (wanted : TypeData) → PartAt before seen e i place → KindSaid seen slots.old.items place (KindData.To wrap to.entry) → is_shared wanted ≡ true → PartSaid before slots.new.items e i place wanted term) }
 {
-    for of in types {
-        if is_shared(of) {
-            return true;
+    match wrap {
+        Wrap::Mutable => {
+            let shared = wrap_term(slots, Wrap::Shared, to)?;
+            Ok(shared)
         }
+        Wrap::Vector => Ok(Term::Place(place)),
+        Wrap::Shared => Ok(Term::Place(place)),
     }
-    false
 }
 
-/// Whether it is a tuple of which a part is a shared reference.
-fn has_shared_part(of: &TypeTerm) -> bool
-    ensures { result ≡ has_shared_part of.now }
+/// What is returned of a part of whose kind this is known, where a shared reference is.
+fn lent_as<'a>(
+    slots: &mut Vec<Slot<'a>>,
+    kind: KindSeen<'a>,
+    place: usize,
+) -> Result<Term<'a>, NoMemory>
+    requires fits { Fits slots.old.items }
+    requires place { place < length slots.old.items }
+    requires kind { KindWithin (length slots.old.items) kind }
+    ensures keeps { IfOk result (λ term. Keeps slots.old.items slots.new.items) }
+    ensures within { IfOk result (λ term. TermWithin (length slots.new.items) term) }
+    ensures said { IfOk result (λ term. (before seen : List SlotData) (e i : ℕ) (wanted : TypeData) → PartAt before seen e i place → KindSaid seen slots.old.items place kind.entry → is_shared wanted ≡ true → PartSaid before slots.new.items e i place wanted term) }
 {
-    match &of.node {
-        TypeNode::Tuple(types) => some_shared(&types.items),
-        _ => false,
+    match kind {
+        KindSeen::Unsettled => Ok(Term::Place(place)),
+        KindSeen::Plain => Ok(Term::Place(place)),
+        KindSeen::To(wrap, to) => lent_to(slots, wrap, place, to),
     }
 }
 
-/// The place is returned where this type is. Only types that are written are returned, and `NoMemory` is answered
-/// where it is a tuple of which a part is a shared reference.
+/// What is returned of a part at a place, where this type is returned: a shared reference in the place of a mutable
+/// one where it is lent.
+fn lent_part<'a>(
+    slots: &mut Vec<Slot<'a>>,
+    place: usize,
+    wanted: &TypeTerm,
+) -> Result<Term<'a>, NoMemory>
+    requires fits { Fits slots.old.items }
+    requires place { place < length slots.old.items }
+    ensures keeps { IfOk result (λ term. Keeps slots.old.items slots.new.items) }
+    ensures within { IfOk result (λ term. TermWithin (length slots.new.items) term) }
+    ensures said { IfOk result (λ term. (before : List SlotData) (e i : ℕ) → PartAt before slots.old.items e i place → PartSaid before slots.new.items e i place wanted.now term) }
+{
+    if !is_shared(wanted) {
+        return Ok(Term::Place(place));
+    }
+    let kind = kind_at(slots, place);
+    lent_as(slots, kind, place)
+}
+
+/// What is returned of each part, where these types are.
+fn lent_parts<'a>(
+    alloc: Global,
+    slots: &mut Vec<Slot<'a>>,
+    parts: Parts,
+    types: &[TypeTerm],
+    places: usize,
+) -> Result<Vec<Term<'a>>, NoMemory>
+    requires fits { Fits slots.old.items }
+    requires count { parts.count ≡ length types.now }
+    requires within { parts.first + parts.count ≤ places }
+    requires places { places ≤ length slots.old.items }
+    ensures keeps { IfOk result (λ terms. Keeps slots.old.items slots.new.items) }
+    ensures within { IfOk result (λ terms. AllWithin (length slots.new.items) terms.items) }
+    ensures said { IfOk result (λ terms. (before : List SlotData) (e : ℕ) → TupleSaid before slots.old.items e parts → PartsSaid before slots.new.items e 0 parts.first types.now terms.items) }
+{
+    let mut terms = Vec::new(alloc);
+    for (i, of) in types.iter().enumerate() {
+        terms.push(lent_part(slots, parts.first + i, of)?)?;
+    }
+    Ok(terms)
+}
+
+/// The tuple of the types of these places is returned where this one is.
+fn returns_parts<'a>(
+    alloc: Global,
+    slots: &mut Vec<Slot<'a>>,
+    place: usize,
+    parts: Parts,
+    of: &'a TypeTerm,
+    types: &[TypeTerm],
+) -> Result<Equation<'a>, NoMemory>
+    requires fits { Fits slots.old.items }
+    requires place { place < length slots.old.items }
+    requires parts { parts.first + parts.count ≤ length slots.old.items }
+    requires types { of.now ≡ TupleType (types_of types.now) }
+    ensures keeps { IfOk result (λ q. Keeps slots.old.items slots.new.items) }
+    ensures emits { IfOk result (λ q. (w : TypeReading) (before : List SlotData) → TupleSaid before slots.old.items place parts → Emits w before slots.new.items (D.Returns place (D.Written of.now)) q) }
+{
+    if parts.count != types.len() {
+        return Ok(Equation::Equal(Term::Place(place), Term::Closed(of)));
+    }
+    let places = slots.len();
+    let terms = lent_parts(alloc, slots, parts, types, places)?;
+    let term = group_terms(slots, Group::Tuple, &terms)?;
+    Ok(Equation::Equal(term, Term::Closed(of)))
+}
+
+/// The place is returned where this tuple is.
+fn returns_tuple<'a>(
+    alloc: Global,
+    slots: &mut Vec<Slot<'a>>,
+    place: usize,
+    of: &'a TypeTerm,
+    types: &[TypeTerm],
+) -> Result<Equation<'a>, NoMemory>
+    requires fits { Fits slots.old.items }
+    requires place { place < length slots.old.items }
+    requires types { of.now ≡ TupleType (types_of types.now) }
+    ensures keeps { IfOk result (λ q. Keeps slots.old.items slots.new.items) }
+    ensures emits { IfOk result (λ q. (w : TypeReading) → Emits w slots.old.items slots.new.items (D.Returns place (D.Written of.now)) q) }
+{
+    let seen = tuple_at(slots, place)?;
+    match seen {
+        None => Ok(Equation::Equal(Term::Place(place), Term::Closed(of))),
+        Some(parts) => returns_parts(alloc, slots, place, parts, of, types),
+    }
+}
+
+/// The place is returned where this written type is.
+fn returns_written<'a>(
+    alloc: Global,
+    types: &'a PlainTypes,
+    slots: &mut Vec<Slot<'a>>,
+    place: usize,
+    of: &'a TypeTerm,
+) -> Result<Equation<'a>, NoMemory>
+    requires types { ArePlain types.now }
+    requires fits { Fits slots.old.items }
+    requires place { place < length slots.old.items }
+    ensures keeps { IfOk result (λ q. Keeps slots.old.items slots.new.items) }
+    ensures emits { IfOk result (λ q. (w : TypeReading) → Emits w slots.old.items slots.new.items (D.Returns place (D.Written of.now)) q) }
+{
+    match tuple_types(of) {
+        None => takes(alloc, types, slots, place, TypeForm::Written(of)),
+        Some(parts) => returns_tuple(alloc, slots, place, of, parts),
+    }
+}
+
+/// The place is returned where this type is, which is written.
 pub fn returns<'a>(
     alloc: Global,
     types: &'a PlainTypes,
@@ -60,17 +198,12 @@ pub fn returns<'a>(
     requires types { ArePlain types.now }
     requires fits { Fits slots.old.items }
     requires place { place < length slots.old.items }
-    requires form { FormWithin (length slots.old.items) (seen_form form) }
+    requires written { IsWritten (seen_form form) }
     ensures keeps { IfOk result (λ q. Keeps slots.old.items slots.new.items) }
     ensures emits { IfOk result (λ q. (w : TypeReading) → Emits w slots.old.items slots.new.items (D.Returns place (seen_form form.entry)) q) }
 {
     match form {
-        TypeForm::Written(of) => {
-            if has_shared_part(of) {
-                return Err(NoMemory);
-            }
-            takes(alloc, types, slots, place, form)
-        }
-        _ => Err(NoMemory),
+        TypeForm::Written(of) => returns_written(alloc, types, slots, place, of),
+        _ => takes(alloc, types, slots, place, form),
     }
 }

@@ -1,8 +1,8 @@
-//! Whether demands speak of places that there are.
+//! Whether demands speak of places that there are, and return types that are written.
 
 ghost use Rattle.std.specs.Prelude.{◌≤◌, ◌+◌, IsTrue, length};
 ghost use Rattle.node_demands.specs.Seen.{seen, seen_all, seen_form};
-ghost use Rattle.demand_solving.specs.Within.{AllWithin, DemandWithin, FormWithin, PlacesWithin};
+ghost use Rattle.demand_solving.specs.Within.{AllWithin, DemandWithin, FormWithin, IsWritten, PlacesWithin};
 
 use node_demands::demand::{Demand, TypeForm};
 
@@ -24,6 +24,15 @@ fn form_within<'a>(form: TypeForm<'a>, places: usize) -> bool
     }
 }
 
+fn is_written<'a>(form: TypeForm<'a>) -> bool
+    ensures { IsTrue result → IsWritten (seen_form form.entry) }
+{
+    match form {
+        TypeForm::Plain(_) | TypeForm::Written(_) => true,
+        _ => false,
+    }
+}
+
 fn parts_within(parts: &[usize], places: usize) -> bool
     ensures { IsTrue result → PlacesWithin places parts.now }
 {
@@ -35,7 +44,7 @@ fn parts_within(parts: &[usize], places: usize) -> bool
     true
 }
 
-/// Whether a demand speaks of the first `places` places alone.
+/// Whether a demand speaks of the first `places` places alone, and returns only a type that is written.
 fn is_within<'a>(demand: Demand<'a>, places: usize) -> bool
     ensures { IsTrue result → DemandWithin places (seen demand.entry) }
 {
@@ -46,7 +55,7 @@ fn is_within<'a>(demand: Demand<'a>, places: usize) -> bool
         Demand::TupleOf(place, parts) => place < places && parts_within(parts, places),
         Demand::IsOf(_, place) => place < places,
         Demand::Takes(place, form) => place < places && form_within(form, places),
-        Demand::Returns(place, form) => place < places && form_within(form, places),
+        Demand::Returns(place, form) => place < places && is_written(form),
         Demand::FieldOf(place, from, _) => place < places && from < places,
         Demand::TargetOf(place, from) => place < places && from < places,
         Demand::Through(place) | Demand::Behind(place) => place < places,
@@ -54,7 +63,7 @@ fn is_within<'a>(demand: Demand<'a>, places: usize) -> bool
     }
 }
 
-/// Whether demands speak of the first `places` places alone.
+/// Whether demands speak of the first `places` places alone, and return only types that are written.
 pub fn all_within<'a>(demands: &[Demand<'a>], places: usize) -> bool
     ensures { IsTrue result → AllWithin places (seen_all demands.now) }
 {

@@ -1,15 +1,14 @@
-use Rattle.std.proofs.Common.{sym, subst, ◌∙◌}
 use Rattle.std.proofs.lemmas.Result.{IfOk-weaker}
 use Rattle.node_demands.specs.Seen.{seen_form}
-use Rattle.node_demands.specs.declared.demand.TypeForm.{TypeForm}
-use Rattle.typings.specs.Demand as D
-use Rattle.demand_solving.specs.Equations.{Emits}
-use Rattle.demand_solving.proofs.Returning.{returned_emits}
+use Rattle.demand_solving.proofs.Moving.{written_within}
+use Rattle.demand_solving.proofs.Returning.{plain_emits}
 use Rattle.demand_solving.proofs.returned.returns.Goals as goal
 
-pub returns-else-has_shared_part-clause-emits : goal.returns-else-has_shared_part-clause-emits
-returns-else-has_shared_part-clause-emits c = IfOk-weaker c.takes.result _ _ (λ q h w.
-    subst (λ (f : TypeForm). Emits w c.args.slots.now.items c.takes.new.slots.items (D.Returns c.args.place (seen_form f)) q) (sym c.in-Written.is)
-    (returned_emits w c.args.slots.now.items c.takes.new.slots.items c.args.place c.in-Written.of.now q (sym c.has_shared_part.ensures ∙ c.if-has_shared_part.false)
-    (subst (λ (f : TypeForm). Emits w c.args.slots.now.items c.takes.new.slots.items (D.Takes c.args.place (seen_form f)) q) c.in-Written.is (h w))))
-    c.takes.ensures.emits
+pub takes-requires-clause-form : goal.takes-requires-clause-form
+takes-requires-clause-form c = written_within _ (seen_form c.args.form) c.requires.written
+
+pub returns-in_default : goal.returns-in_default
+returns-in_default c = record {
+  keeps = c.takes.ensures.keeps;
+  emits = IfOk-weaker c.takes.result _ _ (λ q h w. plain_emits w c.args.slots.now.items c.takes.new.slots.items c.args.place c.args.form q c.requires.written c.in_default.not-Written (h w)) c.takes.ensures.emits;
+}
