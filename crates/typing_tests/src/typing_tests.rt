@@ -363,6 +363,40 @@ fn places(rt: HostRuntime) -> Result<(), Fail> {
 }
 
 #[test]
+fn returned_tuples(rt: HostRuntime) -> Result<(), Fail> {
+    let alloc = rt.alloc();
+    for (text, wanted) in [
+        (
+            "module 0x1::m { fun f(x: &mut u64, y: u64): (&u64, u64) { (x, y) } }",
+            "&mut u64 u64; ",
+        ),
+        (
+            "module 0x1::m { fun f(x: &u64): (&mut u64, u64) { (x, 1) } }",
+            "none; ",
+        ),
+        (
+            "module 0x1::m { fun f(x: &mut u8): (&u64, u64) { (x, 1) } }",
+            "none; ",
+        ),
+        (
+            "module 0x1::m { fun f(x: &mut u64): (&u64, u64) { (x, 1, 2) } }",
+            "none; ",
+        ),
+        (
+            "module 0x1::m { fun f(c: bool, x: &mut u64, y: &mut u64): (&u64, u8) { if (c) { let z = 1; (x, z) } else { (y, 2) } } }",
+            "bool &mut u64 &mut u64 u8; ",
+        ),
+        (
+            "module 0x1::m { fun g(x: &mut u64): (&mut u64, bool) { (x, true) } fun f(x: &mut u64): (&u64, bool) { g(x) } }",
+            "&mut u64; &mut u64; ",
+        ),
+    ] {
+        check(&rt, alloc, text, wanted);
+    }
+    Ok(())
+}
+
+#[test]
 fn calls(rt: HostRuntime) -> Result<(), Fail> {
     let alloc = rt.alloc();
     for (text, wanted) in [
