@@ -1,5 +1,6 @@
 -- From what was read to what is typed.
-use Rattle.std.proofs.Common.{◌≡◌, ℕ, ◌≤◌, true, false, List, length, map, Option, Some, None, flat_map, refl, sym, subst, ◌∙◌, inl, arith}
+use Rattle.std.proofs.Common.{◌≡◌, ℕ, ◌<◌, ◌≤◌, true, false, List, length, map, Option, Some, None, flat_map, refl, sym, subst, ◌∙◌, inl, arith}
+use Rattle.std.specs.Prelude.{All}
 use Rattle.std.proofs.lemmas.Bool.{false≢true}
 use Rattle.pv_types.specs.declared.declaration.Constant.{Constant}
 use Rattle.pv_types.specs.declared.declaration.Function.{Function}
@@ -117,10 +118,10 @@ ambiguous_by_place s pool numbers told found e same h types =
     says s pool types
 
 pub typed_by : (s : System) (known : Typable) (pool : List PoolType) (numbers told : List (Option ℕ)) (chosen : List ℕ) (found : Option (List ℕ)) → found ≡ Some chosen → told ≡ numbers →
-    is_whole known.progress.reading ≡ true → ChoiceSays told found → AreTypes s pool numbers → IsTypable s known → IsTyped s (map (type_at (types pool)) chosen)
+    is_whole known.progress.reading ≡ true → ChoiceSays told found → AreTypes s pool numbers → IsTypable s known → IsTyped s (map (type_at (types pool)) chosen) × All (λ n. n < length pool) chosen
 typed_by s known pool numbers told chosen found e same whole h types_are is =
     let says : ChoiceSays numbers (Some chosen) = subst (λ (x : Option (List ℕ)). ChoiceSays numbers x) e (subst (λ (xs : List (Option ℕ)). ChoiceSays xs found) same h) in
-    says s pool types_are (no_open_head s known.progress.reading whole is.heads)
+    let of = says s pool types_are in (of.1 (no_open_head s known.progress.reading whole is.heads), of.0)
 
 -- ---- systems
 
