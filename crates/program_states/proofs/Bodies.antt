@@ -19,7 +19,10 @@ use Rattle.asked_abilities.specs.declared.entry.JudgedTypes.{JudgedTypes}
 use Rattle.asked_abilities.specs.Bodies.{IsJudgedBody}
 use Rattle.asked_abilities.specs.Entries.{AreFrom, HasPartsFrom, IsTold, TellsTypes}
 use Rattle.asked_abilities.specs.Locals.{AreLocalAbilities}
+use Rattle.point_states.specs.declared.states.LocalStates.{LocalStates}
+use Rattle.point_states.specs.States.{AreStates}
 use Rattle.program_states.specs.Flow.{BodyBreaks, FunctionBreaks, body_of}
+use Rattle.program_states.specs.States.{HasStates}
 
 -- ---- a pool of the function's own
 
@@ -73,3 +76,12 @@ breaks_if program rule f sets shown parameters broken are a b h =
       λ w. h.1 (subst (λ (body : BodyFacts). BodyBreaks rule body) (sym same)
           (subst (λ (own : List AbilitySet). BodyBreaks rule (body_of f own)) (one_abilities program f w.sets sets w.are are) w.breaks)),
     )
+
+pub has_states : (program : Program) (f : Function) (sets shown : List AbilitySet) (parameters : ℕ) (states : LocalStates)
+    → AreLocalAbilities program f sets → shown ≡ sets → parameters ≡ length f.parameters
+    → AreStates (body_with f shown parameters) states → HasStates program f states
+has_states program f sets shown parameters states are a b h = record {
+  sets = sets;
+  are = are;
+  tells = subst (λ (body : BodyFacts). AreStates body states) (same_body f shown sets parameters a b) h;
+}

@@ -38,14 +38,6 @@ returns-in-None-clause-says c s is code =
 
 pub returns-clause-says : goal.returns-clause-says
 returns-clause-says c s is code =
-    let told = types_known s c.args.body.now.nodes c.args.known c.deref.result.now c.types_of_places.new.pool c.in_ok-numbers.numbers.items (c.deref.ensures.value ∙ c.in_ok-dropped.ensures.are) c.in_ok-numbers.ensures.says is code in (
-      typed_by s c.args.known c.types_of_places.new.pool c.in_ok-numbers.numbers.items c.deref-2.result.now c.in-Some.chosen _ c.in-Some.is c.deref-2.ensures.value
-          (sym c.is_whole.ensures ∙ c.if-not-is_whole.false) c.in_ok-choose.ensures told is,
-      c.judge-judged.ensures s is.has code.inside is.reads,
-    )
     let told = types_known s c.args.body.now.nodes c.args.known c.deref.result.now c.types_of_places.new.pool c.in_ok-numbers.numbers.items (c.deref.ensures.value ∙ c.in_ok-dropped.ensures.are) c.in_ok-numbers.ensures.says is code in
     let typed = typed_by s c.args.known c.types_of_places.new.pool c.in_ok-numbers.numbers.items c.deref-2.result.now c.in-Some.chosen _ c.in-Some.is c.deref-2.ensures.value
     (sym c.is_whole.ensures ∙ c.if-not-is_whole.false) c.in_ok-choose.ensures told is in (typed.0, typed.1, c.judge-judged.ensures s is.has code.inside is.reads)
-    let told = types_known s c.args.body.now.nodes c.args.known c.deref.result.now c.types_of_places.new.pool c.in_ok-numbers.numbers.items (c.deref.ensures.value ∙ c.in_ok-dropped.ensures.are) c.in_ok-numbers.ensures.says is code in
-    let typed = typed_by s c.args.known c.types_of_places.new.pool c.in_ok-numbers.numbers.items c.deref-2.result.now c.in-Some.chosen _ c.in-Some.is c.deref-2.ensures.value
-        (sym c.is_whole.ensures ∙ c.if-not-is_whole.false) c.in_ok-choose.ensures told is in (typed.0, typed.1, c.judge-judged.ensures s is.has code.inside is.reads)
