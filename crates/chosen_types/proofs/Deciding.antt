@@ -1,6 +1,8 @@
 -- The answers, of what the slots know.
 use Rattle.std.proofs.Common.{◌≡◌, ℕ, zero, suc, ◌<◌, false, List, [], ◌∷◌, ◌+◌, length, map, get_or, refl, sym, ap, subst, ◌∙◌, inl, inr, arith, Option, Some, None}
 use Rattle.std.specs.Prelude.{slice_index, All}
+use Rattle.std.proofs.Common.{◌≡◌, ℕ, zero, suc, ◌<◌, false, List, [], ◌∷◌, ◌+◌, length, map, All, get_or, refl, sym, ap, subst, ◌∙◌, inl, inr, arith, Option, Some, None}
+use Rattle.std.specs.Prelude.{slice_index, Contains}
 use Rattle.std.proofs.lemmas.List.{get_or_default}
 use Rattle.pv_base.specs.TypeData.{TypeData, IntType}
 use Rattle.pv_base.specs.declared.types.Width.{Width}
@@ -23,7 +25,7 @@ use Rattle.typed_program.specs.Pools.{type_at, types}
 use Rattle.chosen_types.specs.Roots.{IsRootOf, AreRoots}
 use Rattle.chosen_types.specs.Given.{IsGiven, GivesNoInteger, WidthOf, Gives, AnyPlace, IsDropped}
 use Rattle.chosen_types.specs.Numbers.{number_at, AreParts, PartsSay, NumberSays, TableSays}
-use Rattle.chosen_types.specs.Choices.{IsSound, DefaultsOf, WidthSays, PlaceSays, AreTypes, TypesSay, ChoiceSays}
+use Rattle.chosen_types.specs.Choices.{IsSound, DefaultsOf, WidthSays, PlaceSays, AreTypes, TypesSay, ChoosesNothing, TypesAsKnown, ChoiceSays}
 use Rattle.chosen_types.specs.declared.choice.Defaulted.{Defaulted}
 use Rattle.chosen_types.proofs.Giving.{given_value, given_not_open, gives_fits, gives_rank, gives_ranking, gives_roots}
 use Rattle.chosen_types.proofs.Refilling.{plain, plain_typing}
@@ -106,19 +108,52 @@ place_type s slots pool r k rank p lt (Some n) h = (
   },
 )
 
+types_settled : (s : System) (slots : List Slot) (places : ℕ) (pool : List PoolType) (numbers : List (Option ℕ)) (r : ℕ → ℕ) → Knows slots s.places (IsSettledTyping s) → IsRank slots r →
+    TableSays slots places pool numbers → s.places ≡ places → AreTypes s pool numbers
+types_settled s slots places pool numbers r k rank h count = record {
+  settles = (refill_by slots (λ p. plain) r, k.from _ (plain_typing slots r rank));
+  same_length = h.same_length ∙ sym count;
+  each = λ p lt. place_type s slots pool r k rank p lt (number_at numbers p) (h.each p (subst (λ (n : ℕ). p < n) count lt));
+}
+
 pub types_say : (d : Defaulted) (slots : List Slot) (dropped : List ℕ) (places : ℕ) (pool : List PoolType) (numbers : List (Option ℕ)) → IsSound d →
     ((k : ℕ) → k < length dropped → slice_index dropped k < places) → Gives d.slots.items slots Any unit_type (IsDropped d.roots.items dropped (length dropped)) →
     TableSays slots places pool numbers → TypesSay d dropped places pool numbers
 types_say d slots dropped places pool numbers sound within g h = λ s has same count.
     let r : ℕ → ℕ = rank_at d.ranking.ranks.items in
-    let rank : IsRank slots r = gives_rank g r sound.ranking.is_rank in
-    let k : Knows slots s.places (IsSettledTyping s) = settled_known s d.slots.items slots d.roots.items dropped r has.knows sound.ranking.is_rank sound.roots same
-    (λ i li. subst (λ (n : ℕ). slice_index dropped i < n) (sym count) (within i li)) g in
-    record {
-      settles = (refill_by slots (λ a. plain) r, k.from _ (plain_typing slots r rank));
-      same_length = h.same_length ∙ sym count;
-      each = λ p lt. place_type s slots pool r k rank p lt (number_at numbers p) (h.each p (subst (λ (n : ℕ). p < n) count lt));
-    }
+    types_settled s slots places pool numbers r
+    (settled_known s d.slots.items slots d.roots.items dropped r has.knows sound.ranking.is_rank sound.roots same (λ i li. subst (λ (n : ℕ). slice_index dropped i < n) (sym count) (within i li)) g)
+    (gives_rank g r sound.ranking.is_rank) h count
+
+-- ---- where nothing is chosen
+
+no_default : (of : TypeData) (found : Option TypeData) → found ≡ None → found ≡ Some of → ⊥
+no_default of found none some = cc
+
+none_dropped : (p : ℕ) (dropped : List ℕ) → dropped ≡ [] → Contains dropped p → ⊥
+none_dropped p dropped e c = let n = ap length e in let lt = c.1 in omega (arith, n, lt)
+
+-- all typings are settled
+settled_alone : (s : System) (t : Typing) → ChoosesNothing s → Typings s t → IsSettledTyping s t
+settled_alone s t alone is = record {
+  defaulted = record {
+    typing = is;
+    integers = λ of some p lt all free. absurd (no_default of s.open_integer alone.no_default some);
+  };
+  nothing = λ p has free u hu e. absurd (none_dropped p s.dropped alone.no_drop has);
+}
+
+pub types_alone : (slots : List Slot) (places : ℕ) (pool : List PoolType) (numbers : List (Option ℕ)) (r : ℕ → ℕ) → IsRank slots r → TableSays slots places pool numbers →
+    TypesAsKnown slots places pool numbers
+types_alone slots places pool numbers r rank h = λ s alone k count.
+    let settled : Knows slots s.places (IsSettledTyping s) = record {
+      fits = k.fits;
+      longer = k.longer;
+      opens = k.opens;
+      to = λ t is. k.to t is.defaulted.typing;
+      from = λ t m. settled_alone s t alone (k.from t m);
+    } in
+    types_settled s slots places pool numbers r settled rank h count
 
 -- ---- the choice
 
@@ -163,6 +198,19 @@ within s pool numbers found are parts i d lt =
 pub choice_says : (numbers : List (Option ℕ)) (found : Option (List ℕ)) → PartsSay numbers 0 (length numbers) found → ChoiceSays numbers found
 choice_says numbers None h = λ s pool are. ambiguous s pool numbers h.0 are (let a = h.1.1 in let b = are.same_length in omega (arith, a, b)) h.1.2
 choice_says numbers (Some found) h = λ s pool are. (within s pool numbers found are h, λ whole. typed s pool numbers found are h whole)
+in_pool : (s : System) (pool : List PoolType) (p n : ℕ) (found : Option ℕ) → found ≡ Some n → PlaceSays s pool p found → n < length pool
+in_pool s pool p n found e h = let says : PlaceSays s pool p (Some n) = subst (λ (o : Option ℕ). PlaceSays s pool p o) e h in says.0
+
+all_in_pool : (s : System) (pool : List PoolType) (numbers : List (Option ℕ)) (found : List ℕ) → AreTypes s pool numbers → AreParts numbers 0 (length numbers) found → All (λ n. n < length pool) found
+all_in_pool s pool numbers found are parts = λ k d lt.
+    let inside : k < length numbers = subst (λ (n : ℕ). k < n) parts.same_length lt in
+    let at : number_at numbers k ≡ Some (slice_index found k) = ap (number_at numbers) (let z : k ≡ 0 + k = omega arith in z) ∙ parts.each k inside in
+    subst (λ (n : ℕ). n < length pool) (get_or_default found k 0 d lt)
+    (in_pool s pool k (slice_index found k) (number_at numbers k) at (are.each k (subst (λ (n : ℕ). k < n) are.same_length inside)))
+
+pub choice_says : (numbers : List (Option ℕ)) (found : Option (List ℕ)) → PartsSay numbers 0 (length numbers) found → ChoiceSays numbers found
+choice_says numbers None h = λ s pool are. ambiguous s pool numbers h.0 are (let a = h.1.1 in let b = are.same_length in omega (arith, a, b)) h.1.2
+choice_says numbers (Some found) h = λ s pool are. (all_in_pool s pool numbers found are h, typed s pool numbers found are h)
 
 -- the width that the slot of the root tells
 pub width_says : (d : Defaulted) (p : ℕ) (found : Option Width) → IsSound d → p < length d.slots.items → WidthOf (slot_at d.slots.items (slice_index d.roots.items p)) found → WidthSays d p found

@@ -1,5 +1,6 @@
 -- What is chosen of what slots know of a system.
 use Rattle.std.specs.Prelude.{◌≡◌, ℕ, ◌<◌, false, List, length, map, All, Option, Some, None}
+use Rattle.std.specs.Prelude.{◌≡◌, ℕ, ◌<◌, false, List, [], length, map, All, Option, Some, None}
 use Rattle.pv_base.specs.TypeData.{TypeData, IntType}
 use Rattle.pv_base.specs.declared.types.Width.{Width}
 use Rattle.type_places.specs.Slots.{Typing, Fits, slot_at}
@@ -42,9 +43,13 @@ pub record DefaultsOf (slots : List Slot) (d : Defaulted) : Type 0 where
   pub sound : IsSound d
   pub has : (s : System) → ChoosesU64 s slots → Knows slots s.places (Typings s) → HasDefaults s d
 
+-- there is no typing, of each system of which the slots know the typings
+abbrev pub LeavesNoTyping : List Slot → Type 0
+LeavesNoTyping slots = (s : System) → Knows slots s.places (Typings s) → IsUntypable s
+
 -- of each system of which the slots know the typings
 abbrev pub DefaultsSay : List Slot → Option Defaulted → Type 0
-DefaultsSay slots None = (s : System) → Knows slots s.places (Typings s) → IsUntypable s
+DefaultsSay slots None = LeavesNoTyping slots
 DefaultsSay slots (Some d) = DefaultsOf slots d
 
 -- whether the type of a place is an integer type, and of which width
@@ -71,3 +76,17 @@ TypesSay d dropped places pool numbers = (s : System) → HasDefaults s d → s.
 abbrev pub ChoiceSays : List (Option ℕ) → Option (List ℕ) → Type 0
 ChoiceSays numbers None = (s : System) (pool : List PoolType) → AreTypes s pool numbers → IsAmbiguous s
 ChoiceSays numbers (Some found) = (s : System) (pool : List PoolType) → AreTypes s pool numbers → All (λ n. n < length pool) found × ((HasOpenHead s.reading s.steps → ⊥) → IsTyped s (map (type_at (types pool)) found))
+-- nothing is chosen in the system: no integer type by default, and no value is dropped
+pub record ChoosesNothing (s : System) : Type 0 where
+  pub no_default : s.open_integer ≡ None
+  pub no_drop : s.dropped ≡ []
+
+-- of each such system of which the slots know the typings
+abbrev pub TypesAsKnown : List Slot → ℕ → List PoolType → List (Option ℕ) → Type 0
+TypesAsKnown slots places pool numbers = (s : System) → ChoosesNothing s → Knows slots s.places (Typings s) → s.places ≡ places → AreTypes s pool numbers
+
+-- the numbers are those of the types of all places, each of which stands in the pool, or a place is not forced
+abbrev pub ChoiceSays : List (Option ℕ) → Option (List ℕ) → Type 0
+ChoiceSays numbers None = (s : System) (pool : List PoolType) → AreTypes s pool numbers → IsAmbiguous s
+ChoiceSays numbers (Some found) =
+    (s : System) (pool : List PoolType) → AreTypes s pool numbers → All (λ n. n < length pool) found × ((HasOpenHead s.reading s.steps → ⊥) → IsTyped s (map (type_at (types pool)) found))

@@ -9,7 +9,7 @@ ghost use Rattle.typings.specs.Sorts.{is_integer};
 ghost use Rattle.typings.specs.Settings.{u64_type, unit_type};
 ghost use Rattle.chosen_types.specs.Numbers.{Keeps};
 ghost use Rattle.chosen_types.specs.Given.{WidthOf};
-ghost use Rattle.chosen_types.specs.Choices.{NoOpenInteger, IsSound, DefaultsSay, WidthSays, TypesSay, ChoiceSays};
+ghost use Rattle.chosen_types.specs.Choices.{NoOpenInteger, IsSound, DefaultsSay, WidthSays, TypesSay, LeavesNoTyping, TypesAsKnown, ChoiceSays};
 
 use crate::given::{is_open_integer, with_integers, with_units};
 use crate::numbers::{part_numbers, table};
@@ -131,6 +131,29 @@ pub fn types_of_places<'a>(
     } = defaulted;
     let given = with_units(slots, &roots, dropped, unit);
     table(alloc, pool, &given, &ranking.order, places)
+}
+
+/// For each of the first so many places the number of its type, of systems in which nothing is chosen: no integer type
+/// by default, and no value that is dropped. None for a place whose type is not forced; none at all where there is no
+/// typing. After `NoMemory` some of the types may stand in the pool.
+pub fn types_without_defaults<'a>(
+    alloc: Global,
+    pool: &mut TypePool,
+    slots: &[Slot<'a>],
+    places: usize,
+) -> Result<Option<Vec<Option<usize>>>, NoMemory>
+    requires fits { Fits slots.now }
+    requires places { places ≤ length slots.now }
+    ensures keeps { IfOk result (λ found. Keeps pool.old pool.new) }
+    ensures says { IfOk result (λ found. MatchOption found (LeavesNoTyping slots.now) (λ numbers. TypesAsKnown slots.now places pool.new numbers.items)) }
+{
+    match ranks(alloc, slots)? {
+        None => Ok(None),
+        Some(ranking) => {
+            let numbers = table(alloc, pool, slots, &ranking.order, places)?;
+            Ok(Some(numbers))
+        }
+    }
 }
 
 /// The numbers of the types of all places, where the types of all are forced.
