@@ -1,5 +1,9 @@
-//! Tests of the typing of code.
+//! Tests of the typing of code and of specifications.
 #![tactic(auto)]
 
+#[cfg(test)]
+mod printing;
+#[cfg(test)]
+mod spec_typing_tests;
 #[cfg(test)]
 mod typing_tests;
