@@ -1,6 +1,4 @@
 -- The answers, of what the slots know.
-use Rattle.std.proofs.Common.{◌≡◌, ℕ, zero, suc, ◌<◌, false, List, [], ◌∷◌, ◌+◌, length, map, get_or, refl, sym, ap, subst, ◌∙◌, inl, inr, arith, Option, Some, None}
-use Rattle.std.specs.Prelude.{slice_index, All}
 use Rattle.std.proofs.Common.{◌≡◌, ℕ, zero, suc, ◌<◌, false, List, [], ◌∷◌, ◌+◌, length, map, All, get_or, refl, sym, ap, subst, ◌∙◌, inl, inr, arith, Option, Some, None}
 use Rattle.std.specs.Prelude.{slice_index, Contains}
 use Rattle.std.proofs.lemmas.List.{get_or_default}
@@ -188,16 +186,6 @@ typed s pool numbers found are parts whole = record {
       subst (λ (of : TypeData). HasType s p of) (sym (type_in (type_at (types pool)) found p unit_type (subst (λ (n : ℕ). p < n) (sym parts.same_length) inside))) says.1;
 }
 
-within : (s : System) (pool : List PoolType) (numbers : List (Option ℕ)) (found : List ℕ) → AreTypes s pool numbers → AreParts numbers 0 (length numbers) found → All (λ n. n < length pool) found
-within s pool numbers found are parts i d lt =
-    let inside : i < length numbers = subst (λ (n : ℕ). i < n) parts.same_length lt in
-    let at : number_at numbers i ≡ Some (slice_index found i) = ap (number_at numbers) (let z : i ≡ 0 + i = omega arith in z) ∙ parts.each i inside in
-    let says : PlaceSays s pool i (Some (slice_index found i)) = subst (λ (o : Option ℕ). PlaceSays s pool i o) at (are.each i (subst (λ (n : ℕ). i < n) are.same_length inside)) in
-    subst (λ (n : ℕ). n < length pool) (get_or_default found i 0 d lt) says.0
-
-pub choice_says : (numbers : List (Option ℕ)) (found : Option (List ℕ)) → PartsSay numbers 0 (length numbers) found → ChoiceSays numbers found
-choice_says numbers None h = λ s pool are. ambiguous s pool numbers h.0 are (let a = h.1.1 in let b = are.same_length in omega (arith, a, b)) h.1.2
-choice_says numbers (Some found) h = λ s pool are. (within s pool numbers found are h, λ whole. typed s pool numbers found are h whole)
 in_pool : (s : System) (pool : List PoolType) (p n : ℕ) (found : Option ℕ) → found ≡ Some n → PlaceSays s pool p found → n < length pool
 in_pool s pool p n found e h = let says : PlaceSays s pool p (Some n) = subst (λ (o : Option ℕ). PlaceSays s pool p o) e h in says.0
 

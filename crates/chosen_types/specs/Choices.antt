@@ -1,5 +1,4 @@
 -- What is chosen of what slots know of a system.
-use Rattle.std.specs.Prelude.{◌≡◌, ℕ, ◌<◌, false, List, length, map, All, Option, Some, None}
 use Rattle.std.specs.Prelude.{◌≡◌, ℕ, ◌<◌, false, List, [], length, map, All, Option, Some, None}
 use Rattle.pv_base.specs.TypeData.{TypeData, IntType}
 use Rattle.pv_base.specs.declared.types.Width.{Width}
@@ -72,10 +71,6 @@ pub record AreTypes (s : System) (pool : List PoolType) (numbers : List (Option 
 abbrev pub TypesSay : Defaulted → List ℕ → ℕ → List PoolType → List (Option ℕ) → Type 0
 TypesSay d dropped places pool numbers = (s : System) → HasDefaults s d → s.dropped ≡ dropped → s.places ≡ places → AreTypes s pool numbers
 
--- the numbers are those of the types of all places, each of a type in the pool, or a place is not forced
-abbrev pub ChoiceSays : List (Option ℕ) → Option (List ℕ) → Type 0
-ChoiceSays numbers None = (s : System) (pool : List PoolType) → AreTypes s pool numbers → IsAmbiguous s
-ChoiceSays numbers (Some found) = (s : System) (pool : List PoolType) → AreTypes s pool numbers → All (λ n. n < length pool) found × ((HasOpenHead s.reading s.steps → ⊥) → IsTyped s (map (type_at (types pool)) found))
 -- nothing is chosen in the system: no integer type by default, and no value is dropped
 pub record ChoosesNothing (s : System) : Type 0 where
   pub no_default : s.open_integer ≡ None

@@ -122,7 +122,6 @@ pub typed_by : (s : System) (known : Typable) (pool : List PoolType) (numbers to
 typed_by s known pool numbers told chosen found e same whole h types_are is =
     let says : ChoiceSays numbers (Some chosen) = subst (λ (x : Option (List ℕ)). ChoiceSays numbers x) e (subst (λ (xs : List (Option ℕ)). ChoiceSays xs found) same h) in
     let of = says s pool types_are in (of.1 (no_open_head s known.progress.reading whole is.heads), of.0)
-    (says s pool types_are).1 (no_open_head s known.progress.reading whole is.heads)
 
 -- ---- systems
 
