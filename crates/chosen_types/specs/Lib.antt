@@ -1,4 +1,5 @@
 pub mod Given
 pub mod Roots
 pub mod Numbers
+pub mod Forced
 pub mod Choices

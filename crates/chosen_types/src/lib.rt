@@ -2,6 +2,7 @@
 #![tactic(auto)]
 
 pub mod choice;
+pub mod forced;
 mod given;
 mod numbers;
 mod pooled;

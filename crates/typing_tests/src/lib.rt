@@ -5,5 +5,8 @@
 mod printing;
 #[cfg(test)]
 mod spec_typing_tests;
+mod barred_tests;
+#[cfg(test)]
+mod texts;
 #[cfg(test)]
 mod typing_tests;

@@ -1,0 +1,4 @@
+pub mod Owning
+pub mod Steps
+pub mod Deciding
+pub mod Firsts

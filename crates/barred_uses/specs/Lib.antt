@@ -1,0 +1,4 @@
+pub mod Owners
+pub mod Known
+pub mod Nodes
+pub mod Firsts

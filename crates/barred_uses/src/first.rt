@@ -1,0 +1,61 @@
+//! The first function of a program that uses a field of a struct of another module, or global storage at such a struct.
+
+ghost use Rattle.std.specs.Prelude.{◌≡◌, IfOk, Some, None, if◌then◌else◌};
+ghost use Rattle.std.specs.Bool.{Decides};
+ghost use Rattle.declaration_places.specs.Homes.{function_home};
+ghost use Rattle.declaration_places.specs.Order.{IsFirstOrNone};
+ghost use Rattle.typings.specs.FieldBars.{BarsUse};
+ghost use Rattle.typings.specs.Faults.{BreaksVisibility};
+ghost use Rattle.demand_solving.specs.Plain.{ArePlain};
+
+use crate::function::bars_use;
+use declaration_places::home::Home;
+use declaration_places::order::earlier;
+use demand_solving::plain::{PlainTypes, plain_types};
+use pv_base::memory::NoMemory;
+use pv_base::span::Span;
+use pv_base::types::FunctionId;
+use pv_types::declaration::Function;
+use pv_types::program::Program;
+use std::alloc::Global;
+
+/// Whether a function uses what its module may not use.
+fn function_bars(
+    alloc: Global,
+    types: &PlainTypes,
+    program: &Program,
+    id: &FunctionId,
+    function: &Function,
+) -> Result<bool, NoMemory>
+    requires { ArePlain types.now }
+    ensures { IfOk result (λ bars. Decides bars (BarsUse program.now (function_home id.now) function.now)) }
+{
+    let own = Home::of_function(id).to_id(alloc)?;
+    bars_use(alloc, types, program, &own, function)
+}
+
+/// The place of a declaration where it breaks a rule.
+fn place_if(is_broken: bool, place: Span) -> Option<Span>
+    ensures { result ≡ (if is_broken then Some place else None) }
+{
+    if is_broken { Some(place) } else { None }
+}
+
+/// The place of the first function, in the order of the files, that uses a field of a struct of another module, or an
+/// operation on global storage without type arguments at such a struct or at a type parameter that has key; none
+/// exactly where no function does. What only types tell is judged as far as the nodes of a function, in their order,
+/// have typings. `NoMemory` also where `code_walks` answers it.
+pub fn first_barred(alloc: Global, program: &Program) -> Result<Option<Span>, NoMemory>
+    ensures { IfOk result (IsFirstOrNone (BreaksVisibility program.now)) }
+{
+    let types = plain_types();
+    let mut found = None;
+    for number in 0..program.functions.len() {
+        if let Some((id, function)) = program.functions.entry(number) {
+            let is_barred = function_bars(alloc, &types, program, id, function)?;
+            let next = place_if(is_barred, function.place);
+            found = earlier(found, next);
+        }
+    }
+    Ok(found)
+}

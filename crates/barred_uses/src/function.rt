@@ -1,0 +1,143 @@
+//! Whether a function uses a field of a struct of another module, or global storage at such a struct.
+
+ghost use Rattle.std.specs.Prelude.{◌≡◌, ◌≤◌, ◌-◌, ℕ, suc, true, false, length, min, IfOk};
+ghost use Rattle.std.specs.Bool.{Decides};
+ghost use Rattle.type_places.specs.Slots.{Meets};
+ghost use Rattle.typings.specs.Answers.{IsUntypable};
+ghost use Rattle.typings.specs.CodeSystems.{function_setting, function_system};
+ghost use Rattle.typings.specs.FieldBars.{BarsUse, first_steps};
+ghost use Rattle.typings.specs.Settings.{place_count};
+ghost use Rattle.demand_solving.specs.Plain.{ArePlain};
+ghost use Rattle.barred_uses.specs.Known.{IsKnown, IsLast};
+ghost use Rattle.barred_uses.specs.Nodes.{IsTold, NoneBars, SomeBars};
+
+use crate::known::{Known, known_at, last_count};
+use crate::nodes::{Look, node_bars};
+use chosen_types::forced::forced_types;
+use demand_solving::plain::PlainTypes;
+use pv_base::memory::NoMemory;
+use pv_types::code::Body;
+use pv_types::declaration::Function;
+use pv_types::program::{ModuleId, Program};
+use std::alloc::Global;
+use typed_nodes::first::{first_of_all, first_of_next};
+use typed_program::pool::TypePool;
+
+/// How many nodes are read, where so many steps are: what is declared is the step before the first node.
+fn nodes_read(body: &Body, steps: usize) -> usize
+    ensures { result ≡ min (steps - 1) (length body.now.nodes) }
+{
+    steps.saturating_sub(1).min(body.len())
+}
+
+/// Whether one of the first so many nodes uses what the module may not use.
+fn some_bars<'a>(
+    program: &Program,
+    function: &Function,
+    look: Look<'a>,
+    places: usize,
+    read: usize,
+) -> bool
+    requires told { IsTold look.slots.now look.roots.now look.pool.now look.numbers.now }
+    requires places { places ≡ place_count (function_setting program.now function.now) }
+    requires longer { places ≤ length look.slots.now }
+    requires read { read ≤ length function.now.body.nodes }
+    ensures some { result ≡ true → SomeBars program.now function.now look.entry.own.now look.entry.types.now (Meets look.entry.slots.now) read }
+    ensures no { result ≡ false → NoneBars program.now function.now look.entry.own.now look.entry.types.now (Meets look.entry.slots.now) read }
+{
+    let mut first = first_of_all(function, places);
+    for place in 0..read {
+        if node_bars(look, place, first, function.body.node(place)) {
+            return true;
+        }
+        first = first_of_next(program, function, place, first, places);
+    }
+    false
+}
+
+/// Whether one of the nodes that are read does, of what is known of them.
+fn bars_known<'a>(
+    alloc: Global,
+    program: &Program,
+    own: &ModuleId,
+    function: &Function,
+    known: &Known<'a>,
+) -> Result<bool, NoMemory>
+    requires { (count : ℕ) × IsKnown (first_steps (function_system program.now function.now) (suc count)) known.now }
+    ensures { IfOk result (λ bars. (count : ℕ) → IsKnown (first_steps (function_system program.now function.now) (suc count)) known.now → IsLast (function_system program.now function.now) count → Decides bars (BarsUse program.now own.now function.now)) }
+{
+    let mut pool = TypePool::new(alloc);
+    let slots = known.slots.as_slice();
+    let forced = forced_types(alloc, &mut pool, slots, &known.ranking)?;
+    let look = Look {
+        own,
+        types: function.type_parameters.as_slice(),
+        slots,
+        roots: forced.roots.as_slice(),
+        pool: &pool,
+        numbers: forced.numbers.as_slice(),
+    };
+    let read = nodes_read(&function.body, known.steps);
+    Ok(some_bars(program, function, look, known.places, read))
+}
+
+/// The same, where so many first nodes have typings, and more have none.
+fn bars_last(
+    alloc: Global,
+    types: &PlainTypes,
+    program: &Program,
+    own: &ModuleId,
+    function: &Function,
+    count: usize,
+) -> Result<bool, NoMemory>
+    requires types { ArePlain types.now }
+    requires last { IsLast (function_system program.now function.now) count }
+    ensures { IfOk result (λ bars. Decides bars (BarsUse program.now own.now function.now)) }
+{
+    match known_at(alloc, types, program, function, count)? {
+        None => Ok(false),
+        Some(known) => bars_known(alloc, program, own, function, &known),
+    }
+}
+
+/// The same, where all nodes together have no typing.
+fn bars_untypable(
+    alloc: Global,
+    types: &PlainTypes,
+    program: &Program,
+    own: &ModuleId,
+    function: &Function,
+    all: usize,
+) -> Result<bool, NoMemory>
+    requires types { ArePlain types.now }
+    requires none { IsUntypable (first_steps (function_system program.now function.now) (suc all)) }
+    ensures { IfOk result (λ bars. Decides bars (BarsUse program.now own.now function.now)) }
+{
+    match last_count(alloc, types, program, function, all)? {
+        None => Ok(false),
+        Some(count) => bars_last(alloc, types, program, own, function, count),
+    }
+}
+
+/// Whether a function of this module uses a field of a struct of another module, or an operation on global storage
+/// without type arguments at such a struct or at a type parameter that has key: at the nodes that are read, in their
+/// order, before any without a typing. A function that has a typing is read once; of any other the last first nodes that
+/// have one are looked for, by readings whose number is the logarithm of that of its nodes.
+pub(crate) fn bars_use(
+    alloc: Global,
+    types: &PlainTypes,
+    program: &Program,
+    own: &ModuleId,
+    function: &Function,
+) -> Result<bool, NoMemory>
+    requires { ArePlain types.now }
+    ensures { IfOk result (λ bars. Decides bars (BarsUse program.now own.now function.now)) }
+{
+    let Some(all) = function.body.len().checked_add(1) else {
+        return Err(NoMemory);
+    };
+    match known_at(alloc, types, program, function, all)? {
+        None => bars_untypable(alloc, types, program, own, function, all),
+        Some(known) => bars_known(alloc, program, own, function, &known),
+    }
+}

@@ -1,0 +1,153 @@
+//! What is known of the types of places once the first so many nodes of a function are read.
+
+ghost use Rattle.std.specs.Prelude.{◌≡◌, suc, IfOk, MatchOption};
+ghost use Rattle.std.specs.Bool.{Decides};
+ghost use Rattle.typings.specs.Answers.{System, HasTyping, IsUntypable};
+ghost use Rattle.typings.specs.CodeSystems.{function_system};
+ghost use Rattle.typings.specs.FieldBars.{first_steps};
+ghost use Rattle.type_places.specs.Slots.{Fits};
+ghost use Rattle.demand_solving.specs.Plain.{ArePlain};
+ghost use Rattle.barred_uses.specs.Known.{IsReadOf, IsWalkOf, IsLast, HasNone, KnownSays};
+
+use code_walks::systems::{Walk, read_first_nodes};
+use demand_solving::plain::PlainTypes;
+use demand_solving::walk::Reading;
+use pv_base::memory::NoMemory;
+use pv_types::declaration::Function;
+use pv_types::program::Program;
+use std::alloc::Global;
+use type_places::slots::Slot;
+use unification::ranks::{Ranking, ranks};
+
+/// What is known of code that has typings: how many places it has, what is known of their types, an order in which each
+/// place stands behind those to which it leads, and how many steps are read.
+#[derive(Drop)]
+pub(crate) struct Known<'a> {
+    pub places: usize,
+    pub slots: Vec<Slot<'a>>,
+    pub ranking: Ranking,
+    pub steps: usize,
+}
+
+/// The same of slots that know the typings that there are; none where there are none.
+fn from_slots<'a>(
+    alloc: Global,
+    places: usize,
+    slots: Vec<Slot<'a>>,
+    steps: usize,
+) -> Result<Option<Known<'a>>, NoMemory>
+    requires { Fits slots.items }
+    ensures { IfOk result (λ found. (s : System) → IsReadOf s places slots.entry.items steps → KnownSays s found) }
+{
+    match ranks(alloc, &slots)? {
+        None => Ok(None),
+        Some(ranking) => Ok(Some(Known {
+            places,
+            slots,
+            ranking,
+            steps,
+        })),
+    }
+}
+
+fn from_walk<'a>(alloc: Global, walk: Walk<'a>) -> Result<Option<Known<'a>>, NoMemory>
+    requires { (s : System) × IsWalkOf s walk }
+    ensures { IfOk result (λ found. (s : System) → IsWalkOf s walk.entry → KnownSays s found) }
+{
+    let Walk {
+        places,
+        slots,
+        progress,
+    } = walk;
+    match progress.reading {
+        Reading::Whole => from_slots(alloc, places, slots, progress.count),
+        Reading::Stopped => from_slots(alloc, places, slots, progress.count),
+        Reading::Clash => Ok(None),
+    }
+}
+
+/// What is known once what a function declares and its first so many nodes are read; none where they have no typing.
+pub(crate) fn known_at<'a>(
+    alloc: Global,
+    types: &'a PlainTypes,
+    program: &'a Program,
+    function: &'a Function,
+    count: usize,
+) -> Result<Option<Known<'a>>, NoMemory>
+    requires { ArePlain types.now }
+    ensures { IfOk result (KnownSays (first_steps (function_system program.now function.now) (suc count))) }
+{
+    let walk = read_first_nodes(alloc, types, program, function, count)?;
+    from_walk(alloc, walk)
+}
+
+/// Whether there are typings of which something is known.
+fn is_known<'a>(found: &Option<Known<'a>>) -> bool
+    ensures { (s : System) → KnownSays s found.now → Decides result (HasTyping s) }
+{
+    match found {
+        None => false,
+        Some(_) => true,
+    }
+}
+
+/// Whether the first so many nodes have typings.
+fn has_typing(
+    alloc: Global,
+    types: &PlainTypes,
+    program: &Program,
+    function: &Function,
+    count: usize,
+) -> Result<bool, NoMemory>
+    requires { ArePlain types.now }
+    ensures { IfOk result (λ has. Decides has (HasTyping (first_steps (function_system program.now function.now) (suc count)))) }
+{
+    let found = known_at(alloc, types, program, function, count)?;
+    Ok(is_known(&found))
+}
+
+/// The greatest number of nodes such that the first so many have typings, where the first `all` have none. More nodes
+/// have no more typings, so that half of what is left is tried each time.
+fn last_below(
+    alloc: Global,
+    types: &PlainTypes,
+    program: &Program,
+    function: &Function,
+    all: usize,
+) -> Result<usize, NoMemory>
+    requires types { ArePlain types.now }
+    requires some { HasTyping (first_steps (function_system program.now function.now) 1) }
+    requires none { IsUntypable (first_steps (function_system program.now function.now) (suc all)) }
+    ensures { IfOk result (IsLast (function_system program.now function.now)) }
+{
+    let mut low = 0;
+    let mut high = all;
+    while high - low > 1 {
+        let middle = low + (high - low) / 2;
+        if has_typing(alloc, types, program, function, middle)? {
+            low = middle;
+        } else {
+            high = middle;
+        }
+    }
+    Ok(low)
+}
+
+/// The same; none where what is declared has no typing.
+pub(crate) fn last_count(
+    alloc: Global,
+    types: &PlainTypes,
+    program: &Program,
+    function: &Function,
+    all: usize,
+) -> Result<Option<usize>, NoMemory>
+    requires types { ArePlain types.now }
+    requires none { IsUntypable (first_steps (function_system program.now function.now) (suc all)) }
+    ensures { IfOk result (λ found. MatchOption found (HasNone (function_system program.now function.now)) (IsLast (function_system program.now function.now))) }
+{
+    if has_typing(alloc, types, program, function, 0)? {
+        Ok(Some(last_below(alloc, types, program, function, all)?))
+    } else {
+        Ok(None)
+    }
+}
