@@ -41,10 +41,10 @@ fn place_if(is_broken: bool, place: Span) -> Option<Span>
     if is_broken { Some(place) } else { None }
 }
 
-/// The place of the first function, in the order of the files, that uses a field of a struct of another module, or an
-/// operation on global storage without type arguments at such a struct or at a type parameter that has key; none
-/// exactly where no function does. What only types tell is judged as far as the nodes of a function, in their order,
-/// have typings. `NoMemory` also where `code_walks` answers it.
+/// The place of the first function, in the order of the files, that uses a field of a struct of another module, or
+/// global storage at such a struct or at a type parameter that has key, whether the type is written or not; none
+/// exactly where no function does. The nodes of a function are judged in their order, as far as they have typings.
+/// `NoMemory` also where `code_walks` answers it.
 pub fn first_barred(alloc: Global, program: &Program) -> Result<Option<Span>, NoMemory>
     ensures { IfOk result (IsFirstOrNone (BreaksVisibility program.now)) }
 {

@@ -12,7 +12,7 @@ ghost use Rattle.barred_uses.specs.Known.{IsKnown, IsLast};
 ghost use Rattle.barred_uses.specs.Nodes.{IsTold, NoneBars, SomeBars};
 
 use crate::known::{Known, known_at, last_count};
-use crate::nodes::{Look, node_bars};
+use crate::nodes::{PlaceFacts, node_bars};
 use chosen_types::forced::forced_types;
 use demand_solving::plain::PlainTypes;
 use pv_base::memory::NoMemory;
@@ -34,20 +34,20 @@ fn nodes_read(body: &Body, steps: usize) -> usize
 fn some_bars<'a>(
     program: &Program,
     function: &Function,
-    look: Look<'a>,
+    facts: PlaceFacts<'a>,
     places: usize,
     read: usize,
 ) -> bool
-    requires told { IsTold look.slots.now look.roots.now look.pool.now look.numbers.now }
+    requires told { IsTold facts.slots.now facts.roots.now facts.pool.now facts.numbers.now }
     requires places { places ≡ place_count (function_setting program.now function.now) }
-    requires longer { places ≤ length look.slots.now }
+    requires longer { places ≤ length facts.slots.now }
     requires read { read ≤ length function.now.body.nodes }
-    ensures some { result ≡ true → SomeBars program.now function.now look.entry.own.now look.entry.types.now (Meets look.entry.slots.now) read }
-    ensures no { result ≡ false → NoneBars program.now function.now look.entry.own.now look.entry.types.now (Meets look.entry.slots.now) read }
+    ensures some { result ≡ true → SomeBars program.now function.now facts.entry.own.now facts.entry.types.now (Meets facts.entry.slots.now) read }
+    ensures no { result ≡ false → NoneBars program.now function.now facts.entry.own.now facts.entry.types.now (Meets facts.entry.slots.now) read }
 {
     let mut first = first_of_all(function, places);
     for place in 0..read {
-        if node_bars(look, place, first, function.body.node(place)) {
+        if node_bars(facts, place, first, function.body.node(place)) {
             return true;
         }
         first = first_of_next(program, function, place, first, places);
@@ -69,7 +69,7 @@ fn bars_known<'a>(
     let mut pool = TypePool::new(alloc);
     let slots = known.slots.as_slice();
     let forced = forced_types(alloc, &mut pool, slots, &known.ranking)?;
-    let look = Look {
+    let facts = PlaceFacts {
         own,
         types: function.type_parameters.as_slice(),
         slots,
@@ -78,7 +78,7 @@ fn bars_known<'a>(
         numbers: forced.numbers.as_slice(),
     };
     let read = nodes_read(&function.body, known.steps);
-    Ok(some_bars(program, function, look, known.places, read))
+    Ok(some_bars(program, function, facts, known.places, read))
 }
 
 /// The same, where so many first nodes have typings, and more have none.
@@ -119,10 +119,10 @@ fn bars_untypable(
     }
 }
 
-/// Whether a function of this module uses a field of a struct of another module, or an operation on global storage
-/// without type arguments at such a struct or at a type parameter that has key: at the nodes that are read, in their
-/// order, before any without a typing. A function that has a typing is read once; of any other the last first nodes that
-/// have one are looked for, by readings whose number is the logarithm of that of its nodes.
+/// Whether a function of this module uses a field of a struct of another module, or global storage at such a struct or
+/// at a type parameter that has key: at the nodes that are read, in their order, before any without a typing. A function
+/// that has a typing is read once; of any other it is looked for how many of its first nodes have one, by readings whose
+/// number is the logarithm of that of its nodes. No memory holds so many nodes that one more can't be counted.
 pub(crate) fn bars_use(
     alloc: Global,
     types: &PlainTypes,

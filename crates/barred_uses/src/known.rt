@@ -50,6 +50,7 @@ fn from_slots<'a>(
     }
 }
 
+/// The same of a walk: where it ended at a clash there are none.
 fn from_walk<'a>(alloc: Global, walk: Walk<'a>) -> Result<Option<Known<'a>>, NoMemory>
     requires { (s : System) × IsWalkOf s walk }
     ensures { IfOk result (λ found. (s : System) → IsWalkOf s walk.entry → KnownSays s found) }

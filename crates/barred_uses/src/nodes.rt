@@ -23,7 +23,7 @@ use typed_program::pool::TypePool;
 /// The module of a function, its type parameters, and what is known of the types of its places: for each the one that
 /// stands for it, and the number of its type in the pool, where all typings give it one.
 #[derive(Clone, Copy)]
-pub(crate) struct Look<'a> {
+pub(crate) struct PlaceFacts<'a> {
     pub own: &'a ModuleId,
     pub types: &'a [TypeParameter],
     pub slots: &'a [Slot<'a>],
@@ -40,13 +40,13 @@ fn is_of_module(own: &ModuleId, owner: &StructId) -> bool
 }
 
 /// Whether what stands at a place is, or points at, a struct of another module.
-fn field_bars<'a>(look: Look<'a>, base: usize) -> bool
-    requires told { IsTold look.slots.now look.roots.now look.pool.now look.numbers.now }
-    requires within { base < length look.slots.now }
-    ensures { Decides result (FieldBars look.entry.own.now (Meets look.entry.slots.now) base) }
+fn field_bars<'a>(facts: PlaceFacts<'a>, base: usize) -> bool
+    requires told { IsTold facts.slots.now facts.roots.now facts.pool.now facts.numbers.now }
+    requires within { base < length facts.slots.now }
+    ensures { Decides result (FieldBars facts.entry.own.now (Meets facts.entry.slots.now) base) }
 {
-    match owner_at(look.slots, look.roots, base) {
-        Some(owner) => !is_of_module(look.own, owner),
+    match owner_at(facts.slots, facts.roots, base) {
+        Some(owner) => !is_of_module(facts.own, owner),
         None => false,
     }
 }
@@ -60,44 +60,45 @@ fn number_of(numbers: &[Option<usize>], place: usize) -> Option<usize>
 }
 
 /// Whether the type of a place is one at which global storage may not be used.
-fn storage_bars<'a>(look: Look<'a>, first: usize) -> bool
-    requires told { IsTold look.slots.now look.roots.now look.pool.now look.numbers.now }
-    requires within { first < length look.slots.now }
-    ensures { Decides result (StorageBars look.entry.own.now look.entry.types.now (Meets look.entry.slots.now) first) }
+fn storage_bars<'a>(facts: PlaceFacts<'a>, first: usize) -> bool
+    requires told { IsTold facts.slots.now facts.roots.now facts.pool.now facts.numbers.now }
+    requires within { first < length facts.slots.now }
+    ensures { Decides result (StorageBars facts.entry.own.now facts.entry.types.now (Meets facts.entry.slots.now) first) }
 {
-    match number_of(look.numbers, first) {
-        Some(number) => !is_visible(look.own, look.types, look.pool.entry(number)),
+    match number_of(facts.numbers, first) {
+        Some(number) => !is_visible(facts.own, facts.types, facts.pool.entry(number)),
         None => false,
     }
 }
 
-fn call_bars<'a>(look: Look<'a>, first: usize, callee: &Callee) -> bool
-    requires told { IsTold look.slots.now look.roots.now look.pool.now look.numbers.now }
-    requires within { IsStorageCall callee.now → first < length look.slots.now }
-    ensures { Decides result (CallBars look.entry.own.now look.entry.types.now (Meets look.entry.slots.now) first callee.now) }
+/// Whether a call, whose type arguments stand from the place `first` on, does.
+fn call_bars<'a>(facts: PlaceFacts<'a>, first: usize, callee: &Callee) -> bool
+    requires told { IsTold facts.slots.now facts.roots.now facts.pool.now facts.numbers.now }
+    requires within { IsStorageCall callee.now → first < length facts.slots.now }
+    ensures { Decides result (CallBars facts.entry.own.now facts.entry.types.now (Meets facts.entry.slots.now) first callee.now) }
 {
     match callee {
-        Callee::Storage(_) => storage_bars(look, first),
+        Callee::Storage(_) => storage_bars(facts, first),
         _ => false,
     }
 }
 
 /// Whether a node, whose type arguments stand from the place `first` on, uses what the module may not use.
 pub(crate) fn node_bars<'a>(
-    look: Look<'a>,
+    facts: PlaceFacts<'a>,
     place: usize,
     first: usize,
     node: &Node<CodeLeaf, CodeUnary, CodeBinary, CodeMany>,
 ) -> bool
-    requires told { IsTold look.slots.now look.roots.now look.pool.now look.numbers.now }
-    requires place { place < length look.slots.now }
+    requires told { IsTold facts.slots.now facts.roots.now facts.pool.now facts.numbers.now }
+    requires place { place < length facts.slots.now }
     requires below { IsBelow place node.now }
-    requires within { IsStorageNode node.now → first < length look.slots.now }
-    ensures { Decides result (NodeBars look.entry.own.now look.entry.types.now (Meets look.entry.slots.now) first node.now) }
+    requires within { IsStorageNode node.now → first < length facts.slots.now }
+    ensures { Decides result (NodeBars facts.entry.own.now facts.entry.types.now (Meets facts.entry.slots.now) first node.now) }
 {
     match node {
-        Node::Unary(CodeUnary::Field(_), base) => field_bars(look, *base),
-        Node::Many(CodeMany::Call(call), _) => call_bars(look, first, &call.get().callee),
+        Node::Unary(CodeUnary::Field(_), base) => field_bars(facts, *base),
+        Node::Many(CodeMany::Call(call), _) => call_bars(facts, first, &call.get().callee),
         _ => false,
     }
 }

@@ -212,6 +212,10 @@ fn storage(rt: HostRuntime) -> Result<(), Fail> {
             "module 0x1::m { fun f(a: address): bool { exists(a) } }",
             "",
         ),
+        (
+            "module 0x1::m { use 0x1::n; fun f(a: address): bool { exists<n::S>(a) } }",
+            "f",
+        ),
     ] {
         check(&rt, alloc, text, wanted);
     }

@@ -15,7 +15,7 @@ node_bars-requires-clause-place c =
     omega (arith, c.loop-place-test.true, c.requires.read, c.requires.longer, c.requires.places, inside)
 
 pub node_bars-requires-clause-within : goal.node_bars-requires-clause-within
-node_bars-requires-clause-within c = λ is. storage_within c.args.program.now c.args.function.now c.loop-place.place c.loop-place.first c.args.places (length c.args.look.slots.now) c.node.result.now
+node_bars-requires-clause-within c = λ is. storage_within c.args.program.now c.args.function.now c.loop-place.place c.loop-place.first c.args.places (length c.args.facts.slots.now) c.node.result.now
     c.node.ensures.node c.loop-place.invariant.first c.requires.places c.requires.longer is
 
 pub first_of_next-first-requires-clause-count : goal.first_of_next-first-requires-clause-count
@@ -24,7 +24,7 @@ first_of_next-first-requires-clause-count c = c.requires.places
 pub loop-place-init : goal.loop-place-init
 loop-place-init c = record {
   first = c.first_of_all-first.ensures c.args.program.now;
-  none = none_yet c.args.program.now c.args.function.now c.args.look.own.now c.args.look.types.now (Meets c.args.look.slots.now);
+  none = none_yet c.args.program.now c.args.function.now c.args.facts.own.now c.args.facts.types.now (Meets c.args.facts.slots.now);
 }
 
 pub loop-place-preserved : goal.loop-place-preserved
@@ -32,18 +32,18 @@ loop-place-preserved c =
     let at = first_argument (function_setting c.args.program.now c.args.function.now) c.loop-place.place in
     record {
       first = c.first_of_next-first.ensures.next;
-      none = none_more c.args.program.now c.args.function.now c.args.look.own.now c.args.look.types.now (Meets c.args.look.slots.now) c.loop-place.place c.node.result.now c.node.ensures.node
-          (is_clean (NodeBars c.args.look.own.now c.args.look.types.now (Meets c.args.look.slots.now) at c.node.result.now) c.node_bars.result c.if-node_bars.false
-          (node_at c.args.look.own.now c.args.look.types.now (Meets c.args.look.slots.now) c.loop-place.first at c.node.result.now c.node_bars.result c.loop-place.invariant.first c.node_bars.ensures))
+      none = none_more c.args.program.now c.args.function.now c.args.facts.own.now c.args.facts.types.now (Meets c.args.facts.slots.now) c.loop-place.place c.node.result.now c.node.ensures.node
+          (is_clean (NodeBars c.args.facts.own.now c.args.facts.types.now (Meets c.args.facts.slots.now) at c.node.result.now) c.node_bars.result c.if-node_bars.false
+          (node_at c.args.facts.own.now c.args.facts.types.now (Meets c.args.facts.slots.now) c.loop-place.first at c.node.result.now c.node_bars.result c.loop-place.invariant.first c.node_bars.ensures))
           c.loop-place.invariant.none;
     }
 
 pub returns-then-node_bars-clause-some : goal.returns-then-node_bars-clause-some
 returns-then-node_bars-clause-some c e =
     let at = first_argument (function_setting c.args.program.now c.args.function.now) c.loop-place.place in
-    some_at c.args.program.now c.args.function.now c.args.look.own.now c.args.look.types.now (Meets c.args.look.slots.now) c.loop-place.place c.args.read c.node.result.now c.loop-place-test.true c.node.ensures.node c.node.ensures.below
-    (is_bad (NodeBars c.args.look.own.now c.args.look.types.now (Meets c.args.look.slots.now) at c.node.result.now) c.node_bars.result c.if-node_bars.true
-    (node_at c.args.look.own.now c.args.look.types.now (Meets c.args.look.slots.now) c.loop-place.first at c.node.result.now c.node_bars.result c.loop-place.invariant.first c.node_bars.ensures))
+    some_at c.args.program.now c.args.function.now c.args.facts.own.now c.args.facts.types.now (Meets c.args.facts.slots.now) c.loop-place.place c.args.read c.node.result.now c.loop-place-test.true c.node.ensures.node c.node.ensures.below
+    (is_bad (NodeBars c.args.facts.own.now c.args.facts.types.now (Meets c.args.facts.slots.now) at c.node.result.now) c.node_bars.result c.if-node_bars.true
+    (node_at c.args.facts.own.now c.args.facts.types.now (Meets c.args.facts.slots.now) c.loop-place.first at c.node.result.now c.node_bars.result c.loop-place.invariant.first c.node_bars.ensures))
 
 pub returns-clause-no : goal.returns-clause-no
-returns-clause-no c e = none_all c.args.program.now c.args.function.now c.args.look.own.now c.args.look.types.now (Meets c.args.look.slots.now) c.loop-place.place c.args.read (omega arith) c.loop-place.invariant.none
+returns-clause-no c e = none_all c.args.program.now c.args.function.now c.args.facts.own.now c.args.facts.types.now (Meets c.args.facts.slots.now) c.loop-place.place c.args.read (omega arith) c.loop-place.invariant.none

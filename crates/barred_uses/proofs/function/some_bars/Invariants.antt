@@ -8,5 +8,5 @@ use Rattle.barred_uses.proofs.function.some_bars.Given as goal
 abbrev pub invariant-loop-place : goal.invariant-loop-place
 invariant-loop-place l = record {
   first : l.first ≡ first_argument (function_setting l.program l.function) l.place;
-  none : NoneBars l.program l.function l.look.own.now l.look.types.now (Meets l.look.slots.now) l.place;
+  none : NoneBars l.program l.function l.facts.own.now l.facts.types.now (Meets l.facts.slots.now) l.place;
 }

@@ -6,9 +6,9 @@ use Rattle.barred_uses.proofs.Deciding.{an_owner, no_owner}
 use Rattle.barred_uses.proofs.nodes.field_bars.Goals as goal
 
 pub returns-in-Some : goal.returns-in-Some
-returns-in-Some c = an_owner c.args.look.slots.now c.args.look.own.now c.args.base c.in-Some.owner.now c.is_of_module.result c.requires.told.ranked
-    (subst (λ (o : Option StructId). OwnerSays c.args.look.slots.now c.args.base o) (ap option_copied c.in-Some.is) c.owner_at.ensures) c.is_of_module.ensures
+returns-in-Some c = an_owner c.args.facts.slots.now c.args.facts.own.now c.args.base c.in-Some.owner.now c.is_of_module.result c.requires.told.ranked
+    (subst (λ (o : Option StructId). OwnerSays c.args.facts.slots.now c.args.base o) (ap option_copied c.in-Some.is) c.owner_at.ensures) c.is_of_module.ensures
 
 pub returns-in-None : goal.returns-in-None
-returns-in-None c = no_owner c.args.look.slots.now c.args.look.own.now c.args.base
-    (subst (λ (o : Option StructId). OwnerSays c.args.look.slots.now c.args.base o) (ap option_copied c.in-None.is) c.owner_at.ensures)
+returns-in-None c = no_owner c.args.facts.slots.now c.args.facts.own.now c.args.base
+    (subst (λ (o : Option StructId). OwnerSays c.args.facts.slots.now c.args.base o) (ap option_copied c.in-None.is) c.owner_at.ensures)
