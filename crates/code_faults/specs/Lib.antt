@@ -1,0 +1,4 @@
+pub mod Split
+pub mod Functions
+pub mod Faults
+pub mod Typed

@@ -1,0 +1,5 @@
+//! Tests of the first places of faults.
+#![tactic(auto)]
+
+#[cfg(test)]
+mod fault_tests;
