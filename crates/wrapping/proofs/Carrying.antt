@@ -16,7 +16,7 @@ use Rattle.pv_types.specs.declared.program.Program.{Program}
 use Rattle.declaration_places.specs.Same.{same_function}
 use Rattle.visibility.specs.Visible.{CodeNode}
 use Rattle.typings.specs.Settings.{first_argument, node_arity, arity_of, callee_signature, function_signature}
-use Rattle.typings.specs.Answers.{HasType, NodeIsRead}
+use Rattle.typings.specs.Answers.{System, HasType, HasTyping, NodeIsRead}
 use Rattle.typings.specs.CodeSystems.{function_setting, function_system}
 use Rattle.typings.specs.Calls.{Mentions, Parameter, is_wrapped, CarriesIn, Carries, Once, Then, IsWrapping}
 use Rattle.typed_program.specs.Pools.{type_at, type_of, types}
@@ -48,6 +48,10 @@ or_false false = refl
 
 same_some : {A : Type 0} (a b : A) → Some a ≡ Some b → a ≡ b
 same_some a b h = cc
+
+-- there are typings where a place has a type
+has_typing : (s : System) (p : ℕ) (of : TypeData) → HasType s p of → HasTyping s
+has_typing s p of h = (h.typing, h.settled.defaulted.typing)
 
 module _ (program : Program) (rows : List Row) (told : List PlaceTypes) (count : ℕ) (are : AreRows program told rows (length told) count) (known : AreTold program told)
     (below : (k : ℕ) (p : PlaceTypes) → slice_get told k ≡ Some p → PartsAreBelow p.pool.now) where
@@ -229,7 +233,8 @@ module _ (program : Program) (rows : List Row) (told : List PlaceTypes) (count :
       parts = t.parts;
       stands = t.stands;
       callee_is = t.callee_is ∙ ap plain_function callee;
-      is_read = ((told_of s).read t.node (slice_get_within s.function.body.nodes t.node _ t.stands)).0 t.read;
+      is_read =
+          ((told_of s).read (has_typing (function_system program s.function) _ _ ((told_of s).has _ n t.type_known)) t.node (slice_get_within s.function.body.nodes t.node _ t.stands)).0 t.read;
     };
     argument = type_at (types s.types.pool.now) n;
     given = record {
@@ -411,7 +416,7 @@ module _ (program : Program) (rows : List Row) (told : List PlaceTypes) (count :
       let long = (told_of s).places in
       let m = known_at s p c.argument (omega (arith, arity, parameters, inside, places, long)) typed in
       let read : c.node < s.types.read =
-      ((told_of s).read c.node (slice_get_within s.function.body.nodes c.node _ stands)).1 (subst (λ (x : Function). NodeIsRead (function_system program x) c.node) f c.calls.is_read) in
+      ((told_of s).read (has_typing (function_system program s.function) p c.argument typed) c.node (slice_get_within s.function.body.nodes c.node _ stands)).1 (subst (λ (x : Function). NodeIsRead (function_system program x) c.node) f c.calls.is_read) in
       let entry = slice_get_cases s.types.pool.now m.0 in
       let own : number program s.id ≡ Some s.at = subst (λ (x : FunctionId). number program x ≡ Some s.at) from.named from.number_is in
       let edge : IsEdge E (type_node s.row m.0) (parameter_node to.0.standing.row r.number) false =

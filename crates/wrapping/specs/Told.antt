@@ -5,18 +5,19 @@ use Rattle.pv_base.specs.declared.types.FunctionId.{FunctionId}
 use Rattle.pv_types.specs.declared.declaration.Function.{Function}
 use Rattle.pv_types.specs.declared.program.Program.{Program}
 use Rattle.typings.specs.Settings.{place_count}
-use Rattle.typings.specs.Answers.{HasType, NodeIsRead}
+use Rattle.typings.specs.Answers.{HasType, HasTyping, NodeIsRead}
 use Rattle.typings.specs.CodeSystems.{function_setting, function_system}
 use Rattle.typed_program.specs.Pools.{type_at, types}
 use Rattle.wrapping.specs.declared.told.PlaceTypes.{PlaceTypes}
 
--- each place has the type whose number is told, and none where no number is; and so many nodes, the first ones, are read
+-- each place has the type whose number is told, and none where no number is; and where there are typings, so many nodes, the
+-- first ones, are read
 pub record IsTold (program : Program) (f : Function) (p : PlaceTypes) : Type 0 where
   pub places : length p.types.now ≡ place_count (function_setting program f)
   pub within : (q n : ℕ) → slice_get p.types.now q ≡ Some (Some n) → n < length p.pool.now
   pub has : (q n : ℕ) → slice_get p.types.now q ≡ Some (Some n) → HasType (function_system program f) q (type_at (types p.pool.now) n)
   pub lacks : (q : ℕ) (of : TypeData) → slice_get p.types.now q ≡ Some None → HasType (function_system program f) q of → ⊥
-  pub read : (n : ℕ) → n < length f.body.nodes → (n < p.read) ↔ NodeIsRead (function_system program f) n
+  pub read : HasTyping (function_system program f) → (n : ℕ) → n < length f.body.nodes → (n < p.read) ↔ NodeIsRead (function_system program f) n
 
 -- of each function of the program, in their order
 pub record AreTold (program : Program) (told : List PlaceTypes) : Type 0 where
