@@ -1,6 +1,6 @@
 //! Modules that use a field of a struct, or global storage, and the first function that may not.
 
-use crate::texts::source_of;
+use crate::printing::source_of;
 use barred_uses::first::first_barred;
 use pv_base::span::Span;
 use pv_types::program::Program;

@@ -2,11 +2,10 @@
 #![tactic(auto)]
 
 #[cfg(test)]
+mod barred_tests;
+#[cfg(test)]
 mod printing;
 #[cfg(test)]
 mod spec_typing_tests;
-mod barred_tests;
-#[cfg(test)]
-mod texts;
 #[cfg(test)]
 mod typing_tests;

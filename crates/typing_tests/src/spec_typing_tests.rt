@@ -249,7 +249,7 @@ fn push_owned(rt: &impl Abort, alloc: Global, line: &mut String, program: &Progr
 /// A line of what is told of each spec function and each clause of a text.
 fn line_of(rt: &impl Abort, alloc: Global, text: &str) -> String {
     let mut line = String::new(alloc);
-    let file = source_of(rt, alloc, text);
+    let file = source_of(rt, alloc, 0, text);
     match resolve(alloc, &[file]) {
         Ok(program) => {
             push_shared(rt, alloc, &mut line, &program);

@@ -1,7 +1,6 @@
 //! Modules in one line, and the types that their functions' locals and constants get.
 
 use crate::printing::{push, push_type, source_of};
-use crate::texts::source_of;
 use code_typings::plain::code_types;
 use code_typings::runs::constant_run_fails;
 use code_typings::typing::{CodeTyping, constant_typing, function_typing};
@@ -12,87 +11,6 @@ use std::alloc::Global;
 use std::process::Abort;
 use std::test::Fail;
 use typed_program::pool::TypePool;
-use typed_program::pool::{PlainType, PoolType, TypePool};
-use typings::sort::Wrap;
-
-/// A piece of what is printed of a type: a text, or a type by its number.
-#[derive(Clone, Copy)]
-enum Piece {
-    Text(&'static str),
-    Type(usize),
-}
-
-fn push(rt: &impl Abort, line: &mut String, piece: &str) {
-    line.push_str(piece).expect(rt, "memory")
-}
-
-fn plain_word(of: PlainType) -> &'static str {
-    match of {
-        PlainType::Bool => "bool",
-        PlainType::Int(pv_base::types::Width::U8) => "u8",
-        PlainType::Int(pv_base::types::Width::U16) => "u16",
-        PlainType::Int(pv_base::types::Width::U32) => "u32",
-        PlainType::Int(pv_base::types::Width::U64) => "u64",
-        PlainType::Int(pv_base::types::Width::U128) => "u128",
-        PlainType::Num => "num",
-        PlainType::Address => "address",
-        PlainType::Signer => "signer",
-        PlainType::Param(0) => "T0",
-        PlainType::Param(_) => "T",
-    }
-}
-
-/// Puts the pieces of a list of types onto the stack, the first one on top.
-fn push_parts(rt: &impl Abort, parts: &[usize], stack: &mut Vec<Piece>) {
-    for part in parts.iter().rev() {
-        stack.push(Piece::Text(",")).expect(rt, "memory");
-        stack.push(Piece::Type(*part)).expect(rt, "memory");
-    }
-}
-
-/// Puts the pieces of a type onto the stack, the first one on top.
-fn push_pieces(rt: &impl Abort, pool: &TypePool, number: usize, stack: &mut Vec<Piece>) {
-    if number >= pool.len() {
-        return;
-    }
-    match pool.entry(number) {
-        PoolType::Plain(of) => stack
-            .push(Piece::Text(plain_word(*of)))
-            .expect(rt, "memory"),
-        PoolType::Made(wrap, part) => {
-            let word = match wrap {
-                Wrap::Vector => "vector ",
-                Wrap::Shared => "&",
-                Wrap::Mutable => "&mut ",
-            };
-            stack.push(Piece::Type(*part)).expect(rt, "memory");
-            stack.push(Piece::Text(word)).expect(rt, "memory");
-        }
-        PoolType::Struct(_, parts) => {
-            stack.push(Piece::Text(">")).expect(rt, "memory");
-            push_parts(rt, parts.as_slice(), stack);
-            stack.push(Piece::Text("struct<")).expect(rt, "memory");
-        }
-        PoolType::Tuple(parts) => {
-            stack.push(Piece::Text(")")).expect(rt, "memory");
-            push_parts(rt, parts.as_slice(), stack);
-            stack.push(Piece::Text("(")).expect(rt, "memory");
-        }
-    }
-}
-
-/// A type that is printed in no more than a hundred pieces.
-fn push_type(rt: &impl Abort, alloc: Global, line: &mut String, pool: &TypePool, number: usize) {
-    let mut stack = Vec::new(alloc);
-    stack.push(Piece::Type(number)).expect(rt, "memory");
-    for _ in 0..100 {
-        match stack.pop() {
-            Some(Piece::Text(text)) => push(rt, line, text),
-            Some(Piece::Type(number)) => push_pieces(rt, pool, number, &mut stack),
-            None => return,
-        }
-    }
-}
 
 fn push_typing(
     rt: &impl Abort,
