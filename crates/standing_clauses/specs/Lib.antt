@@ -1,0 +1,4 @@
+pub mod Instances
+pub mod Judged
+pub mod Lets
+pub mod Reached

@@ -1,0 +1,161 @@
+//! What is told of a clause where it stands.
+
+ghost use Rattle.std.specs.Prelude.{◌≡◌, ◌↔◌, List, IsTrue, IfOk};
+ghost use Rattle.pv_base.specs.TypeData.{TypesData};
+ghost use Rattle.pv_base.specs.declared.span.Span.{Span as SpanData};
+ghost use Rattle.typings.specs.Answers.{System, IsUntypable, IsAmbiguous};
+ghost use Rattle.typings.specs.Clauses as C;
+ghost use Rattle.pv_types.specs.declared.program.Program.{Program as ProgramData};
+ghost use Rattle.std.specs.List.{list_all};
+ghost use Rattle.typings.specs.ProperTypes.{is_proper_single};
+ghost use Rattle.typings.specs.Faults.{Standing};
+ghost use Rattle.typed_program.specs.declared.pool.PoolType.{PoolType};
+ghost use Rattle.code_typings.specs.Plain.{AreCodeTypes};
+ghost use Rattle.spec_demands.specs.Settings.{names_of, owner_types};
+ghost use Rattle.clause_demands.specs.Blocks.{block_of};
+ghost use Rattle.spec_typings.specs.Typed.{SpecTypingSays};
+ghost use Rattle.standing_clauses.specs.Judged.{ClauseBreaks, ClauseSays, ClauseTold, IncludedSays, IncludesImproper, standing};
+
+use crate::arguments::{last_types, let_of};
+use crate::instance::Instance;
+use clause_demands::block::Block;
+use code_typings::plain::CodeTypes;
+use node_demands::written::is_proper_single;
+use pv_base::memory::NoMemory;
+use pv_base::span::Span;
+use pv_types::clause::{Clause, ClauseForm};
+use pv_types::declaration::TypedName;
+use pv_types::program::Program;
+use spec_demands::setting::{LetType, Names};
+use spec_typings::typing::{SpecTyping, clause_typing};
+use std::alloc::Global;
+use typed_program::pool::TypePool;
+
+/// The rules of typing that a clause may break.
+#[derive(Clone, Copy, Debug, PartialEq, Eq)]
+pub enum ClauseRule {
+    /// There is a typing, and the variables of what is included have types that they may have.
+    Typing,
+    /// The type of each place is determined.
+    Settling,
+}
+
+/// What is told of a clause where it stands.
+#[derive(Drop)]
+pub struct JudgedClause {
+    /// The place of its block.
+    pub place: Span,
+    /// It has no typing, or it includes a schema of which a variable has a type that none may have.
+    pub is_untyped: bool,
+    /// It has typings, and the type of a place is not determined.
+    pub is_unsettled: bool,
+    /// What it includes, where all type arguments have types.
+    pub included: Option<Instance>,
+}
+
+impl JudgedClause {
+    /// Whether the clause breaks the rule.
+    pub fn breaks(&self, rule: ClauseRule) -> bool
+        ensures { (program : ProgramData) (c : Standing) → ClauseSays program c self.now → IsTrue result ↔ ClauseBreaks program rule c }
+    {
+        match rule {
+            ClauseRule::Typing => self.is_untyped,
+            ClauseRule::Settling => self.is_unsettled,
+        }
+    }
+}
+
+/// Whether each of these variables of a schema has a type that it may have.
+fn are_proper(program: &Program, variables: &[TypedName]) -> bool
+    ensures { result ≡ list_all (λ v. is_proper_single program.now.structs v.annotation) variables.now }
+{
+    for variable in variables {
+        if !is_proper_single(&program.structs, &variable.annotation) {
+            return false;
+        }
+    }
+    true
+}
+
+/// Whether a schema is included of which a variable has a type that none may have.
+fn includes_improper(program: &Program, form: &ClauseForm) -> bool
+    ensures { IsTrue result ↔ IncludesImproper program.now form.now }
+{
+    match form {
+        ClauseForm::Include { schema, .. } => match program.schemas.get(schema) {
+            Some(declared) => !are_proper(program, declared.variables.as_slice()),
+            None => false,
+        },
+        _ => false,
+    }
+}
+
+fn is_untypable(typing: &SpecTyping) -> bool
+    ensures { (s : System) (pool : List PoolType) → SpecTypingSays s pool typing.now → IsTrue result ↔ IsUntypable s }
+{
+    matches!(typing, SpecTyping::Untypable)
+}
+
+fn is_ambiguous(typing: &SpecTyping) -> bool
+    ensures { (s : System) (pool : List PoolType) → SpecTypingSays s pool typing.now → IsTrue result ↔ IsAmbiguous s }
+{
+    matches!(typing, SpecTyping::Ambiguous(_))
+}
+
+/// What a clause includes, where all type arguments have types.
+fn included(
+    alloc: Global,
+    program: &Program,
+    block: Block,
+    clause: &Clause,
+    typing: &SpecTyping,
+    pool: &TypePool,
+) -> Result<Option<Instance>, NoMemory>
+    requires { (s : System) × SpecTypingSays s pool.now typing.now }
+    ensures { IfOk result (λ found. (names : C.Names) (types : TypesData) (place : SpanData) → SpecTypingSays (C.clause_system program.now names (block_of block) types clause.now) pool.now typing.now → IncludedSays program.now (standing names (block_of block) types clause.now place) found) }
+{
+    match &clause.form {
+        ClauseForm::Include { schema, .. } => match program.schemas.get(schema) {
+            None => Ok(None),
+            Some(declared) => {
+                let count = declared.type_parameters.as_slice().len();
+                match last_types(alloc, typing, pool, count)? {
+                    None => Ok(None),
+                    Some(types) => Ok(Some(Instance {
+                        schema: schema.try_clone(alloc)?,
+                        types,
+                        block,
+                    })),
+                }
+            }
+        },
+        _ => Ok(None),
+    }
+}
+
+/// What is told of a clause, which is in a block where these names are, and the type of its `let`, if it is one and has a
+/// type. `NoMemory` also where a `let` has a value that is no node of it.
+pub fn judge_clause<'a>(
+    alloc: Global,
+    types: &'a CodeTypes,
+    program: &'a Program,
+    names: Names<'a>,
+    block: Block,
+    clause: &'a Clause,
+) -> Result<(JudgedClause, Option<LetType>), NoMemory>
+    requires { AreCodeTypes types.now }
+    ensures { IfOk result (λ told. ClauseTold program.now (names_of names.entry) (block_of block) (owner_types names.entry.owner) clause.now told.0 told.1) }
+{
+    let mut pool = TypePool::new(alloc);
+    let typing = clause_typing(alloc, types, program, names, block, clause, &mut pool)?;
+    let is_improper = includes_improper(program, &clause.form);
+    let included = included(alloc, program, block, clause, &typing, &pool)?;
+    let of = let_of(alloc, &clause.form, &typing, &pool)?;
+    let judged = JudgedClause {
+        place: clause.block,
+        is_untyped: is_untypable(&typing) | is_improper,
+        is_unsettled: is_ambiguous(&typing),
+        included,
+    };
+    Ok((judged, of))
+}
