@@ -1,0 +1,88 @@
+-- The instances that were gone through, as the functions that go through them keep them.
+use Rattle.std.proofs.Common.{◌≡◌, ℕ, zero, suc, ◌+◌, ◌-◌, ◌<◌, ◌≤◌, Bool, List, [], ◌∷◌, ◌++◌, length, map, get_or, true, false, Option, Some, None, Result, Ok, Err, refl, sym, ◌∙◌, ap, subst, arith}
+use Rattle.std.specs.Prelude.{◌↔◌, All, Contains, IsTrue, OnOk, slice_get, slice_index_or}
+use Rattle.std.specs.Option.{option_map}
+use Rattle.std.proofs.lemmas.List.{length-map}
+use Rattle.std.proofs.lemmas.List.Elements.{Contains-get_or}
+use Rattle.std.proofs.lemmas.Option.{slice_get-map, slice_get_within}
+use Rattle.pv_types.specs.declared.program.Program.{Program}
+use Rattle.marked_circles.specs.declared.edge.MarkedEdge.{MarkedEdge}
+use Rattle.marked_circles.specs.MarkedCircles.{IsEdge, IsWithin}
+use Rattle.standing_clauses.specs.Instances as I
+use Rattle.standing_clauses.specs.Judged.{instance_of}
+use Rattle.standing_clauses.specs.declared.instance.Instance.{Instance}
+use Rattle.standing_clauses.specs.declared.judged.ClauseRule.{ClauseRule}
+use Rattle.schema_instances.specs.Closed.{IsClosedTo}
+use Rattle.schema_instances.specs.Closing.{AreJudged, AreLinked, Grows, TellBroken}
+use Rattle.schema_instances.specs.Including.{ReachesBroken}
+use Rattle.schema_instances.specs.Known.{IsKeyed, listed}
+use Rattle.schema_instances.specs.Leading.{LeadsToMark}
+use Rattle.schema_instances.specs.declared.closing.Closure.{Closure}
+use Rattle.schema_instances.specs.declared.known.InstanceKey.{InstanceKey}
+use Rattle.schema_instances.specs.declared.known.KnownInstances.{KnownInstances}
+use Rattle.schema_instances.proofs.LevelLaws.{none_left}
+use Rattle.schema_instances.proofs.Lists.{get_grown, some_at, some_inside}
+use Rattle.schema_instances.proofs.PathLaws.{tells}
+
+pub ok_both : {A E : Type 0} {P Q S : Type 0} (r : Result A E) → (P → Q → S) → OnOk r P → OnOk r Q → OnOk r S
+ok_both (Ok a) f p q = f p q
+ok_both (Err e) f p q = tt
+
+pub listed_at : (known : KnownInstances) (n : ℕ) (e : InstanceKey × Instance) → slice_get known.entries n ≡ Some e → slice_get (listed known) n ≡ Some (instance_of e.1)
+listed_at known n e at = slice_get-map (λ (x : InstanceKey × Instance). instance_of x.1) known.entries n ∙ ap (option_map (λ (x : InstanceKey × Instance). instance_of x.1)) at
+
+pub not_listed : (known : KnownInstances) (n : ℕ) → n < length (listed known) → None ≡ slice_get known.entries n → ⊥
+not_listed known n lt none =
+    let size = length-map known.entries (λ (x : InstanceKey × Instance). instance_of x.1) in
+    let at = some_at known.entries n (omega (arith, lt, size)) in
+    let e : None ≡ Some at.0 = none ∙ at.1 in
+    cc
+
+pub closed_begins : (program : Program) (c : Closure) → IsKeyed c.known → c.untyped.items ≡ [] → c.unsettled.items ≡ [] → c.edges.items ≡ [] → IsClosedTo program c 0
+closed_begins program c keyed untyped unsettled edges = record {
+  keyed = keyed;
+  within = omega arith;
+  untyped = record { told = ap (λ (xs : List Bool). length xs) untyped; each = λ n i lt at. absurd (omega (arith, lt)) };
+  unsettled = record { told = ap (λ (xs : List Bool). length xs) unsettled; each = λ n i lt at. absurd (omega (arith, lt)) };
+  linked = record {
+    unmarked = λ i j e. none i j true e;
+    sound = λ n m e. absurd (none n m false e);
+    closed = λ n i j lt at l. absurd (omega (arith, lt));
+  };
+}
+  where
+    none : (i j : ℕ) (marked : Bool) → IsEdge c.edges.items i j marked → ⊥
+    none i j marked e = let there = subst (λ (es : List MarkedEdge). IsEdge es i j marked) edges e in let b = there.1 in omega arith
+
+pub depth_next : (total counter : ℕ) → counter < total → total - counter ≡ suc (total - (counter + 1))
+depth_next total counter lt = omega (arith, lt)
+
+-- ---- exactly those that lead to one that breaks the rule
+
+pub edges_within : (program : Program) (known : List I.Instance) (edges : List MarkedEdge) (done : ℕ) → AreLinked program known edges done → All (IsWithin (length known)) edges
+edges_within program known edges done linked = λ k d lt.
+    let e : MarkedEdge = get_or edges k d in
+    edge_within e e.is_marked (Contains-get_or edges k d lt)
+  where
+    edge_within : (e : MarkedEdge) (marked : Bool) → IsEdge edges e.from e.to marked → IsWithin (length known) e
+    edge_within e true c = absurd (linked.unmarked e.from e.to c)
+    edge_within e false c = (let w = linked.sound e.from e.to c in record {
+      begins = slice_get_within known e.from w.first w.first_is;
+      ends = slice_get_within known e.to w.next w.next_is;
+    })
+
+pub told_broken : (program : Program) (rule : ClauseRule) (old new : List I.Instance) (edges : List MarkedEdge) (marks found : List Bool) → Grows old new → AreLinked program new edges (length new)
+    → AreJudged program rule new marks (length new) → ((n : ℕ) → n < length marks → IsTrue (slice_index_or found n false) ↔ LeadsToMark edges marks n) → TellBroken program rule old found
+told_broken program rule old new edges marks found grows linked judged leads n i at =
+    let there = get_grown old new grows.0 n i grows.1 at in
+    let lt : n < length marks = (let within = slice_get_within new n i there in let size = judged.told in omega (arith, within, size)) in
+    let first = leads n lt in
+    let second = tells program new edges linked rule marks judged n i there in
+    ((λ h. second.0 (first.0 h)), (λ h. first.1 (second.1 h)))
+
+-- the same of lists that are these
+pub leads_again : (edges edges2 : List MarkedEdge) (marks marks2 found : List Bool) → edges ≡ edges2 → marks ≡ marks2
+    → ((n : ℕ) → n < length marks → IsTrue (slice_index_or found n false) ↔ LeadsToMark edges marks n) → (n : ℕ) → n < length marks2 → IsTrue (slice_index_or found n false) ↔ LeadsToMark edges2 marks2 n
+leads_again edges edges2 marks marks2 found e f leads =
+    subst (λ (es : List MarkedEdge). (n : ℕ) → n < length marks2 → IsTrue (slice_index_or found n false) ↔ LeadsToMark es marks2 n) e
+    (subst (λ (ms : List Bool). (n : ℕ) → n < length ms → IsTrue (slice_index_or found n false) ↔ LeadsToMark edges ms n) f leads)

@@ -1,0 +1,9 @@
+pub mod Closures
+pub mod InstanceLaws
+pub mod KeyLaws
+pub mod LeadingLaws
+pub mod LevelLaws
+pub mod LinkLaws
+pub mod Lists
+pub mod PathLaws
+pub mod StandingLaws

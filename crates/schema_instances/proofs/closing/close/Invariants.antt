@@ -1,0 +1,12 @@
+use Rattle.std.proofs.Common.{◌-◌, length}
+use Rattle.schema_instances.specs.Closed.{IsClosedTo}
+use Rattle.schema_instances.specs.Closing.{AreShallow, Grows}
+use Rattle.schema_instances.specs.Known.{listed}
+use Rattle.schema_instances.proofs.closing.close.Given as goal
+
+abbrev pub invariant-loop : goal.invariant-loop
+invariant-loop l = record {
+  closed : IsClosedTo l.program l.closure l.done;
+  grows : Grows (listed l.fn.known) (listed l.closure.known);
+  shallow : AreShallow l.program (length l.program.schemas - l.counter) (listed l.closure.known) l.done;
+}

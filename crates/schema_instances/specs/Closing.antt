@@ -1,0 +1,41 @@
+-- The instances to which some lead, with what each breaks and where each leads.
+use Rattle.std.specs.Prelude.{◌≡◌, ◌↔◌, ℕ, ◌<◌, ◌≤◌, ◌++◌, Bool, false, IsTrue, List, length, Some, slice_get, slice_index_or}
+use Rattle.pv_types.specs.declared.program.Program.{Program}
+use Rattle.marked_circles.specs.declared.edge.MarkedEdge.{MarkedEdge}
+use Rattle.marked_circles.specs.MarkedCircles.{IsEdge}
+use Rattle.standing_clauses.specs.Instances.{Instance}
+use Rattle.standing_clauses.specs.declared.judged.ClauseRule.{ClauseRule}
+use Rattle.schema_instances.specs.Including.{Leads, InstanceBreaks, ReachesBroken, IsShallow}
+use Rattle.schema_instances.specs.Leading.{AreUnmarked}
+
+-- of the first so many instances it is told whether they break the rule
+pub record AreJudged (program : Program) (rule : ClauseRule) (known : List Instance) (marks : List Bool) (done : ℕ) : Type 0 where
+  pub told : length marks ≡ done
+  pub each : (n : ℕ) (i : Instance) → n < done → slice_get known n ≡ Some i → IsTrue (slice_index_or marks n false) ↔ InstanceBreaks program rule i
+
+-- an edge stands for what leads from one to another
+pub record IsLeading (program : Program) (known : List Instance) (from to : ℕ) : Type 0 where
+  pub first : Instance
+  pub first_is : slice_get known from ≡ Some first
+  pub next : Instance
+  pub next_is : slice_get known to ≡ Some next
+  pub leads : Leads program first next
+
+-- of the first so many instances there is an edge to each to which it leads, and there are no other edges
+pub record AreLinked (program : Program) (known : List Instance) (edges : List MarkedEdge) (done : ℕ) : Type 0 where
+  pub unmarked : AreUnmarked edges
+  pub sound : (n m : ℕ) → IsEdge edges n m false → IsLeading program known n m
+  pub closed : (n : ℕ) (i j : Instance) → n < done → slice_get known n ≡ Some i → Leads program i j
+      → (m : ℕ) × ((slice_get known m ≡ Some j) × IsEdge edges n m false)
+
+-- from one on, all instances are so shallow
+abbrev pub AreShallow : Program → ℕ → List Instance → ℕ → Type 0
+AreShallow program depth known first = (n : ℕ) (i : Instance) → first ≤ n → slice_get known n ≡ Some i → IsShallow program depth i.schema
+
+-- what stood stands, and maybe more behind it
+abbrev pub Grows : List Instance → List Instance → Type 0
+Grows old new = (more : List Instance) × (new ≡ old ++ more)
+
+-- exactly those that lead to one that breaks the rule
+abbrev pub TellBroken : Program → ClauseRule → List Instance → List Bool → Type 0
+TellBroken program rule known found = (n : ℕ) (i : Instance) → slice_get known n ≡ Some i → IsTrue (slice_index_or found n false) ↔ ReachesBroken program rule i

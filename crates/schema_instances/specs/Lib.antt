@@ -1,0 +1,5 @@
+pub mod Closed
+pub mod Closing
+pub mod Including
+pub mod Known
+pub mod Leading

@@ -1,0 +1,44 @@
+//! The instances of schemas that lead to one that breaks a rule.
+
+ghost use Rattle.std.specs.Prelude.{IfOk, length};
+ghost use Rattle.code_typings.specs.Plain.{AreCodeTypes};
+ghost use Rattle.standing_clauses.specs.declared.judged.ClauseRule.TheVariants.{Typing, Settling};
+ghost use Rattle.schema_instances.specs.Closing.{AreShallow, TellBroken};
+ghost use Rattle.schema_instances.specs.Known.{IsKeyed, listed};
+
+use crate::closing::close;
+use crate::known::KnownInstances;
+use crate::leading::leading_to;
+use code_typings::plain::CodeTypes;
+use pv_base::memory::NoMemory;
+use pv_types::program::Program;
+use std::alloc::Global;
+
+/// For each instance, by its number, whether it leads, over any number of includes, to one with a clause that has no
+/// typing, or includes what may not stand; and the same of one with a clause in which a type is not determined.
+#[derive(Drop)]
+pub struct BrokenInstances {
+    pub untyped: Vec<bool>,
+    pub unsettled: Vec<bool>,
+}
+
+/// Goes through these instances and all to which they lead. Chains of schemas, each included by the one before, have to
+/// end.
+pub fn broken_instances<'a>(
+    alloc: Global,
+    types: &'a CodeTypes,
+    program: &'a Program,
+    known: KnownInstances,
+) -> Result<BrokenInstances, NoMemory>
+    requires types { AreCodeTypes types.now }
+    requires keyed { IsKeyed known }
+    requires shallow { AreShallow program.now (length program.now.schemas) (listed known) 0 }
+    ensures untyped { IfOk result (λ broken. TellBroken program.now Typing (listed known) broken.untyped.items) }
+    ensures unsettled { IfOk result (λ broken. TellBroken program.now Settling (listed known) broken.unsettled.items) }
+{
+    let closure = close(alloc, types, program, known)?;
+    Ok(BrokenInstances {
+        untyped: leading_to(alloc, &closure.edges, &closure.untyped)?,
+        unsettled: leading_to(alloc, &closure.edges, &closure.unsettled)?,
+    })
+}
