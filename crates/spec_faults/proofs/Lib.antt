@@ -1,0 +1,4 @@
+pub mod FaultLaws
+pub mod Firsts
+pub mod NumberLaws
+pub mod RootLaws
