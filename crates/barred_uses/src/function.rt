@@ -120,9 +120,10 @@ fn bars_untypable(
 }
 
 /// Whether a function of this module uses a field of a struct of another module, or global storage at such a struct or
-/// at a type parameter that has key: at the nodes that are read, in their order, before any without a typing. A function
-/// that has a typing is read once; of any other it is looked for how many of its first nodes have one, by readings whose
-/// number is the logarithm of that of its nodes. No memory holds so many nodes that one more can't be counted.
+/// at a type parameter that has key: at the nodes that are read, in their order, before any without a typing. One that
+/// has a typing is read once; of any other it is looked for how many of its first nodes have one, mostly by a few
+/// readings, and else by about as many as the logarithm of their number. No memory holds so many nodes that one more
+/// can't be counted.
 pub(crate) fn bars_use(
     alloc: Global,
     types: &PlainTypes,

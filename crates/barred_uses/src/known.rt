@@ -1,6 +1,6 @@
 //! What is known of the types of places once the first so many nodes of a function are read.
 
-ghost use Rattle.std.specs.Prelude.{◌≡◌, suc, IfOk, MatchOption};
+ghost use Rattle.std.specs.Prelude.{◌≡◌, ◌+◌, ◌<◌, suc, IfOk, MatchOption};
 ghost use Rattle.std.specs.Bool.{Decides};
 ghost use Rattle.typings.specs.Answers.{System, HasTyping, IsUntypable};
 ghost use Rattle.typings.specs.CodeSystems.{function_system};
@@ -107,8 +107,45 @@ fn has_typing(
     Ok(is_known(&found))
 }
 
+/// How many steps of a walk are read.
+fn steps_of<'a>(walk: &Walk<'a>) -> usize
+    ensures { result ≡ walk.now.progress.count }
+{
+    walk.progress.count
+}
+
+/// How many first nodes seem to have typings, where the first `all` have none: those before the one at which reading
+/// finds it. A guess, on which no answer rests: reading does not see a type that would be a part of itself.
+fn likely_count<'a>(
+    alloc: Global,
+    types: &'a PlainTypes,
+    program: &'a Program,
+    function: &'a Function,
+    all: usize,
+) -> Result<usize, NoMemory>
+    requires { ArePlain types.now }
+{
+    let walk = read_first_nodes(alloc, types, program, function, all)?;
+    Ok(steps_of(&walk).saturating_sub(2))
+}
+
+/// How many nodes to try: what is likely, then one more, and otherwise half of what is left.
+fn next_count(low: usize, high: usize, likely: usize) -> usize
+    requires { low + 1 < high }
+    ensures above { low < result }
+    ensures below { result < high }
+{
+    if low < likely && likely < high {
+        likely
+    } else if low == likely {
+        low + 1
+    } else {
+        low + (high - low) / 2
+    }
+}
+
 /// The greatest number of nodes such that the first so many have typings, where the first `all` have none. More nodes
-/// have no more typings, so that half of what is left is tried each time.
+/// have no more typings, so that half of what is left is tried each time, unless what is likely can be.
 fn last_below(
     alloc: Global,
     types: &PlainTypes,
@@ -121,10 +158,11 @@ fn last_below(
     requires none { IsUntypable (first_steps (function_system program.now function.now) (suc all)) }
     ensures { IfOk result (IsLast (function_system program.now function.now)) }
 {
+    let likely = likely_count(alloc, types, program, function, all)?;
     let mut low = 0;
     let mut high = all;
     while high - low > 1 {
-        let middle = low + (high - low) / 2;
+        let middle = next_count(low, high, likely);
         if has_typing(alloc, types, program, function, middle)? {
             low = middle;
         } else {
