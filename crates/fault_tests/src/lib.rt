@@ -3,3 +3,5 @@
 
 #[cfg(test)]
 mod fault_tests;
+#[cfg(test)]
+mod program_tests;
