@@ -1,19 +1,16 @@
 //! Modules in one line, and where code in them breaks which rule first.
 
+use crate::printing::{push, push_place, source_of};
 use code_faults::faults::code_faults;
 use code_faults::functions::type_functions;
 use code_faults::typed::{ability_fault, acquires_fault, function_types};
 use code_typings::plain::code_types;
-use move_tokens::scanner::tokens;
 use program_states::flow::{FlowFault, flow_fault};
 use pv_base::memory::NoMemory;
 use pv_base::span::Span;
 use pv_types::program::Program;
 use resolution::program::resolve;
-use source_parse::denoted::source;
-use source_tree::source::Source;
 use std::alloc::Global;
-use std::panic::Expect;
 use std::process::Abort;
 use std::test::Fail;
 
@@ -25,31 +22,6 @@ struct Found {
     abilities: Option<Span>,
     acquires: Option<Span>,
     locals: Option<FlowFault>,
-}
-
-fn push(rt: &impl Abort, line: &mut String, piece: &str) {
-    line.push_str(piece).expect(rt, "memory")
-}
-
-fn source_of(rt: &impl Abort, alloc: Global, text: &str) -> Source {
-    assert!(rt; text.len() < 2000);
-    match tokens(alloc, 0, text.as_bytes()) {
-        Ok(found) => match source(alloc, &found) {
-            Ok(source) => source,
-            Err(fault) => {
-                assert!(rt; false, "{text} {fault:?}");
-                Source {
-                    modules: Vec::new(alloc),
-                }
-            }
-        },
-        Err(fault) => {
-            assert!(rt; false, "{text} {fault:?}");
-            Source {
-                modules: Vec::new(alloc),
-            }
-        }
-    }
 }
 
 /// What is found in a program. Rules behind the rule of typing are looked at only where all functions are typed.
@@ -72,17 +44,10 @@ fn found_in(alloc: Global, program: &Program) -> Result<Found, NoMemory> {
     Ok(found)
 }
 
-/// A word for a rule, and the text from a place on up to a bracket or a colon.
-fn push_place(rt: &impl Abort, line: &mut String, text: &str, rule: &str, place: Option<Span>) {
-    if let Some(span) = place {
-        push(rt, line, rule);
-        push(rt, line, ": ");
-        for c in text.chars().skip(span.start as usize) {
-            if c == '(' || c == '<' || c == '{' || c == ':' {
-                break;
-            }
-            line.push(c).expect(rt, "memory");
-        }
+/// A word for a rule and its place, where there is one.
+fn push_first(rt: &impl Abort, line: &mut String, text: &str, rule: &str, place: Option<Span>) {
+    if let Some(place) = place {
+        push_place(rt, line, text, rule, place);
         push(rt, line, "; ");
     }
 }
@@ -90,10 +55,10 @@ fn push_place(rt: &impl Abort, line: &mut String, text: &str, rule: &str, place:
 fn push_locals(rt: &impl Abort, line: &mut String, text: &str, fault: Option<FlowFault>) {
     match fault {
         Some(FlowFault::Unassigned(place)) => {
-            push_place(rt, line, text, "unassigned", Some(place))
+            push_first(rt, line, text, "unassigned", Some(place))
         }
         Some(FlowFault::Undropped(place)) => {
-            push_place(rt, line, text, "undropped", Some(place))
+            push_first(rt, line, text, "undropped", Some(place))
         }
         None => {}
     }
@@ -106,10 +71,10 @@ fn line_of(rt: &impl Abort, alloc: Global, text: &str) -> String {
     match resolve(alloc, &[file]) {
         Ok(program) => match found_in(alloc, &program) {
             Ok(found) => {
-                push_place(rt, &mut line, text, "untyped", found.untyped);
-                push_place(rt, &mut line, text, "open", found.unsettled);
-                push_place(rt, &mut line, text, "abilities", found.abilities);
-                push_place(rt, &mut line, text, "acquires", found.acquires);
+                push_first(rt, &mut line, text, "untyped", found.untyped);
+                push_first(rt, &mut line, text, "open", found.unsettled);
+                push_first(rt, &mut line, text, "abilities", found.abilities);
+                push_first(rt, &mut line, text, "acquires", found.acquires);
                 push_locals(rt, &mut line, text, found.locals);
             }
             Err(_) => push(rt, &mut line, "memory"),

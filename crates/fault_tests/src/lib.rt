@@ -4,4 +4,6 @@
 #[cfg(test)]
 mod fault_tests;
 #[cfg(test)]
+mod printing;
+#[cfg(test)]
 mod program_tests;

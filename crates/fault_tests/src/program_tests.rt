@@ -1,44 +1,16 @@
 //! Modules in one line, and what typing the whole program tells.
 
+use crate::printing::{push, push_place, source_of};
 use code_faults::functions::FunctionTyping;
 use declaration_circles::first::first_circle;
 use module_uses::uses::uses_of;
-use move_tokens::scanner::tokens;
-use pv_base::span::Span;
 use pv_types::program::Program;
 use resolution::program::resolve;
-use source_parse::denoted::source;
 use source_tree::source::Source;
 use std::alloc::Global;
-use std::panic::Expect;
 use std::process::Abort;
 use std::test::Fail;
 use typing::typing::{TypeFault, type_program};
-
-fn push(rt: &impl Abort, line: &mut String, piece: &str) {
-    line.push_str(piece).expect(rt, "memory")
-}
-
-fn source_of(rt: &impl Abort, alloc: Global, text: &str) -> Source {
-    assert!(rt; text.len() < 2000);
-    match tokens(alloc, 0, text.as_bytes()) {
-        Ok(found) => match source(alloc, &found) {
-            Ok(source) => source,
-            Err(fault) => {
-                assert!(rt; false, "{text} {fault:?}");
-                Source {
-                    modules: Vec::new(alloc),
-                }
-            }
-        },
-        Err(fault) => {
-            assert!(rt; false, "{text} {fault:?}");
-            Source {
-                modules: Vec::new(alloc),
-            }
-        }
-    }
-}
 
 /// What typing tells of a program; nothing where a declaration leads back to itself.
 fn typed(
@@ -50,18 +22,6 @@ fn typed(
     match first_circle(alloc, program, uses.as_slice())? {
         None => Ok(Some(type_program(alloc, program)?)),
         Some(_) => Ok(None),
-    }
-}
-
-/// A word for a rule, and the text from a place on up to a bracket or a colon.
-fn push_place(rt: &impl Abort, line: &mut String, text: &str, rule: &str, place: Span) {
-    push(rt, line, rule);
-    push(rt, line, ": ");
-    for c in text.chars().skip(place.start as usize) {
-        if c == '(' || c == '<' || c == '{' || c == ':' {
-            break;
-        }
-        line.push(c).expect(rt, "memory");
     }
 }
 
