@@ -1,7 +1,7 @@
 -- The numbers and the names of the rules.
 use Rattle.std.specs.Prelude.{ℕ, Bool, true, false, List, codes}
 use Rattle.answers.specs.declared.rule.Rule.{Rule}
-use Rattle.answers.specs.declared.rule.Rule.TheVariants.{BadToken, Grammar, LeftOut, UnknownName, TwiceDeclared, NotVisible, Cycle, NotBuilt}
+use Rattle.answers.specs.declared.rule.Rule.TheVariants.{BadToken, Grammar, LeftOut, UnknownName, TwiceDeclared, NotVisible, Cycle, NoTyping, Ambiguous, Ability, Acquires, Unassigned, Undropped, NotBuilt}
 
 abbrev pub rule_number : Rule → ℕ
 rule_number BadToken = 1
@@ -11,6 +11,12 @@ rule_number UnknownName = 5
 rule_number TwiceDeclared = 6
 rule_number NotVisible = 7
 rule_number Cycle = 8
+rule_number NoTyping = 9
+rule_number Ambiguous = 10
+rule_number Ability = 11
+rule_number Acquires = 12
+rule_number Unassigned = 13
+rule_number Undropped = 14
 rule_number NotBuilt = 18
 
 abbrev pub rule_name : Rule → List ℕ
@@ -21,6 +27,12 @@ rule_name UnknownName = codes "UnknownName"
 rule_name TwiceDeclared = codes "TwiceDeclared"
 rule_name NotVisible = codes "NotVisible"
 rule_name Cycle = codes "Cycle"
+rule_name NoTyping = codes "NoTyping"
+rule_name Ambiguous = codes "Ambiguous"
+rule_name Ability = codes "Ability"
+rule_name Acquires = codes "Acquires"
+rule_name Unassigned = codes "Unassigned"
+rule_name Undropped = codes "Undropped"
 rule_name NotBuilt = codes "NotBuilt"
 
 -- Where a file breaks the rule, its definition says at which place: for each rule but `Grammar`, whose place is where a reader

@@ -18,12 +18,25 @@ pub enum Rule {
     /// Two declarations of one kind in one module have one name, or two parameters, type parameters or fields of one
     /// owner; or two modules have one address and one name.
     TwiceDeclared,
-    /// Code calls a function that is not visible in its module, makes or takes apart a struct of another module, or
-    /// uses global storage at one.
+    /// Code calls a function that is not visible in its module, makes or takes apart a struct of another module, uses a
+    /// field of one, or uses global storage at one; fields and storage whose types are inferred are looked at too.
     NotVisible,
     /// Modules use one another in a circle, the types of a struct's fields lead back to it, or spec functions or
     /// schemas use themselves.
     Cycle,
+    /// A declaration or a clause has no typing; or a number that is written does not fit its type, the value of a
+    /// constant is not returned, or calls carry a type parameter back to itself inside another type.
+    NoTyping,
+    /// There are typings, and a type is not determined.
+    Ambiguous,
+    /// A type lacks an ability that is asked of it.
+    Ability,
+    /// A function does not list in `acquires` a struct that it has to list.
+    Acquires,
+    /// A local may be used without a value.
+    Unassigned,
+    /// A value whose type has no drop may be left behind.
+    Undropped,
     /// The file holds a form that is not built yet.
     NotBuilt,
 }
@@ -41,6 +54,12 @@ impl Rule {
             Rule::TwiceDeclared => 6,
             Rule::NotVisible => 7,
             Rule::Cycle => 8,
+            Rule::NoTyping => 9,
+            Rule::Ambiguous => 10,
+            Rule::Ability => 11,
+            Rule::Acquires => 12,
+            Rule::Unassigned => 13,
+            Rule::Undropped => 14,
             Rule::NotBuilt => 18,
         }
     }
@@ -57,6 +76,12 @@ impl Rule {
             Rule::TwiceDeclared => b"TwiceDeclared",
             Rule::NotVisible => b"NotVisible",
             Rule::Cycle => b"Cycle",
+            Rule::NoTyping => b"NoTyping",
+            Rule::Ambiguous => b"Ambiguous",
+            Rule::Ability => b"Ability",
+            Rule::Acquires => b"Acquires",
+            Rule::Unassigned => b"Unassigned",
+            Rule::Undropped => b"Undropped",
             Rule::NotBuilt => b"NotBuilt",
         }
     }
