@@ -227,7 +227,7 @@ fn reports(rt: HostRuntime) {
         ),
         (
             b"module 0x1::m { fun f(): u64 { 18446744073709551616 } }",
-            b"refused 18 NotBuilt a.move:1\n",
+            b"refused 9 NoTyping a.move:1\n",
             2,
         ),
         (

@@ -6,6 +6,9 @@ mod ChainLaws
 mod MarkerLaws
 mod UnknownLaws
 mod NameLaws
+mod TypeLaws
+mod VisibleLemmas
+mod TypeLemmas
 mod TextLemmas
 mod LocalLemmas
 mod ModuleLemmas

@@ -1,5 +1,5 @@
 -- Each rule on names is kept, or broken at one place.
-use Rattle.std.proofs.Common.{◌≡◌, ℕ, List, Option, Some, None, inl, inr, sym, ap, ◌∙◌, arith}
+use Rattle.std.proofs.Common.{◌≡◌, ℕ, List, Option, Some, None, inl, inr, sym, ap, subst, ◌∙◌, arith}
 use Rattle.std.proofs.lemmas.Bool.{cases_lt}
 use Rattle.std.proofs.lemmas.List.Elements.{All-contains}
 use Rattle.answers.specs.declared.rule.Rule.{Rule}
@@ -11,7 +11,7 @@ use Rattle.resolution.specs.Known.{known_of}
 use Rattle.resolution.specs.Programs.{IsProgramOf}
 use Rattle.declaration_places.specs.Order.{IsBefore}
 use Rattle.visibility.specs.Visible.{IsVisible, codes_of}
-use Rattle.declaration_circles.specs.Circular.{HasNoCircle as HasNone, IsKindCircular, Kind}
+use Rattle.declaration_circles.specs.Circular.{HasNoCircle as HasNone, IsKindCircular, Kind, schema_kind}
 use Rattle.program_read.specs.Bounds.{HasBarred, HasCircle, HasNoCircle, IsAllVisible, StopsAt, circle_stage, kinds_in, visible_stage}
 use Rattle.program_read.specs.Chain.{◌▷◌}
 use Rattle.program_read.specs.FileFault.{IsSameStop, breaks, without_place}
@@ -88,7 +88,7 @@ same_place p q h g =
       ]
     ]
 
-place_told : (rule : Rule) (IsSo : Span → Type 0) (file other_file : ℕ) (fault other : FileFault) → StopsAt rule IsSo file fault → StopsAt rule IsSo other_file other → IsSameStop file other_file fault other
+pub place_told : (rule : Rule) (IsSo : Span → Type 0) (file other_file : ℕ) (fault other : FileFault) → StopsAt rule IsSo file fault → StopsAt rule IsSo other_file other → IsSameStop file other_file fault other
 place_told rule IsSo file other_file fault other p q =
     let same = same_place p.place q.place (q.first.first p.place p.first.one) (p.first.first q.place q.first.one) in
     record { file_is = p.file_is ∙ same.file_is ∙ sym q.file_is; fault_is = ap without_place (p.fault_is ∙ ap (breaks rule) same.start_is ∙ sym q.fault_is) }
@@ -96,9 +96,10 @@ place_told rule IsSo file other_file fault other p q =
 -- ---- visibility
 
 visible_apart : (given : NamedData) (file : ℕ) (fault : FileFault) → IsAllVisible given.program → HasBarred given.program file fault → ⊥
-visible_apart given file fault all stops =
-    let h = stops.first.one in
-    h.3 (All-contains (IsVisible given.program) (codes_of given.program) h.0 all h.1)
+visible_apart given file fault all stops = elim stops.first.one [
+  | inl h ↦ h.3 (All-contains (IsVisible given.program) (codes_of given.program) h.0 all.named h.1)
+  | inr h ↦ all.typed stops.place h
+]
 
 visible_laws : Laws visible_stage
 visible_laws = allows_laws (λ given. IsAllVisible given.program) (λ given. HasBarred given.program) visible_apart (λ given. place_told _ _)
@@ -127,3 +128,8 @@ name_laws single =
 -- the rules hand the sources on
 pub sources_kept : (sources : List (List SourceModuleData)) (given : NamedData) → name_stages.Gives sources given → given.sources ≡ sources
 sources_kept sources given g = ap (λ (n : NamedData). n.sources) (g.second.0 ∙ g.first.second.0 ∙ g.first.first.second.0) ∙ g.first.first.first.sources_are
+
+-- no schema includes itself
+pub no_schema_circle : (sources : List (List SourceModuleData)) (given : NamedData) → name_stages.Gives sources given → HasNone (schema_kind given.program)
+no_schema_circle sources given g =
+    subst (λ (n : NamedData). HasNone (schema_kind n.program)) (sym g.second.0) (g.second.1 3 (schema_kind g.between.program) (omega arith))

@@ -10,8 +10,9 @@ use Rattle.program_read.specs.FileFault.{IsSameStop, breaks, without_place}
 use Rattle.program_read.specs.LocalCounts.{HasFewLocals, HasManyLocals, locals_stage}
 use Rattle.program_read.specs.Modules.{AreNoSums, modules_stage, numbered}
 use Rattle.program_read.specs.Named.{NamedData}
-use Rattle.program_read.specs.Program.{name_stages, program_stages, source_stages}
+use Rattle.program_read.specs.Program.{name_stages, program_stages, rule_stages, source_stages}
 use Rattle.program_read.specs.Sources.{Denote, DenoteNone, left_out, source_stage}
+use Rattle.program_read.specs.Typed.{type_stages}
 use Rattle.program_read.specs.Texts.{AreTokensOf, HasBadToken, IsHeavy, IsLight, IsLong, IsShort, length_stage, nesting_stage, text_stages, tokens_stage}
 use Rattle.program_read.specs.declared.fault.FileFault.{FileFault}
 use Rattle.program_read.specs.declared.fault.FileFault.TheVariants.{Passes}
@@ -20,6 +21,7 @@ use Rattle.program_read.proofs.ChainLaws.{Laws, behind_laws, checks_laws, makes_
 use Rattle.program_read.proofs.ChainLemmas.{KeepsCount, behind_keeps, checks_keeps, makes_keeps}
 use Rattle.program_read.proofs.MarkerLaws.{marker_once, marker_or_none}
 use Rattle.program_read.proofs.NameLaws.{HaveOneProgram, name_laws, sources_kept}
+use Rattle.program_read.proofs.TypeLaws.{given_kept, type_laws}
 use Rattle.program_read.proofs.ModuleLaws.{all_or_first, first_once, one_program}
 
 -- ---- tokens
@@ -95,9 +97,12 @@ text_laws known = behind_laws (tokens_stage ▷ length_stage) nesting_stage (beh
 source_chain_laws : Known → Laws source_stages
 source_chain_laws known = behind_laws (text_stages ▷ source_stage) locals_stage (behind_laws text_stages source_stage (text_laws known) (source_laws known)) locals_laws
 
+rule_laws : Known → Laws rule_stages
+rule_laws known =
+    behind_laws (source_stages ▷ name_stages) type_stages (behind_laws source_stages name_stages (source_chain_laws known) (name_laws known.one_program)) type_laws
+
 pub program_laws : Known → Laws program_stages
-program_laws known =
-    behind_laws (source_stages ▷ name_stages) modules_stage (behind_laws source_stages name_stages (source_chain_laws known) (name_laws known.one_program)) modules_laws
+program_laws known = behind_laws rule_stages modules_stage (rule_laws known) modules_laws
 
 -- ---- how many files there are
 
@@ -110,6 +115,7 @@ read_keeps = behind_keeps text_stages source_stage text_keeps (makes_keeps Denot
 source_keeps : KeepsCount source_stages
 source_keeps = behind_keeps (text_stages ▷ source_stage) locals_stage read_keeps (checks_keeps HasFewLocals HasManyLocals)
 
--- the sources that keep the rules on names are as many as the files
-pub named_count : (files : List (List ℕ)) (given : NamedData) → (source_stages ▷ name_stages).Gives files given → length given.sources ≡ length files
-named_count files given g = ap length (sources_kept g.between given g.second) ∙ source_keeps files g.between g.first
+-- the sources that keep the rules are as many as the files
+pub named_count : (files : List (List ℕ)) (given : NamedData) → rule_stages.Gives files given → length given.sources ≡ length files
+named_count files given g =
+    ap (λ (n : NamedData). length n.sources) (given_kept g.between given g.second) ∙ ap length (sources_kept g.first.between g.between g.first.second) ∙ source_keeps files g.first.between g.first.first

@@ -1,6 +1,6 @@
 -- That code uses only what other modules let it use, and that nothing goes in a circle. Source: The Move Book, "Functions",
 -- "Friends", "Structs and Resources", "Global Storage Operators" and "Uses and Aliases".
-use Rattle.std.specs.Prelude.{◌≡◌, ℕ, List, All}
+use Rattle.std.specs.Prelude.{◌≡◌, ◌⊎◌, ℕ, List, All}
 use Rattle.pv_base.specs.declared.span.Span.{Span}
 use Rattle.answers.specs.declared.rule.Rule.{Rule}
 use Rattle.answers.specs.declared.rule.Rule.TheVariants.{NotVisible, Cycle}
@@ -9,6 +9,7 @@ use Rattle.pv_types.specs.declared.program.Program.{Program}
 use Rattle.declaration_places.specs.Order.{IsFirst}
 use Rattle.visibility.specs.Visible.{IsBarred, IsVisible, codes_of}
 use Rattle.module_uses.specs.Uses.{uses_of}
+use Rattle.typings.specs.Faults.{BreaksNone, BreaksVisibility}
 use Rattle.declaration_circles.specs.Circular.{HaveNoCircles, IsCircular, Kind, kinds_of}
 use Rattle.program_read.specs.Chain.{FileStage, allows}
 use Rattle.program_read.specs.FileFault.{breaks}
@@ -24,13 +25,18 @@ pub record StopsAt (rule : Rule) (IsSo : Span → Type 0) (file : ℕ) (fault : 
 
 -- ---- visibility
 
--- each function and constant uses what it may
-abbrev pub IsAllVisible : Program → Type 0
-IsAllVisible program = All (IsVisible program) (codes_of program)
+-- each function and constant uses what it may: what it names, and what only types tell that it uses
+pub record IsAllVisible (program : Program) : Type 0 where
+  pub named : All (IsVisible program) (codes_of program)
+  pub typed : BreaksNone (BreaksVisibility program)
 
--- the first one that does not begins here
+-- a function or a constant at this place uses what it may not
+abbrev pub UsesBarred : Program → Span → Type 0
+UsesBarred program place = IsBarred program place ⊎ BreaksVisibility program place
+
+-- the first one that does so begins here
 abbrev pub HasBarred : Program → ℕ → FileFault → Type 0
-HasBarred program = StopsAt NotVisible (IsBarred program)
+HasBarred program = StopsAt NotVisible (UsesBarred program)
 
 abbrev pub visible_stage : FileStage NamedData NamedData
 visible_stage = allows (λ given. IsAllVisible given.program) (λ given. HasBarred given.program)

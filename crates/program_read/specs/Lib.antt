@@ -9,6 +9,8 @@ pub mod LocalCounts
 pub mod Named
 pub mod Twice
 pub mod Bounds
+pub mod Typed
+pub mod TypeFaults
 pub mod Modules
 pub mod ModuleReading
 pub mod Program

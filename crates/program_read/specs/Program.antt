@@ -9,6 +9,7 @@ use Rattle.program_read.specs.LocalCounts.{locals_stage}
 use Rattle.program_read.specs.Named.{NamedData, known_stage}
 use Rattle.program_read.specs.Twice.{twice_stage}
 use Rattle.program_read.specs.Bounds.{circle_stage, visible_stage}
+use Rattle.program_read.specs.Typed.{type_stages}
 use Rattle.program_read.specs.Modules.{modules_stage}
 use Rattle.program_read.specs.declared.fault.FileFault.{FileFault}
 
@@ -21,11 +22,15 @@ source_stages = text_stages ▷ source_stage ▷ locals_stage
 abbrev pub name_stages : FileStage (List (List SourceModuleData)) NamedData
 name_stages = known_stage ▷ twice_stage ▷ visible_stage ▷ circle_stage
 
+-- the stages up to a program that keeps all rules
+abbrev pub rule_stages : FileStage (List (List ℕ)) NamedData
+rule_stages = source_stages ▷ name_stages ▷ type_stages
+
 -- All stages, in their order: the files have tokens; not too many; they do not nest too deep; they denote sources; no function
--- of these has too many locals; they keep the rules on names; and their modules are modules of sums. The next rule stands
--- behind the others.
+-- of these has too many locals; they keep the rules on names, and those on types and locals; and their modules are modules of
+-- sums. The next rule stands behind the others.
 abbrev pub program_stages : FileStage (List (List ℕ)) (List SumModuleData)
-program_stages = source_stages ▷ name_stages ▷ modules_stage
+program_stages = rule_stages ▷ modules_stage
 
 -- Each stage has an answer for every file, and the last one gives this program.
 abbrev pub IsProgramOf : List (List ℕ) → List SumModuleData → Type 0

@@ -6,7 +6,9 @@ ghost use Rattle.program_read.specs.FileFault.{IfInFile};
 
 use crate::fault::ProgramFault;
 use answers::rule::Rule;
+use barred_uses::first::first_barred;
 use declaration_circles::first::first_circle;
+use declaration_places::order::earlier;
 use module_uses::uses::uses_of;
 use pv_types::program::Program;
 use source_tree::source::Source;
@@ -17,11 +19,14 @@ use visibility::first::first_invisible;
 ///
 /// # Errors
 ///
-/// `NotVisible` exactly where some code does not, with the first such function or constant.
+/// `NotVisible` exactly where some code does not, with the first such function or constant: that it names what it may
+/// not use, or uses fields or storage, whose types may be inferred.
 pub fn check_visible(alloc: Global, program: &Program) -> Result<(), ProgramFault>
     ensures { MatchResult result (λ _. IsAllVisible program.now) (λ fault. IfInFile fault (HasBarred program.now)) }
 {
-    match first_invisible(alloc, program)? {
+    let named = first_invisible(alloc, program)?;
+    let typed = first_barred(alloc, program)?;
+    match earlier(named, typed) {
         None => Ok(()),
         Some(place) => Err(ProgramFault::breaks(Rule::NotVisible, place)),
     }

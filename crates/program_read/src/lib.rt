@@ -10,3 +10,4 @@ pub mod program;
 pub mod sources;
 pub mod texts;
 pub mod twice;
+pub mod types;

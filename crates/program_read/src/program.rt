@@ -13,6 +13,7 @@ use crate::modules::read_modules;
 use crate::names::check_names;
 use crate::sources::read_sources;
 use crate::texts::read_texts;
+use crate::types::check_types;
 use move_tokens::scanner::{one_spelling, spelled_or_bad};
 use pv_base::lists::Bytes;
 use resolution::law::one_program;
@@ -27,7 +28,9 @@ use sum_tree::function::SumModule;
 /// The first of these that holds of some file, with the first file of which it holds: no tokens spell it; it has
 /// too many tokens; they nest too deep; they are of no source; a function has too many parameters and locals; a
 /// use of a name means nothing; something is declared twice; code uses what it may not; declarations go in a
-/// circle; a module is none of sums. `NoMemory` where memory ran out.
+/// circle; something has no typing; a type is not determined; an ability is missing; `acquires` leaves out a struct;
+/// a local may be used without a value; a value without drop may be left behind; a module is none of sums. `NoMemory`
+/// where memory ran out.
 pub fn read_program(alloc: Global, files: &[Bytes]) -> Result<Vec<SumModule>, ProgramFault>
     requires few { length files.now ≤ 2 ^ 32 }
     requires short { AllByRecursion (λ bytes. length bytes < 2 ^ 32) files.now }
@@ -36,7 +39,8 @@ pub fn read_program(alloc: Global, files: &[Bytes]) -> Result<Vec<SumModule>, Pr
     let texts = read_texts(alloc, files)?;
     let sources = read_sources(alloc, texts.as_slice())?;
     check_locals(alloc, sources.as_slice())?;
-    check_names(alloc, sources.as_slice())?;
+    let program = check_names(alloc, sources.as_slice())?;
+    check_types(alloc, &program)?;
     read_modules(alloc, sources.as_slice())
 }
 

@@ -236,6 +236,22 @@ fn refusals_have_a_line(rt: HostRuntime) {
 }
 
 #[test]
+fn rules_on_types_have_a_line(rt: HostRuntime) {
+    let alloc = rt.alloc();
+    let rows: [(Rule, &[u8]); 6] = [
+        (Rule::NoTyping, b"refused 9 NoTyping a.move:3\n"),
+        (Rule::Ambiguous, b"refused 10 Ambiguous a.move:3\n"),
+        (Rule::Ability, b"refused 11 Ability a.move:3\n"),
+        (Rule::Acquires, b"refused 12 Acquires a.move:3\n"),
+        (Rule::Unassigned, b"refused 13 Unassigned a.move:3\n"),
+        (Rule::Undropped, b"refused 14 Undropped a.move:3\n"),
+    ];
+    for (rule, text) in rows {
+        refuses(&rt, alloc, rule, 3, None, text);
+    }
+}
+
+#[test]
 fn faults_and_limits_have_a_line(rt: HostRuntime) {
     let alloc = rt.alloc();
     let file = name_of(&rt, alloc, b"a.move");

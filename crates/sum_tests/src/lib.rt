@@ -9,3 +9,5 @@ mod sum_module_tests;
 mod sum_program_tests;
 #[cfg(test)]
 mod sum_read_tests;
+#[cfg(test)]
+mod type_rule_tests;

@@ -25,7 +25,7 @@ fn bytes_of(rt: &impl Abort, alloc: Global, text: &str) -> Result<Bytes, NoMemor
 }
 
 /// The program of files with these texts.
-fn read(
+pub fn read(
     rt: &impl Abort,
     alloc: Global,
     texts: &[&str],
