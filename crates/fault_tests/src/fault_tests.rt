@@ -67,7 +67,7 @@ fn push_locals(rt: &impl Abort, line: &mut String, text: &str, fault: Option<Flo
 /// A line of what is found in a text.
 fn line_of(rt: &impl Abort, alloc: Global, text: &str) -> String {
     let mut line = String::new(alloc);
-    let file = source_of(rt, alloc, text);
+    let file = source_of(rt, alloc, 0, text);
     match resolve(alloc, &[file]) {
         Ok(program) => match found_in(alloc, &program) {
             Ok(found) => {

@@ -12,10 +12,10 @@ pub(crate) fn push(rt: &impl Abort, line: &mut String, piece: &str) {
     line.push_str(piece).expect(rt, "memory")
 }
 
-/// The source that a text is.
-pub(crate) fn source_of(rt: &impl Abort, alloc: Global, text: &str) -> Source {
+/// The source that a text is, as the file with this number.
+pub(crate) fn source_of(rt: &impl Abort, alloc: Global, file: u32, text: &str) -> Source {
     assert!(rt; text.len() < 2000);
-    match tokens(alloc, 0, text.as_bytes()) {
+    match tokens(alloc, file, text.as_bytes()) {
         Ok(found) => match source(alloc, &found) {
             Ok(source) => source,
             Err(fault) => {

@@ -4,6 +4,7 @@ use crate::printing::{push, push_place, source_of};
 use code_faults::functions::FunctionTyping;
 use declaration_circles::first::first_circle;
 use module_uses::uses::uses_of;
+use pv_base::span::Span;
 use pv_types::program::Program;
 use resolution::program::resolve;
 use source_tree::source::Source;
@@ -25,40 +26,64 @@ fn typed(
     }
 }
 
-fn push_fault(rt: &impl Abort, line: &mut String, text: &str, fault: TypeFault) {
+/// A word for a rule, and the text at its place in one of two files.
+fn push_rule(
+    rt: &impl Abort,
+    line: &mut String,
+    first: &str,
+    second: &str,
+    rule: &str,
+    place: Span,
+) {
+    if place.file == 0 {
+        push_place(rt, line, first, rule, place);
+    } else {
+        push(rt, line, "second ");
+        push_place(rt, line, second, rule, place);
+    }
+}
+
+fn push_fault(rt: &impl Abort, line: &mut String, first: &str, second: &str, fault: TypeFault) {
     match fault {
-        TypeFault::NoTyping(place) => push_place(rt, line, text, "no typing", place),
-        TypeFault::Ambiguous(place) => push_place(rt, line, text, "ambiguous", place),
-        TypeFault::Ability(place) => push_place(rt, line, text, "ability", place),
-        TypeFault::Acquires(place) => push_place(rt, line, text, "acquires", place),
-        TypeFault::Unassigned(place) => push_place(rt, line, text, "unassigned", place),
-        TypeFault::Undropped(place) => push_place(rt, line, text, "undropped", place),
+        TypeFault::NoTyping(place) => push_rule(rt, line, first, second, "no typing", place),
+        TypeFault::Ambiguous(place) => push_rule(rt, line, first, second, "ambiguous", place),
+        TypeFault::Ability(place) => push_rule(rt, line, first, second, "ability", place),
+        TypeFault::Acquires(place) => push_rule(rt, line, first, second, "acquires", place),
+        TypeFault::Unassigned(place) => push_rule(rt, line, first, second, "unassigned", place),
+        TypeFault::Undropped(place) => push_rule(rt, line, first, second, "undropped", place),
         TypeFault::NoMemory => push(rt, line, "memory"),
     }
 }
 
-/// A line of what is told of a text.
-fn line_of(rt: &impl Abort, alloc: Global, text: &str) -> String {
+/// A line of what is told of two files.
+fn line_of(rt: &impl Abort, alloc: Global, first: &str, second: &str) -> String {
     let mut line = String::new(alloc);
-    let sources = [source_of(rt, alloc, text)];
+    let sources = [
+        source_of(rt, alloc, 0, first),
+        source_of(rt, alloc, 1, second),
+    ];
     match resolve(alloc, &sources) {
         Ok(program) => match typed(alloc, &sources, &program) {
             Ok(Some(_)) => push(rt, &mut line, "typed"),
             Ok(None) => push(rt, &mut line, "circle"),
-            Err(fault) => push_fault(rt, &mut line, text, fault),
+            Err(fault) => push_fault(rt, &mut line, first, second, fault),
         },
-        Err(fault) => assert!(rt; false, "{text} {fault:?}"),
+        Err(fault) => assert!(rt; false, "{first} {second} {fault:?}"),
     }
     line
 }
 
-fn check(rt: &impl Abort, alloc: Global, text: &str, wanted: &str) {
-    let found = line_of(rt, alloc, text);
+fn check_both(rt: &impl Abort, alloc: Global, first: &str, second: &str, wanted: &str) {
+    let found = line_of(rt, alloc, first, second);
     assert!(rt;
         found.as_str() == wanted,
-        "{text}: {} and not {wanted}",
+        "{first} {second}: {} and not {wanted}",
         found.as_str()
     );
+}
+
+fn check(rt: &impl Abort, alloc: Global, text: &str, wanted: &str) {
+    check_both(rt, alloc, text, "module 0x2::behind {}", wanted)
 }
 
 #[test]
@@ -425,6 +450,92 @@ fn order_of_rules(rt: HostRuntime) -> Result<(), Fail> {
         ),
     ] {
         check(&rt, alloc, text, wanted);
+    }
+    Ok(())
+}
+
+#[test]
+fn included(rt: HostRuntime) -> Result<(), Fail> {
+    let alloc = rt.alloc();
+    for (text, wanted) in [
+        (
+            "module 0x1::m { spec schema S { requires true; } spec schema Q { include S; } spec schema R { include S; } spec schema P { include Q; include R; } fun f() {} spec f { include P; } }",
+            "typed",
+        ),
+        (
+            "module 0x1::m { spec schema S { requires 1; } spec schema Q { include S; } spec schema R { include S; } spec schema P { include Q; include R; } fun f() {} spec f { include P; } }",
+            "no typing: spec f ",
+        ),
+        (
+            "module 0x1::m { spec schema A { include B; include B; } spec schema B { include C; include C; } spec schema C { include D; include D; } spec schema D { include E; include E; } spec schema E { include F; include F; } spec schema F { requires 1; } fun f() {} spec f { include A; } }",
+            "no typing: spec f ",
+        ),
+        (
+            "module 0x1::m { spec schema A<T> { include B<vector<T>>; } spec schema B<T> { include C<vector<T>>; } spec schema C<T> { requires exists v: T: len(v) == 0; } fun f() {} spec f { include A<u64>; } }",
+            "typed",
+        ),
+        (
+            "module 0x1::m { spec schema B<T> { include C<T>; } spec schema C<T> { requires exists v: T: len(v) == 0; } fun f() {} spec f { include B<vector<u64>>; } spec module { include B<u64>; } }",
+            "no typing: spec module ",
+        ),
+        (
+            "module 0x1::m { struct S has drop { a: u64 } spec schema P { x: u64; invariant x > 0; } spec S { include P { x: a }; } }",
+            "typed",
+        ),
+        (
+            "module 0x1::m { struct S has drop { a: u64 } spec schema P { x: u64; invariant x; } spec S { include P { x: a }; } }",
+            "no typing: spec S ",
+        ),
+        (
+            "module 0x1::m { spec schema P { x: u64; let y = x + 1; requires y > 1; } fun f(z: u64) {} spec f { include P { x: z }; } }",
+            "typed",
+        ),
+        (
+            "module 0x1::m { spec schema P { x: u64; let y = x > 1; requires y > 1; } fun f(z: u64) {} spec f { include P { x: z }; } }",
+            "no typing: spec f ",
+        ),
+    ] {
+        check(&rt, alloc, text, wanted);
+    }
+    Ok(())
+}
+
+#[test]
+fn files(rt: HostRuntime) -> Result<(), Fail> {
+    let alloc = rt.alloc();
+    for (first, second, wanted) in [
+        (
+            "module 0x1::m { public fun f(x: u64): u64 { x } }",
+            "module 0x1::n { fun g(): u64 { 0x1::m::f(1) } }",
+            "typed",
+        ),
+        (
+            "module 0x1::m { public fun f(x: u64): u64 { x } fun h(): bool { 1 } }",
+            "module 0x1::n { fun g(): u64 { 0x1::m::f(true) } }",
+            "no typing: fun h",
+        ),
+        (
+            "module 0x1::m { public fun f(x: u64): u64 { x } fun h() { let x; } }",
+            "module 0x1::n { fun g(): u64 { 0x1::m::f(true) } }",
+            "second no typing: fun g",
+        ),
+        (
+            "module 0x1::m { public fun f(x: u64): u64 { x } spec f { ensures result; } }",
+            "module 0x1::n { fun g(): bool { 1 } }",
+            "no typing: spec f ",
+        ),
+        (
+            "module 0x1::m { spec schema P { x: u64; requires x; } }",
+            "module 0x1::n { fun g(y: u64) {} spec g { include 0x1::m::P { x: y }; } }",
+            "second no typing: spec g ",
+        ),
+        (
+            "module 0x1::m { struct S { a: u64 } fun f(x: S) {} }",
+            "module 0x1::n { fun g() { let x: u64; x + 1; } }",
+            "second unassigned: fun g",
+        ),
+    ] {
+        check_both(&rt, alloc, first, second, wanted);
     }
     Ok(())
 }

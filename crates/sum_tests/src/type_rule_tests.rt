@@ -210,9 +210,9 @@ fn without_abilities(rt: HostRuntime) {
             "module 0x1::m {\nstruct T has key {}\nfun f(s: &signer, r: T) { move_to(s, r) }\n}",
         ),
         (
-            "module 0x1::m {\nstruct S { a: u64 }\nfun g<T: copy>(x: T): T { x }\nfun f(s: S): S { g(s) }\n}",
+            "module 0x1::m {\nstruct S { a: u64 }\nfun g<T: copy>(x: T): T { move x }\nfun f(s: S): S { g(move s) }\n}",
             4,
-            "module 0x1::m {\nstruct S has copy { a: u64 }\nfun g<T: copy>(x: T): T { x }\nfun f(s: S): S { g(s) }\n}",
+            "module 0x1::m {\nstruct S has copy { a: u64 }\nfun g<T: copy>(x: T): T { move x }\nfun f(s: S): S { g(move s) }\n}",
         ),
     ] {
         breaks(&rt, alloc, broken, Rule::Ability, line, kept);
