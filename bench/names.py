@@ -120,25 +120,24 @@ def broken(texts, rule):
     return texts[:-1] + [last[:at] + member + "\n}\n"]
 
 
-def main():
-    program = os.path.abspath(sys.argv[1])
+def measure(program, inputs, breaks):
+    """Prints a line for each of `inputs`, and ends the script; `breaks` are pairs of what breaks texts, and the answer then."""
     failed = False
-    for what, texts_of, count, answer, bar in INPUTS:
+    for what, texts_of, count, answer, bar in inputs:
         texts = texts_of(count)
         printed, took = run(program, texts, 5)
         _, half = run(program, texts_of(count // 2), 5)
         memory = resource.getrusage(resource.RUSAGE_CHILDREN).ru_maxrss // 1024
         told = [printed.strip().split("\n")[0]]
         wrong = not printed.startswith(answer) or took > bar
-        if answer == BUILT:
-            for rule, (_, refused) in BREAKS.items():
-                printed, _ = run(program, broken(texts, rule), 1)
-                wrong |= not printed.startswith(refused)
-                told.append(printed.strip())
+        for broken_of, refused in breaks if answer == BUILT else []:
+            printed, _ = run(program, broken_of(texts), 1)
+            wrong |= not printed.startswith(refused)
+            told.append(printed.strip())
         failed |= wrong
         print("%s: %.0f ms, half of it %.0f ms, %d MB so far; %s%s" % (what, took, half, memory, "; ".join(told), "  <-- not as it should be" if wrong else ""), flush=True)
     sys.exit(1 if failed else 0)
 
 
 if __name__ == "__main__":
-    main()
+    measure(os.path.abspath(sys.argv[1]), INPUTS, [(lambda texts, rule=rule: broken(texts, rule), refused) for rule, (_, refused) in BREAKS.items()])
