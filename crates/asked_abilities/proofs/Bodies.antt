@@ -12,7 +12,7 @@ use Rattle.typings.specs.Answers.{HasType, NodeIsRead}
 use Rattle.typings.specs.CodeSystems.{function_setting, function_system}
 use Rattle.typings.specs.Settings.{first_argument, node_arity}
 use Rattle.typings.specs.Asked.{Ability, LacksAsked, LacksConstraint, LacksWritten, abilities_in, asked_at, constrained_in, given_abilities, has_ability, is_constrained, meets_parameter, node_parameters, written_at}
-use Rattle.typed_program.specs.Pools.{type_at}
+use Rattle.type_pool.specs.Pools.{type_at}
 use Rattle.typed_nodes.proofs.Places.{argument_within, next_first, one_type, place_type}
 use Rattle.typed_nodes.proofs.Reading.{typed_read}
 use Rattle.asked_abilities.specs.declared.entry.Judged.{Judged}

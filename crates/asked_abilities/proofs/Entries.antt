@@ -14,10 +14,10 @@ use Rattle.abilities.specs.Sets.{both}
 use Rattle.abilities.specs.Types.{Structs, common, declared_applied, is_phantom, of_tuple, of_type, of_vector}
 use Rattle.typings.specs.declared.sort.Wrap.TheVariants.{Vector, Shared, Mutable}
 use Rattle.typings.specs.Asked.{are_constrained, is_constrained, meets_parameter, type_parameters_of}
-use Rattle.typed_program.specs.Pools.{IsBelow, type_at, type_of}
-use Rattle.typed_program.specs.declared.pool.PlainType.TheVariants.{Bool as bool_type, Int, Num, Address, Signer, Param}
-use Rattle.typed_program.specs.declared.pool.PoolType.{PoolType}
-use Rattle.typed_program.specs.declared.pool.PoolType.TheVariants.{Plain, Made, Struct, Tuple}
+use Rattle.type_pool.specs.Pools.{IsBelow, type_at, type_of}
+use Rattle.type_pool.specs.declared.pool.PlainType.TheVariants.{Bool as bool_type, Int, Num, Address, Signer, Param}
+use Rattle.type_pool.specs.declared.pool.PoolType.{PoolType}
+use Rattle.type_pool.specs.declared.pool.PoolType.TheVariants.{Plain, Made, Struct, Tuple}
 use Rattle.asked_abilities.specs.declared.entry.Judged.{Judged}
 use Rattle.asked_abilities.specs.declared.entry.JudgedTypes.{JudgedTypes}
 use Rattle.asked_abilities.proofs.Common.{both_joined}

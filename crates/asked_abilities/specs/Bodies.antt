@@ -11,7 +11,7 @@ use Rattle.visibility.specs.Visible.{CodeNode}
 use Rattle.typings.specs.Answers.{IsTyped}
 use Rattle.typings.specs.CodeSystems.{function_system}
 use Rattle.typings.specs.Asked.{Ability, asked_at, given_abilities, has_ability, is_constrained, is_taken_as_place, meets_parameter, written_at}
-use Rattle.typed_program.specs.Pools.{type_at}
+use Rattle.type_pool.specs.Pools.{type_at}
 use Rattle.asked_abilities.specs.declared.entry.Judged.{Judged}
 use Rattle.asked_abilities.specs.declared.entry.JudgedTypes.{JudgedTypes}
 use Rattle.asked_abilities.specs.Entries.{IsTold, TellsTypes, judged_at}

@@ -9,9 +9,9 @@ use Rattle.abilities.specs.Sets.{all_abilities, no_abilities, both}
 use Rattle.abilities.specs.Types.{Structs, declared_applied, is_phantom, of_reference, of_tuple, of_type, of_vector}
 use Rattle.typings.specs.declared.sort.Wrap.TheVariants.{Vector, Shared, Mutable}
 use Rattle.typings.specs.Asked.{is_constrained, meets_parameter, type_parameters_of}
-use Rattle.typed_program.specs.Pools.{plain_type, type_at}
-use Rattle.typed_program.specs.declared.pool.PoolType.{PoolType}
-use Rattle.typed_program.specs.declared.pool.PoolType.TheVariants.{Plain, Made, Struct, Tuple}
+use Rattle.type_pool.specs.Pools.{plain_type, type_at}
+use Rattle.type_pool.specs.declared.pool.PoolType.{PoolType}
+use Rattle.type_pool.specs.declared.pool.PoolType.TheVariants.{Plain, Made, Struct, Tuple}
 use Rattle.asked_abilities.specs.declared.entry.Judged.{Judged}
 use Rattle.asked_abilities.specs.declared.entry.JudgedTypes.{JudgedTypes}
 

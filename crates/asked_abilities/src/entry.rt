@@ -7,7 +7,7 @@ ghost use Rattle.pv_types.specs.declared.declaration.Struct.{Struct};
 ghost use Rattle.declaration_places.specs.Same.{same_struct};
 ghost use Rattle.abilities.specs.Sets.{both};
 ghost use Rattle.abilities.specs.Types.{applied, declared_applied, is_phantom, of_reference, of_signer, of_type, of_value};
-ghost use Rattle.typed_program.specs.Pools.{plain_type, types};
+ghost use Rattle.type_pool.specs.Pools.{plain_type, types};
 ghost use Rattle.typings.specs.Asked.{meets, meets_parameter, type_parameters_of};
 ghost use Rattle.asked_abilities.specs.Entries.{AreFrom, HasToldParts, IsTold, TellsTypes, are_constrained_told, common_told, entry_abilities, entry_constrained, judged_at};
 
@@ -17,7 +17,7 @@ use pv_base::types::StructId;
 use pv_types::declaration::{AbilitySet, Struct, TypeParameter};
 use pv_types::table::Table;
 use std::alloc::Global;
-use typed_program::pool::{PlainType, PoolType, TypePool};
+use type_pool::pool::{PlainType, PoolType, TypePool};
 use typings::sort::Wrap;
 
 /// What is told of a type: its abilities, and whether each type argument inside it meets the constraint of its type

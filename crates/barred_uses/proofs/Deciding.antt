@@ -30,8 +30,8 @@ use Rattle.typings.specs.CodeSystems.{function_setting, function_system}
 use Rattle.typings.specs.FieldBars.{BarsUse, IsJudged, first_steps}
 use Rattle.typings.specs.Settings.{first_argument, place_count}
 use Rattle.typings.specs.Sorts.{behind, struct_in}
-use Rattle.typed_program.specs.Pools.{type_at, type_of, types}
-use Rattle.typed_program.specs.declared.pool.PoolType.{PoolType}
+use Rattle.type_pool.specs.Pools.{type_at, type_of, types}
+use Rattle.type_pool.specs.declared.pool.PoolType.{PoolType}
 use Rattle.typed_nodes.specs.Storage.{IsStorageNode}
 use Rattle.typed_nodes.proofs.Places.{first_within, next_first, storage_node_arity}
 use Rattle.unification.specs.Ranked.{rank_at}

@@ -20,7 +20,7 @@ use Rattle.type_places.specs.declared.slots.Slot.{Slot}
 use Rattle.typings.specs.CodeSystems.{function_setting}
 use Rattle.typings.specs.Settings.{first_argument}
 use Rattle.typings.specs.Sorts.{behind, struct_in}
-use Rattle.typed_program.specs.declared.pool.PoolType.{PoolType}
+use Rattle.type_pool.specs.declared.pool.PoolType.{PoolType}
 use Rattle.chosen_types.specs.Roots.{AreRoots}
 use Rattle.chosen_types.specs.Numbers.{TableSays}
 

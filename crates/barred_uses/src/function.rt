@@ -21,7 +21,7 @@ use pv_types::declaration::Function;
 use pv_types::program::{ModuleId, Program};
 use std::alloc::Global;
 use typed_nodes::first::{first_of_all, first_of_next};
-use typed_program::pool::TypePool;
+use type_pool::pool::TypePool;
 
 /// How many nodes are read, where so many steps are: what is declared is the step before the first node.
 fn nodes_read(body: &Body, steps: usize) -> usize

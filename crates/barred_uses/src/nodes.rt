@@ -18,7 +18,7 @@ use pv_types::code::{Callee, CodeBinary, CodeLeaf, CodeMany, CodeUnary};
 use pv_types::declaration::TypeParameter;
 use pv_types::program::ModuleId;
 use type_places::slots::Slot;
-use typed_program::pool::TypePool;
+use type_pool::pool::TypePool;
 
 /// The module of a function, its type parameters, and what is known of the types of its places: for each the one that
 /// stands for it, and the number of its type in the pool, where all typings give it one.

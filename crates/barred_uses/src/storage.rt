@@ -3,12 +3,12 @@
 ghost use Rattle.std.specs.Prelude.{◌≡◌, ◌↔◌, List, IsTrue, slice_get};
 ghost use Rattle.pv_base.specs.TypeData.{TypeData};
 ghost use Rattle.visibility.specs.Visible.{TypeIsVisible, key_of};
-ghost use Rattle.typed_program.specs.Pools.{type_of};
+ghost use Rattle.type_pool.specs.Pools.{type_of};
 
 use declaration_places::home::Home;
 use pv_types::declaration::TypeParameter;
 use pv_types::program::ModuleId;
-use typed_program::pool::{PlainType, PoolType};
+use type_pool::pool::{PlainType, PoolType};
 
 /// Whether the type parameter with this number is there and has key.
 fn has_key(types: &[TypeParameter], number: u32) -> bool

@@ -18,8 +18,8 @@ use Rattle.typings.specs.Sorts.{is_integer}
 use Rattle.typings.specs.Rules.{HasOpenHead}
 use Rattle.typings.specs.Settings.{u64_type, unit_type}
 use Rattle.typings.specs.Answers.{System, Typings, IsSettledTyping, HasType, IsTyped, IsAmbiguous, IsUntypable}
-use Rattle.typed_program.specs.declared.pool.PoolType.{PoolType}
-use Rattle.typed_program.specs.Pools.{type_at, types}
+use Rattle.type_pool.specs.declared.pool.PoolType.{PoolType}
+use Rattle.type_pool.specs.Pools.{type_at, types}
 use Rattle.chosen_types.specs.Roots.{IsRootOf, AreRoots}
 use Rattle.chosen_types.specs.Given.{IsGiven, GivesNoInteger, WidthOf, Gives, AnyPlace, IsDropped}
 use Rattle.chosen_types.specs.Numbers.{number_at, AreParts, PartsSay, NumberSays, TableSays}

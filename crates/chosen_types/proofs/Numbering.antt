@@ -21,8 +21,8 @@ use Rattle.type_places.specs.declared.slots.Slot.TheVariants.{Open, Bound}
 use Rattle.type_places.proofs.Asking.{wrapped_same, grouped_same}
 use Rattle.type_places.proofs.Becoming.{bound_says}
 use Rattle.type_places.proofs.Refill.{told_apart}
-use Rattle.typed_program.specs.declared.pool.PoolType.{PoolType}
-use Rattle.typed_program.specs.Pools.{type_at, types}
+use Rattle.type_pool.specs.declared.pool.PoolType.{PoolType}
+use Rattle.type_pool.specs.Pools.{type_at, types}
 use Rattle.unification.specs.Ranked.{rank_at, HasLower, IsRanking}
 use Rattle.unification.proofs.Ranking.{each_led}
 use Rattle.chosen_types.specs.Numbers.{Keeps, number_at, AreParts, IsInPool, IsTypeAt, SomeIn, TermSays, NumberSays, IsBefore, IsOrder, AreNumbers, TableSays}

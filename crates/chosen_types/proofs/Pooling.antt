@@ -5,8 +5,8 @@ use Rattle.std.proofs.lemmas.Bool.Decides.{eqb_tells}
 use Rattle.std.proofs.lemmas.List.{get_or_push, get_or_append_left, map-append, take_more}
 use Rattle.std.proofs.lemmas.List.Elements.{All-head, All-tail}
 use Rattle.pv_base.specs.TypeData.{TypeData, TupleType, NoTypes}
-use Rattle.typed_program.specs.declared.pool.PoolType.{PoolType}
-use Rattle.typed_program.specs.Pools.{type_at, type_of, types_in, types}
+use Rattle.type_pool.specs.declared.pool.PoolType.{PoolType}
+use Rattle.type_pool.specs.Pools.{type_at, type_of, types_in, types}
 use Rattle.chosen_types.specs.Numbers.{Keeps}
 
 length-types_in : (done : List TypeData) (es : List PoolType) → length (types_in done es) ≡ length done + length es

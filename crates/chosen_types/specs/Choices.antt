@@ -12,8 +12,8 @@ use Rattle.typings.specs.Sorts.{is_integer}
 use Rattle.typings.specs.Rules.{HasOpenHead}
 use Rattle.typings.specs.Settings.{u64_type}
 use Rattle.typings.specs.Answers.{System, Typings, HasTyping, IsDefaulted, IsSettledTyping, HasType, IsTyped, IsAmbiguous, IsUntypable}
-use Rattle.typed_program.specs.Pools.{type_at, types}
-use Rattle.typed_program.specs.declared.pool.PoolType.{PoolType}
+use Rattle.type_pool.specs.Pools.{type_at, types}
+use Rattle.type_pool.specs.declared.pool.PoolType.{PoolType}
 use Rattle.chosen_types.specs.Roots.{AreRoots}
 use Rattle.chosen_types.specs.Numbers.{number_at}
 use Rattle.chosen_types.specs.declared.choice.Defaulted.{Defaulted}

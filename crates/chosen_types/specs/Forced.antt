@@ -1,7 +1,7 @@
 -- What is told of places before anything is chosen.
 use Rattle.std.specs.Prelude.{List, length}
 use Rattle.type_places.specs.declared.slots.Slot.{Slot}
-use Rattle.typed_program.specs.declared.pool.PoolType.{PoolType}
+use Rattle.type_pool.specs.declared.pool.PoolType.{PoolType}
 use Rattle.chosen_types.specs.Roots.{AreRoots}
 use Rattle.chosen_types.specs.Numbers.{TableSays}
 use Rattle.chosen_types.specs.declared.forced.Forced.{Forced}

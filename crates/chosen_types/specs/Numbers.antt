@@ -7,8 +7,8 @@ use Rattle.type_places.specs.Agree.{IsForced}
 use Rattle.type_places.specs.declared.slots.Term.{Term}
 use Rattle.type_places.specs.declared.slots.Term.TheVariants.{Place, Closed, Made, Grouped}
 use Rattle.type_places.specs.declared.slots.Slot.{Slot}
-use Rattle.typed_program.specs.Pools.{type_at, types}
-use Rattle.typed_program.specs.declared.pool.PoolType.{PoolType}
+use Rattle.type_pool.specs.Pools.{type_at, types}
+use Rattle.type_pool.specs.declared.pool.PoolType.{PoolType}
 
 -- the numbers that types had are still theirs
 pub record Keeps (old new : List PoolType) : Type 0 where

@@ -19,7 +19,7 @@ use pv_base::types::{TypeNode, TypeTerm, Width};
 use pv_types::sequence::Sequence;
 use std::alloc::Global;
 use type_places::slots::{Slot, Term};
-use typed_program::pool::TypePool;
+use type_pool::pool::TypePool;
 use unification::ranks::{Ranking, ranks};
 
 /// What is known of the types of places once open integer types are chosen: the slots, for each place the one that

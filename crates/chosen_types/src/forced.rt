@@ -11,7 +11,7 @@ use crate::roots::all_roots;
 use pv_base::memory::NoMemory;
 use std::alloc::Global;
 use type_places::slots::Slot;
-use typed_program::pool::TypePool;
+use type_pool::pool::TypePool;
 use unification::ranks::Ranking;
 
 /// For each place the one that stands for it, and the number of its type, where all typings give it the same one.

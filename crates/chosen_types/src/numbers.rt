@@ -5,7 +5,7 @@ ghost use Rattle.pv_base.specs.TypeData.{TypeData, types_of};
 ghost use Rattle.type_places.specs.Slots.{wrapped, grouped, Fits, TermWithin, slot_at};
 ghost use Rattle.type_places.specs.Ranks.{EachIn, EachLed};
 ghost use Rattle.typings.specs.Sorts.{made};
-ghost use Rattle.typed_program.specs.Pools.{type_at, types};
+ghost use Rattle.type_pool.specs.Pools.{type_at, types};
 ghost use Rattle.chosen_types.specs.Numbers.{Keeps, number_at, PartsSay, IsInPool, TermSays, NumberSays, IsOrder, AreNumbers, TableSays};
 
 use crate::pooled::{add_made, add_struct, add_tuple, add_type};
@@ -13,7 +13,7 @@ use pv_base::memory::NoMemory;
 use pv_types::sequence::Sequence;
 use std::alloc::Global;
 use type_places::slots::{Group, Slot, Term, Wrap};
-use typed_program::pool::TypePool;
+use type_pool::pool::TypePool;
 
 /// What is made of a type, in the words of typings.
 fn wrap_of(wrap: Wrap) -> typings::sort::Wrap

@@ -3,14 +3,14 @@
 ghost use Rattle.std.specs.Prelude.{◌≡◌, ◌<◌, length, map, All, IfOk, OnOk};
 ghost use Rattle.pv_base.specs.TypeData.{types_of, StructType, TupleType};
 ghost use Rattle.typings.specs.Sorts.{made};
-ghost use Rattle.typed_program.specs.Pools.{type_at, types, plain_type};
+ghost use Rattle.type_pool.specs.Pools.{type_at, types, plain_type};
 ghost use Rattle.chosen_types.specs.Numbers.{Keeps};
 
 use pv_base::memory::NoMemory;
 use pv_base::types::{StructId, TypeNode, TypeTerm};
 use pv_types::sequence::Sequence;
 use std::alloc::Global;
-use typed_program::pool::{PlainType, PoolType, TypePool};
+use type_pool::pool::{PlainType, PoolType, TypePool};
 use typings::sort::Wrap;
 
 fn add_plain(pool: &mut TypePool, of: PlainType) -> Result<usize, NoMemory>

@@ -12,8 +12,8 @@ use Rattle.visibility.specs.Visible.{CodeNode}
 use Rattle.typings.specs.Answers.{System, HasType, HasTyping, NodeIsRead}
 use Rattle.typings.specs.CodeSystems.{function_setting, function_system}
 use Rattle.typings.specs.Settings.{place_count, unit_type}
-use Rattle.typed_program.specs.Pools.{type_at, types}
-use Rattle.typed_program.specs.declared.pool.PoolType.{PoolType}
+use Rattle.type_pool.specs.Pools.{type_at, types}
+use Rattle.type_pool.specs.declared.pool.PoolType.{PoolType}
 use Rattle.chosen_types.specs.Choices.{AreTypes, PlaceSays}
 use Rattle.code_typings.specs.Judged.{ReadsNodes}
 use Rattle.code_typings.specs.Typed.{TypingSays}

@@ -4,7 +4,7 @@ use Rattle.std.specs.Bool.{Decides}
 use Rattle.visibility.specs.Visible.{CodeNode}
 use Rattle.pv_base.specs.TypeData.{TypeData}
 use Rattle.typings.specs.Answers.{System, IsAmbiguous, IsTyped}
-use Rattle.typed_program.specs.declared.pool.PoolType.{PoolType}
+use Rattle.type_pool.specs.declared.pool.PoolType.{PoolType}
 use Rattle.code_typings.specs.Typed.{TypingSays}
 use Rattle.code_typings.specs.declared.fitting.Judged.{Judged}
 use Rattle.code_typings.specs.declared.typing.CodeTyping.{CodeTyping}

@@ -28,7 +28,7 @@ use pv_base::span::Span;
 use pv_types::declaration::{Constant, Struct};
 use pv_types::program::Program;
 use std::alloc::Global;
-use typed_program::pool::TypePool;
+use type_pool::pool::TypePool;
 use wrapping::wrapping::wrapping_functions;
 
 /// The first place, in the order of the files, for each rule of typing that functions, constants and structs break.

@@ -14,7 +14,7 @@ use pv_base::memory::NoMemory;
 use pv_types::declaration::Function;
 use pv_types::program::Program;
 use std::alloc::Global;
-use typed_program::pool::TypePool;
+use type_pool::pool::TypePool;
 
 /// How a function is typed, with the types of its places in a pool of its own.
 #[derive(Drop)]

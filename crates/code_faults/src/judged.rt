@@ -4,7 +4,7 @@ ghost use Rattle.std.specs.Prelude.{List};
 ghost use Rattle.std.specs.Bool.{Decides};
 ghost use Rattle.visibility.specs.Visible.{CodeNode};
 ghost use Rattle.typings.specs.Answers.{System, IsAmbiguous};
-ghost use Rattle.typed_program.specs.declared.pool.PoolType.{PoolType};
+ghost use Rattle.type_pool.specs.declared.pool.PoolType.{PoolType};
 ghost use Rattle.code_typings.specs.Typed.{TypingSays};
 ghost use Rattle.code_faults.specs.Split.{IsIllTyped};
 

@@ -15,8 +15,8 @@ use Rattle.demand_solving.specs.Walked.{Walked, WalkSays}
 use Rattle.demand_solving.specs.declared.walk.Reading.{Reading}
 use Rattle.demand_solving.specs.declared.walk.Reading.TheVariants.{Whole, Stopped, Clash}
 use Rattle.demand_solving.specs.declared.walk.Progress.{Progress}
-use Rattle.typed_program.specs.Pools.{type_at, types}
-use Rattle.typed_program.specs.declared.pool.PoolType.{PoolType}
+use Rattle.type_pool.specs.Pools.{type_at, types}
+use Rattle.type_pool.specs.declared.pool.PoolType.{PoolType}
 use Rattle.chosen_types.specs.Choices.{HasDefaults, DefaultsSay, ChoiceSays, AreTypes, TypesSay}
 use Rattle.chosen_types.specs.declared.choice.Defaulted.{Defaulted}
 use Rattle.code_walks.specs.declared.systems.Walk.{Walk}

@@ -18,8 +18,8 @@ use Rattle.typings.specs.Answers.{System, IsDefaulted, IsUntypable}
 use Rattle.typings.specs.CodeSystems.{constant_system}
 use Rattle.typings.specs.ConstantRuns.{run_of}
 use Rattle.typings.specs.Faults.{RunFails}
-use Rattle.typed_program.specs.Pools.{type_at, types}
-use Rattle.typed_program.specs.declared.pool.PoolType.{PoolType}
+use Rattle.type_pool.specs.Pools.{type_at, types}
+use Rattle.type_pool.specs.declared.pool.PoolType.{PoolType}
 use Rattle.constant_runs.specs.Told.{TypesNumbers, told_type}
 use Rattle.chosen_types.specs.Choices.{IsSound, HasDefaults, WidthSays}
 use Rattle.chosen_types.specs.declared.choice.Defaulted.{Defaulted}

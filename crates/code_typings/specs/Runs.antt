@@ -9,7 +9,7 @@ use Rattle.visibility.specs.Visible.{CodeNode}
 use Rattle.typings.specs.Demand.{Typing}
 use Rattle.typings.specs.Answers.{System, IsDefaulted}
 use Rattle.typings.specs.ConstantRuns.{run_of}
-use Rattle.typed_program.specs.Pools.{type_at}
+use Rattle.type_pool.specs.Pools.{type_at}
 
 abbrev pub integer_types : List TypeData
 integer_types = IntType U8 ∷ IntType U16 ∷ IntType U32 ∷ IntType U64 ∷ IntType U128 ∷ []

@@ -2,8 +2,8 @@
 use Rattle.std.specs.Prelude.{◌<◌, List, length, map, All}
 use Rattle.visibility.specs.Visible.{CodeNode}
 use Rattle.typings.specs.Answers.{System, IsUntypable, IsAmbiguous, IsTyped}
-use Rattle.typed_program.specs.Pools.{type_at, types}
-use Rattle.typed_program.specs.declared.pool.PoolType.{PoolType}
+use Rattle.type_pool.specs.Pools.{type_at, types}
+use Rattle.type_pool.specs.declared.pool.PoolType.{PoolType}
 use Rattle.chosen_types.specs.Choices.{AreTypes}
 use Rattle.code_typings.specs.Judged.{JudgedOf}
 use Rattle.code_typings.specs.declared.typing.CodeTyping.{CodeTyping}

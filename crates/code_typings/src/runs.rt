@@ -5,7 +5,7 @@ ghost use Rattle.std.specs.Bool.{Decides};
 ghost use Rattle.pv_base.specs.TypeData.{IntType};
 ghost use Rattle.typings.specs.Answers.{System};
 ghost use Rattle.typings.specs.Faults.{RunFails};
-ghost use Rattle.typed_program.specs.Pools.{type_at, types};
+ghost use Rattle.type_pool.specs.Pools.{type_at, types};
 ghost use Rattle.chosen_types.specs.Choices.{IsSound, HasDefaults};
 ghost use Rattle.code_typings.specs.Plain.{AreCodeTypes};
 ghost use Rattle.code_typings.specs.Runs.{integer_types, IsNumberType, IsNodeType, AreNodeTypes, FailsToRun};
@@ -22,7 +22,7 @@ use pv_types::code::Body;
 use pv_types::declaration::Constant;
 use pv_types::program::Program;
 use std::alloc::Global;
-use typed_program::pool::{PlainType, PoolType, TypePool};
+use type_pool::pool::{PlainType, PoolType, TypePool};
 
 /// The number of an integer type in the pool of them all.
 fn width_number(width: Width) -> usize

@@ -21,7 +21,7 @@ use pv_types::declaration::{Constant, Function};
 use pv_types::program::Program;
 use pv_types::sequence::Sequence;
 use std::alloc::Global;
-use typed_program::pool::TypePool;
+use type_pool::pool::TypePool;
 
 /// How a function or a constant is typed.
 #[derive(Drop)]

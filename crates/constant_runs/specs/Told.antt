@@ -7,8 +7,8 @@ use Rattle.pv_types.specs.declared.code.Number.{Number as NumberData}
 use Rattle.visibility.specs.Visible.{CodeNode}
 use Rattle.typings.specs.declared.constant.ConstantValue.{ConstantValue}
 use Rattle.typings.specs.ConstantRuns.{value_at}
-use Rattle.typed_program.specs.Pools.{type_at, types}
-use Rattle.typed_program.specs.declared.pool.PoolType.{PoolType}
+use Rattle.type_pool.specs.Pools.{type_at, types}
+use Rattle.type_pool.specs.declared.pool.PoolType.{PoolType}
 
 -- the type of the place with the number n, where these are the numbers of the places' types
 abbrev pub told_type : List PoolType → List ℕ → ℕ → TypeData

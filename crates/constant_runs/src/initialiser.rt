@@ -5,7 +5,7 @@ ghost use Rattle.pv_base.specs.TypeData.{TypeData};
 ghost use Rattle.pv_types.specs.declared.arena.Node.TheVariants.{Leaf, Unary};
 ghost use Rattle.pv_types.specs.Trees.{IsBelow};
 ghost use Rattle.typings.specs.ConstantRuns.{cast_to, node_value, run_of, typed_number};
-ghost use Rattle.typed_program.specs.Pools.{type_of};
+ghost use Rattle.type_pool.specs.Pools.{type_of};
 ghost use Rattle.constant_runs.specs.Told.{TellsRuns, TypesNumbers, told_type};
 
 use crate::integer::kept;
@@ -15,7 +15,7 @@ use pv_base::types::{TypeNode, TypeTerm};
 use pv_types::arena::Node;
 use pv_types::code::{Body, CodeBinary, CodeLeaf, CodeMany, CodeUnary};
 use std::alloc::Global;
-use typed_program::pool::{PlainType, PoolType, TypePool};
+use type_pool::pool::{PlainType, PoolType, TypePool};
 use typings::constant::ConstantValue;
 
 /// A leaf, of a place of this type.

@@ -26,8 +26,8 @@ use Rattle.typings.specs.Answers.{HasType, IsTyped}
 use Rattle.typings.specs.Calls.{CallsAt}
 use Rattle.typings.specs.CodeSystems.{function_setting, function_system}
 use Rattle.typings.specs.Settings.{first_argument}
-use Rattle.typed_program.specs.Pools.{type_at, types}
-use Rattle.typed_program.specs.declared.pool.PoolType.{PoolType}
+use Rattle.type_pool.specs.Pools.{type_at, types}
+use Rattle.type_pool.specs.declared.pool.PoolType.{PoolType}
 use Rattle.typed_nodes.specs.Storage.{IsStorageNode}
 use Rattle.typed_nodes.proofs.Places.{argument_within, one_type, place_type, storage_node_arity, storage_within}
 use Rattle.typed_nodes.proofs.Reading.{typed_read}

@@ -16,8 +16,8 @@ use Rattle.declaration_places.specs.Homes.{function_home}
 use Rattle.declaration_places.specs.Same.{same_function, same_struct}
 use Rattle.visibility.specs.Visible.{CodeNode}
 use Rattle.typings.specs.Acquires.{Takes}
-use Rattle.typed_program.specs.Pools.{type_at, types}
-use Rattle.typed_program.specs.declared.pool.PoolType.{PoolType}
+use Rattle.type_pool.specs.Pools.{type_at, types}
+use Rattle.type_pool.specs.declared.pool.PoolType.{PoolType}
 
 -- ---- sets
 

@@ -4,7 +4,7 @@ ghost use Rattle.std.specs.Prelude.{◌↔◌, ◌<◌, All, IsTrue, IfOk, lengt
 ghost use Rattle.typings.specs.Acquires.{LacksAcquires};
 ghost use Rattle.typings.specs.Answers.{IsTyped};
 ghost use Rattle.typings.specs.CodeSystems.{function_system};
-ghost use Rattle.typed_program.specs.Pools.{type_at, types};
+ghost use Rattle.type_pool.specs.Pools.{type_at, types};
 
 use crate::listed::set_of;
 use crate::look::Look;
@@ -17,7 +17,7 @@ use pv_types::program::Program;
 use pv_types::table::Table;
 use std::alloc::Global;
 use typed_nodes::first::{first_of_all, first_of_next};
-use typed_program::pool::TypePool;
+use type_pool::pool::TypePool;
 
 /// Whether a struct that the function has to list in `acquires` is missing, by the numbers in the pool of the types of its
 /// places. What a function lists that is called is looked at once, however often it is called.

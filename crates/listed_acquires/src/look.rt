@@ -3,7 +3,7 @@
 use pv_base::types::StructId;
 use pv_types::program::{ModuleId, Program};
 use pv_types::table::Table;
-use typed_program::pool::TypePool;
+use type_pool::pool::TypePool;
 
 /// A program, the module of a function, the structs that the function lists, each found at once, and the numbers in
 /// the pool of the types of its places.

@@ -4,7 +4,7 @@ ghost use Rattle.std.specs.Prelude.{◌↔◌, ◌<◌, All, List, IsTrue, IfOk,
 ghost use Rattle.pv_base.specs.TypeData.{TypeData};
 ghost use Rattle.pv_base.specs.declared.types.StructId.{StructId};
 ghost use Rattle.typings.specs.Acquires.{Takes};
-ghost use Rattle.typed_program.specs.Pools.{type_of};
+ghost use Rattle.type_pool.specs.Pools.{type_of};
 ghost use Rattle.typed_nodes.specs.Storage.{IsStorage, IsStorageCall, IsStorageNode};
 ghost use Rattle.listed_acquires.specs.Missing.{CallLacks, FormLacks, IsMissing, IsSetOf, NodeLacks, Tells, type_of_place};
 
@@ -18,7 +18,7 @@ use pv_types::code::{Callee, CodeBinary, CodeLeaf, CodeMany, CodeUnary};
 use pv_types::operator::StorageOperation;
 use pv_types::table::Table;
 use std::alloc::Global;
-use typed_program::pool::PoolType;
+use type_pool::pool::PoolType;
 
 /// Whether an operation reaches into what stands in storage.
 fn takes(operation: StorageOperation) -> bool

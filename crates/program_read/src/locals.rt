@@ -49,10 +49,10 @@ fn excess_of_form(alloc: Global, form: &SourceForm) -> Result<Option<usize>, NoM
 }
 
 /// The count of the first function of a module that passes the limit.
-fn excess_of_module(alloc: Global, module: &SourceModule) -> Result<Option<usize>, NoMemory>
-    ensures { IfOk result (λ excess. excess ≡ excess_of_module module.now) }
+fn excess_of_module(alloc: Global, source_module: &SourceModule) -> Result<Option<usize>, NoMemory>
+    ensures { IfOk result (λ excess. excess ≡ excess_of_module source_module.now) }
 {
-    for member in &module.members {
+    for member in &source_module.members {
         if let Some(count) = excess_of_form(alloc, &member.form)? {
             return Ok(Some(count));
         }

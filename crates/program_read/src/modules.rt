@@ -37,10 +37,15 @@ impl Found {
     }
 
     /// One more module of the file with this number.
-    fn add(&mut self, alloc: Global, file: u32, module: &SourceModule) -> Result<(), ProgramFault>
-        ensures { (before : List (ℕ × SourceModuleData)) → AreRead before self.old.modules.items self.old.taken → MatchResult result (λ _. AreRead (before ++ (file, module.now) ∷ []) self.new.modules.items self.new.taken) (λ fault. IfInFile fault (HasUnbuilt (before ++ (file, module.now) ∷ []))) }
+    fn add(
+        &mut self,
+        alloc: Global,
+        file: u32,
+        source_module: &SourceModule,
+    ) -> Result<(), ProgramFault>
+        ensures { (before : List (ℕ × SourceModuleData)) → AreRead before self.old.modules.items self.old.taken → MatchResult result (λ _. AreRead (before ++ (file, source_module.now) ∷ []) self.new.modules.items self.new.taken) (λ fault. IfInFile fault (HasUnbuilt (before ++ (file, source_module.now) ∷ []))) }
     {
-        let found = match read_sum_module(alloc, file, module) {
+        let found = match read_sum_module(alloc, file, source_module) {
             Ok(found) => found,
             Err(ModuleFault::NotBuilt(place)) => {
                 let fault = FileFault::breaks(Rule::NotBuilt, place);
@@ -50,7 +55,7 @@ impl Found {
         };
         let key = (found.address, found.name.try_clone(alloc)?);
         if !self.taken.insert(key)? {
-            let fault = FileFault::breaks(Rule::NotBuilt, module_place(module).start);
+            let fault = FileFault::breaks(Rule::NotBuilt, module_place(source_module).start);
             return Err(ProgramFault::InFile(file, fault));
         }
         self.modules.push(found)?;

@@ -10,9 +10,9 @@ use Rattle.abilities.specs.Sets.{no_abilities}
 use Rattle.typings.specs.Answers.{IsTyped}
 use Rattle.typings.specs.Asked.{given_abilities}
 use Rattle.typings.specs.CodeSystems.{function_system}
-use Rattle.typed_program.specs.Pools.{type_at, types}
-use Rattle.typed_program.specs.declared.pool.PoolType.{PoolType}
-use Rattle.typed_program.specs.declared.pool.PoolType.TheVariants.{Plain, Made, Struct, Tuple}
+use Rattle.type_pool.specs.Pools.{type_at, types}
+use Rattle.type_pool.specs.declared.pool.PoolType.{PoolType}
+use Rattle.type_pool.specs.declared.pool.PoolType.TheVariants.{Plain, Made, Struct, Tuple}
 use Rattle.control_paths.specs.Events.{Rule}
 use Rattle.control_paths.specs.Rules.{BodyFacts}
 use Rattle.asked_abilities.specs.declared.entry.JudgedTypes.{JudgedTypes}

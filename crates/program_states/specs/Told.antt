@@ -5,7 +5,7 @@ use Rattle.pv_types.specs.declared.declaration.Function.{Function}
 use Rattle.pv_types.specs.declared.program.Program.{Program}
 use Rattle.typings.specs.Answers.{IsTyped}
 use Rattle.typings.specs.CodeSystems.{function_system}
-use Rattle.typed_program.specs.Pools.{type_at, types}
+use Rattle.type_pool.specs.Pools.{type_at, types}
 use Rattle.program_states.specs.declared.told.FunctionTypes.{FunctionTypes}
 
 -- the function is typed, and these are the numbers of the types of its places

@@ -1,6 +1,6 @@
 //! What is known of the types of a typed function's places.
 
-use typed_program::pool::TypePool;
+use type_pool::pool::TypePool;
 
 /// For each place of a function (its nodes, its locals, the type arguments of its nodes) the number of its type in a
 /// pool.

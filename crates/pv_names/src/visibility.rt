@@ -14,10 +14,10 @@ pub fn same_module(left: &ModuleId, right: &ModuleId) -> bool
 }
 
 /// Whether a module is among others.
-fn is_among(modules: &[ModuleId], module: &ModuleId) -> bool
-    ensures { IsTrue result ↔ Contains modules.now module.now }
+fn is_among(modules: &[ModuleId], sought: &ModuleId) -> bool
+    ensures { IsTrue result ↔ Contains modules.now sought.now }
 {
-    modules.contains(module)
+    modules.contains(sought)
 }
 
 /// Whether a function that its module, with these friends, declares with this visibility may be called in the module

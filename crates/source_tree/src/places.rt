@@ -77,8 +77,8 @@ fn first_place(attributes: &[Attribute], place: Span) -> Span
 }
 
 /// The place of a module's first token, which may be that of an attribute.
-pub fn module_place(module: &SourceModule) -> Span
-    ensures { result ≡ module_place module.now }
+pub fn module_place(source_module: &SourceModule) -> Span
+    ensures { result ≡ module_place source_module.now }
 {
-    first_place(&module.attributes, module.place)
+    first_place(&source_module.attributes, source_module.place)
 }

@@ -2,7 +2,7 @@
 
 ghost use Rattle.std.specs.Prelude.{◌≡◌, ◌↔◌, List, IsTrue, IfOk};
 ghost use Rattle.declaration_places.specs.Order.{IsFirstOrNone};
-ghost use Rattle.typed_program.specs.declared.pool.PoolType.{PoolType};
+ghost use Rattle.type_pool.specs.declared.pool.PoolType.{PoolType};
 ghost use Rattle.std.specs.List.{list_all};
 ghost use Rattle.typings.specs.Faults.{spec_signature_is_proper};
 ghost use Rattle.typings.specs.ProperTypes.{is_proper_single};
@@ -22,7 +22,7 @@ use pv_types::declaration::{SpecFunction, TypedName};
 use pv_types::program::Program;
 use spec_typings::typing::{SpecTyping, function_typing};
 use std::alloc::Global;
-use typed_program::pool::TypePool;
+use type_pool::pool::TypePool;
 
 /// Whether each of these parameters has a type that it may have.
 fn are_proper(program: &Program, parameters: &[TypedName]) -> bool

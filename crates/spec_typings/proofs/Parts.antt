@@ -6,9 +6,9 @@ use Rattle.std.proofs.Math.Seq.{take-length}
 use Rattle.std.proofs.lemmas.List.{map-append, take_more}
 use Rattle.std.proofs.lemmas.List.Elements.{All-head, All-tail}
 use Rattle.pv_base.specs.TypeData.{TypeData}
-use Rattle.typed_program.specs.declared.pool.PoolType.{PoolType}
-use Rattle.typed_program.specs.declared.pool.PoolType.TheVariants.{Made, Struct, Tuple}
-use Rattle.typed_program.specs.Pools.{IsBelow}
+use Rattle.type_pool.specs.declared.pool.PoolType.{PoolType}
+use Rattle.type_pool.specs.declared.pool.PoolType.TheVariants.{Made, Struct, Tuple}
+use Rattle.type_pool.specs.Pools.{IsBelow}
 use Rattle.pv_base.specs.declared.types.StructId.{StructId}
 use Rattle.typings.specs.declared.sort.Wrap.{Wrap}
 

@@ -14,8 +14,8 @@ use Rattle.type_places.specs.declared.slots.Slot.{Slot}
 use Rattle.demand_solving.specs.Walked.{Walked, WalkSays}
 use Rattle.demand_solving.specs.declared.walk.Reading.{Reading}
 use Rattle.demand_solving.specs.declared.walk.Reading.TheVariants.{Whole, Stopped, Clash}
-use Rattle.typed_program.specs.Pools.{type_at, types}
-use Rattle.typed_program.specs.declared.pool.PoolType.{PoolType}
+use Rattle.type_pool.specs.Pools.{type_at, types}
+use Rattle.type_pool.specs.declared.pool.PoolType.{PoolType}
 use Rattle.chosen_types.specs.Choices.{AreTypes, ChoiceSays, LeavesNoTyping, PlaceSays, TypesAsKnown}
 use Rattle.chosen_types.specs.Numbers.{number_at}
 use Rattle.spec_systems.specs.declared.systems.Walk.{Walk}

@@ -1,8 +1,8 @@
 -- What typing a clause or a spec function tells.
 use Rattle.std.specs.Prelude.{◌<◌, All, List, length, map}
 use Rattle.typings.specs.Answers.{System, IsUntypable, IsAmbiguous, IsTyped}
-use Rattle.typed_program.specs.Pools.{type_at, types}
-use Rattle.typed_program.specs.declared.pool.PoolType.{PoolType}
+use Rattle.type_pool.specs.Pools.{type_at, types}
+use Rattle.type_pool.specs.declared.pool.PoolType.{PoolType}
 use Rattle.chosen_types.specs.Choices.{AreTypes}
 use Rattle.spec_typings.specs.declared.typing.SpecTyping.{SpecTyping}
 use Rattle.spec_typings.specs.declared.typing.SpecTyping.TheVariants.{Untypable, Ambiguous, Typed}

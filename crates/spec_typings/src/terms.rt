@@ -3,12 +3,12 @@
 ghost use Rattle.std.specs.Prelude.{◌≡◌, ◌<◌, length, map, All, IfOk};
 ghost use Rattle.pv_base.specs.TypeData.{StructType, TupleType, types_of};
 ghost use Rattle.typings.specs.Sorts.{made};
-ghost use Rattle.typed_program.specs.Pools.{plain_type, type_at, types};
+ghost use Rattle.type_pool.specs.Pools.{plain_type, type_at, types};
 
 use pv_base::memory::NoMemory;
 use pv_base::types::{StructId, TypeList, TypeNode, TypeTerm};
 use std::alloc::Global;
-use typed_program::pool::{PlainType, PoolType, TypePool};
+use type_pool::pool::{PlainType, PoolType, TypePool};
 use typings::sort::Wrap;
 
 fn plain_term(of: PlainType) -> TypeTerm

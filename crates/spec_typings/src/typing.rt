@@ -6,7 +6,7 @@ ghost use Rattle.spec_demands.specs.Settings.{names_of, owner_types};
 ghost use Rattle.clause_demands.specs.Blocks.{block_of};
 ghost use Rattle.typings.specs.Answers.{System};
 ghost use Rattle.typings.specs.Clauses.{clause_system, spec_function_system};
-ghost use Rattle.typed_program.specs.declared.pool.PoolType.{PoolType};
+ghost use Rattle.type_pool.specs.declared.pool.PoolType.{PoolType};
 ghost use Rattle.chosen_types.specs.Choices.{AreTypes, PlaceSays};
 ghost use Rattle.chosen_types.specs.Numbers.{Keeps, number_at};
 ghost use Rattle.code_typings.specs.Plain.{AreCodeTypes};
@@ -26,7 +26,7 @@ use spec_demands::setting::Names;
 use spec_systems::systems::{Walk, read_clause, read_function};
 use std::alloc::Global;
 use type_places::slots::Slot;
-use typed_program::pool::TypePool;
+use type_pool::pool::TypePool;
 
 /// How a clause or a spec function is typed.
 #[derive(Drop)]

@@ -12,7 +12,7 @@ use Rattle.declaration_places.specs.Same.{same_schema}
 use Rattle.typings.specs.Faults.{variables_are_proper}
 use Rattle.standing_clauses.specs.Judged.{IncludesImproper}
 use Rattle.pv_base.specs.TypeData.{TypeData}
-use Rattle.typed_program.specs.declared.pool.PoolType.{PoolType}
+use Rattle.type_pool.specs.declared.pool.PoolType.{PoolType}
 use Rattle.typings.specs.Answers.{System, IsTyped, IsAmbiguous, IsUntypable}
 use Rattle.spec_typings.specs.Typed.{SpecTypingSays}
 use Rattle.spec_typings.specs.declared.typing.SpecTyping.{SpecTyping}

@@ -3,8 +3,8 @@ use Rattle.std.proofs.Common.{◌≡◌, ℕ, suc, ◌+◌, ◌-◌, ◌<◌, �
 use Rattle.std.specs.Prelude.{IfOk, slice_get}
 use Rattle.std.proofs.lemmas.Option.{slice_get_within}
 use Rattle.pv_base.specs.TypeData.{TypeData}
-use Rattle.typed_program.specs.Pools.{type_at, types}
-use Rattle.typed_program.specs.declared.pool.PoolType.{PoolType}
+use Rattle.type_pool.specs.Pools.{type_at, types}
+use Rattle.type_pool.specs.declared.pool.PoolType.{PoolType}
 use Rattle.typings.specs.Answers.{System, HasType, IsUntypable}
 use Rattle.chosen_types.specs.Choices.{PlaceSays}
 use Rattle.standing_clauses.specs.Lets.{ArgumentsSay, HasNoType}

@@ -3,7 +3,7 @@
 ghost use Rattle.std.specs.Prelude.{◌≡◌, ◌+◌, ◌≤◌, ℕ, List, IfOk, MatchOption};
 ghost use Rattle.std.specs.Option.{option_map};
 ghost use Rattle.typings.specs.Answers.{System, IsUntypable};
-ghost use Rattle.typed_program.specs.declared.pool.PoolType.{PoolType};
+ghost use Rattle.type_pool.specs.declared.pool.PoolType.{PoolType};
 ghost use Rattle.chosen_types.specs.Choices.{PlaceSays};
 ghost use Rattle.spec_demands.specs.Settings.{let_of};
 ghost use Rattle.spec_typings.specs.Typed.{SpecTypingSays};
@@ -16,7 +16,7 @@ use spec_demands::setting::LetType;
 use spec_typings::terms::term_of;
 use spec_typings::typing::SpecTyping;
 use std::alloc::Global;
-use typed_program::pool::TypePool;
+use type_pool::pool::TypePool;
 
 /// How many places there are, if there are typings.
 pub(crate) fn place_count(typing: &SpecTyping) -> Option<usize>

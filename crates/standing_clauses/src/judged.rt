@@ -9,7 +9,7 @@ ghost use Rattle.pv_types.specs.declared.program.Program.{Program as ProgramData
 ghost use Rattle.std.specs.List.{list_all};
 ghost use Rattle.typings.specs.ProperTypes.{is_proper_single};
 ghost use Rattle.typings.specs.Faults.{Standing};
-ghost use Rattle.typed_program.specs.declared.pool.PoolType.{PoolType};
+ghost use Rattle.type_pool.specs.declared.pool.PoolType.{PoolType};
 ghost use Rattle.code_typings.specs.Plain.{AreCodeTypes};
 ghost use Rattle.spec_demands.specs.Settings.{names_of, owner_types};
 ghost use Rattle.clause_demands.specs.Blocks.{block_of};
@@ -29,7 +29,7 @@ use pv_types::program::Program;
 use spec_demands::setting::{LetType, Names};
 use spec_typings::typing::{SpecTyping, clause_typing};
 use std::alloc::Global;
-use typed_program::pool::TypePool;
+use type_pool::pool::TypePool;
 
 /// The rules of typing that a clause may break.
 #[derive(Clone, Copy, Debug, PartialEq, Eq)]

@@ -73,16 +73,16 @@ fn address_of(address: &Address) -> Option<u128>
 ///
 /// `NotBuilt` exactly where the module is not built, with the place of its own first token where its address is
 /// no number, and else with that of the first member that is not built.
-pub fn read_module(alloc: Global, module: &SourceModule) -> Result<BuiltModule, ModuleFault>
-    ensures { MatchResult result (IsBuilt module.now) (λ fault. IfNotBuiltAt fault (IsUnbuiltAt module.now)) }
+pub fn read_module(alloc: Global, source_module: &SourceModule) -> Result<BuiltModule, ModuleFault>
+    ensures { MatchResult result (IsBuilt source_module.now) (λ fault. IfNotBuiltAt fault (IsUnbuiltAt source_module.now)) }
 {
-    let Some(address) = address_of(&module.name.address) else {
-        return Err(ModuleFault::NotBuilt(module_place(module).start));
+    let Some(address) = address_of(&source_module.name.address) else {
+        return Err(ModuleFault::NotBuilt(module_place(source_module).start));
     };
-    let members = read_members(alloc, &module.members)?;
+    let members = read_members(alloc, &source_module.members)?;
     Ok(BuiltModule {
         address,
-        name: module.name.name.text.try_clone(alloc)?,
+        name: source_module.name.name.text.try_clone(alloc)?,
         members,
     })
 }

@@ -21,10 +21,10 @@ use sum_tree::function::SumModule;
 pub fn read_sum_module(
     alloc: Global,
     file: u32,
-    module: &SourceModule,
+    source_module: &SourceModule,
 ) -> Result<SumModule, ModuleFault>
-    ensures { MatchResult result (IsSumModule file module.now) (λ fault. IfNotBuiltAt fault (IsUnbuiltAt module.now)) }
+    ensures { MatchResult result (IsSumModule file source_module.now) (λ fault. IfNotBuiltAt fault (IsUnbuiltAt source_module.now)) }
 {
-    let built = read_module(alloc, module)?;
+    let built = read_module(alloc, source_module)?;
     Ok(join(alloc, file, built)?)
 }

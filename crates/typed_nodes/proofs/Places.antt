@@ -18,7 +18,7 @@ use Rattle.visibility.specs.Visible.{CodeNode}
 use Rattle.typings.specs.Answers.{HasType, IsTyped}
 use Rattle.typings.specs.CodeSystems.{function_setting, function_system}
 use Rattle.typings.specs.Settings.{arity_of, callee_signature, first_argument, form_arity, node_arity, place_count, unit_type}
-use Rattle.typed_program.specs.Pools.{type_at}
+use Rattle.type_pool.specs.Pools.{type_at}
 use Rattle.typed_nodes.specs.Storage.{IsStorage, IsStorageCall, IsStorageNode}
 
 -- ---- how many type arguments there are

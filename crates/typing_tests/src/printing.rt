@@ -6,7 +6,7 @@ use source_tree::source::Source;
 use std::alloc::Global;
 use std::panic::Expect;
 use std::process::Abort;
-use typed_program::pool::{PlainType, PoolType, TypePool};
+use type_pool::pool::{PlainType, PoolType, TypePool};
 use typings::sort::Wrap;
 
 /// A piece of what is printed of a type: a text, or a type by its number.

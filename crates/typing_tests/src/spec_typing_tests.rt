@@ -16,7 +16,7 @@ use std::alloc::Global;
 use std::panic::Expect;
 use std::process::Abort;
 use std::test::Fail;
-use typed_program::pool::TypePool;
+use type_pool::pool::TypePool;
 
 /// The types of the first so many places.
 fn push_typing(

@@ -10,7 +10,7 @@ use resolution::program::resolve;
 use std::alloc::Global;
 use std::process::Abort;
 use std::test::Fail;
-use typed_program::pool::TypePool;
+use type_pool::pool::TypePool;
 
 fn push_typing(
     rt: &impl Abort,

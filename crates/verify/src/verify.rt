@@ -183,28 +183,28 @@ fn verdict_of_function(conditions: &[ConditionRecord]) -> FunctionVerdict
 fn verify_function<L: Ledger>(
     alloc: Global,
     feeds: &LineFeeds,
-    module: &SumModule,
+    sum_module: &SumModule,
     specified: &SpecifiedFunction,
     steps: &mut Steps<L>,
 ) -> Result<FunctionRecord, NoMemory>
     requires { IsVerifiable specified.now.function }
-    ensures { (bytes : List ℕ) → feeds.now ≡ line_feeds bytes → IfOk result (IsFunctionRecord bytes module.now specified.now) }
+    ensures { (bytes : List ℕ) → feeds.now ≡ line_feeds bytes → IfOk result (IsFunctionRecord bytes sum_module.now specified.now) }
 {
     let function = &specified.function;
     let claims = conditions(alloc, function, specified.clauses.as_slice())?;
     let found = verify_conditions(
         alloc,
         feeds,
-        module.file,
+        sum_module.file,
         function.parameters.as_slice(),
         claims.as_slice(),
         steps,
     )?;
-    let module_name = module.name.try_clone(alloc)?;
+    let module_name = sum_module.name.try_clone(alloc)?;
     let name = function.name.try_clone(alloc)?;
     let verdict = verdict_of_function(found.as_slice());
     Ok(FunctionRecord {
-        address: module.address,
+        address: sum_module.address,
         module_name,
         name,
         verdict,
@@ -216,15 +216,15 @@ fn verify_function<L: Ledger>(
 fn verify_module<L: Ledger>(
     alloc: Global,
     feeds: &LineFeeds,
-    module: &SumModule,
+    sum_module: &SumModule,
     records: &mut Vec<FunctionRecord>,
     steps: &mut Steps<L>,
 ) -> Result<(), NoMemory>
-    requires { All (λ f. IsVerifiable f.function) module.now.functions }
-    ensures { (bytes : List ℕ) → feeds.now ≡ line_feeds bytes → OnOk result (ArePutBehind (IsFunctionRecord bytes module.now) module.now.functions records.old.items records.new.items) }
+    requires { All (λ f. IsVerifiable f.function) sum_module.now.functions }
+    ensures { (bytes : List ℕ) → feeds.now ≡ line_feeds bytes → OnOk result (ArePutBehind (IsFunctionRecord bytes sum_module.now) sum_module.now.functions records.old.items records.new.items) }
 {
-    for specified in &module.functions {
-        records.push(verify_function(alloc, feeds, module, specified, steps)?)?;
+    for specified in &sum_module.functions {
+        records.push(verify_function(alloc, feeds, sum_module, specified, steps)?)?;
     }
     Ok(())
 }

@@ -19,11 +19,11 @@ use Rattle.typings.specs.Settings.{first_argument, node_arity, arity_of, callee_
 use Rattle.typings.specs.Answers.{System, HasType, HasTyping, NodeIsRead}
 use Rattle.typings.specs.CodeSystems.{function_setting, function_system}
 use Rattle.typings.specs.Calls.{Mentions, Parameter, is_wrapped, CarriesIn, Carries, Once, Then, IsWrapping}
-use Rattle.typed_program.specs.Pools.{type_at, type_of, types}
-use Rattle.typed_program.specs.declared.pool.PlainType.TheVariants.{Param}
-use Rattle.typed_program.specs.declared.pool.PoolType.{PoolType}
-use Rattle.typed_program.specs.declared.pool.PoolType.TheVariants.{Plain}
-use Rattle.typed_program.proofs.Standing.{type_read}
+use Rattle.type_pool.specs.Pools.{type_at, type_of, types}
+use Rattle.type_pool.specs.declared.pool.PlainType.TheVariants.{Param}
+use Rattle.type_pool.specs.declared.pool.PoolType.{PoolType}
+use Rattle.type_pool.specs.declared.pool.PoolType.TheVariants.{Plain}
+use Rattle.type_pool.proofs.Standing.{type_read}
 use Rattle.marked_circles.specs.declared.edge.MarkedEdge.{MarkedEdge}
 use Rattle.marked_circles.specs.MarkedCircles.{IsEdge, Leads, Directly, Over, IsOnMarkedCircle}
 use Rattle.marked_circles.proofs.MadeGraphs.{leads_join}

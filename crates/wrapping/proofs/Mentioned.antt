@@ -7,11 +7,11 @@ use Rattle.typings.specs.declared.sort.Wrap.{Wrap}
 use Rattle.typings.specs.declared.sort.Wrap.TheVariants.{Vector, Shared, Mutable}
 use Rattle.typings.specs.Sorts.{made}
 use Rattle.typings.specs.Calls.{Mentions, MentionedIn, is_wrapped}
-use Rattle.typed_program.specs.Pools.{type_at, type_of, IsBelow}
-use Rattle.typed_program.specs.declared.pool.PlainType.{PlainType}
-use Rattle.typed_program.specs.declared.pool.PlainType.TheVariants.{Bool as bool_type, Int, Num, Address, Signer, Param}
-use Rattle.typed_program.specs.declared.pool.PoolType.{PoolType}
-use Rattle.typed_program.specs.declared.pool.PoolType.TheVariants.{Plain, Made, Struct, Tuple}
+use Rattle.type_pool.specs.Pools.{type_at, type_of, IsBelow}
+use Rattle.type_pool.specs.declared.pool.PlainType.{PlainType}
+use Rattle.type_pool.specs.declared.pool.PlainType.TheVariants.{Bool as bool_type, Int, Num, Address, Signer, Param}
+use Rattle.type_pool.specs.declared.pool.PoolType.{PoolType}
+use Rattle.type_pool.specs.declared.pool.PoolType.TheVariants.{Plain, Made, Struct, Tuple}
 use Rattle.wrapping.proofs.Shapes.{IsPart}
 
 one_of : (n m : ℕ) → Contains (n ∷ []) m → m ≡ n

@@ -15,10 +15,10 @@ use Rattle.declaration_places.specs.Same.{same_function}
 use Rattle.visibility.specs.Visible.{CodeNode}
 use Rattle.typings.specs.Settings.{first_argument}
 use Rattle.typings.specs.CodeSystems.{function_setting}
-use Rattle.typed_program.specs.declared.pool.PlainType.{PlainType}
-use Rattle.typed_program.specs.declared.pool.PlainType.TheVariants.{Param}
-use Rattle.typed_program.specs.declared.pool.PoolType.{PoolType}
-use Rattle.typed_program.specs.declared.pool.PoolType.TheVariants.{Plain, Made, Struct, Tuple}
+use Rattle.type_pool.specs.declared.pool.PlainType.{PlainType}
+use Rattle.type_pool.specs.declared.pool.PlainType.TheVariants.{Param}
+use Rattle.type_pool.specs.declared.pool.PoolType.{PoolType}
+use Rattle.type_pool.specs.declared.pool.PoolType.TheVariants.{Plain, Made, Struct, Tuple}
 use Rattle.marked_circles.specs.declared.edge.MarkedEdge.{MarkedEdge}
 use Rattle.wrapping.specs.declared.rows.Row.{Row}
 use Rattle.wrapping.specs.declared.told.PlaceTypes.{PlaceTypes}

@@ -3,8 +3,8 @@ use Rattle.std.specs.Prelude.{◌≡◌, ◌↔◌, ℕ, ◌+◌, ◌<◌, ◌�
 use Rattle.pv_base.specs.declared.types.FunctionId.{FunctionId}
 use Rattle.pv_types.specs.declared.declaration.Function.{Function}
 use Rattle.pv_types.specs.declared.program.Program.{Program}
-use Rattle.typed_program.specs.declared.pool.PoolType.{PoolType}
-use Rattle.typed_program.specs.Pools.{IsBelow}
+use Rattle.type_pool.specs.declared.pool.PoolType.{PoolType}
+use Rattle.type_pool.specs.Pools.{IsBelow}
 use Rattle.wrapping.specs.declared.rows.Row.{Row}
 use Rattle.wrapping.specs.declared.rows.Numbering.{Numbering}
 use Rattle.wrapping.specs.Told.{AreTold}

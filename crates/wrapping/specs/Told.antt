@@ -7,7 +7,7 @@ use Rattle.pv_types.specs.declared.program.Program.{Program}
 use Rattle.typings.specs.Settings.{place_count}
 use Rattle.typings.specs.Answers.{HasType, HasTyping, NodeIsRead}
 use Rattle.typings.specs.CodeSystems.{function_setting, function_system}
-use Rattle.typed_program.specs.Pools.{type_at, types}
+use Rattle.type_pool.specs.Pools.{type_at, types}
 use Rattle.wrapping.specs.declared.told.PlaceTypes.{PlaceTypes}
 
 -- each place has the type whose number is told, and none where no number is; and where there are typings, so many nodes, the

@@ -2,7 +2,7 @@
 
 ghost use Rattle.std.specs.Prelude.{◌≡◌, ◌≤◌, ◌<◌, ◌+◌, ◌++◌, ℕ, All, length, slice_get, Some, IfOk, OnOk};
 ghost use Rattle.typings.specs.Settings.{arity_of, callee_signature, node_arity};
-ghost use Rattle.typed_program.specs.Pools.{IsBelow};
+ghost use Rattle.type_pool.specs.Pools.{IsBelow};
 ghost use Rattle.wrapping.specs.declared.told.PlaceTypes.{PlaceTypes as PlaceTypesData};
 ghost use Rattle.wrapping.specs.Edges.{argument_edge, argument_edges, at_entry, at_function, at_node, callee_edges, edges_of, entry_edges, is_number, node_edges, of_option, part_edges, pieces, plain_edges, type_node};
 ghost use Rattle.wrapping.specs.Rows.{IsNumbering, PartsAreBelow, row_end};
@@ -17,7 +17,7 @@ use pv_types::arena::Node;
 use pv_types::code::{Callee, CodeBinary, CodeLeaf, CodeMany, CodeUnary};
 use pv_types::declaration::Function;
 use std::alloc::Global;
-use typed_program::pool::{PlainType, PoolType, TypePool};
+use type_pool::pool::{PlainType, PoolType, TypePool};
 
 /// From each part of a type to the type, behind others.
 fn push_parts(

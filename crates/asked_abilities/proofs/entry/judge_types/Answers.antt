@@ -1,6 +1,6 @@
 use Rattle.std.proofs.Common.{List, length, refl, ◌∙◌, ap, arith}
 use Rattle.std.proofs.lemmas.List.{length_push}
-use Rattle.typed_program.specs.Pools.{types}
+use Rattle.type_pool.specs.Pools.{types}
 use Rattle.asked_abilities.specs.declared.entry.Judged.{Judged}
 use Rattle.asked_abilities.specs.declared.entry.JudgedTypes.{JudgedTypes}
 use Rattle.asked_abilities.proofs.Entries.{parts_told, told_more}

@@ -1,5 +1,5 @@
 use Rattle.std.proofs.Common.{◌≡◌, ◌-◌, length}
-use Rattle.typed_program.specs.Pools.{types}
+use Rattle.type_pool.specs.Pools.{types}
 use Rattle.asked_abilities.specs.Entries.{TellsTypes}
 use Rattle.asked_abilities.proofs.entry.judge_types.Given as goal
 

@@ -1,5 +1,5 @@
 use Rattle.std.proofs.Common.{sym, ◌∙◌, arith}
-use Rattle.typed_program.specs.Pools.{types}
+use Rattle.type_pool.specs.Pools.{types}
 use Rattle.barred_uses.proofs.Deciding.{a_number, no_number, number_says}
 use Rattle.barred_uses.proofs.nodes.storage_bars.Goals as goal
 

@@ -1,5 +1,5 @@
 use Rattle.std.proofs.Common.{◌≡◌, ◌<◌, length, map, take, All}
-use Rattle.typed_program.specs.Pools.{type_at, types}
+use Rattle.type_pool.specs.Pools.{type_at, types}
 use Rattle.chosen_types.specs.Numbers.{Keeps}
 use Rattle.chosen_types.proofs.pooled.+add_type.Given as goal
 

@@ -1,7 +1,7 @@
 use Rattle.std.proofs.Common.{refl}
 use Rattle.typings.specs.Sorts.{made}
-use Rattle.typed_program.specs.Pools.{type_at, types}
-use Rattle.typed_program.specs.declared.pool.PoolType.TheVariants.{Made}
+use Rattle.type_pool.specs.Pools.{type_at, types}
+use Rattle.type_pool.specs.declared.pool.PoolType.TheVariants.{Made}
 use Rattle.chosen_types.proofs.Pooling.{ok_keeps, ok_type}
 use Rattle.chosen_types.proofs.pooled.add_made.Goals as goal
 

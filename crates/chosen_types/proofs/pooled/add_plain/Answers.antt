@@ -1,6 +1,6 @@
 use Rattle.std.proofs.Common.{refl}
-use Rattle.typed_program.specs.Pools.{plain_type}
-use Rattle.typed_program.specs.declared.pool.PoolType.TheVariants.{Plain}
+use Rattle.type_pool.specs.Pools.{plain_type}
+use Rattle.type_pool.specs.declared.pool.PoolType.TheVariants.{Plain}
 use Rattle.chosen_types.proofs.Pooling.{ok_keeps, ok_type}
 use Rattle.chosen_types.proofs.pooled.add_plain.Goals as goal
 

@@ -1,8 +1,8 @@
 use Rattle.std.proofs.Common.{map, ap}
 use Rattle.pv_base.specs.TypeData.{StructType, types_of}
 use Rattle.pv_base.specs.declared.types.StructId.{StructId}
-use Rattle.typed_program.specs.Pools.{type_at, types}
-use Rattle.typed_program.specs.declared.pool.PoolType.TheVariants.{Struct}
+use Rattle.type_pool.specs.Pools.{type_at, types}
+use Rattle.type_pool.specs.declared.pool.PoolType.TheVariants.{Struct}
 use Rattle.chosen_types.proofs.Pooling.{ok_keeps, ok_type}
 use Rattle.chosen_types.proofs.pooled.add_struct.Goals as goal
 

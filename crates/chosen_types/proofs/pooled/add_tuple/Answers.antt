@@ -1,7 +1,7 @@
 use Rattle.std.proofs.Common.{map, refl}
 use Rattle.pv_base.specs.TypeData.{TupleType, types_of}
-use Rattle.typed_program.specs.Pools.{type_at, types}
-use Rattle.typed_program.specs.declared.pool.PoolType.TheVariants.{Tuple}
+use Rattle.type_pool.specs.Pools.{type_at, types}
+use Rattle.type_pool.specs.declared.pool.PoolType.TheVariants.{Tuple}
 use Rattle.chosen_types.proofs.Pooling.{ok_keeps, ok_type}
 use Rattle.chosen_types.proofs.pooled.add_tuple.Goals as goal
 

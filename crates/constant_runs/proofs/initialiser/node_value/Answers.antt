@@ -1,5 +1,5 @@
 use Rattle.std.proofs.Common.{ℕ, None, get_or, refl}
-use Rattle.typed_program.specs.Pools.{type_of}
+use Rattle.type_pool.specs.Pools.{type_of}
 use Rattle.constant_runs.proofs.initialiser.node_value.Goals as goal
 
 pub returns-in-Leaf : goal.returns-in-Leaf

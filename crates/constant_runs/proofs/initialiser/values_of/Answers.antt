@@ -3,7 +3,7 @@ use Rattle.std.specs.Prelude.{slice_get, Some}
 use Rattle.std.proofs.lemmas.List.{length_push}
 use Rattle.pv_base.specs.TypeData.{TypeData}
 use Rattle.pv_types.specs.Trees.{IsBelow}
-use Rattle.typed_program.specs.Pools.{type_of, types}
+use Rattle.type_pool.specs.Pools.{type_of, types}
 use Rattle.typings.specs.declared.constant.ConstantValue.{ConstantValue}
 use Rattle.typings.specs.ConstantRuns.{node_value}
 use Rattle.constant_runs.specs.Told.{TellsRuns, told_type}

@@ -1,6 +1,6 @@
 use Rattle.std.proofs.Common.{◌∙◌, arith}
 use Rattle.std.proofs.lemmas.Bool.{both_ways}
-use Rattle.typed_program.specs.Pools.{types}
+use Rattle.type_pool.specs.Pools.{types}
 use Rattle.typed_nodes.proofs.Places.{count, nodes_within, storage_within}
 use Rattle.listed_acquires.proofs.Functions.{lacks_found, lacks_nothing, more_clear, node_step, none_clear, none_looked}
 use Rattle.listed_acquires.proofs.function.lacks_acquires.Goals as goal

@@ -7,7 +7,7 @@ use Rattle.program_read.proofs.locals.excess_of_module.Goals as goal
 
 pub returns-in-Some : goal.returns-in-Some
 returns-in-Some c =
-    let members = c.deref-member-items.ensures.value ∙ ap (λ (m : SourceModuleData). m.members) c.«module».view_is in
+    let members = c.deref-member-items.ensures.value ∙ ap (λ (m : SourceModuleData). m.members) c.source_module.view_is in
     let form = ap (λ (m : SourceMemberData). m.form) c.member.view_is ∙ ap (λ (m : SourceMemberData). m.form) c.member-item.is in
     sym (ap (first_of excess_of_member) (sym members)
     ∙ some_at excess_of_member c.deref-member-items.result.now c.loop-member.member-index c.member-item.result c.in-Some.count c.loop-member-test.true c.loop-member.invariant

@@ -3,7 +3,7 @@ use Rattle.std.proofs.lemmas.Result.{IfOk-weaker}
 use Rattle.pv_types.specs.declared.declaration.TypeParameter.{TypeParameter}
 use Rattle.typings.specs.Asked.{given_abilities}
 use Rattle.typed_nodes.proofs.Places.{nodes_within}
-use Rattle.typed_program.specs.Pools.{types}
+use Rattle.type_pool.specs.Pools.{types}
 use Rattle.program_states.proofs.Bodies.{all_told, from_first, judged_body}
 use Rattle.program_states.proofs.locals.abilities_of.Goals as goal
 

@@ -1,5 +1,5 @@
 use Rattle.std.proofs.Common.{◌≡◌, ◌+◌, ◌*◌, map, take}
-use Rattle.typed_program.specs.Pools.{type_at, types}
+use Rattle.type_pool.specs.Pools.{type_at, types}
 use Rattle.spec_typings.proofs.Parts.{above}
 use Rattle.spec_typings.proofs.terms.+term_of.Given as goal
 

@@ -7,8 +7,8 @@ use Rattle.sum_module.proofs.module.read_module.Goals as goal
 
 pub returns-in_err-members : goal.returns-in_err-members
 returns-in_err-members c =
-    let is : address_of c.args.«module».now.name.address ≡ Some c.in-Some.address = search rules in
-    let members = c.deref.ensures.value ∙ ap (λ (m : SourceModuleData). m.members) c.«module».view_is in
-    hands_on c.from_residual.result _ _ _ (IsUnbuiltAt c.args.«module».now) c.from_residual.ensures.1
+    let is : address_of c.args.source_module.now.name.address ≡ Some c.in-Some.address = search rules in
+    let members = c.deref.ensures.value ∙ ap (λ (m : SourceModuleData). m.members) c.source_module.view_is in
+    hands_on c.from_residual.result _ _ _ (IsUnbuiltAt c.args.source_module.now) c.from_residual.ensures.1
     (λ place first. inr (record { address = c.in-Some.address; address_is = is; first = first }))
     (subst (λ ms. IfNotBuiltAt c.in_err-members.field-0.0 (IsFirstUnbuilt ms)) members c.in_err-members.ensures)

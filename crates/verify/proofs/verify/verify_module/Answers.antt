@@ -9,10 +9,10 @@ use Rattle.verify.proofs.verify.verify_module.Goals as goal
 
 pub loop-specified-preserved : goal.loop-specified-preserved
 loop-specified-preserved g c = λ bytes e.
-    let R : SpecifiedFunctionData → FunctionRecordData → Type 0 = IsFunctionRecord bytes c.args.«module».now in
+    let R : SpecifiedFunctionData → FunctionRecordData → Type 0 = IsFunctionRecord bytes c.args.sum_module.now in
     let i = c.loop-specified.specified-index in
     let shown : List SpecifiedFunctionData = c.deref-specified-items.result.now in
-    let same : shown ≡ c.args.«module».now.functions = c.deref-specified-items.ensures.value ∙ ap (λ (m : SumModuleData). m.functions) c.«module».view_is in
+    let same : shown ≡ c.args.sum_module.now.functions = c.deref-specified-items.ensures.value ∙ ap (λ (m : SumModuleData). m.functions) c.sum_module.view_is in
     let before : List FunctionRecordData = c.args.records.now.items in
     let found : FunctionRecordData = c.in_ok-verify_function.field-0 in
     subst (λ xs. ArePutBehind R (take (i + 1) xs) before c.push.new.self.items) same

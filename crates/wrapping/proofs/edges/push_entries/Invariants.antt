@@ -1,7 +1,7 @@
 use Rattle.std.proofs.Common.{◌≡◌, ◌++◌, ◌<◌, ℕ, Some}
 use Rattle.std.specs.Prelude.{slice_get}
-use Rattle.typed_program.specs.Pools.{IsBelow}
-use Rattle.typed_program.specs.declared.pool.PoolType.{PoolType}
+use Rattle.type_pool.specs.Pools.{IsBelow}
+use Rattle.type_pool.specs.declared.pool.PoolType.{PoolType}
 use Rattle.wrapping.specs.Edges.{at_entry, pieces}
 use Rattle.wrapping.proofs.edges.push_entries.Given as goal
 

@@ -1,6 +1,6 @@
 use Rattle.std.proofs.Common.{◌≡◌}
-use Rattle.typed_program.proofs.Standing.{types-push}
-use Rattle.typed_program.proofs.pool.TypePool.add.Goals as goal
+use Rattle.type_pool.proofs.Standing.{types-push}
+use Rattle.type_pool.proofs.pool.TypePool.add.Goals as goal
 
 pub returns-clause-types : goal.returns-clause-types
 returns-clause-types c =

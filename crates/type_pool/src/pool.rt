@@ -1,7 +1,7 @@
 //! Types in one list, each behind its parts, so that a part that several types share stands there once.
 
 ghost use Rattle.std.specs.Prelude.{◌≡◌, ◌<◌, ◌++◌, ◌∷◌, [], length, IfOk, OnOk, OnErr, slice_get, Some};
-ghost use Rattle.typed_program.specs.Pools.{IsBelow, type_at, type_of, types};
+ghost use Rattle.type_pool.specs.Pools.{IsBelow, type_at, type_of, types};
 
 use pv_base::memory::NoMemory;
 use pv_base::types::{StructId, Width};
@@ -38,8 +38,8 @@ pub struct TypePool {
 
 impl Model for TypePool {
     ghost use Rattle.std.specs.Prelude.{List};
-    ghost use Rattle.typed_program.specs.declared.pool.PoolType.{PoolType};
-    ghost use Rattle.typed_program.specs.Pools.{AreBelow};
+    ghost use Rattle.type_pool.specs.declared.pool.PoolType.{PoolType};
+    ghost use Rattle.type_pool.specs.Pools.{AreBelow};
 
     ghost Value = { List PoolType };
 

@@ -7,9 +7,9 @@ use Rattle.std.proofs.Math.Seq.{get_or-append_seam}
 use Rattle.std.proofs.lemmas.List.Elements.{All-head, All-tail}
 use Rattle.pv_base.specs.TypeData.{TypeData, StructType, TupleType, NoTypes, types_of}
 use Rattle.typings.specs.Sorts.{made}
-use Rattle.typed_program.specs.declared.pool.PoolType.{PoolType}
-use Rattle.typed_program.specs.declared.pool.PoolType.TheVariants.{Plain, Made, Struct, Tuple}
-use Rattle.typed_program.specs.Pools.{type_at, type_of, types_in, types, IsBelow, Grows}
+use Rattle.type_pool.specs.declared.pool.PoolType.{PoolType}
+use Rattle.type_pool.specs.declared.pool.PoolType.TheVariants.{Plain, Made, Struct, Tuple}
+use Rattle.type_pool.specs.Pools.{type_at, type_of, types_in, types, IsBelow, Grows}
 
 at-append : (ts more : List TypeData) (i : ℕ) → i < length ts → type_at (ts ++ more) i ≡ type_at ts i
 at-append ts more i h = get_or_append_left ts more (TupleType NoTypes) i h

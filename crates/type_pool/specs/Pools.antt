@@ -2,10 +2,10 @@
 use Rattle.std.specs.Prelude.{◌≡◌, ℕ, ◌<◌, List, [], ◌∷◌, ◌++◌, length, map, All, slice_index_or}
 use Rattle.pv_base.specs.TypeData.{TypeData, BoolType, IntType, NumType, AddressType, SignerType, StructType, ParamType, TupleType, NoTypes, types_of}
 use Rattle.typings.specs.Sorts.{made}
-use Rattle.typed_program.specs.declared.pool.PlainType.{PlainType}
-use Rattle.typed_program.specs.declared.pool.PlainType.TheVariants.{Bool, Int, Num, Address, Signer, Param}
-use Rattle.typed_program.specs.declared.pool.PoolType.{PoolType}
-use Rattle.typed_program.specs.declared.pool.PoolType.TheVariants.{Plain, Made, Struct, Tuple}
+use Rattle.type_pool.specs.declared.pool.PlainType.{PlainType}
+use Rattle.type_pool.specs.declared.pool.PlainType.TheVariants.{Bool, Int, Num, Address, Signer, Param}
+use Rattle.type_pool.specs.declared.pool.PoolType.{PoolType}
+use Rattle.type_pool.specs.declared.pool.PoolType.TheVariants.{Plain, Made, Struct, Tuple}
 
 abbrev pub plain_type : PlainType → TypeData
 plain_type Bool = BoolType
