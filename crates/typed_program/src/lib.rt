@@ -1,0 +1,5 @@
+//! A program with the types of all that is typed in it.
+#![tactic(auto)]
+
+pub mod program;
+mod tables;
