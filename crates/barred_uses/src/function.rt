@@ -20,8 +20,8 @@ use pv_types::code::Body;
 use pv_types::declaration::Function;
 use pv_types::program::{ModuleId, Program};
 use std::alloc::Global;
-use typed_nodes::first::{first_of_all, first_of_next};
 use type_pool::pool::TypePool;
+use typed_nodes::first::{first_of_all, first_of_next};
 
 /// How many nodes are read, where so many steps are: what is declared is the step before the first node.
 fn nodes_read(body: &Body, steps: usize) -> usize

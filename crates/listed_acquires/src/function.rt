@@ -16,8 +16,8 @@ use pv_types::declaration::Function;
 use pv_types::program::Program;
 use pv_types::table::Table;
 use std::alloc::Global;
-use typed_nodes::first::{first_of_all, first_of_next};
 use type_pool::pool::TypePool;
+use typed_nodes::first::{first_of_all, first_of_next};
 
 /// Whether a struct that the function has to list in `acquires` is missing, by the numbers in the pool of the types of its
 /// places. What a function lists that is called is looked at once, however often it is called.
