@@ -1,0 +1,4 @@
+//! The classes of the terms of a branch: which terms are joined by its equations, and which formulas are alike.
+#![tactic(auto)]
+
+pub mod laws;
