@@ -112,7 +112,7 @@ text_keeps = behind_keeps (tokens_stage ▷ length_stage) nesting_stage (behind_
 pub read_keeps : KeepsCount (text_stages ▷ source_stage)
 read_keeps = behind_keeps text_stages source_stage text_keeps (makes_keeps Denote DenoteNone)
 
-source_keeps : KeepsCount source_stages
+pub source_keeps : KeepsCount source_stages
 source_keeps = behind_keeps (text_stages ▷ source_stage) locals_stage read_keeps (checks_keeps HasFewLocals HasManyLocals)
 
 -- the sources that keep the rules are as many as the files

@@ -3,6 +3,7 @@
 
 pub mod bounds;
 pub mod fault;
+pub mod front;
 pub mod locals;
 pub mod modules;
 pub mod names;

@@ -1,8 +1,9 @@
-//! That declarations have types, and that code does to values and locals what their types let it.
+//! The types of declarations, where code does to values and locals what their types let it.
 
-ghost use Rattle.std.specs.Prelude.{◌≡◌, List, MatchResult};
+ghost use Rattle.std.specs.Prelude.{◌≡◌, List, IfOk, MatchResult};
 ghost use Rattle.source_tree.specs.SourceModuleData.{SourceModuleData};
 ghost use Rattle.declaration_circles.specs.Circular.{HasNoCircle, schema_kind};
+ghost use Rattle.typed_program.specs.TypedPrograms.{IsTypedProgram};
 ghost use Rattle.program_read.specs.FileFault.{IfInFile};
 ghost use Rattle.program_read.specs.Named.{named};
 ghost use Rattle.program_read.specs.Typed.{type_stages};
@@ -11,7 +12,8 @@ use crate::fault::ProgramFault;
 use answers::rule::Rule;
 use pv_types::program::Program;
 use std::alloc::Global;
-use typing::typing::{TypeFault, type_program};
+use typed_program::program::{TypedProgram, type_program};
+use typing::typing::TypeFault;
 
 impl From<TypeFault> for ProgramFault {
     ghost use Rattle.program_read.specs.TypeFaults.{fault_of};
@@ -31,16 +33,16 @@ impl From<TypeFault> for ProgramFault {
     }
 }
 
-/// That a program keeps the rules on types and locals, whatever sources it is of.
+/// The types of a program that keeps the rules on types and locals, whatever sources it is of.
 ///
 /// # Errors
 ///
 /// In this order, each over all declarations before the next: `NoTyping`, `Ambiguous`, `Ability`, `Acquires`, `Unassigned`
 /// and `Undropped`, each exactly where its rule is broken, with the first declaration that breaks it.
-pub fn check_types(alloc: Global, program: &Program) -> Result<(), ProgramFault>
-    requires { HasNoCircle (schema_kind program.now) }
-    ensures { (sources : List (List SourceModuleData)) → MatchResult result (λ _. type_stages.Gives (named sources program.now) (named sources program.now)) (λ fault. IfInFile fault (type_stages.Stops (named sources program.now))) }
+pub fn typed_program_of(alloc: Global, program: Program) -> Result<TypedProgram, ProgramFault>
+    requires { HasNoCircle (schema_kind program) }
+    ensures rules { (sources : List (List SourceModuleData)) → MatchResult result (λ typed. type_stages.Gives (named sources program) (named sources typed.program)) (λ fault. IfInFile fault (type_stages.Stops (named sources program))) }
+    ensures typed { IfOk result (λ typed. IsTypedProgram typed.program typed) }
 {
-    type_program(alloc, program)?;
-    Ok(())
+    Ok(type_program(alloc, program)?)
 }
