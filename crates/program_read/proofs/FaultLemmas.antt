@@ -1,6 +1,6 @@
 -- A fault of a part is one of the whole.
 use Rattle.std.proofs.Common.{ℕ, sym, subst}
-use Rattle.std.specs.Prelude.{◌≡◌, Result, Ok, Err, IsErrAnd, MatchResult}
+use Rattle.std.specs.Prelude.{◌≡◌, Result, Ok, Err, IfOk, IsErrAnd, MatchResult}
 use Rattle.program_read.specs.declared.fault.FileFault.{FileFault}
 use Rattle.program_read.specs.declared.fault.ProgramFault.{ProgramFault}
 use Rattle.program_read.specs.declared.fault.ProgramFault.TheVariants.{InFile, NoMemory}
@@ -18,3 +18,8 @@ hands_on (Err f) fault P Q R e g h = subst (λ other. IfInFile other R) (sym e) 
 pub hands_all : {X : Type 0} (r : Result X ProgramFault) (P R : X → Type 0) (Q S : ℕ → FileFault → Type 0) → ((x : X) → P x → R x) → ((file : ℕ) (f : FileFault) → Q file f → S file f) → MatchResult r P (λ f. IfInFile f Q) → MatchResult r R (λ f. IfInFile f S)
 hands_all (Ok x) P R Q S f g h = f x h
 hands_all (Err fault) P R Q S f g h = weaker fault Q S g h
+
+-- a fault gives nothing
+pub gives_none : {X F : Type 0} (r : Result X F) (fault : F) (P : X → Type 0) → IsErrAnd r (λ f. f ≡ fault) → IfOk r P
+gives_none (Ok x) fault P e = absurd e
+gives_none (Err f) fault P e = tt

@@ -3,17 +3,18 @@ use Rattle.program_read.specs.Named.{named}
 use Rattle.program_read.specs.TypeFaults.{fault_of}
 use Rattle.program_read.specs.Typed.{type_stages}
 use Rattle.typed_program.specs.TypedPrograms.{IsTypedProgram}
-use Rattle.program_read.proofs.FaultLemmas.{hands_on}
+use Rattle.program_read.proofs.FaultLemmas.{gives_none, hands_on}
 use Rattle.program_read.proofs.TypeLemmas.{keeps_all, stops_first}
 use Rattle.program_read.proofs.types.typed_program_of.Goals as goal
 
-pub returns-in_err-type_program : goal.returns-in_err-type_program
-returns-in_err-type_program c = record {
-  rules = λ sources.
-      let given = named sources c.args.program in
-      hands_on c.from_residual.result (fault_of c.in_err-type_program.field-0.0) _ (type_stages.Stops given) (type_stages.Stops given) c.from_residual.ensures.1
-      (λ file fault stops. stops) (stops_first given c.in_err-type_program.field-0.0 c.in_err-type_program.ensures.well);
-}
+pub returns-in_err-type_program-clause-rules : goal.returns-in_err-type_program-clause-rules
+returns-in_err-type_program-clause-rules c sources =
+    let given = named sources c.args.program in
+    hands_on c.from_residual.result (fault_of c.in_err-type_program.field-0.0) _ (type_stages.Stops given) (type_stages.Stops given) c.from_residual.ensures.1
+    (λ file fault stops. stops) (stops_first given c.in_err-type_program.field-0.0 c.in_err-type_program.ensures.well)
+
+pub returns-in_err-type_program-clause-typed : goal.returns-in_err-type_program-clause-typed
+returns-in_err-type_program-clause-typed c = gives_none c.from_residual.result _ _ c.from_residual.ensures.1
 
 pub returns : goal.returns
 returns c =
