@@ -1,6 +1,7 @@
 -- The instances that were gone through, as the functions that go through them keep them.
-use Rattle.std.proofs.Common.{◌≡◌, ℕ, zero, suc, ◌+◌, ◌-◌, ◌<◌, ◌≤◌, Bool, List, [], ◌∷◌, ◌++◌, length, map, get_or, true, false, Option, Some, None, Result, Ok, Err, refl, sym, ◌∙◌, ap, subst, arith}
-use Rattle.std.specs.Prelude.{◌↔◌, All, Contains, IsTrue, OnOk, slice_get, slice_index_or}
+use Rattle.std.proofs.Common.{◌≡◌, ℕ, suc, ◌+◌, ◌-◌, ◌<◌, Bool, List, [], length, get_or, true, false, Some, None, ◌∙◌, ap, subst, arith}
+use Rattle.std.specs.Prelude.{◌↔◌, All, IsTrue, slice_get, slice_index_or}
+use Rattle.std.specs.Global.{Vec}
 use Rattle.std.specs.Option.{option_map}
 use Rattle.std.proofs.lemmas.List.{length-map}
 use Rattle.std.proofs.lemmas.List.Elements.{Contains-get_or}
@@ -12,21 +13,17 @@ use Rattle.standing_clauses.specs.Instances as I
 use Rattle.standing_clauses.specs.Judged.{instance_of}
 use Rattle.standing_clauses.specs.declared.instance.Instance.{Instance}
 use Rattle.standing_clauses.specs.declared.judged.ClauseRule.{ClauseRule}
+use Rattle.standing_clauses.specs.declared.judged.JudgedClause.{JudgedClause}
 use Rattle.schema_instances.specs.Closed.{IsClosedTo}
-use Rattle.schema_instances.specs.Closing.{AreJudged, AreLinked, Grows, TellBroken}
-use Rattle.schema_instances.specs.Including.{ReachesBroken}
+use Rattle.schema_instances.specs.Closing.{AreJudged, AreLinked, AreReached, Grows, TellBroken}
+use Rattle.schema_instances.specs.Instances.{AreInstances}
 use Rattle.schema_instances.specs.Known.{IsKeyed, listed}
 use Rattle.schema_instances.specs.Leading.{LeadsToMark}
 use Rattle.schema_instances.specs.declared.closing.Closure.{Closure}
 use Rattle.schema_instances.specs.declared.known.InstanceKey.{InstanceKey}
 use Rattle.schema_instances.specs.declared.known.KnownInstances.{KnownInstances}
-use Rattle.schema_instances.proofs.LevelLaws.{none_left}
-use Rattle.schema_instances.proofs.Lists.{get_grown, some_at, some_inside}
+use Rattle.schema_instances.proofs.Lists.{at_contained, contained_at, get_grown, some_at}
 use Rattle.schema_instances.proofs.PathLaws.{tells}
-
-pub ok_both : {A E : Type 0} {P Q S : Type 0} (r : Result A E) → (P → Q → S) → OnOk r P → OnOk r Q → OnOk r S
-ok_both (Ok a) f p q = f p q
-ok_both (Err e) f p q = tt
 
 pub listed_at : (known : KnownInstances) (n : ℕ) (e : InstanceKey × Instance) → slice_get known.entries n ≡ Some e → slice_get (listed known) n ≡ Some (instance_of e.1)
 listed_at known n e at = slice_get-map (λ (x : InstanceKey × Instance). instance_of x.1) known.entries n ∙ ap (option_map (λ (x : InstanceKey × Instance). instance_of x.1)) at
@@ -38,8 +35,8 @@ not_listed known n lt none =
     let e : None ≡ Some at.0 = none ∙ at.1 in
     cc
 
-pub closed_begins : (program : Program) (c : Closure) → IsKeyed c.known → c.untyped.items ≡ [] → c.unsettled.items ≡ [] → c.edges.items ≡ [] → IsClosedTo program c 0
-closed_begins program c keyed untyped unsettled edges = record {
+pub closed_begins : (program : Program) (c : Closure) → IsKeyed c.known → c.untyped.items ≡ [] → c.unsettled.items ≡ [] → c.edges.items ≡ [] → c.judged.items ≡ [] → IsClosedTo program c 0
+closed_begins program c keyed untyped unsettled edges judged = record {
   keyed = keyed;
   within = omega arith;
   untyped = record { told = ap (λ (xs : List Bool). length xs) untyped; each = λ n i lt at. absurd (omega (arith, lt)) };
@@ -49,6 +46,7 @@ closed_begins program c keyed untyped unsettled edges = record {
     sound = λ n m e. absurd (none n m false e);
     closed = λ n i j lt at l. absurd (omega (arith, lt));
   };
+  owners = record { told = ap (λ (xs : List (Vec JudgedClause)). length xs) judged; each = λ n i of lt at there. absurd (omega (arith, lt)) };
 }
   where
     none : (i j : ℕ) (marked : Bool) → IsEdge c.edges.items i j marked → ⊥
@@ -86,3 +84,17 @@ pub leads_again : (edges edges2 : List MarkedEdge) (marks marks2 found : List Bo
 leads_again edges edges2 marks marks2 found e f leads =
     subst (λ (es : List MarkedEdge). (n : ℕ) → n < length marks2 → IsTrue (slice_index_or found n false) ↔ LeadsToMark es marks2 n) e
     (subst (λ (ms : List Bool). (n : ℕ) → n < length ms → IsTrue (slice_index_or found n false) ↔ LeadsToMark edges ms n) f leads)
+
+-- all instances to which the first ones lead
+pub instances_of : (program : Program) (first : List I.Instance) (c : Closure) → Grows first (listed c.known) → AreReached program first (listed c.known) → IsClosedTo program c (length (listed c.known))
+    → AreInstances program first (record { known = c.known; judged = c.judged })
+instances_of program first c grows reached closed = record {
+  keyed = closed.keyed;
+  grows = grows;
+  reached = reached;
+  closed = λ i j there leads.
+      let at = contained_at (listed c.known) i there in
+      let w = closed.linked.closed at.0 i j (slice_get_within (listed c.known) at.0 i at.1) at.1 leads in
+      at_contained (listed c.known) w.0 j w.1.0;
+  owners = closed.owners;
+}

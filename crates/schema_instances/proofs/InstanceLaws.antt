@@ -1,11 +1,10 @@
 -- What is told of the clauses of a schema tells of the schema where it is included.
-use Rattle.std.proofs.Common.{◌≡◌, ℕ, ◌<◌, List, [], length, take, Option, Some, None, refl, sym, ◌∙◌, ap, subst, arith}
-use Rattle.std.specs.Prelude.{◌↔◌, IsTrue, Contains, slice_get, MatchOption}
+use Rattle.std.proofs.Common.{◌≡◌, ◌<◌, List, [], length, take, Option, Some, None, refl, sym, ◌∙◌, ap, subst, arith}
+use Rattle.std.specs.Prelude.{◌↔◌, IsTrue, Contains, slice_get}
 use Rattle.std.specs.Map.{lookup}
 use Rattle.std.proofs.lemmas.Option.{slice_get_within}
 use Rattle.pv_base.specs.TypeData.{TypesData}
 use Rattle.pv_base.specs.declared.span.Span.{Span}
-use Rattle.pv_types.specs.declared.clause.Clause.{Clause}
 use Rattle.pv_types.specs.declared.declaration.Schema.{Schema}
 use Rattle.pv_types.specs.declared.program.Program.{Program}
 use Rattle.declaration_places.specs.Same.{same_schema}

@@ -1,5 +1,5 @@
 -- Instances with one key are one.
-use Rattle.std.proofs.Common.{◌≡◌, ℕ, zero, suc, ◌+◌, ◌<◌, ◌⊎◌, inl, inr, Bool, true, false, List, [], ◌∷◌, ◌++◌, length, map, Option, Some, None, refl, sym, ◌∙◌, ap, subst, arith}
+use Rattle.std.proofs.Common.{◌≡◌, ℕ, inl, inr, true, List, [], ◌∷◌, ◌++◌, length, map, Option, Some, None, refl, sym, ◌∙◌, ap, subst, arith}
 use Rattle.std.specs.Prelude.{◌==◌, ◌&&◌, slice_get}
 use Rattle.std.specs.Cmp.Lexicographic.{same_text}
 use Rattle.std.specs.List.{position}
@@ -9,25 +9,24 @@ use Rattle.std.proofs.lemmas.Bool.{and_parts, eqb-true}
 use Rattle.std.proofs.lemmas.List.{length-append, map-append}
 use Rattle.std.proofs.lemmas.Option.{slice_get-map, slice_get_within}
 use Rattle.pv_base.specs.Names.{same_name}
-use Rattle.pv_base.specs.TypeData.{TypeData, TypesData}
+use Rattle.pv_base.specs.TypeData.{TypesData}
 use Rattle.pv_types.specs.declared.program.SchemaId.{SchemaId}
 use Rattle.declaration_places.specs.Same.{same_schema}
-use Rattle.clause_demands.specs.Blocks.{block_of}
 use Rattle.clause_demands.specs.contracts.block.BlockPartialEq.TheImpl.{eq-value as block_eq}
 use Rattle.clause_demands.specs.declared.block.Block.{Block}
 use Rattle.clause_demands.specs.declared.block.Block.TheVariants.{Function, Struct, Module, Loop}
-use Rattle.formula_pool.specs.Items.{Item, TypesItem}
-use Rattle.formula_pool.specs.Pools.{Extends, IsItem, item_at}
+use Rattle.formula_pool.specs.Items.{TypesItem}
+use Rattle.formula_pool.specs.Pools.{Extends}
 use Rattle.formula_pool.specs.declared.node.Node.{Node}
 use Rattle.wrapping.proofs.Tables.{entry_there, found_there, number_there}
 use Rattle.typings.specs.Clauses as C
 use Rattle.standing_clauses.specs.Instances as I
 use Rattle.standing_clauses.specs.Judged.{instance_of}
 use Rattle.standing_clauses.specs.declared.instance.Instance.{Instance}
-use Rattle.schema_instances.specs.Known.{IsKeyOf, IsKeyed, IsPut}
+use Rattle.schema_instances.specs.Known.{IsKeyOf, IsPut}
 use Rattle.schema_instances.specs.contracts.known.InstanceKeyPartialEq.TheImpl.{eq-value}
 use Rattle.schema_instances.specs.declared.known.InstanceKey.{InstanceKey}
-use Rattle.schema_instances.proofs.Lists.{get_before, get_old, last_is, some_inside}
+use Rattle.schema_instances.proofs.Lists.{get_old, last_is, some_inside}
 use Rattle.formula_pool.proofs.GrowthLemmas as G
 
 block_equal : (a b : Block) → block_eq.it a b ≡ true → a ≡ b

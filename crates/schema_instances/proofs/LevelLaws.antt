@@ -1,7 +1,8 @@
 -- Going through one instance more, and through a level of them.
-use Rattle.std.proofs.Common.{◌≡◌, ℕ, zero, suc, ◌+◌, ◌<◌, ◌≤◌, ◌⊎◌, inl, inr, Bool, true, false, List, [], ◌∷◌, ◌++◌, length, Option, Some, None, refl, sym, ◌∙◌, ap, subst, arith}
+use Rattle.std.proofs.Common.{◌≡◌, ℕ, zero, suc, ◌<◌, ◌≤◌, inl, inr, Bool, true, false, List, [], ◌∷◌, ◌++◌, length, Some, refl, sym, ◌∙◌, ap, subst, arith}
 use Rattle.std.specs.Prelude.{◌↔◌, IsTrue, Contains, slice_get, slice_index_or}
-use Rattle.std.proofs.lemmas.List.{append_assoc, append-nil, length-append}
+use Rattle.std.specs.Global.{Vec}
+use Rattle.std.proofs.lemmas.List.{append_assoc, append-nil}
 use Rattle.std.proofs.lemmas.Bool.{cases_lt}
 use Rattle.std.proofs.lemmas.Option.{slice_get_within}
 use Rattle.pv_types.specs.declared.program.Program.{Program}
@@ -14,12 +15,15 @@ use Rattle.standing_clauses.specs.declared.judged.JudgedClause.{JudgedClause}
 use Rattle.standing_clauses.specs.declared.judged.ClauseRule.{ClauseRule}
 use Rattle.standing_clauses.specs.declared.judged.ClauseRule.TheVariants.{Typing, Settling}
 use Rattle.schema_instances.specs.Closed.{InstanceSays, IsAny, IsClosedLevel, IsClosedNext, IsClosedTo, Links}
-use Rattle.schema_instances.specs.Closing.{AreJudged, AreLinked, AreShallow, Grows, IsLeading}
-use Rattle.schema_instances.specs.Including.{Leads, InstanceBreaks, IsShallow, Names}
+use Rattle.schema_instances.specs.Closing.{AreJudged, AreLinked, AreReached, AreShallow, Grows, IsLeading}
+use Rattle.schema_instances.specs.Including.{Here, Leads, InstanceBreaks, Names}
+use Rattle.schema_instances.specs.Instances.{AreOwners, OwnerOf}
 use Rattle.schema_instances.specs.Known.{IsKeyed, listed}
 use Rattle.schema_instances.specs.Leading.{AreUnmarked}
 use Rattle.schema_instances.specs.declared.closing.Closure.{Closure}
-use Rattle.schema_instances.proofs.Lists.{at_contained, flag_before, flag_last, get_grown, get_old, last_is, length_pushed, longer, some_at, some_inside}
+use Rattle.schema_instances.proofs.KeyLaws.{last_there}
+use Rattle.schema_instances.proofs.StandingLaws.{reaches_more}
+use Rattle.schema_instances.proofs.Lists.{at_contained, contained_at, flag_before, flag_last, get_grown, get_old, last_is, length_pushed, longer, some_at, some_inside}
 
 pub grows_not : (xs : List Instance) → Grows xs xs
 grows_not xs = ([], sym (append-nil xs))
@@ -106,11 +110,30 @@ module _ (program : Program) (old new : List Instance) (before after : List Mark
   pub added_more : (m : ℕ) (j : Instance) → length old ≤ m → slice_get new m ≡ Some j → (x : Instance) × ((slice_get old n ≡ Some x) × Leads program x j)
   added_more m j le there = (i, (at, (says.leads j).0 (links.added m j le there)))
 
-pub next_closed : (program : Program) (old new : Closure) (n : ℕ) (i : Instance) (judged : List JudgedClause) (a b : Bool) → IsClosedTo program old n → slice_get (listed old.known) n ≡ Some i
+-- what is told of the clauses of one more
+owners_more : (program : Program) (old new : List Instance) (judged : List (Vec JudgedClause)) (n : ℕ) (i : Instance) (of : Vec JudgedClause) → Grows old new → slice_get old n ≡ Some i
+    → AreOwners program old judged n → OwnerOf program i of.items → AreOwners program new (judged ++ of ∷ []) (suc n)
+owners_more program old new judged n i of grows at owners told = record {
+  told = length_pushed judged of n owners.told;
+  each = λ k j one lt there stands.
+      let within = slice_get_within old n i at in
+      let size = owners.told in
+      elim (last_is k n lt) [
+        | inl below ↦ owners.each k j one below (get_old old new grows.0 k j grows.1 (omega (arith, below, within)) there)
+            (get_old judged (judged ++ of ∷ []) (of ∷ []) k one refl (omega (arith, below, size)) stands)
+        | inr here ↦
+            let same : i ≡ j = some_inside i j (sym at ∙ ap (λ (m : ℕ). slice_get old m) (sym here) ∙ get_old old new grows.0 k j grows.1 (omega (arith, here, within)) there) in
+            let last : of ≡ one = some_inside of one (sym (last_there judged of) ∙ ap (λ (m : ℕ). slice_get (judged ++ of ∷ []) m) (size ∙ sym here) ∙ stands) in
+            subst (λ (x : Vec JudgedClause). OwnerOf program j x.items) last (subst (λ (x : Instance). OwnerOf program x of.items) same told)
+      ];
+}
+
+pub next_closed : (program : Program) (old new : Closure) (n : ℕ) (i : Instance) (judged : List JudgedClause) (of : Vec JudgedClause) (a b : Bool) → IsClosedTo program old n → slice_get (listed old.known) n ≡ Some i
     → InstanceSays program i judged → (IsTrue a ↔ IsAny (λ one. IsTrue one.is_untyped) judged) → (IsTrue b ↔ IsAny (λ one. IsTrue one.is_unsettled) judged)
     → new.untyped.items ≡ old.untyped.items ++ a ∷ [] → new.unsettled.items ≡ old.unsettled.items ++ b ∷ []
+    → OwnerOf program i of.items → new.judged.items ≡ old.judged.items ++ of ∷ []
     → IsKeyed new.known → Links (listed old.known) (listed new.known) old.edges.items new.edges.items n judged → IsClosedNext program old new n
-next_closed program old new n i judged a b closed at says untyped unsettled first second keyed links = record {
+next_closed program old new n i judged of a b closed at says untyped unsettled first second owner third keyed links = record {
   closed = record {
     keyed = keyed;
     within = (let inside = slice_get_within (listed old.known) n i at in let more = longer (listed old.known) (listed new.known) links.grows.0 links.grows.1 in omega (arith, inside, more));
@@ -119,6 +142,8 @@ next_closed program old new n i judged a b closed at says untyped unsettled firs
     unsettled = subst (λ (marks : List Bool). AreJudged program Settling (listed new.known) marks (suc n)) (sym second)
         (judged_more program Settling (listed old.known) (listed new.known) old.unsettled.items n i b links.grows at closed.unsettled (both unsettled says.unsettled));
     linked = linked_more program (listed old.known) (listed new.known) old.edges.items new.edges.items n i judged at says links closed.linked;
+    owners = subst (λ (js : List (Vec JudgedClause)). AreOwners program (listed new.known) js (suc n)) (sym third)
+        (owners_more program (listed old.known) (listed new.known) old.judged.items n i of links.grows at closed.owners owner);
   };
   grows = links.grows;
   added = added_more program (listed old.known) (listed new.known) old.edges.items new.edges.items n i judged at says links closed.linked;
@@ -126,6 +151,23 @@ next_closed program old new n i judged a b closed at says untyped unsettled firs
   where
     both : {A B C : Type 0} → (A ↔ B) → (B ↔ C) → A ↔ C
     both f g = ((λ x. g.0 (f.0 x)), (λ z. f.1 (g.1 z)))
+
+-- ---- to each one of the first leads
+
+pub reached_not : (program : Program) (xs : List Instance) → AreReached program xs xs
+reached_not program xs j there = (j, there, Here)
+
+pub reached_next : (program : Program) (given old new : List Instance) → AreReached program given old → Grows old new
+    → ((n : ℕ) (j : Instance) → length old ≤ n → slice_get new n ≡ Some j → (i : Instance) × Contains old i × Leads program i j) → AreReached program given new
+reached_next program given old new reached grows added j there =
+    let at = contained_at new j there in
+    elim (cases_lt at.0 (length old)) [
+      | inl below ↦ reached j (at_contained old at.0 j (get_old old new grows.0 at.0 j grows.1 below at.1))
+      | inr over ↦
+          let w = added at.0 j (omega (arith, over)) at.1 in
+          let r = reached w.0 w.1 in
+          (r.0, r.1, reaches_more program r.0 w.0 j r.2 w.2)
+    ]
 
 -- ---- a level
 

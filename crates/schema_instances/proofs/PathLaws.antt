@@ -1,12 +1,12 @@
 -- Edges between numbers stand for what leads from one instance to another.
-use Rattle.std.proofs.Common.{◌≡◌, ℕ, ◌<◌, ◌≤◌, Bool, false, List, length, Option, Some, refl, sym, ◌∙◌, subst, arith}
-use Rattle.std.specs.Prelude.{◌↔◌, IsTrue, slice_get, slice_index_or}
+use Rattle.std.proofs.Common.{◌≡◌, ℕ, ◌<◌, Bool, List, length, Some, sym, ◌∙◌, subst, arith}
+use Rattle.std.specs.Prelude.{◌↔◌, slice_get}
 use Rattle.std.proofs.lemmas.Option.{slice_get_within}
 use Rattle.pv_types.specs.declared.program.Program.{Program}
 use Rattle.marked_circles.specs.declared.edge.MarkedEdge.{MarkedEdge}
 use Rattle.standing_clauses.specs.Instances.{Instance}
 use Rattle.standing_clauses.specs.declared.judged.ClauseRule.{ClauseRule}
-use Rattle.schema_instances.specs.Closing.{AreJudged, AreLinked, IsLeading}
+use Rattle.schema_instances.specs.Closing.{AreJudged, AreLinked}
 use Rattle.schema_instances.specs.Including.{Leads, Reaches, InstanceBreaks, ReachesBroken}
 use Rattle.schema_instances.specs.Including as I
 use Rattle.schema_instances.specs.Leading.{Path, End, Along, LeadsToMark}

@@ -1,5 +1,5 @@
 -- A clause that stands in a program is one of a declaration, or one of a schema to which such a clause leads.
-use Rattle.std.proofs.Common.{◌≡◌, ◌⊎◌, inl, inr, refl, sym, ap, ◌∙◌, subst}
+use Rattle.std.proofs.Common.{◌≡◌, ◌⊎◌, inl, inr, refl, sym, ap, subst}
 use Rattle.pv_base.specs.declared.span.Span.{Span}
 use Rattle.pv_types.specs.declared.program.Program.{Program}
 use Rattle.typings.specs.Faults.{Standing, IsStanding, OfSchema}
@@ -13,19 +13,19 @@ use Rattle.schema_instances.specs.Including.{Leads, Reaches, InstanceBreaks, Rea
 use Rattle.schema_instances.specs.Including as I
 
 module _ (program : Program) where
-  reaches_more : (i j k : Instance) → Reaches program i j → Leads program j k → Reaches program i k
+  pub reaches_more : (i j k : Instance) → Reaches program i j → Leads program j k → Reaches program i k
   reaches_more i j k I.Here l = I.Over l I.Here
   reaches_more i j k (I.Over {j = m} first rest) l = I.Over first (reaches_more m j k rest l)
 
   -- a clause that is reached is the first one, or one of what that leads to
-  record Found (r c : Standing) : Type 0 where
-    first : Instance
-    includes : Includes program r first
-    last : Instance
-    reaches : Reaches program first last
-    is_of : IsOfInstance program last r.place c
+  pub record Found (r c : Standing) : Type 0 where
+    pub first : Instance
+    pub includes : Includes program r first
+    pub last : Instance
+    pub reaches : Reaches program first last
+    pub is_of : IsOfInstance program last r.place c
 
-  found : (r c : Standing) → IsReached program r c → (c ≡ r) ⊎ Found r c
+  pub found : (r c : Standing) → IsReached program r c → (c ≡ r) ⊎ Found r c
   found r c R.Here = inl refl
   found r e (R.Over c d reached included) =
       let w = instance_included program c d included in
@@ -83,6 +83,14 @@ module _ (program : Program) where
       let d = moved l.clause from.place in
       let there : IsStanding program d = OfSchema from d stands (included_instance program from d i includes (moved_of program i l.place from.place l.clause l.is_of)) in
       stands_there d j k q c there (moved_includes program j from.place l.clause l.includes) rest of
+
+  -- what such a clause leads to is included by one that stands
+  pub included_there : (from : Standing) (i j : Instance) → IsStanding program from → Includes program from i → Reaches program i j → (c : Standing) × IsStanding program c × Includes program c j
+  included_there from i j stands includes I.Here = (from, stands, includes)
+  included_there from i k stands includes (I.Over {j = j} l rest) =
+      let d = moved l.clause from.place in
+      let there : IsStanding program d = OfSchema from d stands (included_instance program from d i includes (moved_of program i l.place from.place l.clause l.is_of)) in
+      included_there d j k there (moved_includes program j from.place l.clause l.includes) rest
 
   pub broken_stands : (rule : ClauseRule) (r : Standing) (i : Instance) → IsRoot program r → Includes program r i → ReachesBroken program rule i
       → (c : Standing) × (IsStanding program c × (c.place ≡ r.place) × ClauseBreaks program rule c)

@@ -1,16 +1,15 @@
 -- Instances that were gone through.
-use Rattle.std.specs.Prelude.{◌≡◌, ◌⊎◌, ◌↔◌, ℕ, suc, ◌<◌, ◌≤◌, ◌++◌, Bool, false, IsTrue, List, length, Contains, Some, None, slice_get}
-use Rattle.std.specs.Map.{lookup}
+use Rattle.std.specs.Prelude.{◌≡◌, ◌⊎◌, ◌↔◌, ℕ, suc, ◌<◌, ◌≤◌, Bool, false, IsTrue, List, length, Contains, Some, slice_get}
 use Rattle.pv_types.specs.declared.program.Program.{Program}
-use Rattle.declaration_places.specs.Same.{same_schema}
 use Rattle.marked_circles.specs.declared.edge.MarkedEdge.{MarkedEdge}
 use Rattle.marked_circles.specs.MarkedCircles.{IsEdge}
-use Rattle.standing_clauses.specs.Instances.{Instance, IsOfInstance}
-use Rattle.standing_clauses.specs.Judged.{ClauseBreaks, instance_of}
+use Rattle.standing_clauses.specs.Instances.{Instance}
+use Rattle.standing_clauses.specs.Judged.{instance_of}
 use Rattle.standing_clauses.specs.declared.judged.JudgedClause.{JudgedClause}
 use Rattle.standing_clauses.specs.declared.judged.ClauseRule.TheVariants.{Typing, Settling}
-use Rattle.schema_instances.specs.Closing.{AreJudged, AreLinked, AreShallow, Grows}
+use Rattle.schema_instances.specs.Closing.{AreJudged, AreLinked, Grows}
 use Rattle.schema_instances.specs.Including.{Leads, InstanceBreaks}
+use Rattle.schema_instances.specs.Instances.{AreOwners}
 use Rattle.schema_instances.specs.Known.{IsKeyed, listed}
 use Rattle.schema_instances.specs.declared.closing.Closure.{Closure}
 
@@ -40,6 +39,7 @@ pub record IsClosedTo (program : Program) (c : Closure) (done : ℕ) : Type 0 wh
   pub untyped : AreJudged program Typing (listed c.known) c.untyped.items done
   pub unsettled : AreJudged program Settling (listed c.known) c.unsettled.items done
   pub linked : AreLinked program (listed c.known) c.edges.items done
+  pub owners : AreOwners program (listed c.known) c.judged.items done
 
 -- and one more, to which what is put behind them stands
 pub record IsClosedNext (program : Program) (old new : Closure) (number : ℕ) : Type 0 where

@@ -1,11 +1,11 @@
 -- The instances to which some lead, with what each breaks and where each leads.
-use Rattle.std.specs.Prelude.{◌≡◌, ◌↔◌, ℕ, ◌<◌, ◌≤◌, ◌++◌, Bool, false, IsTrue, List, length, Some, slice_get, slice_index_or}
+use Rattle.std.specs.Prelude.{◌≡◌, ◌↔◌, ℕ, ◌<◌, ◌≤◌, ◌++◌, Bool, false, IsTrue, List, length, Contains, Some, slice_get, slice_index_or}
 use Rattle.pv_types.specs.declared.program.Program.{Program}
 use Rattle.marked_circles.specs.declared.edge.MarkedEdge.{MarkedEdge}
 use Rattle.marked_circles.specs.MarkedCircles.{IsEdge}
 use Rattle.standing_clauses.specs.Instances.{Instance}
 use Rattle.standing_clauses.specs.declared.judged.ClauseRule.{ClauseRule}
-use Rattle.schema_instances.specs.Including.{Leads, InstanceBreaks, ReachesBroken, IsShallow}
+use Rattle.schema_instances.specs.Including.{Leads, Reaches, InstanceBreaks, ReachesBroken, IsShallow}
 use Rattle.schema_instances.specs.Leading.{AreUnmarked}
 
 -- of the first so many instances it is told whether they break the rule
@@ -35,6 +35,10 @@ AreShallow program depth known first = (n : ℕ) (i : Instance) → first ≤ n 
 -- what stood stands, and maybe more behind it
 abbrev pub Grows : List Instance → List Instance → Type 0
 Grows old new = (more : List Instance) × (new ≡ old ++ more)
+
+-- to each of them one of the first leads
+abbrev pub AreReached : Program → List Instance → List Instance → Type 0
+AreReached program first all = (j : Instance) → Contains all j → (i : Instance) × Contains first i × Reaches program i j
 
 -- exactly those that lead to one that breaks the rule
 abbrev pub TellBroken : Program → ClauseRule → List Instance → List Bool → Type 0

@@ -3,8 +3,9 @@
 ghost use Rattle.std.specs.Prelude.{◌≡◌, ◌↔◌, ◌<◌, ◌≤◌, IfOk, IsTrue, OnOk, length};
 ghost use Rattle.code_typings.specs.Plain.{AreCodeTypes};
 ghost use Rattle.standing_clauses.specs.Judged.{instance_of};
-ghost use Rattle.schema_instances.specs.Closing.{AreShallow, Grows};
+ghost use Rattle.schema_instances.specs.Closing.{AreReached, AreShallow, Grows};
 ghost use Rattle.schema_instances.specs.Closed.{InstanceSays, IsAny, IsClosedLevel, IsClosedNext, IsClosedTo, Links};
+ghost use Rattle.schema_instances.specs.Instances.{OwnerOf};
 ghost use Rattle.schema_instances.specs.Known.{IsKeyed, listed};
 
 use crate::known::{KnownInstances, put};
@@ -18,14 +19,15 @@ use standing_clauses::judged::JudgedClause;
 use standing_clauses::owner::judge_owner;
 use std::alloc::Global;
 
-/// The instances, of the first of which it is told which rules they break and, by edges between their numbers, which others
-/// they include.
+/// The instances, of the first of which it is told which rules they break, by edges between their numbers which others they
+/// include, and what is told of each of their clauses.
 #[derive(Drop)]
 pub(crate) struct Closure {
     pub known: KnownInstances,
     pub untyped: Vec<bool>,
     pub unsettled: Vec<bool>,
     pub edges: Vec<MarkedEdge>,
+    pub judged: Vec<Vec<JudgedClause>>,
 }
 
 /// What is told of each clause of an instance; nothing where its schema is not declared.
@@ -36,7 +38,8 @@ fn judge_instance<'a>(
     instance: &'a Instance,
 ) -> Result<Vec<JudgedClause>, NoMemory>
     requires { AreCodeTypes types.now }
-    ensures { IfOk result (λ judged. InstanceSays program.now (instance_of instance.now) judged.items) }
+    ensures says { IfOk result (λ judged. InstanceSays program.now (instance_of instance.now) judged.items) }
+    ensures owner { IfOk result (λ judged. OwnerOf program.now (instance_of instance.now) judged.items) }
 {
     match program.schemas.get(&instance.schema) {
         None => Ok(Vec::new(alloc)),
@@ -120,7 +123,9 @@ fn close_next<'a>(
         &mut closure.edges,
         number,
         &judged,
-    )
+    )?;
+    closure.judged.push(judged)?;
+    Ok(())
 }
 
 /// Goes through all instances from the first that was not gone through up to the end, which may put others behind them.
@@ -156,6 +161,7 @@ pub(crate) fn close<'a>(
     requires keyed { IsKeyed known }
     requires shallow { AreShallow program.now (length program.now.schemas) (listed known) 0 }
     ensures grows { IfOk result (λ closure. Grows (listed known) (listed closure.known)) }
+    ensures reached { IfOk result (λ closure. AreReached program.now (listed known) (listed closure.known)) }
     ensures closed { IfOk result (λ closure. IsClosedTo program.now closure (length (listed closure.known))) }
 {
     let mut closure = Closure {
@@ -163,6 +169,7 @@ pub(crate) fn close<'a>(
         untyped: Vec::new(alloc),
         unsettled: Vec::new(alloc),
         edges: Vec::new(alloc),
+        judged: Vec::new(alloc),
     };
     let mut done = 0;
     for _ in 0..program.schemas.len() {

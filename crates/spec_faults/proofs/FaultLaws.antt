@@ -1,6 +1,6 @@
 -- A place of a specification breaks a rule where a clause of a declaration there does, or leads to one that does.
-use Rattle.std.proofs.Common.{◌≡◌, ℕ, ◌<◌, ◌≤◌, ◌⊎◌, inl, inr, Bool, false, List, length, Option, Some, None, refl, sym, ◌∙◌, ap, subst, arith}
-use Rattle.std.specs.Prelude.{◌↔◌, IsTrue, Contains, slice_get, slice_index_or}
+use Rattle.std.proofs.Common.{◌≡◌, ℕ, ◌<◌, inl, inr, Bool, false, List, length, Option, Some, None, sym, ◌∙◌, subst, arith}
+use Rattle.std.specs.Prelude.{◌↔◌, IsTrue, slice_index_or}
 use Rattle.std.specs.Map.{lookup}
 use Rattle.std.proofs.lemmas.Option.{slice_get_within}
 use Rattle.pv_base.specs.declared.span.Span.{Span}
@@ -10,7 +10,7 @@ use Rattle.pv_types.specs.declared.program.SchemaId.{SchemaId}
 use Rattle.declaration_places.specs.Order.{IsFirstOrNone}
 use Rattle.declaration_places.specs.Same.{same_schema}
 use Rattle.declaration_places.proofs.Firsts.{first_renamed}
-use Rattle.typings.specs.Faults.{Standing, IsStanding}
+use Rattle.typings.specs.Faults.{Standing}
 use Rattle.standing_clauses.specs.Instances as I
 use Rattle.standing_clauses.specs.Judged.{ClauseBreaks, ClauseSays, IncludedSays, instance_of}
 use Rattle.standing_clauses.specs.Reached.{IsRoot}
@@ -25,7 +25,7 @@ use Rattle.schema_instances.specs.Including.{IsShallow, ReachesBroken}
 use Rattle.schema_instances.proofs.Lists.{at_contained, contained_at, some_at}
 use Rattle.schema_instances.proofs.StandingLaws.{broken_root, broken_stands}
 use Rattle.spec_faults.specs.Faults.{StandingBreaks}
-use Rattle.spec_faults.specs.Numbered.{AreNumbered, BreaksAmong, IsRootOf, RootIsBroken, StandsAt, is_so_itself}
+use Rattle.spec_faults.specs.Numbered.{AreNumbered, BreaksAmong, IsRootOf, StandsAt, is_so_itself}
 use Rattle.spec_faults.specs.Roots.{TellsOf}
 use Rattle.spec_faults.specs.declared.first.RootClause.{RootClause}
 

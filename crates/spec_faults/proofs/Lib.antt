@@ -1,4 +1,5 @@
 pub mod FaultLaws
 pub mod Firsts
+pub mod IncludedLaws
 pub mod NumberLaws
 pub mod RootLaws

@@ -1,3 +1,4 @@
 pub mod Faults
+pub mod Included
 pub mod Numbered
 pub mod Roots

@@ -1,13 +1,10 @@
 -- What is told of the clauses of declarations.
-use Rattle.std.specs.Prelude.{◌≡◌, ◌⊎◌, ℕ, ◌+◌, ◌<◌, List, length, Contains, Option, Some, None, slice_get}
+use Rattle.std.specs.Prelude.{◌≡◌, ◌⊎◌, ℕ, ◌<◌, List, length, Contains, Option, Some, None, slice_get}
 use Rattle.pv_base.specs.TypeData.{TypeData, NoTypes}
-use Rattle.pv_base.specs.declared.types.FunctionId.{FunctionId}
-use Rattle.pv_base.specs.declared.types.StructId.{StructId}
 use Rattle.pv_types.specs.declared.clause.LoopClause.{LoopClause}
 use Rattle.pv_types.specs.declared.declaration.Function.{Function}
 use Rattle.pv_types.specs.declared.declaration.Module.{Module}
 use Rattle.pv_types.specs.declared.declaration.Struct.{Struct}
-use Rattle.pv_types.specs.declared.program.ModuleId.{ModuleId}
 use Rattle.pv_types.specs.declared.program.Program.{Program}
 use Rattle.typings.specs.Answers.{HasType}
 use Rattle.typings.specs.Settings.{local_place}

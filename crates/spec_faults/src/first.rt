@@ -11,6 +11,7 @@ ghost use Rattle.standing_clauses.specs.declared.judged.ClauseRule.TheVariants.{
 ghost use Rattle.schema_instances.specs.Including.{IsShallow};
 ghost use Rattle.schema_instances.specs.Known.{IsKeyed, listed};
 ghost use Rattle.spec_faults.specs.Faults.{SpecBreaks};
+ghost use Rattle.spec_faults.specs.Included.{AreIncluded};
 ghost use Rattle.spec_faults.specs.Numbered.{AreNumbered, BreaksAmong, IsNumberOf, RootIsBroken};
 ghost use Rattle.wrapping.specs.Told.{AreTold};
 
@@ -22,7 +23,7 @@ use declaration_places::order::earlier;
 use pv_base::memory::NoMemory;
 use pv_base::span::Span;
 use pv_types::program::Program;
-use schema_instances::broken::broken_instances;
+use schema_instances::broken::{BrokenInstances, JudgedInstances, broken_instances};
 use schema_instances::known::{KnownInstances, no_instances, put};
 use standing_clauses::instance::Instance;
 use standing_clauses::judged::JudgedClause;
@@ -37,6 +38,14 @@ pub struct SpecFaults {
     pub untyped: Option<Span>,
     /// There are typings, and a type is not determined.
     pub unsettled: Option<Span>,
+}
+
+/// What is told of the specifications of a program.
+#[derive(Drop)]
+pub struct JudgedSpecifications {
+    pub faults: SpecFaults,
+    /// The schemas that are included, each once for each list of types and kind of block.
+    pub instances: JudgedInstances,
 }
 
 /// What is told of a clause of a declaration, with the number of what it includes.
@@ -123,19 +132,21 @@ fn first_unsettled(roots: &[RootClause], broken: &[bool]) -> Option<Span>
     first
 }
 
-/// The first places of specifications that break a rule of typing. Of each function, in the order of the program, it is told
-/// which types its places have. Chains of schemas, each included by the one before, have to end.
-pub fn spec_faults<'a>(
+/// The first places of specifications that break a rule of typing, and the schemas that are included. Of each function, in the
+/// order of the program, it is told which types its places have. Chains of schemas, each included by the one before, have
+/// to end.
+pub fn judge_specifications<'a>(
     alloc: Global,
     types: &'a CodeTypes,
     program: &'a Program,
     told: &[PlaceTypes<'_>],
-) -> Result<SpecFaults, NoMemory>
+) -> Result<JudgedSpecifications, NoMemory>
     requires types { AreCodeTypes types.now }
     requires told { AreTold program.now told.now }
     requires shallow { (s : SchemaId) (d : Schema) → lookup (same_schema s) program.now.schemas ≡ Some d → IsShallow program.now (length program.now.schemas) s }
-    ensures untyped { IfOk result (λ faults. IsFirstOrNone (SpecBreaks program.now Typing) faults.untyped) }
-    ensures unsettled { IfOk result (λ faults. IsFirstOrNone (SpecBreaks program.now Settling) faults.unsettled) }
+    ensures untyped { IfOk result (λ judged. IsFirstOrNone (SpecBreaks program.now Typing) judged.faults.untyped) }
+    ensures unsettled { IfOk result (λ judged. IsFirstOrNone (SpecBreaks program.now Settling) judged.faults.unsettled) }
+    ensures instances { IfOk result (λ judged. AreIncluded program.now judged.instances) }
 {
     let judged = root_clauses(alloc, types, program, told)?;
     let NumberedRoots { roots, known } = number_roots(alloc, &judged)?;
@@ -143,8 +154,12 @@ pub fn spec_faults<'a>(
     let functions = first_functions(alloc, types, program)?;
     let untyped = first_untyped(&roots, &broken.untyped);
     let unsettled = first_unsettled(&roots, &broken.unsettled);
-    Ok(SpecFaults {
-        untyped: earlier(untyped, functions.untyped),
-        unsettled: earlier(unsettled, functions.unsettled),
+    let BrokenInstances { instances, .. } = broken;
+    Ok(JudgedSpecifications {
+        faults: SpecFaults {
+            untyped: earlier(untyped, functions.untyped),
+            unsettled: earlier(unsettled, functions.unsettled),
+        },
+        instances,
     })
 }

@@ -1,23 +1,20 @@
 -- What a clause includes, by the types of its type arguments.
-use Rattle.std.proofs.Common.{◌≡◌, ℕ, ◌+◌, ◌-◌, ◌<◌, ◌≤◌, Bool, true, false, List, length, get_or, Option, Some, None, refl, sym, ◌∙◌, ap, subst, arith}
+use Rattle.std.proofs.Common.{◌≡◌, ℕ, ◌+◌, ◌-◌, ◌<◌, ◌≤◌, List, length, get_or, Option, Some, None, refl, sym, ◌∙◌, ap, subst, arith}
 use Rattle.std.specs.Prelude.{slice_get}
 use Rattle.std.specs.Map.{lookup}
 use Rattle.std.proofs.lemmas.Option.{slice_get-get_or}
 use Rattle.pv_base.specs.TypeData.{TypeData, TypesData, TupleType, NoTypes, list_of_types, types_of, list_of_types-types_of}
-use Rattle.pv_base.specs.declared.span.Span.{Span}
-use Rattle.pv_types.specs.declared.clause.Clause.{Clause}
 use Rattle.pv_types.specs.declared.clause.ClauseForm.{ClauseForm}
 use Rattle.pv_types.specs.declared.clause.ClauseForm.TheVariants.{Include}
 use Rattle.pv_types.specs.declared.declaration.Schema.{Schema}
 use Rattle.pv_types.specs.declared.program.Program.{Program}
 use Rattle.pv_types.specs.declared.program.SchemaId.{SchemaId}
 use Rattle.declaration_places.specs.Same.{same_schema}
-use Rattle.typings.specs.Answers.{System, HasType}
+use Rattle.typings.specs.Answers.{HasType}
 use Rattle.typings.specs.Clauses as C
 use Rattle.typings.specs.SpecDemands.{spec_place_count}
 use Rattle.typings.specs.Faults.{Standing, standing_system}
 use Rattle.standing_clauses.specs.Instances.{Instance, Includes}
-use Rattle.standing_clauses.specs.Judged.{standing}
 use Rattle.standing_clauses.specs.Lets.{ArgumentsSay}
 
 some_inside : {A : Type 0} (x y : A) → Some x ≡ Some y → x ≡ y

@@ -1,12 +1,10 @@
 -- What is asked of a clause does not rest on its place; and a clause that is included is one of a schema's at types.
-use Rattle.std.proofs.Common.{◌≡◌, ℕ, ◌+◌, List, length, take, Option, Some, refl, sym, ◌∙◌, ap, subst}
+use Rattle.std.proofs.Common.{◌≡◌, ℕ, ◌+◌, length, take, Some, refl, sym, ◌∙◌, ap, subst}
 use Rattle.std.specs.Prelude.{slice_get}
-use Rattle.std.specs.Map.{lookup}
 use Rattle.pv_base.specs.TypeData.{TypeData, TypesData, list_of_types}
 use Rattle.pv_base.specs.declared.span.Span.{Span}
 use Rattle.pv_types.specs.declared.declaration.Schema.{Schema}
 use Rattle.pv_types.specs.declared.program.Program.{Program}
-use Rattle.declaration_places.specs.Same.{same_schema}
 use Rattle.typings.specs.Answers.{HasType}
 use Rattle.typings.specs.SpecDemands.{spec_place_count}
 use Rattle.typings.specs.Clauses as C

@@ -1,15 +1,14 @@
 -- What is determined: the type of a place, the `let`s of an owner, and what a clause includes.
-use Rattle.std.proofs.Common.{◌≡◌, ℕ, zero, suc, ◌+◌, ◌<◌, ◌≤◌, Bool, get_or, List, [], ◌∷◌, ◌++◌, length, take, Option, Some, None, refl, sym, ◌∙◌, ap, subst, arith}
+use Rattle.std.proofs.Common.{◌≡◌, ℕ, zero, suc, ◌+◌, ◌<◌, ◌≤◌, get_or, List, [], ◌∷◌, ◌++◌, length, take, Option, Some, None, refl, sym, ◌∙◌, ap, subst, arith}
 use Rattle.std.specs.Prelude.{slice_get}
 use Rattle.std.proofs.Math.Seq.{take-suc}
 use Rattle.std.proofs.lemmas.List.{take_all, ext_get_or}
-use Rattle.std.proofs.lemmas.Option.{slice_get_within, slice_get-get_or, get_or_from_slice_get}
+use Rattle.std.proofs.lemmas.Option.{slice_get-get_or}
 use Rattle.pv_base.specs.TypeData.{TypeData, TypesData, TupleType, NoTypes, list_of_types, types_of, types_of-list_of_types}
 use Rattle.std.specs.Map.{lookup}
 use Rattle.declaration_places.specs.Same.{same_schema}
 use Rattle.pv_types.specs.declared.clause.Clause.{Clause}
-use Rattle.pv_types.specs.declared.clause.ClauseForm.{ClauseForm}
-use Rattle.pv_types.specs.declared.clause.ClauseForm.TheVariants.{Let, Include}
+use Rattle.pv_types.specs.declared.clause.ClauseForm.TheVariants.{Include}
 use Rattle.pv_types.specs.declared.declaration.Schema.{Schema}
 use Rattle.pv_types.specs.declared.program.Program.{Program}
 use Rattle.pv_types.specs.declared.program.SchemaId.{SchemaId}

@@ -1,8 +1,7 @@
 -- What is told of a clause where it stands: which rules of typing it breaks, and what it includes.
-use Rattle.std.specs.Prelude.{◌≡◌, ◌⊎◌, ◌↔◌, ℕ, ◌<◌, false, IsTrue, List, length, take, Option, Some, None, slice_get, MatchOption}
+use Rattle.std.specs.Prelude.{◌≡◌, ◌⊎◌, ◌↔◌, ℕ, ◌<◌, false, IsTrue, List, length, take, Option, Some, slice_get, MatchOption}
 use Rattle.std.specs.Map.{lookup}
-use Rattle.std.specs.Option.{option_map}
-use Rattle.pv_base.specs.TypeData.{TypeData, TypesData, types_of}
+use Rattle.pv_base.specs.TypeData.{TypesData, types_of}
 use Rattle.pv_base.specs.declared.span.Span.{Span}
 use Rattle.pv_types.specs.declared.clause.Clause.{Clause}
 use Rattle.pv_types.specs.declared.clause.ClauseForm.{ClauseForm}
@@ -11,12 +10,13 @@ use Rattle.pv_types.specs.declared.declaration.Schema.{Schema}
 use Rattle.pv_types.specs.declared.program.Program.{Program}
 use Rattle.pv_types.specs.declared.program.SchemaId.{SchemaId}
 use Rattle.declaration_places.specs.Same.{same_schema}
-use Rattle.typings.specs.Answers.{System, IsUntypable, IsAmbiguous}
+use Rattle.typings.specs.Answers.{IsUntypable, IsAmbiguous}
 use Rattle.typings.specs.Clauses as C
 use Rattle.typings.specs.Faults.{Standing, standing_system, variables_are_proper}
 use Rattle.spec_demands.specs.Settings.{let_of}
 use Rattle.clause_demands.specs.Blocks.{block_of}
 use Rattle.spec_demands.specs.declared.setting.LetType.{LetType}
+use Rattle.spec_typings.specs.Typed.{SpecTypingSays}
 use Rattle.standing_clauses.specs.Instances as I
 use Rattle.standing_clauses.specs.Lets.{LetSays, LetsSay}
 use Rattle.standing_clauses.specs.declared.instance.Instance.{Instance}
@@ -51,11 +51,12 @@ instance_of i = record { schema = i.schema; types = types_of i.types.items; bloc
 abbrev pub IncludedSays : Program → Standing → Option Instance → Type 0
 IncludedSays program c included = MatchOption included ((i : I.Instance) → I.Includes program c i → ⊥) (λ i. I.Includes program c (instance_of i))
 
--- exactly which rules the clause breaks, and what it includes
+-- exactly which rules the clause breaks, what it includes, and how it is typed
 pub record ClauseSays (program : Program) (c : Standing) (judged : JudgedClause) : Type 0 where
   pub untyped : IsTrue judged.is_untyped ↔ ClauseBreaks program Typing c
   pub unsettled : IsTrue judged.is_unsettled ↔ ClauseBreaks program Settling c
   pub included : IncludedSays program c judged.included
+  pub typing : SpecTypingSays (standing_system program c) judged.pool judged.typing
 
 -- a clause where it stands, with its block at this place
 abbrev pub standing : C.Names → C.Block → TypesData → Clause → Span → Standing

@@ -51,6 +51,9 @@ pub struct JudgedClause {
     pub is_unsettled: bool,
     /// What it includes, where all type arguments have types.
     pub included: Option<Instance>,
+    /// How it is typed, with its types in a pool of its own.
+    pub typing: SpecTyping,
+    pub pool: TypePool,
 }
 
 impl JudgedClause {
@@ -156,6 +159,8 @@ pub fn judge_clause<'a>(
         is_untyped: is_untypable(&typing) | is_improper,
         is_unsettled: is_ambiguous(&typing),
         included,
+        typing,
+        pool,
     };
     Ok((judged, of))
 }

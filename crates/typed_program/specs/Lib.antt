@@ -1,2 +1,4 @@
+pub mod Clauses
+pub mod Instances
 pub mod Tables
 pub mod TypedPrograms

@@ -1,9 +1,12 @@
 -- A program with the tables of the types of all that is typed in it.
 use Rattle.std.specs.Prelude.{◌≡◌}
 use Rattle.pv_base.specs.Pairs.{Paired}
+use Rattle.pv_base.specs.TypeData.{NoTypes}
 use Rattle.pv_types.specs.declared.program.Program.{Program}
 use Rattle.typings.specs.CodeSystems.{function_system, constant_system}
-use Rattle.typings.specs.Clauses.{spec_function_system}
+use Rattle.typings.specs.Clauses.{StructBlock, ModuleBlock, module_names, spec_function_system, struct_names}
+use Rattle.typed_program.specs.Clauses.{AreClauseTables, AreFunctionClauses}
+use Rattle.typed_program.specs.Instances.{AreInstanceTables}
 use Rattle.typed_program.specs.Tables.{IsTable}
 use Rattle.typed_program.specs.declared.program.TypedProgram.{TypedProgram}
 
@@ -13,3 +16,7 @@ pub record IsTypedProgram (program : Program) (typed : TypedProgram) : Type 0 wh
   pub functions : Paired (λ f t. IsTable (function_system program f.1) t) program.functions typed.functions.items
   pub constants : Paired (λ c t. IsTable (constant_system program c.1) t) program.constants typed.constants.items
   pub spec_functions : Paired (λ f t. IsTable (spec_function_system program f.1) t) program.spec_functions typed.spec_functions.items
+  pub function_clauses : Paired (λ f c. AreFunctionClauses program f.1 c) program.functions typed.function_clauses.items
+  pub struct_clauses : Paired (λ s t. AreClauseTables program (struct_names s.1) StructBlock NoTypes s.1.clauses t) program.structs typed.struct_clauses.items
+  pub module_clauses : Paired (λ m t. AreClauseTables program module_names ModuleBlock NoTypes m.1.clauses t) program.modules typed.module_clauses.items
+  pub instances : AreInstanceTables program typed.instances

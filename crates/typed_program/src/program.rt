@@ -3,18 +3,20 @@
 ghost use Rattle.std.specs.Prelude.{IfOk, MatchResult};
 ghost use Rattle.declaration_circles.specs.Circular.{HasNoCircle, schema_kind};
 ghost use Rattle.code_faults.specs.Functions.{AreTypings};
+ghost use Rattle.spec_faults.specs.Included.{AreIncluded};
 ghost use Rattle.typing.specs.Answers.{FaultSays, IsDetermined, IsWellFormed};
 ghost use Rattle.typed_program.specs.TypedPrograms.{IsTypedProgram};
 
-use crate::tables::{constant_tables, function_tables, spec_function_tables};
-use code_faults::functions::FunctionTyping;
+use crate::clauses::{ClauseTables, FunctionClauses, clause_tables};
+use crate::instances::{InstanceTables, instance_tables};
+use crate::tables::{DeclarationTables, declaration_tables};
 use code_typings::plain::code_types;
 use pv_base::memory::NoMemory;
 use pv_types::program::Program;
 use pv_types::sequence::Sequence;
 use std::alloc::Global;
 use type_pool::pool::TypePool;
-use typing::typing::TypeFault;
+use typing::typing::{ProgramTyping, TypeFault, program_typing};
 
 /// The types of what is typed together (a body, an initialiser, a clause, a spec function), by their numbers in a pool of
 /// its own: first those of its nodes, patterns among them, then those of its locals or of the variables of its
@@ -32,32 +34,61 @@ pub struct TypedProgram {
     pub functions: Vec<TypeTable>,
     pub constants: Vec<TypeTable>,
     pub spec_functions: Vec<TypeTable>,
+    /// Of each function the tables of its clauses.
+    pub function_clauses: Vec<FunctionClauses>,
+    /// Of each struct the tables of its clauses, in their order.
+    pub struct_clauses: Vec<Sequence<TypeTable>>,
+    /// Of each module the tables of its clauses, in their order.
+    pub module_clauses: Vec<Sequence<TypeTable>>,
+    /// Of each schema that is included the tables of its clauses there.
+    pub instances: InstanceTables,
 }
 
-/// A program all of whose types are determined, with its tables. Those of functions are made of their typings.
+/// A program all of whose types are determined, with its tables. Those of functions and of schemas that
+/// are included are made of their typings.
 fn with_tables(
     alloc: Global,
     program: Program,
-    typings: Vec<FunctionTyping>,
+    typing: ProgramTyping,
 ) -> Result<TypedProgram, NoMemory>
-    requires typings { AreTypings program typings.items }
+    requires typings { AreTypings program typing.functions.items }
+    requires included { AreIncluded program typing.instances }
     requires determined { IsDetermined program }
     ensures { IfOk result (IsTypedProgram program) }
 {
+    let ProgramTyping {
+        functions,
+        instances,
+    } = typing;
     let types = code_types(alloc);
-    let functions = function_tables(alloc, &program, typings)?;
-    let constants = constant_tables(alloc, &types, &program)?;
-    let spec_functions = spec_function_tables(alloc, &types, &program)?;
+    let instances = instance_tables(alloc, &program, instances)?;
+    let declarations = declaration_tables(alloc, &types, &program, functions)?;
+    let clauses = clause_tables(alloc, &types, &program, &declarations.functions)?;
+    let DeclarationTables {
+        functions,
+        constants,
+        spec_functions,
+    } = declarations;
+    let ClauseTables {
+        functions: function_clauses,
+        structs: struct_clauses,
+        modules: module_clauses,
+    } = clauses;
     Ok(TypedProgram {
         program,
         functions,
         constants,
         spec_functions,
+        function_clauses,
+        struct_clauses,
+        module_clauses,
+        instances,
     })
 }
 
-/// Types a whole program. Time grows as that of `typing::typing::type_program`; constants and spec functions are typed once
-/// more for their tables, since a program that breaks a rule keeps none of them while it is judged.
+/// Types a whole program. Time grows as that of `typing::typing::program_typing`; constants, spec functions and the clauses of
+/// declarations are typed once more for their tables, since a program that breaks a rule keeps none of them while it is
+/// judged.
 ///
 /// # Errors
 ///
@@ -68,7 +99,7 @@ pub fn type_program(alloc: Global, program: Program) -> Result<TypedProgram, Typ
     ensures well { MatchResult result (λ _. IsWellFormed program) (FaultSays program) }
     ensures typed { IfOk result (IsTypedProgram program) }
 {
-    let typings = typing::typing::type_program(alloc, &program)?;
-    let typed = with_tables(alloc, program, typings)?;
+    let typing = program_typing(alloc, &program)?;
+    let typed = with_tables(alloc, program, typing)?;
     Ok(typed)
 }

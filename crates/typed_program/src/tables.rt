@@ -24,6 +24,14 @@ use spec_typings::typing::{SpecTyping, function_typing};
 use std::alloc::Global;
 use type_pool::pool::TypePool;
 
+/// The tables of functions, constants and spec functions, each in their order.
+#[derive(Drop)]
+pub(crate) struct DeclarationTables {
+    pub functions: Vec<TypeTable>,
+    pub constants: Vec<TypeTable>,
+    pub spec_functions: Vec<TypeTable>,
+}
+
 /// The table of code that is typed.
 fn code_table(pool: TypePool, typing: CodeTyping) -> TypeTable
     requires { (s : System) × (nodes : List CodeNode) × IsSettled s × TypingSays s nodes pool typing }
@@ -49,7 +57,7 @@ pub(crate) fn spec_table(pool: TypePool, typing: SpecTyping) -> TypeTable
 }
 
 /// The tables of functions, made of their typings.
-pub(crate) fn function_tables(
+fn function_tables(
     alloc: Global,
     program: &Program,
     typings: Vec<FunctionTyping>,
@@ -81,7 +89,7 @@ fn constant_table(
     Ok(code_table(pool, typing))
 }
 
-pub(crate) fn constant_tables(
+fn constant_tables(
     alloc: Global,
     types: &CodeTypes,
     program: &Program,
@@ -115,7 +123,7 @@ fn spec_function_table(
     Ok(spec_table(pool, typing))
 }
 
-pub(crate) fn spec_function_tables(
+fn spec_function_tables(
     alloc: Global,
     types: &CodeTypes,
     program: &Program,
@@ -132,4 +140,28 @@ pub(crate) fn spec_function_tables(
         }
     }
     Ok(tables)
+}
+
+/// The tables of declarations, those of functions made of their typings.
+pub(crate) fn declaration_tables(
+    alloc: Global,
+    types: &CodeTypes,
+    program: &Program,
+    typings: Vec<FunctionTyping>,
+) -> Result<DeclarationTables, NoMemory>
+    requires types { AreCodeTypes types.now }
+    requires typings { AreTypings program.now typings.items }
+    requires determined { IsDetermined program.now }
+    ensures functions { IfOk result (λ tables. Paired (λ f t. IsTable (function_system program.now f.1) t) program.now.functions tables.functions.items) }
+    ensures constants { IfOk result (λ tables. Paired (λ c t. IsTable (constant_system program.now c.1) t) program.now.constants tables.constants.items) }
+    ensures spec_functions { IfOk result (λ tables. Paired (λ f t. IsTable (spec_function_system program.now f.1) t) program.now.spec_functions tables.spec_functions.items) }
+{
+    let functions = function_tables(alloc, program, typings)?;
+    let constants = constant_tables(alloc, types, program)?;
+    let spec_functions = spec_function_tables(alloc, types, program)?;
+    Ok(DeclarationTables {
+        functions,
+        constants,
+        spec_functions,
+    })
 }

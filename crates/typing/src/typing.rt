@@ -8,6 +8,7 @@ ghost use Rattle.typings.specs.Faults.{BreaksTyping, IsUnsettled};
 ghost use Rattle.code_typings.specs.Plain.{AreCodeTypes};
 ghost use Rattle.program_states.specs.Told.{AreTypedBy};
 ghost use Rattle.code_faults.specs.Functions.{AreTypings};
+ghost use Rattle.spec_faults.specs.Included.{AreIncluded};
 ghost use Rattle.typing.specs.Answers.{FaultSays, IsDetermined, IsWellFormed, IsWellTyped};
 
 use code_faults::faults::code_faults;
@@ -21,7 +22,8 @@ use program_states::told::FunctionTypes;
 use pv_base::memory::NoMemory;
 use pv_base::span::Span;
 use pv_types::program::Program;
-use spec_faults::first::spec_faults;
+use schema_instances::broken::JudgedInstances;
+use spec_faults::first::{JudgedSpecifications, judge_specifications};
 use std::alloc::Global;
 
 /// Why a program has no types, or a function may not do with its locals what it does: the first rule that is broken,
@@ -54,18 +56,23 @@ impl From<NoMemory> for TypeFault {
     }
 }
 
-/// What the first places say that have no typing and that are not determined, where there are such.
-fn determined_by(untyped: Option<Span>, unsettled: Option<Span>) -> Result<(), TypeFault>
-    ensures { (program : ProgramData) → IsFirstOrNone (BreaksTyping program) untyped → IsFirstOrNone (IsUnsettled program) unsettled → MatchResult result (λ _. IsDetermined program) (FaultSays program) }
+/// The schemas that are included, unless there is a first place that has no typing or is not determined.
+fn determined_by(
+    untyped: Option<Span>,
+    unsettled: Option<Span>,
+    instances: JudgedInstances,
+) -> Result<JudgedInstances, TypeFault>
+    ensures same { IfOk result (λ found. found ≡ instances) }
+    ensures determined { (program : ProgramData) → IsFirstOrNone (BreaksTyping program) untyped → IsFirstOrNone (IsUnsettled program) unsettled → MatchResult result (λ _. IsDetermined program) (FaultSays program) }
 {
     match (untyped, unsettled) {
         (Some(place), _) => Err(TypeFault::NoTyping(place)),
         (None, Some(place)) => Err(TypeFault::Ambiguous(place)),
-        (None, None) => Ok(()),
+        (None, None) => Ok(instances),
     }
 }
 
-/// Whether all types are determined, in code and in specifications.
+/// The schemas that are included, if all types are determined, in code and in specifications.
 ///
 /// # Errors
 ///
@@ -75,18 +82,20 @@ fn check_determined(
     types: &CodeTypes,
     program: &Program,
     typings: &[FunctionTyping],
-) -> Result<(), TypeFault>
+) -> Result<JudgedInstances, TypeFault>
     requires types { AreCodeTypes types.now }
     requires typings { AreTypings program.now typings.now }
     requires circles { HasNoCircle (schema_kind program.now) }
-    ensures { MatchResult result (λ _. IsDetermined program.now) (FaultSays program.now) }
+    ensures determined { MatchResult result (λ _. IsDetermined program.now) (FaultSays program.now) }
+    ensures included { IfOk result (AreIncluded program.now) }
 {
     let told = place_types(alloc, typings)?;
     let code = code_faults(alloc, types, program, typings)?;
-    let specifications = spec_faults(alloc, types, program, &told)?;
-    let untyped = earlier(code.untyped, specifications.untyped);
-    let unsettled = earlier(code.unsettled, specifications.unsettled);
-    determined_by(untyped, unsettled)
+    let specifications = judge_specifications(alloc, types, program, &told)?;
+    let JudgedSpecifications { faults, instances } = specifications;
+    let untyped = earlier(code.untyped, faults.untyped);
+    let unsettled = earlier(code.unsettled, faults.unsettled);
+    determined_by(untyped, unsettled, instances)
 }
 
 /// Whether code keeps the rules on abilities and on `acquires`.
@@ -151,21 +160,47 @@ fn check_typed(
     Ok(())
 }
 
-/// The types of all functions of a program. Time grows with the nodes of functions, constants and clauses, those of schemas
-/// once for each list of types that they are included with, and with the types in their pools with their parts.
+/// The types of all functions of a program, and of all clauses of schemas that are included.
+#[derive(Drop)]
+pub struct ProgramTyping {
+    pub functions: Vec<FunctionTyping>,
+    pub instances: JudgedInstances,
+}
+
+/// The types of all functions of a program, and of schemas where they are included. Time grows with the nodes of functions,
+/// constants and clauses, those of schemas once for each list of types that they are included with, and with the types in
+/// their pools with their parts.
 ///
 /// # Errors
 ///
 /// Each rule exactly where it is the first that is broken, with the place of the first declaration that breaks it; a
 /// clause is named by its spec block. Schemas must not include themselves.
-pub fn type_program(alloc: Global, program: &Program) -> Result<Vec<FunctionTyping>, TypeFault>
+pub fn program_typing(alloc: Global, program: &Program) -> Result<ProgramTyping, TypeFault>
     requires { HasNoCircle (schema_kind program.now) }
-    ensures well { MatchResult result (λ typings. IsWellFormed program.now) (FaultSays program.now) }
-    ensures types { IfOk result (λ typings. AreTypings program.now typings.items) }
+    ensures well { MatchResult result (λ _. IsWellFormed program.now) (FaultSays program.now) }
+    ensures types { IfOk result (λ typing. AreTypings program.now typing.functions.items) }
+    ensures included { IfOk result (λ typing. AreIncluded program.now typing.instances) }
 {
     let types = code_types(alloc);
-    let typings = type_functions(alloc, &types, program)?;
-    check_determined(alloc, &types, program, &typings)?;
-    check_typed(alloc, program, &typings)?;
-    Ok(typings)
+    let functions = type_functions(alloc, &types, program)?;
+    let instances = check_determined(alloc, &types, program, &functions)?;
+    check_typed(alloc, program, &functions)?;
+    Ok(ProgramTyping {
+        functions,
+        instances,
+    })
+}
+
+/// The types of all functions of a program, as `program_typing` tells them.
+///
+/// # Errors
+///
+/// Those of `program_typing`.
+pub fn type_program(alloc: Global, program: &Program) -> Result<Vec<FunctionTyping>, TypeFault>
+    requires { HasNoCircle (schema_kind program.now) }
+    ensures well { MatchResult result (λ _. IsWellFormed program.now) (FaultSays program.now) }
+    ensures types { IfOk result (λ typings. AreTypings program.now typings.items) }
+{
+    let ProgramTyping { functions, .. } = program_typing(alloc, program)?;
+    Ok(functions)
 }

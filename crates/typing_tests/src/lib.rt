@@ -8,4 +8,6 @@ mod printing;
 #[cfg(test)]
 mod spec_typing_tests;
 #[cfg(test)]
+mod table_tests;
+#[cfg(test)]
 mod typing_tests;

@@ -1,11 +1,10 @@
-use Rattle.std.proofs.Common.{◌≡◌, ℕ, ◌<◌, Bool, List, true, length, sym, ◌∙◌, ap, subst}
-use Rattle.std.specs.Prelude.{◌↔◌, All, IsTrue, slice_index_or}
+use Rattle.std.proofs.Common.{ℕ, Bool, List, true, length, sym, ◌∙◌, ap, subst}
+use Rattle.std.specs.Prelude.{All}
 use Rattle.marked_circles.specs.declared.edge.MarkedEdge.{MarkedEdge}
 use Rattle.marked_circles.specs.MarkedCircles.{IsEdge, IsWithin}
 use Rattle.standing_clauses.specs.declared.judged.ClauseRule.TheVariants.{Typing, Settling}
 use Rattle.schema_instances.specs.Known.{listed}
-use Rattle.schema_instances.specs.Leading.{LeadsToMark}
-use Rattle.schema_instances.proofs.Closures.{edges_within, leads_again, told_broken}
+use Rattle.schema_instances.proofs.Closures.{edges_within, instances_of, leads_again, told_broken}
 use Rattle.schema_instances.proofs.broken.broken_instances.Goals as goal
 
 pub leading_to-requires-clause-within : goal.leading_to-requires-clause-within
@@ -35,11 +34,14 @@ returns-clause-untyped c =
     let closed = c.in_ok-closure.ensures.closed in
     told_broken c.args.program.now Typing (listed c.args.known) (listed c.in_ok-closure.closure.known) c.in_ok-closure.closure.edges.items c.in_ok-closure.closure.untyped.items _
     c.in_ok-closure.ensures.grows closed.linked closed.untyped
-    (leads_again _ _ _ _ _ c.deref.ensures.value c.deref-2.ensures.value c.in_ok-leading_to.ensures)
+    (leads_again _ _ _ _ _ c.deref.ensures.value c.deref-2.ensures.value c.in_ok-untyped.ensures)
 
 pub returns-clause-unsettled : goal.returns-clause-unsettled
 returns-clause-unsettled c =
     let closed = c.in_ok-closure.ensures.closed in
     told_broken c.args.program.now Settling (listed c.args.known) (listed c.in_ok-closure.closure.known) c.in_ok-closure.closure.edges.items c.in_ok-closure.closure.unsettled.items _
     c.in_ok-closure.ensures.grows closed.linked closed.unsettled
-    (leads_again _ _ _ _ _ c.deref-3.ensures.value c.deref-4.ensures.value c.in_ok-leading_to-2.ensures)
+    (leads_again _ _ _ _ _ c.deref-3.ensures.value c.deref-4.ensures.value c.in_ok-unsettled.ensures)
+
+pub returns-clause-instances : goal.returns-clause-instances
+returns-clause-instances c = instances_of c.args.program.now (listed c.args.known) c.in_ok-closure.closure c.in_ok-closure.ensures.grows c.in_ok-closure.ensures.reached c.in_ok-closure.ensures.closed

@@ -1,17 +1,19 @@
-use Rattle.std.proofs.Common.{◌≡◌, ℕ, zero, suc, ◌+◌, ◌-◌, ◌<◌, ◌≤◌, length, sym, ◌∙◌, subst, arith}
+use Rattle.std.proofs.Common.{◌≡◌, ℕ, zero, ◌+◌, ◌-◌, ◌<◌, length, sym, ◌∙◌, subst, arith}
 use Rattle.std.proofs.lemmas.List.{length-map}
 use Rattle.standing_clauses.specs.Judged.{instance_of}
 use Rattle.schema_instances.specs.Closed.{IsClosedTo}
 use Rattle.schema_instances.specs.Closing.{AreShallow}
 use Rattle.schema_instances.specs.Known.{listed}
 use Rattle.schema_instances.proofs.Closures.{closed_begins, depth_next}
-use Rattle.schema_instances.proofs.LevelLaws.{grows_not, grows_twice, none_left, shallow_next}
+use Rattle.schema_instances.proofs.Lists.{at_contained}
+use Rattle.schema_instances.proofs.LevelLaws.{grows_not, grows_twice, none_left, reached_next, reached_not, shallow_next}
 use Rattle.schema_instances.proofs.closing.close.Goals as goal
 
 pub loop-init : goal.loop-init
 loop-init c = record {
-  closed = closed_begins c.args.program.now _ c.requires.keyed c.new.ensures.items c.new-2.ensures.items c.new-3.ensures.items;
+  closed = closed_begins c.args.program.now _ c.requires.keyed c.new.ensures.items c.new-2.ensures.items c.new-3.ensures.items c.new-4.ensures.items;
   grows = grows_not (listed c.args.known);
+  reached = reached_not c.args.program.now (listed c.args.known);
   shallow = subst (λ (d : ℕ). AreShallow c.args.program.now d (listed c.args.known) 0) (let e : length c.args.program.now.schemas ≡ length c.args.program.now.schemas - 0 = omega arith in e) c.requires.shallow;
 }
 
@@ -37,6 +39,11 @@ loop-preserved c =
     record {
       closed = level.closed;
       grows = grows_twice (listed c.args.known) (listed c.loop.closure.known) (listed c.close_level.new.closure.known) c.loop.invariant.grows level.grows;
+      reached = reached_next program (listed c.args.known) (listed c.loop.closure.known) (listed c.close_level.new.closure.known) c.loop.invariant.reached level.grows
+          (λ n j le at.
+          let size = c.len-end-in-loop.ensures ∙ sym (length-map c.loop.closure.known.entries (λ e. instance_of e.1)) in
+          let w = level.added n j (omega (arith, le, size)) at in
+          (w.1.2.0, at_contained (listed c.loop.closure.known) w.0 w.1.2.0 w.1.2.1.0, w.1.2.1.1));
       shallow = shallow_next program (total - (c.loop.counter + 1)) c.loop.closure c.close_level.new.closure c.loop.done c.len-end-in-loop.result
           (c.len-end-in-loop.ensures ∙ sym (length-map c.loop.closure.known.entries (λ e. instance_of e.1))) level
           (subst (λ (d : ℕ). AreShallow program d (listed c.loop.closure.known) c.loop.done) (depth_next total c.loop.counter below) c.loop.invariant.shallow);
@@ -44,6 +51,9 @@ loop-preserved c =
 
 pub returns-clause-grows : goal.returns-clause-grows
 returns-clause-grows c = c.loop.invariant.grows
+
+pub returns-clause-reached : goal.returns-clause-reached
+returns-clause-reached c = c.loop.invariant.reached
 
 pub returns-clause-closed : goal.returns-clause-closed
 returns-clause-closed c =

@@ -1,6 +1,6 @@
 use Rattle.std.proofs.Common.{◌-◌, length}
 use Rattle.schema_instances.specs.Closed.{IsClosedTo}
-use Rattle.schema_instances.specs.Closing.{AreShallow, Grows}
+use Rattle.schema_instances.specs.Closing.{AreReached, AreShallow, Grows}
 use Rattle.schema_instances.specs.Known.{listed}
 use Rattle.schema_instances.proofs.closing.close.Given as goal
 
@@ -8,5 +8,6 @@ abbrev pub invariant-loop : goal.invariant-loop
 invariant-loop l = record {
   closed : IsClosedTo l.program l.closure l.done;
   grows : Grows (listed l.fn.known) (listed l.closure.known);
+  reached : AreReached l.program (listed l.fn.known) (listed l.closure.known);
   shallow : AreShallow l.program (length l.program.schemas - l.counter) (listed l.closure.known) l.done;
 }

@@ -1,4 +1,4 @@
-use Rattle.std.proofs.Common.{ℕ, ◌<◌, length, sym, subst, arith, add-one}
+use Rattle.std.proofs.Common.{ℕ, sym, subst, arith, add-one}
 use Rattle.schema_instances.specs.Known.{listed}
 use Rattle.schema_instances.proofs.LevelLaws.{LevelTo, level_begins, level_ends, level_goes}
 use Rattle.schema_instances.proofs.Lists.{longer}

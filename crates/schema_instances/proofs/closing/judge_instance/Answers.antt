@@ -1,15 +1,32 @@
-use Rattle.std.proofs.Common.{◌≡◌, List, sym, subst}
+use Rattle.std.proofs.Common.{◌≡◌, List, None, Some, sym, ◌∙◌, subst}
 use Rattle.pv_base.specs.TypeData.{TypeData, types_of}
 use Rattle.pv_types.specs.declared.clause.Clause.{Clause}
+use Rattle.pv_types.specs.declared.declaration.Schema.{Schema}
 use Rattle.clause_demands.specs.Blocks.{block_of}
 use Rattle.typings.specs.Clauses.{schema_names}
 use Rattle.standing_clauses.specs.Judged.{OwnerSays, instance_of}
 use Rattle.standing_clauses.proofs.Placing.{if_ok_map}
 use Rattle.schema_instances.proofs.InstanceLaws.{instance_says}
+use Rattle.schema_instances.proofs.Lists.{some_inside}
 use Rattle.schema_instances.proofs.closing.judge_instance.Goals as goal
 
-pub returns-in-Some : goal.returns-in-Some
-returns-in-Some c =
+pub returns-in-None-clause-owner : goal.returns-in-None-clause-owner
+returns-in-None-clause-owner c = λ declared found. absurd (let e : None ≡ Some declared = c.in-None.ensures ∙ found in cc)
+
+pub returns-in-Some-clause-owner : goal.returns-in-Some-clause-owner
+returns-in-Some-clause-owner c =
+    let program = c.args.program.now in
+    let declared = c.in-Some.schema.now in
+    let i = instance_of c.args.instance.now in
+    let items = c.args.instance.now.types.items in
+    if_ok_map c.judge_owner.result (λ judged owner other found.
+    subst (λ (d : Schema). OwnerSays program (schema_names d i.types) i.block i.types d.clauses judged.items) (some_inside declared other (c.in-Some.ensures ∙ found))
+    (subst (λ (cs : List Clause). OwnerSays program (schema_names declared (types_of items)) i.block (types_of items) cs judged.items) c.as_slice-clauses.ensures
+    (subst (λ (ts : List TypeData). OwnerSays program (schema_names declared (types_of ts)) i.block (types_of ts) c.as_slice-clauses.result.now judged.items) c.deref.ensures.value owner)))
+    c.judge_owner.ensures
+
+pub returns-in-Some-clause-says : goal.returns-in-Some-clause-says
+returns-in-Some-clause-says c =
     let program = c.args.program.now in
     let declared = c.in-Some.schema.now in
     let block = block_of c.args.instance.now.block in

@@ -1,4 +1,4 @@
-use Rattle.std.proofs.Common.{◌≡◌, ◌+◌, List, [], ◌∷◌, ◌++◌, ap, subst, length, take, refl, sym, ◌∙◌}
+use Rattle.std.proofs.Common.{◌+◌, List, [], ◌∷◌, ◌++◌, ap, subst, length, take, refl, sym, ◌∙◌}
 use Rattle.std.proofs.lemmas.List.{take_all}
 use Rattle.std.proofs.lemmas.Option.{slice_get_read}
 use Rattle.schema_instances.specs.Closed.{Links}

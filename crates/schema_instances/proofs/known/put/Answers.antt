@@ -1,4 +1,4 @@
-use Rattle.std.proofs.Common.{◌≡◌, ℕ, List, [], ◌∷◌, ◌++◌, map, Some, refl, sym, ◌∙◌, ap, subst}
+use Rattle.std.proofs.Common.{◌≡◌, ℕ, List, [], ◌∷◌, ◌++◌, map, Some, refl, sym, ◌∙◌, subst}
 use Rattle.pv_base.specs.TypeData.{TypeData, types_of}
 use Rattle.formula_pool.specs.Items.{TypesItem}
 use Rattle.formula_pool.specs.Pools.{IsItem}
@@ -7,7 +7,7 @@ use Rattle.standing_clauses.specs.Judged.{instance_of}
 use Rattle.standing_clauses.specs.declared.instance.Instance.{Instance}
 use Rattle.schema_instances.specs.declared.known.InstanceKey.{InstanceKey}
 use Rattle.std.specs.Prelude.{slice_get}
-use Rattle.schema_instances.specs.Known.{IsKeyOf, IsPut, listed}
+use Rattle.schema_instances.specs.Known.{IsKeyOf, IsPut}
 use Rattle.schema_instances.proofs.KeyLaws.{keyed_new, keys_grown, none_there, put_found, put_new}
 use Rattle.schema_instances.proofs.known.put.Goals as goal
 

@@ -1,5 +1,5 @@
-use Rattle.std.proofs.Common.{◌≡◌, ℕ, ◌+◌, ◌<◌, ◌≤◌, List, length, sym, ◌∙◌, subst, arith}
-use Rattle.std.specs.Prelude.{◌↔◌, All, IsTrue}
+use Rattle.std.proofs.Common.{◌+◌, List, length, sym, subst, arith}
+use Rattle.std.specs.Prelude.{All}
 use Rattle.marked_circles.specs.declared.edge.MarkedEdge.{MarkedEdge}
 use Rattle.marked_circles.specs.MarkedCircles.{IsOnMarkedCircle, IsWithin}
 use Rattle.standing_clauses.proofs.Placing.{if_ok_map}

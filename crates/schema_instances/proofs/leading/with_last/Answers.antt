@@ -1,7 +1,5 @@
-use Rattle.std.proofs.Common.{◌≡◌, ℕ, Bool, true, false, ◌+◌, ◌<◌, List, [], ◌∷◌, ◌++◌, length, take, refl, sym, ◌∙◌, ap, subst, arith}
-use Rattle.std.specs.Prelude.{slice_index_or}
+use Rattle.std.proofs.Common.{ℕ, true, false, List, [], ◌∷◌, ◌++◌, length, ◌∙◌, ap, subst, arith}
 use Rattle.std.proofs.lemmas.List.{append_assoc, take_all}
-use Rattle.std.proofs.lemmas.Option.{slice_get-get_or}
 use Rattle.marked_circles.specs.declared.edge.MarkedEdge.{MarkedEdge}
 use Rattle.schema_instances.specs.Leading.{HasLast, edge}
 use Rattle.schema_instances.proofs.LeadingLaws.{last_begins, last_more, more_marked, more_unmarked}

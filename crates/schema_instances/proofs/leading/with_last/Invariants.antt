@@ -1,4 +1,4 @@
-use Rattle.std.proofs.Common.{◌≡◌, ◌≤◌, take}
+use Rattle.std.proofs.Common.{◌≡◌, take}
 use Rattle.schema_instances.specs.Leading.{HasLast}
 use Rattle.schema_instances.proofs.leading.with_last.Given as goal
 

@@ -1,4 +1,3 @@
-use Rattle.std.proofs.Common.{length}
 use Rattle.std.proofs.lemmas.Option.{slice_get-get_or}
 use Rattle.standing_clauses.specs.declared.judged.ClauseRule.TheVariants.{Settling}
 use Rattle.spec_faults.specs.Numbered.{RootIsBroken, is_so_itself}

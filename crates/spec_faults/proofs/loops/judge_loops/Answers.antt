@@ -1,4 +1,4 @@
-use Rattle.std.proofs.Common.{◌≡◌, List, [], Option, Some, None, sym, subst}
+use Rattle.std.proofs.Common.{List, Some, None, sym, subst}
 use Rattle.std.specs.Option.{option_map}
 use Rattle.pv_base.specs.TypeData.{TypeData}
 use Rattle.typings.specs.Faults.{IsOfLoop}

@@ -1,4 +1,4 @@
-use Rattle.std.proofs.Common.{◌≡◌, ℕ, ◌+◌, ◌<◌, List, length, sym, ◌∙◌, ap, subst, arith}
+use Rattle.std.proofs.Common.{ℕ, ◌+◌, ◌<◌, length, sym, ap, subst, arith}
 use Rattle.pv_base.specs.TypeData.{TypeData}
 use Rattle.typings.specs.Answers.{HasType}
 use Rattle.typings.specs.CodeSystems.{function_system}

@@ -1,15 +1,11 @@
-use Rattle.std.proofs.Common.{◌≡◌, ℕ, ◌+◌, ◌<◌, ◌≤◌, List, length, take, refl, sym, ◌∙◌, ap, subst, arith}
+use Rattle.std.proofs.Common.{◌+◌, ◌<◌, ◌≤◌, List, length, take, refl, sym, ◌∙◌, ap, subst, arith}
 use Rattle.std.specs.Option.{option_map}
 use Rattle.std.specs.Map.Iter.{deref_pair}
 use Rattle.std.proofs.lemmas.Option.{slice_get_read}
-use Rattle.pv_base.specs.TypeData.{NoTypes}
-use Rattle.pv_types.specs.declared.clause.Clause.{Clause}
-use Rattle.typings.specs.Clauses as C
-use Rattle.standing_clauses.specs.Judged.{OwnerSays}
 use Rattle.standing_clauses.specs.declared.judged.JudgedClause.{JudgedClause}
 use Rattle.spec_faults.specs.Roots.{IsOfFunction, OfSome, TellsOf}
 use Rattle.spec_faults.proofs.Firsts.{nothing_there}
-use Rattle.spec_faults.proofs.RootLaws.{owner_tells, some_all, some_more, some_none, tells_both}
+use Rattle.spec_faults.proofs.RootLaws.{some_all, some_more, some_none, tells_both}
 use Rattle.spec_faults.proofs.roots.all_functions.Goals as goal
 use Rattle.spec_faults.proofs.roots.all_functions.Goals.{in-Some+in_ok-more+in_ok-append, in_default}
 

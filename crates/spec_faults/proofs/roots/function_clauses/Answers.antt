@@ -1,4 +1,4 @@
-use Rattle.std.proofs.Common.{◌≡◌, List, sym, subst}
+use Rattle.std.proofs.Common.{List, sym, subst}
 use Rattle.pv_base.specs.TypeData.{NoTypes}
 use Rattle.pv_types.specs.declared.clause.Clause.{Clause}
 use Rattle.typings.specs.Clauses as C

@@ -1,4 +1,4 @@
-use Rattle.std.proofs.Common.{◌≡◌, List, ◌++◌, ◌∙◌, ap}
+use Rattle.std.proofs.Common.{List, ◌++◌, ◌∙◌, ap}
 use Rattle.standing_clauses.specs.declared.judged.JudgedClause.{JudgedClause}
 use Rattle.spec_faults.proofs.RootLaws.{all_roots}
 use Rattle.spec_faults.proofs.roots.root_clauses.Goals as goal

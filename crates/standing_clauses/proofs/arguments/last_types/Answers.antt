@@ -1,4 +1,4 @@
-use Rattle.std.proofs.Common.{◌≡◌, ◌+◌, sym, ◌∙◌, arith}
+use Rattle.std.proofs.Common.{sym, ◌∙◌, arith}
 use Rattle.standing_clauses.proofs.Placing.{if_ok_map, last_places, untypable_places}
 use Rattle.standing_clauses.proofs.arguments.last_types.Goals as goal
 

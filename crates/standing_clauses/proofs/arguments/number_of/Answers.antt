@@ -1,4 +1,4 @@
-use Rattle.std.proofs.Common.{◌<◌, arith}
+use Rattle.std.proofs.Common.{arith}
 use Rattle.standing_clauses.proofs.arguments.number_of.Goals as goal
 
 pub returns-in-None : goal.returns-in-None

@@ -1,7 +1,7 @@
-use Rattle.std.proofs.Common.{◌≡◌, ℕ, sym, ◌∙◌, subst, arith}
+use Rattle.std.proofs.Common.{sym, subst, arith}
 use Rattle.pv_base.specs.TypeData.{TypeData}
 use Rattle.typings.specs.Answers.{HasType}
-use Rattle.standing_clauses.proofs.Placing.{TypesTo, more_types, no_place, no_types, place_of}
+use Rattle.standing_clauses.proofs.Placing.{more_types, no_place, no_types, place_of}
 use Rattle.standing_clauses.proofs.arguments.types_between.Goals as goal
 
 pub loop-place-init : goal.loop-place-init

@@ -1,13 +1,13 @@
-use Rattle.std.proofs.Common.{◌≡◌, ℕ, ◌+◌, Option, Some, None, List, length, sym, ◌∙◌, ap, subst}
+use Rattle.std.proofs.Common.{ℕ, ◌+◌, Some, None, List, length, sym, ◌∙◌, ap, subst}
 use Rattle.std.specs.Option.{option_map}
-use Rattle.pv_base.specs.TypeData.{TypeData, types_of}
+use Rattle.pv_base.specs.TypeData.{types_of}
 use Rattle.pv_types.specs.declared.declaration.TypeParameter.{TypeParameter}
 use Rattle.pv_types.specs.declared.program.SchemaId.{SchemaId}
 use Rattle.clause_demands.specs.Blocks.{block_of}
 use Rattle.typings.specs.Clauses.{clause_system}
 use Rattle.standing_clauses.specs.Instances.{Includes}
 use Rattle.standing_clauses.specs.Judged.{standing}
-use Rattle.standing_clauses.proofs.Including.{places_are, typed, undeclared, untyped, first_place, told_arguments}
+use Rattle.standing_clauses.proofs.Including.{places_are, typed, untyped, first_place, told_arguments}
 use Rattle.standing_clauses.proofs.judged.included.Goals as goal
 
 pub returns-in-None-2 : goal.returns-in-None-2

@@ -1,4 +1,3 @@
-use Rattle.std.proofs.Common.{sym}
 use Rattle.standing_clauses.proofs.Judging.{not_ambiguous}
 use Rattle.standing_clauses.proofs.judged.is_ambiguous.Goals as goal
 

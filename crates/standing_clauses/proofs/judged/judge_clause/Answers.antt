@@ -1,10 +1,7 @@
-use Rattle.std.proofs.Common.{◌≡◌, Bool, refl, sym, ◌∙◌, subst}
-use Rattle.std.specs.Prelude.{◌↔◌, IsTrue}
-use Rattle.pv_base.specs.declared.span.Span.{Span}
+use Rattle.std.proofs.Common.{refl}
 use Rattle.spec_demands.specs.Settings.{names_of, owner_types}
 use Rattle.clause_demands.specs.Blocks.{block_of}
 use Rattle.typings.specs.Clauses.{clause_system}
-use Rattle.standing_clauses.specs.Judged.{ClauseBreaks}
 use Rattle.standing_clauses.proofs.Judging.{or_untyped}
 use Rattle.standing_clauses.proofs.judged.judge_clause.Goals as goal
 
@@ -20,6 +17,7 @@ returns c =
         untyped = or_untyped s program c.args.clause.now.form _ _ (c.is_untypable.ensures s _ says) c.includes_improper-is_improper.ensures;
         unsettled = c.is_ambiguous.ensures s _ says;
         included = c.in_ok-included.ensures names types place says;
+        typing = says;
       };
       place_is = refl;
       of_let = c.in_ok-of.ensures s says;

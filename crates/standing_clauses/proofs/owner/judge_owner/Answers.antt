@@ -1,12 +1,10 @@
-use Rattle.std.proofs.Common.{◌≡◌, ℕ, suc, ◌+◌, List, [], ◌∷◌, ◌++◌, length, Option, refl, sym, ◌∙◌, ap, subst, arith, add-one}
+use Rattle.std.proofs.Common.{suc, ◌+◌, List, [], ◌∷◌, ◌++◌, length, Option, refl, sym, ◌∙◌, ap, subst, arith, add-one}
 use Rattle.std.proofs.lemmas.List.{map-append}
 use Rattle.std.proofs.lemmas.Option.{slice_get_read}
-use Rattle.typings.specs.Clauses as C
 use Rattle.spec_demands.specs.Settings.{let_of, lets_of, owner_names, owner_types}
 use Rattle.spec_demands.specs.declared.setting.LetType.{LetType}
 use Rattle.clause_demands.specs.Blocks.{block_of}
-use Rattle.standing_clauses.specs.Judged.{ClauseTold, FirstSay}
-use Rattle.standing_clauses.specs.declared.judged.JudgedClause.{JudgedClause}
+use Rattle.standing_clauses.specs.Judged.{ClauseTold}
 use Rattle.standing_clauses.proofs.Owning.{all_said, first_more, none_said, said_again}
 use Rattle.standing_clauses.proofs.owner.judge_owner.Goals as goal
 

@@ -4,14 +4,14 @@ use Rattle.declaration_places.specs.Order.{IsFirstOrNone}
 use Rattle.typings.specs.Faults.{BreaksTyping, IsUnsettled}
 use Rattle.typing.proofs.typing.determined_by.Goals as goal
 
-pub returns-in-None-Some : goal.returns-in-None-Some
-returns-in-None-Some c = λ program untyped unsettled. (
+pub returns-in-None-Some-clause-determined : goal.returns-in-None-Some-clause-determined
+returns-in-None-Some-clause-determined c = λ program untyped unsettled. (
   subst (λ (o : Option Span). IsFirstOrNone (BreaksTyping program) o) c.in-None-Some.is-0 untyped,
   subst (λ (o : Option Span). IsFirstOrNone (IsUnsettled program) o) c.in-None-Some.is-1 unsettled,
 )
 
-pub returns-in-None-None : goal.returns-in-None-None
-returns-in-None-None c = λ program untyped unsettled. record {
+pub returns-in-None-None-clause-determined : goal.returns-in-None-None-clause-determined
+returns-in-None-None-clause-determined c = λ program untyped unsettled. record {
   typed = subst (λ (o : Option Span). IsFirstOrNone (BreaksTyping program) o) c.in-None-None.is-0 untyped;
   settled = subst (λ (o : Option Span). IsFirstOrNone (IsUnsettled program) o) c.in-None-None.is-1 unsettled;
 }

@@ -1,14 +1,12 @@
-use Rattle.std.proofs.Common.{◌≡◌, List, Bool, length}
-use Rattle.declaration_places.specs.Order.{IsFirstOrNone}
+use Rattle.std.proofs.Common.{length}
 use Rattle.declaration_places.proofs.Firsts.{first_of_both}
 use Rattle.standing_clauses.specs.declared.judged.ClauseRule.TheVariants.{Typing, Settling}
-use Rattle.standing_clauses.specs.declared.judged.JudgedClause.{JudgedClause}
 use Rattle.schema_instances.specs.Known.{listed}
 use Rattle.spec_faults.specs.Faults.{FunctionBreaksAt, StandingBreaks}
-use Rattle.spec_faults.specs.Numbered.{AreNumbered, BreaksAmong}
-use Rattle.spec_faults.specs.declared.first.RootClause.{RootClause}
+use Rattle.spec_faults.specs.Numbered.{AreNumbered}
 use Rattle.spec_faults.proofs.FaultLaws.{first_again, first_standing, numbered_again, roots_shallow}
-use Rattle.spec_faults.proofs.first.spec_faults.Goals as goal
+use Rattle.spec_faults.proofs.IncludedLaws.{included}
+use Rattle.spec_faults.proofs.first.judge_specifications.Goals as goal
 
 pub broken_instances-requires-clause-shallow : goal.broken_instances-requires-clause-shallow
 broken_instances-requires-clause-shallow c =
@@ -38,3 +36,10 @@ returns-clause-unsettled c =
     (first_standing program known Settling broken c.in_ok-broken.ensures.unsettled c.in_ok-judged.judged.items roots c.in_ok-judged.ensures numbered c.first_unsettled-unsettled.result
     (first_again Settling _ broken _ roots c.first_unsettled-unsettled.result c.deref-5.ensures.value c.deref-4.ensures.value c.first_unsettled-unsettled.ensures))
     c.in_ok-functions.ensures.unsettled c.earlier-2.ensures
+
+pub returns-clause-instances : goal.returns-clause-instances
+returns-clause-instances c =
+    let known = listed c.in_ok-roots.field-0.known in
+    let roots = c.in_ok-roots.field-0.roots.items in
+    included c.args.program.now known c.in_ok-judged.judged.items roots c.in_ok-broken.broken.instances c.in_ok-judged.ensures
+    (numbered_again known _ _ roots c.deref.ensures.value c.in_ok-roots.ensures.numbered) c.in_ok-broken.ensures.instances

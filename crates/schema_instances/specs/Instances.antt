@@ -1,0 +1,33 @@
+-- What is told of the clauses of schemas where they are included.
+use Rattle.std.specs.Prelude.{◌≡◌, ℕ, ◌<◌, List, length, Contains, Some, slice_get}
+use Rattle.std.specs.Global.{Vec}
+use Rattle.std.specs.Map.{lookup}
+use Rattle.pv_types.specs.declared.declaration.Schema.{Schema}
+use Rattle.pv_types.specs.declared.program.Program.{Program}
+use Rattle.declaration_places.specs.Same.{same_schema}
+use Rattle.typings.specs.Clauses.{schema_names}
+use Rattle.standing_clauses.specs.Instances.{Instance}
+use Rattle.standing_clauses.specs.Judged.{OwnerSays}
+use Rattle.standing_clauses.specs.declared.judged.JudgedClause.{JudgedClause}
+use Rattle.schema_instances.specs.Closing.{AreReached, Grows}
+use Rattle.schema_instances.specs.Including.{Leads}
+use Rattle.schema_instances.specs.Known.{IsKeyed, listed}
+use Rattle.schema_instances.specs.declared.broken.JudgedInstances.{JudgedInstances}
+
+-- of each clause of its schema
+abbrev pub OwnerOf : Program → Instance → List JudgedClause → Type 0
+OwnerOf program i judged = (declared : Schema) → lookup (same_schema i.schema) program.schemas ≡ Some declared
+    → OwnerSays program (schema_names declared i.types) i.block i.types declared.clauses judged
+
+-- of the first so many instances
+pub record AreOwners (program : Program) (known : List Instance) (judged : List (Vec JudgedClause)) (done : ℕ) : Type 0 where
+  pub told : length judged ≡ done
+  pub each : (n : ℕ) (i : Instance) (of : Vec JudgedClause) → n < done → slice_get known n ≡ Some i → slice_get judged n ≡ Some of → OwnerOf program i of.items
+
+-- the first ones and all to which they lead, with what is told of their clauses
+pub record AreInstances (program : Program) (first : List Instance) (instances : JudgedInstances) : Type 0 where
+  pub keyed : IsKeyed instances.known
+  pub grows : Grows first (listed instances.known)
+  pub reached : AreReached program first (listed instances.known)
+  pub closed : (i j : Instance) → Contains (listed instances.known) i → Leads program i j → Contains (listed instances.known) j
+  pub owners : AreOwners program (listed instances.known) instances.judged.items (length (listed instances.known))
