@@ -123,8 +123,11 @@ fn main(rt: HostRuntime) -> io::Result<()> {
             if let Ok(states) = local_states(alloc, &kinds, 256, &resolved.body) {
                 let took = start.elapsed(&rt)?;
                 let took = took.as_micros();
-                let last = states.at(resolved.body.len() - 1, 255);
-                println!(rt; "  the states at all nodes: {took} microseconds {last:?}")?;
+                let nodes = resolved.body.len();
+                if nodes > 0 {
+                    let last = states.at(nodes - 1, 255);
+                    println!(rt; "  the states at all nodes: {took} microseconds {last:?}")?;
+                }
             }
         }
     }
