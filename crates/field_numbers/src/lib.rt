@@ -1,0 +1,4 @@
+//! The numbers of the fields of structs, by their names.
+#![tactic(auto)]
+
+pub mod numbers;
