@@ -3,6 +3,7 @@ use Rattle.std.specs.Prelude.{◌≡◌}
 use Rattle.pv_base.specs.Pairs.{Paired}
 use Rattle.pv_base.specs.TypeData.{NoTypes}
 use Rattle.pv_types.specs.declared.program.Program.{Program}
+use Rattle.field_numbers.specs.FieldNumbers.{AreFieldNumbers}
 use Rattle.typings.specs.CodeSystems.{function_system, constant_system}
 use Rattle.typings.specs.Clauses.{StructBlock, ModuleBlock, module_names, spec_function_system, struct_names}
 use Rattle.typed_program.specs.Clauses.{AreClauseTables, AreFunctionClauses}
@@ -20,3 +21,4 @@ pub record IsTypedProgram (program : Program) (typed : TypedProgram) : Type 0 wh
   pub struct_clauses : Paired (λ s t. AreClauseTables program (struct_names s.1) StructBlock NoTypes s.1.clauses t) program.structs typed.struct_clauses.items
   pub module_clauses : Paired (λ m t. AreClauseTables program module_names ModuleBlock NoTypes m.1.clauses t) program.modules typed.module_clauses.items
   pub instances : AreInstanceTables program typed.instances
+  pub fields : AreFieldNumbers program.structs typed.fields

@@ -11,6 +11,7 @@ use crate::clauses::{ClauseTables, FunctionClauses, clause_tables};
 use crate::instances::{InstanceTables, instance_tables};
 use crate::tables::{DeclarationTables, declaration_tables};
 use code_typings::plain::code_types;
+use field_numbers::numbers::FieldNumbers;
 use pv_base::memory::NoMemory;
 use pv_types::program::Program;
 use pv_types::sequence::Sequence;
@@ -42,6 +43,9 @@ pub struct TypedProgram {
     pub module_clauses: Vec<Sequence<TypeTable>>,
     /// Of each schema that is included the tables of its clauses there.
     pub instances: InstanceTables,
+    /// The numbers of the fields of structs: with the type of what a field is read of, or of the whole, they tell which
+    /// field a node names.
+    pub fields: FieldNumbers,
 }
 
 /// A program all of whose types are determined, with its tables. Those of functions and of schemas that
@@ -64,6 +68,7 @@ fn with_tables(
     let instances = instance_tables(alloc, &program, instances)?;
     let declarations = declaration_tables(alloc, &types, &program, functions)?;
     let clauses = clause_tables(alloc, &types, &program, &declarations.functions)?;
+    let fields = FieldNumbers::new(alloc, &program.structs)?;
     let DeclarationTables {
         functions,
         constants,
@@ -83,6 +88,7 @@ fn with_tables(
         struct_clauses,
         module_clauses,
         instances,
+        fields,
     })
 }
 

@@ -19,4 +19,5 @@ returns c = record {
   struct_clauses = c.in_ok-clauses.ensures.structs;
   module_clauses = c.in_ok-clauses.ensures.modules;
   instances = c.in_ok-instances.ensures;
+  fields = c.in_ok-fields.ensures;
 }
