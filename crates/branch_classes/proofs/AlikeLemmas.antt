@@ -1,8 +1,8 @@
 -- Trees that are equal up to classes of closed terms: they are read as items that are so, and being so is an equivalence.
-use Rattle.std.proofs.Common.{◌≡◌, ◌≢◌, ◌⊎◌, inl, inr, ℕ, zero, suc, ◌<◌, ◌≤◌, List, [], ◌∷◌, ◌++◌, length, map, Option, Some, None, Bool, true, false, not, cond, nat_eq, ◌↔◌, refl, sym, ap, ◌∙◌, subst, arith, rules}
-use Rattle.std.specs.Prelude.{slice_get, ◌&&◌, ◌||◌, ◌==◌, All}
-use Rattle.pv_base.specs.TypeData.{TypeData, TypesData, BoolType, IntType, NumType, AddressType, SignerType, VectorType, StructType, ParamType, SharedType, MutableType, TupleType, NoTypes, MoreTypes}
-use Rattle.fol.specs.FormulaData.{TermData, VarTerm, ConstantTerm, UnaryTerm, BinaryTerm, TernaryTerm, PackTerm, FieldTerm, SetFieldTerm, IfTerm, NothingTerm, TermsData, NoTerms, MoreTerms, TriggersData, NoTriggers, MoreTriggers, FormulaData, CompareFormula, IsFormula, HoldsFormula, NotFormula, JoinFormula, ConnectFormula, QuantifyFormula, AnyOfFormula, FormulasData, NoFormulas, MoreFormulas, terms_of, list_of_terms, terms_of-list_of_terms}
+use Rattle.std.proofs.Common.{◌≡◌, ℕ, List, [], ◌∷◌, true, false, not, refl, sym, ap, ◌∙◌, subst}
+use Rattle.std.specs.Prelude.{◌&&◌, ◌||◌, ◌==◌, All}
+use Rattle.pv_base.specs.TypeData.{VectorType, StructType, SharedType, MutableType, TupleType, MoreTypes}
+use Rattle.fol.specs.FormulaData.{TermData, VarTerm, ConstantTerm, UnaryTerm, BinaryTerm, TernaryTerm, PackTerm, FieldTerm, SetFieldTerm, IfTerm, TermsData, IsFormula, list_of_terms, terms_of-list_of_terms}
 use Rattle.formula_pool.specs.declared.node.Leaf.{Leaf}
 use Rattle.formula_pool.specs.declared.node.Leaf.TheVariants.{Var, Constant, TypeBool, TypeInt, TypeNum, TypeAddress, TypeSigner, TypeParam, NilTerms, NilTriggers, NilFormulas, NilTypes, NilBytes}
 use Rattle.formula_pool.specs.declared.node.One.{One}
@@ -11,15 +11,14 @@ use Rattle.formula_pool.specs.declared.node.Two.{Two}
 use Rattle.formula_pool.specs.declared.node.Two.TheVariants.{Binary, Pack, Field, Compare, Is, Connect, Quantify, ConsTerm, ConsTrigger, ConsFormula, ConsType}
 use Rattle.formula_pool.specs.declared.node.Three.{Three}
 use Rattle.formula_pool.specs.declared.node.Three.TheVariants.{Ternary, SetField, If, TypeStruct}
-use Rattle.formula_pool.specs.Items.{Item, NoItem, TermItem, TermsItem, TriggersItem, FormulaItem, FormulasItem, TypeItem, TypesItem, BytesItem, Sort, NoSort, TermSort, TermsSort, TriggersSort, FormulaSort, FormulasSort, TypeSort, TypesSort, BytesSort, sort_of, term_in, terms_in, triggers_in, formula_in, formulas_in, type_in, types_in, bytes_in, leaf_item, one_item, two_item, three_item, one_part, first_of_two, second_of_two, first_of_three, second_of_three, third_of_three}
-use Rattle.branch_classes.specs.Trees.{Plain, PlainLeaf, PlainOne, PlainTwo, PlainThree, plain_bytes, plain_type, plain_types, plain_term, plain_terms, plain_triggers, plain_formula, plain_formulas, plain_item, Tree, BoundTree, LeafTree, OneTree, TwoTree, ThreeTree, among, under, leaf_tree, renamed, tree_of}
-use Rattle.std.proofs.lemmas.List.Elements.{All-nil, All-cons, All-head, All-tail}
+use Rattle.formula_pool.specs.Items.{Item, NoItem, TermItem, TermsItem, TriggersItem, FormulaItem, FormulasItem, TypeItem, TypesItem, BytesItem, TermSort, TermsSort, TriggersSort, FormulaSort, FormulasSort, TypeSort, TypesSort, BytesSort, sort_of, term_in, terms_in, triggers_in, formula_in, formulas_in, type_in, types_in, bytes_in, leaf_item, one_item, two_item, three_item, one_part, first_of_two, second_of_two, first_of_three, second_of_three, third_of_three}
+use Rattle.branch_classes.specs.Trees.{plain_term, Tree, BoundTree, LeafTree, OneTree, TwoTree, ThreeTree, among, under, tree_of}
+use Rattle.std.proofs.lemmas.List.Elements.{All-nil, All-cons}
 use Rattle.std.proofs.lemmas.Bool.{or_left, or_right}
-use Rattle.fol.specs.declared.operators.Junction.TheVariants.{AnyOf}
 use Rattle.substitution.specs.Free.{free_in_term}
-use Rattle.branches.specs.Branch.{Branch, Says}
-use Rattle.branches.specs.Parts.{parts_of_term, with_parts}
-use Rattle.branches.specs.Joined.{IsFreeOf, Joined, ByEntry, ByParts, ByCondition, Turned, Chained, AreJoined, NoneJoined, MoreJoined, IsAlikeTerm, OfOneClass, OfOneHead, OfOneChoice, AreAlikeTerms, NoneAlike, MoreAlike, IsAlike, Compared, Typed, Holding, Denying, Joining, Connecting, Quantifying, AreAlike, NoFormulasAlike, MoreFormulasAlike, AreAlikeLists, NoTermsAlike, MoreTermsAlike, AreAlikeTriggers, NoTriggersAlike, MoreTriggersAlike}
+use Rattle.branches.specs.Branch.{Branch}
+use Rattle.branches.specs.Parts.{parts_of_term}
+use Rattle.branches.specs.Joined.{IsFreeOf, Joined, ByParts, ByCondition, Turned, Chained, AreJoined, NoneJoined, MoreJoined, IsAlikeTerm, OfOneClass, OfOneHead, OfOneChoice, AreAlikeTerms, NoneAlike, MoreAlike, IsAlike, Compared, Typed, Holding, Denying, Joining, Connecting, Quantifying, AreAlike, NoFormulasAlike, MoreFormulasAlike, AreAlikeLists, NoTermsAlike, MoreTermsAlike, AreAlikeTriggers, NoTriggersAlike, MoreTriggersAlike}
 use Rattle.branch_classes.proofs.ReadLemmas.{read, IsSorted, read_term, sorted_item}
 use Rattle.branch_classes.proofs.TreeLemmas.{Fits, has_bound, bound_renamed, binds, free_term, fits_renamed, fits_less, free_of_fitting, none_among, itself, clash}
 use Rattle.branch_classes.proofs.ItemLemmas.{unrenamed}

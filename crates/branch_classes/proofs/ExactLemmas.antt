@@ -1,16 +1,15 @@
 -- The classes of the nodes of terms and formulas are those of a branch.
-use Rattle.std.proofs.Common.{◌+◌, ◌≡◌, ◌≢◌, ◌⊎◌, inl, inr, ℕ, zero, suc, ◌<◌, ◌≤◌, List, [], ◌∷◌, ◌++◌, length, map, Option, Some, None, Bool, true, false, not, cond, nat_eq, ◌↔◌, refl, sym, ap, ◌∙◌, subst, arith, rules}
-use Rattle.std.specs.Prelude.{slice_get, ◌&&◌, ◌||◌, ◌==◌, All}
-use Rattle.fol.specs.FormulaData.{TermData, VarTerm, ConstantTerm, UnaryTerm, BinaryTerm, TernaryTerm, PackTerm, FieldTerm, SetFieldTerm, IfTerm, NothingTerm, TermsData, NoTerms, MoreTerms, TriggersData, NoTriggers, MoreTriggers, FormulaData, CompareFormula, IsFormula, HoldsFormula, NotFormula, JoinFormula, ConnectFormula, QuantifyFormula, AnyOfFormula, FormulasData, NoFormulas, MoreFormulas, terms_of, list_of_terms, terms_of-list_of_terms}
+use Rattle.std.proofs.Common.{◌+◌, ◌≡◌, ℕ, zero, suc, ◌<◌, List, [], ◌∷◌, length, Option, Some, None, Bool, true, false, cond, ◌↔◌, refl, sym, ap, ◌∙◌, subst, arith}
+use Rattle.std.specs.Prelude.{slice_get}
+use Rattle.fol.specs.FormulaData.{TermData, FormulaData}
 use Rattle.formula_pool.specs.declared.node.Node.{Node}
 use Rattle.formula_pool.specs.declared.node.Node.TheVariants.{Leaf as LeafNode, One as OneNode, Two as TwoNode, Three as ThreeNode}
-use Rattle.branch_classes.specs.Trees.{Plain, PlainLeaf, PlainOne, PlainTwo, PlainThree, plain_bytes, plain_type, plain_types, plain_term, plain_terms, plain_triggers, plain_formula, plain_formulas, plain_item, Tree, BoundTree, LeafTree, OneTree, TwoTree, ThreeTree, among, under, leaf_tree, renamed, tree_of}
-use Rattle.branch_classes.specs.Nodes.{denied_leaf, denied, one_tree, IsTree, OfLeaf, OfOne, OfTwo, OfThree, IsNode, IsSomeNode, AreNodes, AreSides, IsEquation, IsSaid, AreEquations}
-use Rattle.classes.specs.Congruence.{AreTerms, Congruent, ByEquation, ByLeaf, ByPart, ByTwo, ByThree}
-use Rattle.classes.specs.Congruence.{Itself as SameNumber, Turned as TurnedNumbers, Chained as ChainedNumbers}
+use Rattle.branch_classes.specs.Trees.{plain_term, plain_formula, Tree, tree_of}
+use Rattle.branch_classes.specs.Nodes.{IsTree, IsNode, AreNodes, IsEquation, AreEquations}
+use Rattle.classes.specs.Congruence.{Congruent, ByEquation, ByLeaf, ByPart, ByTwo, ByThree}
 use Rattle.classes.specs.declared.link.Equation.{Equation}
 use Rattle.classes.specs.declared.link.Link.{Link}
-use Rattle.formula_pool.specs.Items.{Item, NoItem, TermItem, FormulaItem}
+use Rattle.formula_pool.specs.Items.{TermItem, FormulaItem}
 use Rattle.formula_pool.specs.NodeCodes.{same_node, same_node_decides}
 use Rattle.classes.specs.Signatures.{class_in, signed}
 use Rattle.classes.specs.Links.{AreAlike}
@@ -20,10 +19,10 @@ use Rattle.fol.specs.FormulaData.{EqFormula}
 use Rattle.branches.specs.Branch.{Branch, Says}
 use Rattle.branches.specs.Joined.{Joined, IsAlike}
 use Rattle.branch_classes.proofs.ReadLemmas.{read, read_term, read_formula, sorted_item}
-use Rattle.branch_classes.proofs.TreeLemmas.{Fits, fits_renamed, none_among}
+use Rattle.branch_classes.proofs.TreeLemmas.{fits_renamed, none_among}
 use Rattle.branch_classes.proofs.AlikeLemmas.{AreItemsAlike, Alike, alike_items, joined_alike}
 use Rattle.branch_classes.proofs.NodeLemmas.{tree_within, congruent_alike}
-use Rattle.branch_classes.proofs.ValueLemmas.{Value, ClassValue, value, node_value, term_value, formula_value, joined_value, alike_formula}
+use Rattle.branch_classes.proofs.ValueLemmas.{ClassValue, value, node_value, term_value, joined_value, alike_formula}
 
 -- ---- the class of a signature, where a node has it
 

@@ -5,3 +5,5 @@ pub mod AlikeLemmas
 pub mod NodeLemmas
 pub mod ValueLemmas
 pub mod ExactLemmas
+pub mod WalkLemmas
+pub mod OverLemmas

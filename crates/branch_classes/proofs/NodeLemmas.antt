@@ -1,28 +1,24 @@
 -- The tree of a node is determined by the nodes, and nodes that are congruent stand for trees that are alike.
-use Rattle.std.proofs.Common.{◌≡◌, ◌≢◌, ◌⊎◌, inl, inr, ℕ, zero, suc, ◌<◌, ◌≤◌, List, [], ◌∷◌, ◌++◌, length, map, Option, Some, None, Bool, true, false, not, cond, nat_eq, ◌↔◌, refl, sym, ap, ◌∙◌, subst, arith, rules}
-use Rattle.std.specs.Prelude.{slice_get, ◌&&◌, ◌||◌, ◌==◌, All}
-use Rattle.fol.specs.FormulaData.{TermData, VarTerm, ConstantTerm, UnaryTerm, BinaryTerm, TernaryTerm, PackTerm, FieldTerm, SetFieldTerm, IfTerm, NothingTerm, TermsData, NoTerms, MoreTerms, TriggersData, NoTriggers, MoreTriggers, FormulaData, CompareFormula, IsFormula, HoldsFormula, NotFormula, JoinFormula, ConnectFormula, QuantifyFormula, AnyOfFormula, FormulasData, NoFormulas, MoreFormulas, terms_of, list_of_terms, terms_of-list_of_terms}
-use Rattle.formula_pool.specs.declared.node.Leaf.{Leaf}
-use Rattle.formula_pool.specs.declared.node.Leaf.TheVariants.{Var, Constant, TypeBool, TypeInt, TypeNum, TypeAddress, TypeSigner, TypeParam, NilTerms, NilTriggers, NilFormulas, NilTypes, NilBytes}
+use Rattle.std.proofs.Common.{◌≡◌, ℕ, ◌<◌, List, [], length, Some, refl, sym, ap, ◌∙◌, subst}
+use Rattle.std.specs.Prelude.{slice_get}
+use Rattle.fol.specs.FormulaData.{TermData, VarTerm, ConstantTerm, UnaryTerm, BinaryTerm, TernaryTerm, PackTerm, FieldTerm, SetFieldTerm, IfTerm}
 use Rattle.formula_pool.specs.declared.node.One.{One}
-use Rattle.formula_pool.specs.declared.node.One.TheVariants.{Unary, Holds, Not, Join, TypeVector, TypeShared, TypeMutable, TypeTuple, ConsByte}
+use Rattle.formula_pool.specs.declared.node.One.TheVariants.{Not}
 use Rattle.formula_pool.specs.declared.node.Two.{Two}
-use Rattle.formula_pool.specs.declared.node.Two.TheVariants.{Binary, Pack, Field, Compare, Is, Connect, Quantify, ConsTerm, ConsTrigger, ConsFormula, ConsType}
 use Rattle.formula_pool.specs.declared.node.Three.{Three}
-use Rattle.formula_pool.specs.declared.node.Three.TheVariants.{Ternary, SetField, If, TypeStruct}
 use Rattle.formula_pool.specs.declared.node.Node.{Node}
 use Rattle.formula_pool.specs.declared.node.Node.TheVariants.{Leaf as LeafNode, One as OneNode, Two as TwoNode, Three as ThreeNode}
-use Rattle.formula_pool.specs.Items.{Item, NoItem, TermItem, TermsItem, TriggersItem, FormulaItem, FormulasItem, TypeItem, TypesItem, BytesItem, Sort, NoSort, TermSort, TermsSort, TriggersSort, FormulaSort, FormulasSort, TypeSort, TypesSort, BytesSort, sort_of, term_in, terms_in, triggers_in, formula_in, formulas_in, type_in, types_in, bytes_in, leaf_item, one_item, two_item, three_item, one_part, first_of_two, second_of_two, first_of_three, second_of_three, third_of_three}
-use Rattle.branch_classes.specs.Trees.{Plain, PlainLeaf, PlainOne, PlainTwo, PlainThree, plain_bytes, plain_type, plain_types, plain_term, plain_terms, plain_triggers, plain_formula, plain_formulas, plain_item, Tree, BoundTree, LeafTree, OneTree, TwoTree, ThreeTree, among, under, leaf_tree, renamed, tree_of}
-use Rattle.branch_classes.specs.Nodes.{denied_leaf, denied, one_tree, IsTree, OfLeaf, OfOne, OfTwo, OfThree, IsNode, IsSomeNode, AreNodes, AreSides, IsEquation, IsSaid, AreEquations}
+use Rattle.formula_pool.specs.Items.{TermItem}
+use Rattle.branch_classes.specs.Trees.{plain_item, Tree, BoundTree, LeafTree, OneTree, TwoTree, ThreeTree, tree_of}
+use Rattle.branch_classes.specs.Nodes.{denied_leaf, denied, one_tree, IsTree, OfLeaf, OfOne, OfTwo, OfThree, IsSomeNode, AreNodes, IsSaid, AreEquations}
 use Rattle.classes.specs.Congruence.{AreTerms, Congruent, ByEquation, ByLeaf, ByPart, ByTwo, ByThree}
 use Rattle.classes.specs.Congruence.{Itself as SameNumber, Turned as TurnedNumbers, Chained as ChainedNumbers}
 use Rattle.classes.specs.declared.link.Equation.{Equation}
 use Rattle.std.proofs.lemmas.Option.{slice_get_within}
 use Rattle.branches.specs.Branch.{Branch, Says}
-use Rattle.branches.specs.Joined.{Joined, ByEntry}
-use Rattle.branch_classes.proofs.ReadLemmas.{IsSorted, sorted_item}
-use Rattle.branch_classes.proofs.TreeLemmas.{Fits, fits_renamed, none_among}
+use Rattle.branches.specs.Joined.{ByEntry}
+use Rattle.branch_classes.proofs.ReadLemmas.{sorted_item}
+use Rattle.branch_classes.proofs.TreeLemmas.{fits_renamed, none_among}
 use Rattle.branch_classes.proofs.AlikeLemmas.{Alike, OneClass, SameBound, SameLeaf, SameOne, SameTwo, SameThree, alike_itself, alike_turned, alike_then, IsProper}
 
 same : {X : Type 0} {x y : X} → Some x ≡ Some y → x ≡ y

@@ -1,21 +1,16 @@
 -- Variables that are free in trees, and trees under other quantifiers.
-use Rattle.std.proofs.Common.{◌≡◌, ◌≢◌, ◌⊎◌, inl, inr, ℕ, zero, suc, ◌<◌, ◌≤◌, List, [], ◌∷◌, ◌++◌, length, map, Option, Some, None, Bool, true, false, not, cond, nat_eq, ◌↔◌, refl, sym, ap, ◌∙◌, subst, arith, rules}
-use Rattle.std.specs.Prelude.{slice_get, ◌&&◌, ◌||◌, ◌==◌, All}
-use Rattle.std.proofs.lemmas.Bool.{or_parts, or_from, or_left, or_right}
+use Rattle.std.proofs.Common.{◌≡◌, ◌⊎◌, inl, inr, ℕ, List, [], ◌∷◌, Bool, true, false, not, cond, refl, sym, ap, ◌∙◌, arith}
+use Rattle.std.specs.Prelude.{◌&&◌, ◌||◌, ◌==◌}
+use Rattle.std.proofs.lemmas.Bool.{or_from, or_left, or_right}
 use Rattle.std.proofs.lemmas.Bool.Decides.{nat_tests}
 use Rattle.substitution.specs.Free.{free_in_term, free_in_terms, free_in_triggers, free_in, free_in_formulas}
 use Rattle.pv_base.specs.TypeData.{TypeData, TypesData, BoolType, IntType, NumType, AddressType, SignerType, VectorType, StructType, ParamType, SharedType, MutableType, TupleType, NoTypes, MoreTypes}
-use Rattle.fol.specs.FormulaData.{TermData, VarTerm, ConstantTerm, UnaryTerm, BinaryTerm, TernaryTerm, PackTerm, FieldTerm, SetFieldTerm, IfTerm, NothingTerm, TermsData, NoTerms, MoreTerms, TriggersData, NoTriggers, MoreTriggers, FormulaData, CompareFormula, IsFormula, HoldsFormula, NotFormula, JoinFormula, ConnectFormula, QuantifyFormula, AnyOfFormula, FormulasData, NoFormulas, MoreFormulas, terms_of, list_of_terms, terms_of-list_of_terms}
+use Rattle.fol.specs.FormulaData.{TermData, VarTerm, ConstantTerm, UnaryTerm, BinaryTerm, TernaryTerm, PackTerm, FieldTerm, SetFieldTerm, IfTerm, TermsData, NoTerms, MoreTerms, TriggersData, NoTriggers, MoreTriggers, FormulaData, CompareFormula, IsFormula, HoldsFormula, NotFormula, JoinFormula, ConnectFormula, QuantifyFormula, FormulasData, NoFormulas, MoreFormulas}
 use Rattle.formula_pool.specs.declared.node.Leaf.{Leaf}
-use Rattle.formula_pool.specs.declared.node.Leaf.TheVariants.{Var, Constant, TypeBool, TypeInt, TypeNum, TypeAddress, TypeSigner, TypeParam, NilTerms, NilTriggers, NilFormulas, NilTypes, NilBytes}
-use Rattle.formula_pool.specs.declared.node.One.{One}
-use Rattle.formula_pool.specs.declared.node.One.TheVariants.{Unary, Holds, Not, Join, TypeVector, TypeShared, TypeMutable, TypeTuple, ConsByte}
+use Rattle.formula_pool.specs.declared.node.Leaf.TheVariants.{Var}
 use Rattle.formula_pool.specs.declared.node.Two.{Two}
-use Rattle.formula_pool.specs.declared.node.Two.TheVariants.{Binary, Pack, Field, Compare, Is, Connect, Quantify, ConsTerm, ConsTrigger, ConsFormula, ConsType}
-use Rattle.formula_pool.specs.declared.node.Three.{Three}
-use Rattle.formula_pool.specs.declared.node.Three.TheVariants.{Ternary, SetField, If, TypeStruct}
-use Rattle.formula_pool.specs.Items.{Item, NoItem, TermItem, TermsItem, TriggersItem, FormulaItem, FormulasItem, TypeItem, TypesItem, BytesItem, Sort, NoSort, TermSort, TermsSort, TriggersSort, FormulaSort, FormulasSort, TypeSort, TypesSort, BytesSort, sort_of, term_in, terms_in, triggers_in, formula_in, formulas_in, type_in, types_in, bytes_in, leaf_item, one_item, two_item, three_item, one_part, first_of_two, second_of_two, first_of_three, second_of_three, third_of_three}
-use Rattle.branch_classes.specs.Trees.{Plain, PlainLeaf, PlainOne, PlainTwo, PlainThree, plain_bytes, plain_type, plain_types, plain_term, plain_terms, plain_triggers, plain_formula, plain_formulas, plain_item, Tree, BoundTree, LeafTree, OneTree, TwoTree, ThreeTree, among, under, leaf_tree, renamed, tree_of}
+use Rattle.formula_pool.specs.declared.node.Two.TheVariants.{Quantify}
+use Rattle.branch_classes.specs.Trees.{Plain, PlainLeaf, PlainOne, PlainTwo, PlainThree, plain_bytes, plain_type, plain_types, plain_term, plain_terms, plain_triggers, plain_formula, plain_formulas, Tree, BoundTree, LeafTree, OneTree, TwoTree, ThreeTree, among, under, leaf_tree, renamed}
 
 -- ---- free variables of plain trees
 

@@ -1,29 +1,28 @@
 -- Values of trees: the number of a class or, where no node has the signature, a head with the values of its parts. Joined
 -- terms have one value.
-use Rattle.std.proofs.Common.{◌≡◌, ◌≢◌, ◌⊎◌, inl, inr, ℕ, zero, suc, ◌<◌, ◌≤◌, List, [], ◌∷◌, ◌++◌, length, map, Option, Some, None, Bool, true, false, not, cond, nat_eq, ◌↔◌, refl, sym, ap, ◌∙◌, subst, arith, rules}
-use Rattle.std.specs.Prelude.{slice_get, ◌&&◌, ◌||◌, ◌==◌, All}
-use Rattle.fol.specs.FormulaData.{TermData, VarTerm, ConstantTerm, UnaryTerm, BinaryTerm, TernaryTerm, PackTerm, FieldTerm, SetFieldTerm, IfTerm, NothingTerm, TermsData, NoTerms, MoreTerms, TriggersData, NoTriggers, MoreTriggers, FormulaData, CompareFormula, IsFormula, HoldsFormula, NotFormula, JoinFormula, ConnectFormula, QuantifyFormula, AnyOfFormula, FormulasData, NoFormulas, MoreFormulas, terms_of, list_of_terms, terms_of-list_of_terms}
+use Rattle.std.proofs.Common.{◌≡◌, ℕ, List, [], ◌∷◌, map, Option, Some, None, Bool, true, false, refl, sym, ap, ◌∙◌}
+use Rattle.std.specs.Prelude.{slice_get, ◌||◌, ◌==◌, All}
+use Rattle.fol.specs.FormulaData.{TermData, VarTerm, ConstantTerm, UnaryTerm, BinaryTerm, TernaryTerm, PackTerm, FieldTerm, SetFieldTerm, IfTerm, TermsData, NoTerms, MoreTerms, TriggersData, FormulaData, FormulasData, terms_of, list_of_terms}
 use Rattle.formula_pool.specs.declared.node.Leaf.{Leaf}
-use Rattle.formula_pool.specs.declared.node.Leaf.TheVariants.{Var, Constant, TypeBool, TypeInt, TypeNum, TypeAddress, TypeSigner, TypeParam, NilTerms, NilTriggers, NilFormulas, NilTypes, NilBytes}
+use Rattle.formula_pool.specs.declared.node.Leaf.TheVariants.{TypeParam}
 use Rattle.formula_pool.specs.declared.node.One.{One}
-use Rattle.formula_pool.specs.declared.node.One.TheVariants.{Unary, Holds, Not, Join, TypeVector, TypeShared, TypeMutable, TypeTuple, ConsByte}
+use Rattle.formula_pool.specs.declared.node.One.TheVariants.{Unary, Holds, Not, Join}
 use Rattle.formula_pool.specs.declared.node.Two.{Two}
-use Rattle.formula_pool.specs.declared.node.Two.TheVariants.{Binary, Pack, Field, Compare, Is, Connect, Quantify, ConsTerm, ConsTrigger, ConsFormula, ConsType}
+use Rattle.formula_pool.specs.declared.node.Two.TheVariants.{Binary, Pack, Field, Compare, Is, Connect, Quantify, ConsTerm, ConsTrigger, ConsFormula}
 use Rattle.formula_pool.specs.declared.node.Three.{Three}
-use Rattle.formula_pool.specs.declared.node.Three.TheVariants.{Ternary, SetField, If, TypeStruct}
+use Rattle.formula_pool.specs.declared.node.Three.TheVariants.{Ternary, SetField, If}
 use Rattle.formula_pool.specs.declared.node.Node.{Node}
 use Rattle.formula_pool.specs.declared.node.Node.TheVariants.{Leaf as LeafNode, One as OneNode, Two as TwoNode, Three as ThreeNode}
-use Rattle.branch_classes.specs.Trees.{Plain, PlainLeaf, PlainOne, PlainTwo, PlainThree, plain_bytes, plain_type, plain_types, plain_term, plain_terms, plain_triggers, plain_formula, plain_formulas, plain_item, Tree, BoundTree, LeafTree, OneTree, TwoTree, ThreeTree, among, under, leaf_tree, renamed, tree_of}
-use Rattle.branch_classes.specs.Nodes.{denied_leaf, denied, one_tree, IsTree, OfLeaf, OfOne, OfTwo, OfThree, IsNode, IsSomeNode, AreNodes, AreSides, IsEquation, IsSaid, AreEquations}
+use Rattle.branch_classes.specs.Trees.{plain_type, plain_term, plain_terms, plain_triggers, plain_formula, plain_formulas, Tree, BoundTree, LeafTree, OneTree, TwoTree, ThreeTree, among, renamed}
+use Rattle.branch_classes.specs.Nodes.{denied_leaf, denied, one_tree, IsTree, OfLeaf, OfOne, OfTwo, OfThree}
 use Rattle.branches.specs.Branch.{Branch, Says}
 use Rattle.branches.specs.Parts.{parts_of_term, with_parts}
 use Rattle.fol.specs.FormulaData.{EqFormula}
-use Rattle.formula_pool.specs.Items.{TermItem, FormulaItem}
 use Rattle.substitution.specs.Free.{free_in_term}
 use Rattle.classes.specs.Signatures.{signed}
 use Rattle.branches.specs.Joined.{IsFreeOf, Joined, ByEntry, ByParts, ByCondition, Turned, Chained, AreJoined, NoneJoined, MoreJoined, IsAlikeTerm, OfOneClass, OfOneHead, OfOneChoice, AreAlikeTerms, NoneAlike, MoreAlike, IsAlike, Compared, Typed, Holding, Denying, Joining, Connecting, Quantifying, AreAlike, NoFormulasAlike, MoreFormulasAlike, AreAlikeLists, NoTermsAlike, MoreTermsAlike, AreAlikeTriggers, NoTriggersAlike, MoreTriggersAlike}
 use Rattle.std.proofs.lemmas.List.Elements.{All-head, All-tail}
-use Rattle.branch_classes.proofs.TreeLemmas.{free, free_term, renamed_same, Agree, clash, same_number}
+use Rattle.branch_classes.proofs.TreeLemmas.{free, free_term, renamed_same, clash, same_number}
 
 pub data Value : Type 0 where
   ClassValue : ℕ → Value

@@ -1,0 +1,12 @@
+use Rattle.std.proofs.Common.{◌≤◌}
+use Rattle.std.specs.Prelude.{All}
+use Rattle.branch_classes.proofs.walk.unknown_lists.Given as goal
+
+abbrev pub invariant-loop-next : goal.invariant-loop-next
+invariant-loop-next l = record {
+  all : All (λ it. it ≤ l.list) l.lists.items;
+  within : l.rest ≤ l.list;
+}
+
+abbrev pub decreases-loop-next : goal.decreases-loop-next
+decreases-loop-next l = l.rest

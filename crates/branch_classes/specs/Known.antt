@@ -1,0 +1,132 @@
+-- Classes over the terms and formulas of a pool, and the branch that they are those of.
+use Rattle.std.specs.Prelude.{◌≡◌, ◌↔◌, ◌==◌, ℕ, ◌<◌, Bool, nat_eq, List, [], ◌∷◌, ◌++◌, map, length, slice_get, Option, Some, unwrap_or, IsTrue}
+use Rattle.std.specs.Map.{lookup}
+use Rattle.fol.specs.FormulaData.{TermData, FormulaData, EqFormula}
+use Rattle.formula_pool.specs.Items.{TermItem, FormulaItem, formula_in}
+use Rattle.formula_pool.specs.Pools.{item_at, Extends}
+use Rattle.formula_pool.specs.declared.node.Two.TheVariants.{Quantify}
+use Rattle.formula_pool.specs.declared.node.Node.{Node}
+use Rattle.formula_pool.specs.declared.node.Node.TheVariants.{Two as TwoNode}
+use Rattle.classes.specs.declared.link.Equation.{Equation}
+use Rattle.classes.specs.Signatures.{class_in}
+use Rattle.classes.specs.States.{IsPart, ClassesData}
+use Rattle.branches.specs.Branch.{Branch, formulas}
+use Rattle.branches.specs.Joined.{Joined, IsAlike}
+use Rattle.branch_classes.specs.Nodes.{IsNode, AreNodes, AreSides, AreEquations}
+
+-- the classes, the numbers of the pool that are known with their nodes, and the numbers of the formulas of the entries
+pub record BranchClassesData : Type 0 where
+  pub classes : ClassesData
+  pub known : List (ℕ × ℕ)
+  pub entries : List ℕ
+
+abbrev pub node_in : BranchClassesData → ℕ → Option ℕ
+node_in d number = lookup (nat_eq number) d.known
+
+pub record IsKnown (d : BranchClassesData) (number : ℕ) : Type 0 where
+  pub node : ℕ
+  pub found : node_in d number ≡ Some node
+
+-- the name of the class of a number that is known
+abbrev pub class_of : BranchClassesData → ℕ → ℕ
+class_of d number = class_in d.classes.names (unwrap_or (node_in d number) 0)
+
+-- the number is a part of the node, and no quantifier is between
+abbrev pub IsOuterPart : ℕ → Node → Type 0
+IsOuterPart part (TwoNode (Quantify o n) a b) = ⊥
+IsOuterPart part node = IsPart part node
+
+-- some node is found for the number
+pub record IsFound (known : ℕ → Option ℕ) (number : ℕ) : Type 0 where
+  pub node : ℕ
+  pub found : known number ≡ Some node
+
+-- and for each of its parts outside quantifiers
+pub record ArePartsFound (pool : List Node) (known : ℕ → Option ℕ) (number : ℕ) : Type 0 where
+  pub each : (n : Node) (part : ℕ) → slice_get pool number ≡ Some n → IsOuterPart part n → IsFound known part
+
+-- the node stands for the item of the pool with this number, under quantifiers of these variables
+pub record IsNodeOf (pool ns : List Node) (bound : List ℕ) (number node : ℕ) : Type 0 where
+  pub within : number < length pool
+  pub is : IsNode ns node bound (item_at pool number)
+
+-- what is known is right, and what stands in it outside quantifiers is known
+pub record AreKnown (pool ns : List Node) (bound : List ℕ) (known : ℕ → Option ℕ) : Type 0 where
+  pub each : (number node : ℕ) → known number ≡ Some node → IsNodeOf pool ns bound number node
+  pub parts : (number node : ℕ) → known number ≡ Some node → ArePartsFound pool known number
+
+abbrev pub formula_at : List Node → ℕ → FormulaData
+formula_at pool number = formula_in (item_at pool number)
+
+-- the entry with this place says this
+pub record IsEntry (pool : List Node) (entries : List ℕ) (place : ℕ) (p : FormulaData) : Type 0 where
+  pub number : ℕ
+  pub found : slice_get entries place ≡ Some number
+  pub is : formula_at pool number ≡ p
+
+-- the nodes are those of the list
+pub record AreWithin (ns : List Node) (known : ℕ → Option ℕ) : Type 0 where
+  pub each : (number node : ℕ) → known number ≡ Some node → node < length ns
+
+-- each node stands for what it is to stand for, the formulas of the entries are known, and the equations are those among
+-- them
+pub record IsOver (pool : List Node) (d : BranchClassesData) : Type 0 where
+  pub nodes : AreNodes d.classes.nodes
+  pub known : AreKnown pool d.classes.nodes [] (node_in d)
+  pub entries : (place number : ℕ) → slice_get d.entries place ≡ Some number → IsKnown d number
+  pub equations : AreEquations d.classes.nodes d.classes.equations (IsEntry pool d.entries)
+
+-- the entries are those of the branch
+pub record AreEntriesOf (pool : List Node) (d : BranchClassesData) (b : Branch) : Type 0 where
+  pub over : IsOver pool d
+  pub formulas : formulas b ≡ map (formula_at pool) d.entries
+
+-- the answer tells exactly whether the terms are joined on the branch
+pub record TellsJoined (d : BranchClassesData) (left right : ℕ) (answer : Bool) : Type 0 where
+  pub tells : (pool : List Node) (b : Branch) (t u : TermData) → AreEntriesOf pool d b → item_at pool left ≡ TermItem t → item_at pool right ≡ TermItem u → IsTrue answer ↔ Joined b t u
+
+-- likewise whether the formulas are alike
+pub record TellsAlike (d : BranchClassesData) (left right : ℕ) (answer : Bool) : Type 0 where
+  pub tells : (pool : List Node) (b : Branch) (p q : FormulaData) → AreEntriesOf pool d b → item_at pool left ≡ FormulaItem p → item_at pool right ≡ FormulaItem q → IsTrue answer ↔ IsAlike b [] p q
+
+-- names of classes tell exactly which terms are joined, and which formulas are alike
+pub record AreExact (d : BranchClassesData) : Type 0 where
+  pub joined : (left right : ℕ) → IsKnown d left → IsKnown d right → TellsJoined d left right (class_of d left == class_of d right)
+  pub alike : (left right : ℕ) → IsKnown d left → IsKnown d right → TellsAlike d left right (class_of d left == class_of d right)
+
+-- what is known stays known, and further numbers come to be known
+pub record Keeps (d d2 : BranchClassesData) : Type 0 where
+  pub known : (number : ℕ) → IsKnown d number → IsKnown d2 number
+
+-- ---- the walk
+
+-- the nodes have become more, and what is known with them
+pub record IsGrown (pool : List Node) (bound : List ℕ) (ns ns2 : List Node) (before after : ℕ → Option ℕ) : Type 0 where
+  pub nodes : AreNodes ns2
+  pub extends : Extends ns ns2
+  pub known : AreKnown pool ns2 bound after
+  pub stays : (i k : ℕ) → before i ≡ Some k → after i ≡ Some k
+
+-- the nodes have become more, and this one stands for the item with this number
+pub record IsAdded (pool : List Node) (bound : List ℕ) (number : ℕ) (ns ns2 : List Node) (node : ℕ) : Type 0 where
+  pub nodes : AreNodes ns2
+  pub extends : Extends ns ns2
+  pub is : IsNodeOf pool ns2 bound number node
+
+-- likewise, and what is known has become more: the parts of the item among it
+pub record IsWalked (pool : List Node) (bound : List ℕ) (number : ℕ) (ns ns2 : List Node) (before after : ℕ → Option ℕ) (node : ℕ) : Type 0 where
+  pub grown : IsGrown pool bound ns ns2 before after
+  pub is : IsNodeOf pool ns2 bound number node
+  pub parts : ArePartsFound pool after number
+
+-- the equations after an entry was put in: one more, where the entry is one
+pub data IsPutIn (pool : List Node) (number : ℕ) (ns : List Node) (es es2 : List Equation) : Type 0 where
+  NoEquation : es2 ≡ es → ((t u : TermData) → formula_at pool number ≡ EqFormula t u → ⊥) → IsPutIn pool number ns es es2
+  OneEquation : (e : Equation) (t u : TermData) → es2 ≡ es ++ e ∷ [] → formula_at pool number ≡ EqFormula t u → AreSides ns e t u → IsPutIn pool number ns es es2
+
+-- the classes with the nodes of an entry and with the equation that it is
+pub record IsEquated (pool : List Node) (number : ℕ) (old new : ClassesData) (before after : ℕ → Option ℕ) : Type 0 where
+  pub node : ℕ
+  pub walked : IsWalked pool [] number old.nodes new.nodes before after node
+  pub found : after number ≡ Some node
+  pub equations : IsPutIn pool number new.nodes old.equations new.equations

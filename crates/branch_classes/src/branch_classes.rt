@@ -1,0 +1,213 @@
+//! The classes of the terms of a branch.
+
+ghost use Rattle.std.specs.Prelude.{◌≡◌, ◌↔◌, ℕ, ◌<◌, List, [], ◌∷◌, ◌++◌, length, Some, nat_eq, IsTrue, IfOk, MatchOption};
+ghost use Rattle.indexmap.specs.IndexMap.{get};
+ghost use Rattle.fol.specs.FormulaData.{TermData, EqFormula};
+ghost use Rattle.fol.specs.declared.operators.Comparison.TheVariants.{Eq};
+ghost use Rattle.formula_pool.specs.Pools.{IsMade};
+ghost use Rattle.formula_pool.specs.declared.node.Node.{Node};
+ghost use Rattle.formula_pool.specs.declared.node.Two.TheVariants.{Compare};
+ghost use Rattle.formula_pool.specs.declared.node.Node.TheVariants.{Two as TwoNode};
+ghost use Rattle.branch_classes.specs.Nodes.{AreNodes};
+ghost use Rattle.branch_classes.specs.Known.{IsKnown, node_in, class_of, AreKnown, IsOver, AreExact, Keeps, IsEquated, TellsJoined, TellsAlike, formula_at};
+
+use crate::leaves::look_up;
+use crate::walk::node_of;
+use classes::classes::Classes;
+use fol::operators::Comparison;
+use formula_pool::node::{Node, Two};
+use formula_pool::pool::Pool;
+use indexmap::IndexMap;
+use pv_base::memory::NoMemory;
+use std::alloc::Global;
+use std::marker::Model;
+
+/// Which terms of a pool are joined by the equations of a branch, and which formulas are alike: those that were made
+/// known. The entries of the branch are put in one by one.
+#[derive(Drop)]
+pub struct BranchClasses {
+    classes: Classes,
+    // The node of each number that is known.
+    known: IndexMap<usize, usize>,
+    // The numbers of the formulas of the entries.
+    entries: Vec<usize>,
+}
+
+impl Model for BranchClasses {
+    ghost use Rattle.std.specs.Prelude.{nat_eq};
+    ghost use Rattle.indexmap.specs.IndexMap.{get};
+    ghost use Rattle.branch_classes.specs.Known.{BranchClassesData, AreWithin};
+
+    ghost Value = { BranchClassesData };
+
+    ghost view = { λ c. record { classes = c.classes; known = c.known.entries; entries = c.entries.items } };
+
+    ghost invariant = { λ c. AreWithin c.classes.nodes (get nat_eq c.known) };
+}
+
+fn is_equality(head: Two) -> bool
+    ensures { IsTrue result ↔ (head ≡ Compare Eq) }
+{
+    match head {
+        Two::Compare(Comparison::Eq) => true,
+        _ => false,
+    }
+}
+
+// The numbers of the sides of an equation.
+fn sides_of(pool: &Pool, number: usize) -> Option<(usize, usize)>
+    requires { number < length pool.now }
+    ensures { MatchOption result ((t u : TermData) → formula_at pool.now number ≡ EqFormula t u → ⊥) (λ p. IsMade pool.now number (TwoNode (Compare Eq) p.0 p.1)) }
+{
+    match pool.node(number) {
+        Some(Node::Two(head, left, right)) => {
+            if is_equality(head) {
+                Some((left, right))
+            } else {
+                None
+            }
+        }
+        Some(_) => None,
+        None => None,
+    }
+}
+
+// Makes an entry known, and joins its sides where it is an equation.
+fn equated(
+    alloc: Global,
+    before: Classes,
+    known: &mut IndexMap<usize, usize>,
+    pool: &Pool,
+    number: usize,
+) -> Result<Classes, NoMemory>
+    requires within { number < length pool.now }
+    requires nodes { AreNodes before.nodes }
+    requires known { AreKnown pool.now before.nodes [] (get nat_eq known.old) }
+    ensures { IfOk result (λ new. IsEquated pool.now number before new (get nat_eq known.old) (get nat_eq known.new)) }
+{
+    let mut classes = before;
+    node_of(alloc, &mut classes, known, pool, &[], number)?;
+    match sides_of(pool, number) {
+        Some((left, right)) => {
+            let left = node_of(alloc, &mut classes, known, pool, &[], left)?;
+            let right = node_of(alloc, &mut classes, known, pool, &[], right)?;
+            classes.with_equation(left, right)
+        }
+        None => Ok(classes),
+    }
+}
+
+impl BranchClasses {
+    /// No entries, and nothing known.
+    pub fn new(alloc: Global) -> BranchClasses
+        ensures over { (pool : List Node) → IsOver pool result }
+        ensures known { result.known ≡ [] }
+        ensures entries { result.entries ≡ [] }
+    {
+        BranchClasses {
+            classes: Classes::new(alloc),
+            known: IndexMap::new(alloc),
+            entries: Vec::new(alloc),
+        }
+    }
+
+    /// Makes a term or a formula of the pool known.
+    pub fn know(self, alloc: Global, pool: &Pool, number: usize) -> Result<BranchClasses, NoMemory>
+        requires over { IsOver pool.now self }
+        requires within { number < length pool.now }
+        ensures over { IfOk result (λ new. IsOver pool.now new) }
+        ensures known { IfOk result (λ new. IsKnown new number) }
+        ensures keeps { IfOk result (λ new. Keeps self new) }
+        ensures entries { IfOk result (λ new. new.entries ≡ self.entries) }
+    {
+        let mut classes = self.classes;
+        let mut known = self.known;
+        let entries = self.entries;
+        node_of(alloc, &mut classes, &mut known, pool, &[], number)?;
+        Ok(BranchClasses {
+            classes,
+            known,
+            entries,
+        })
+    }
+
+    /// The classes with one more entry, whose formula comes to be known.
+    pub fn with_entry(
+        self,
+        alloc: Global,
+        pool: &Pool,
+        number: usize,
+    ) -> Result<BranchClasses, NoMemory>
+        requires over { IsOver pool.now self }
+        requires within { number < length pool.now }
+        ensures over { IfOk result (λ new. IsOver pool.now new) }
+        ensures known { IfOk result (λ new. IsKnown new number) }
+        ensures keeps { IfOk result (λ new. Keeps self new) }
+        ensures entries { IfOk result (λ new. new.entries ≡ self.entries ++ number ∷ []) }
+    {
+        let mut known = self.known;
+        let classes = equated(alloc, self.classes, &mut known, pool, number)?;
+        let mut entries = self.entries;
+        entries.push(number)?;
+        Ok(BranchClasses {
+            classes,
+            known,
+            entries,
+        })
+    }
+
+    /// Whether a number is known.
+    pub fn is_known(&self, number: usize) -> bool
+        ensures { IsTrue result ↔ IsKnown self.now number }
+    {
+        look_up(&self.known, number).is_some()
+    }
+
+    // The node of a number.
+    fn node(&self, number: usize) -> usize
+        requires { IsKnown self.now number }
+        ensures found { node_in self.now number ≡ Some result }
+        ensures within { result < length self.now.classes.nodes }
+    {
+        match look_up(&self.known, number) {
+            Some(node) => node,
+            None => 0,
+        }
+    }
+
+    /// The name of the class of a term or a formula that is known: the same number for two terms that are joined, and for
+    /// two formulas that are alike, and for no others.
+    pub fn class(&self, number: usize) -> usize
+        requires { IsKnown self.now number }
+        ensures { result ≡ class_of self.now number }
+    {
+        self.classes.class(self.node(number))
+    }
+
+    /// Whether two terms that are known are joined on the branch of the entries.
+    pub fn are_joined(&self, left: usize, right: usize) -> bool
+        requires left { IsKnown self.now left }
+        requires right { IsKnown self.now right }
+        ensures { TellsJoined self.now left right result }
+    {
+        self.exact();
+        self.class(left) == self.class(right)
+    }
+
+    /// Whether two formulas that are known are alike on the branch of the entries.
+    pub fn are_alike(&self, left: usize, right: usize) -> bool
+        requires left { IsKnown self.now left }
+        requires right { IsKnown self.now right }
+        ensures { TellsAlike self.now left right result }
+    {
+        self.exact();
+        self.class(left) == self.class(right)
+    }
+
+    /// Names of classes tell exactly what is joined on the branch of the entries.
+    pub fn exact(&self)
+        ensures { AreExact self.now }
+    {
+        self.classes.exact();
+    }
+}

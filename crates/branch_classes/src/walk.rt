@@ -1,0 +1,230 @@
+//! One walk over a term or a formula makes its nodes.
+
+ghost use Rattle.std.specs.Prelude.{◌≡◌, ℕ, ◌<◌, ◌≤◌, ◌∷◌, Some, All, length, nat_eq, OnOk, IfOk, IfSome};
+ghost use Rattle.indexmap.specs.IndexMap.{get};
+ghost use Rattle.formula_pool.specs.Pools.{IsMade};
+ghost use Rattle.formula_pool.specs.declared.node.Node.TheVariants.{One as OneNode, Two as TwoNode, Three as ThreeNode};
+ghost use Rattle.branch_classes.specs.Trees.{under};
+ghost use Rattle.branch_classes.specs.Nodes.{AreNodes};
+ghost use Rattle.branch_classes.specs.Known.{AreKnown, IsAdded, IsGrown, IsWalked};
+
+use crate::leaves::{add, add_leaf, look_up, note, variable_of, with_variable};
+use classes::classes::Classes;
+use formula_pool::node::{Node, One, Three, Two};
+use formula_pool::pool::Pool;
+use indexmap::IndexMap;
+use pv_base::memory::NoMemory;
+use std::alloc::Global;
+
+// The rest of a list whose node is not known.
+fn unknown_rest(known: &IndexMap<usize, usize>, pool: &Pool, list: usize) -> Option<usize>
+    ensures { IfSome result (λ rest. rest < list) }
+{
+    if look_up(known, list).is_some() {
+        return None;
+    }
+    match pool.node(list) {
+        Some(Node::One(One::ConsByte(_), rest)) => Some(rest),
+        Some(
+            Node::Two(Two::ConsTerm | Two::ConsTrigger | Two::ConsFormula | Two::ConsType, _, rest),
+        ) => Some(rest),
+        _ => None,
+    }
+}
+
+// A list and its rests, from the front, as far as they are not known.
+fn unknown_lists(
+    alloc: Global,
+    known: &IndexMap<usize, usize>,
+    pool: &Pool,
+    list: usize,
+) -> Result<Vec<usize>, NoMemory>
+    ensures { IfOk result (λ lists. All (λ it. it ≤ list) lists.items) }
+{
+    let mut lists = Vec::new(alloc);
+    let mut rest = list;
+    while let Some(next) = unknown_rest(known, pool, rest) {
+        lists.push(rest)?;
+        rest = next;
+    }
+    Ok(lists)
+}
+
+// Makes a list and its rests known, the last one first, so that a long list does not make the walk go deep.
+#[cycle(node_of)]
+fn walk_list(
+    alloc: Global,
+    classes: &mut Classes,
+    known: &mut IndexMap<usize, usize>,
+    pool: &Pool,
+    bound: &[u32],
+    list: usize,
+) -> Result<(), NoMemory>
+    requires within { list < length pool.now }
+    requires nodes { AreNodes classes.old.nodes }
+    requires known { AreKnown pool.now classes.old.nodes bound.now (get nat_eq known.old) }
+    ensures equations { OnOk result (classes.new.equations ≡ classes.old.equations) }
+    ensures grown { OnOk result (IsGrown pool.now bound.now classes.old.nodes classes.new.nodes (get nat_eq known.old) (get nat_eq known.new)) }
+{
+    let lists = unknown_lists(alloc, known, pool, list)?;
+    let mut rest = lists.len();
+    while rest > 0 {
+        rest -= 1;
+        node_of(alloc, classes, known, pool, bound, lists[rest])?;
+    }
+    Ok(())
+}
+
+#[cycle(node_of)]
+fn one(
+    alloc: Global,
+    classes: &mut Classes,
+    known: &mut IndexMap<usize, usize>,
+    pool: &Pool,
+    bound: &[u32],
+    number: usize,
+    head: One,
+    a: usize,
+) -> Result<usize, NoMemory>
+    requires made { IsMade pool.now number (OneNode head a) }
+    requires nodes { AreNodes classes.old.nodes }
+    requires known { AreKnown pool.now classes.old.nodes bound.now (get nat_eq known.old) }
+    ensures equations { OnOk result (classes.new.equations ≡ classes.old.equations) }
+    ensures walked { IfOk result (λ node. IsWalked pool.now bound.now number classes.old.nodes classes.new.nodes (get nat_eq known.old) (get nat_eq known.new) node) }
+{
+    walk_list(alloc, classes, known, pool, bound, a)?;
+    let a = node_of(alloc, classes, known, pool, bound, a)?;
+    add(alloc, classes, Node::One(head, a))
+}
+
+#[cycle(node_of)]
+fn two(
+    alloc: Global,
+    classes: &mut Classes,
+    known: &mut IndexMap<usize, usize>,
+    pool: &Pool,
+    bound: &[u32],
+    number: usize,
+    head: Two,
+    a: usize,
+    b: usize,
+) -> Result<usize, NoMemory>
+    requires made { IsMade pool.now number (TwoNode head a b) }
+    requires plain { under head bound.now ≡ bound.now }
+    requires nodes { AreNodes classes.old.nodes }
+    requires known { AreKnown pool.now classes.old.nodes bound.now (get nat_eq known.old) }
+    ensures equations { OnOk result (classes.new.equations ≡ classes.old.equations) }
+    ensures walked { IfOk result (λ node. IsWalked pool.now bound.now number classes.old.nodes classes.new.nodes (get nat_eq known.old) (get nat_eq known.new) node) }
+{
+    walk_list(alloc, classes, known, pool, bound, b)?;
+    let a = node_of(alloc, classes, known, pool, bound, a)?;
+    let b = node_of(alloc, classes, known, pool, bound, b)?;
+    add(alloc, classes, Node::Two(head, a, b))
+}
+
+#[cycle(node_of)]
+fn three(
+    alloc: Global,
+    classes: &mut Classes,
+    known: &mut IndexMap<usize, usize>,
+    pool: &Pool,
+    bound: &[u32],
+    number: usize,
+    head: Three,
+    a: usize,
+    b: usize,
+    c: usize,
+) -> Result<usize, NoMemory>
+    requires made { IsMade pool.now number (ThreeNode head a b c) }
+    requires nodes { AreNodes classes.old.nodes }
+    requires known { AreKnown pool.now classes.old.nodes bound.now (get nat_eq known.old) }
+    ensures equations { OnOk result (classes.new.equations ≡ classes.old.equations) }
+    ensures walked { IfOk result (λ node. IsWalked pool.now bound.now number classes.old.nodes classes.new.nodes (get nat_eq known.old) (get nat_eq known.new) node) }
+{
+    let a = node_of(alloc, classes, known, pool, bound, a)?;
+    let b = node_of(alloc, classes, known, pool, bound, b)?;
+    let c = node_of(alloc, classes, known, pool, bound, c)?;
+    add(alloc, classes, Node::Three(head, a, b, c))
+}
+
+// A quantifier binds its variable in its parts, whose numbers stand for other nodes there.
+#[cycle(node_of)]
+fn quantified(
+    alloc: Global,
+    classes: &mut Classes,
+    pool: &Pool,
+    outside: &[u32],
+    number: usize,
+    head: Two,
+    variable: u32,
+    a: usize,
+    b: usize,
+) -> Result<usize, NoMemory>
+    requires made { IsMade pool.now number (TwoNode head a b) }
+    requires binds { under head outside.now ≡ variable ∷ outside.now }
+    requires nodes { AreNodes classes.old.nodes }
+    ensures equations { OnOk result (classes.new.equations ≡ classes.old.equations) }
+    ensures added { IfOk result (λ node. IsAdded pool.now outside.now number classes.old.nodes classes.new.nodes node) }
+{
+    let bound = with_variable(alloc, variable, outside)?;
+    let mut known = IndexMap::new(alloc);
+    let a = node_of(alloc, classes, &mut known, pool, bound.as_slice(), a)?;
+    let b = node_of(alloc, classes, &mut known, pool, bound.as_slice(), b)?;
+    add(alloc, classes, Node::Two(head, a, b))
+}
+
+// Makes the node of a number by its parts.
+#[cycle(node_of)]
+fn make(
+    alloc: Global,
+    classes: &mut Classes,
+    known: &mut IndexMap<usize, usize>,
+    pool: &Pool,
+    bound: &[u32],
+    number: usize,
+) -> Result<usize, NoMemory>
+    requires within { number < length pool.now }
+    requires nodes { AreNodes classes.old.nodes }
+    requires known { AreKnown pool.now classes.old.nodes bound.now (get nat_eq known.old) }
+    ensures equations { OnOk result (classes.new.equations ≡ classes.old.equations) }
+    ensures walked { IfOk result (λ node. IsWalked pool.now bound.now number classes.old.nodes classes.new.nodes (get nat_eq known.old) (get nat_eq known.new) node) }
+{
+    match pool.node(number) {
+        Some(Node::Leaf(head)) => add_leaf(alloc, classes, bound, head),
+        Some(Node::One(head, a)) => one(alloc, classes, known, pool, bound, number, head, a),
+        Some(Node::Two(head, a, b)) => match variable_of(head) {
+            Some(n) => quantified(alloc, classes, pool, bound, number, head, n, a, b),
+            None => two(alloc, classes, known, pool, bound, number, head, a, b),
+        },
+        Some(Node::Three(head, a, b, c)) => {
+            three(alloc, classes, known, pool, bound, number, head, a, b, c)
+        }
+        None => Ok(0),
+    }
+}
+
+/// The node of a number of the pool under quantifiers of these variables, with those of its parts, where `known` has
+/// the nodes so far under them.
+#[cycle(node_of)]
+pub(crate) fn node_of(
+    alloc: Global,
+    classes: &mut Classes,
+    known: &mut IndexMap<usize, usize>,
+    pool: &Pool,
+    bound: &[u32],
+    number: usize,
+) -> Result<usize, NoMemory>
+    requires within { number < length pool.now }
+    requires nodes { AreNodes classes.old.nodes }
+    requires known { AreKnown pool.now classes.old.nodes bound.now (get nat_eq known.old) }
+    ensures equations { OnOk result (classes.new.equations ≡ classes.old.equations) }
+    ensures walked { IfOk result (λ node. IsWalked pool.now bound.now number classes.old.nodes classes.new.nodes (get nat_eq known.old) (get nat_eq known.new) node) }
+    ensures found { IfOk result (λ node. get nat_eq known.new number ≡ Some node) }
+{
+    if let Some(node) = look_up(known, number) {
+        return Ok(node);
+    }
+    let node = make(alloc, classes, known, pool, bound, number)?;
+    note(known, number, node)?;
+    Ok(node)
+}
