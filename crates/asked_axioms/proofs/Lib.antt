@@ -1,1 +1,6 @@
+pub mod TemplateLemmas
+pub mod ListLemmas
+pub mod NumberLemmas
+pub mod FormLemmas
+pub mod RowLemmas
 pub mod StandingLaws

@@ -1,2 +1,6 @@
 pub mod Asks
 pub mod Standing
+pub mod Lists
+pub mod Rows
+pub mod Numbers
+pub mod Templates

@@ -1,4 +1,10 @@
-//! The instances of axioms that terms, types and reads ask for in a search.
+//! The instances of axioms that terms and types ask for in a search, as formulas of a pool.
 #![tactic(auto)]
 
+pub mod asked;
+pub mod instances;
 pub mod laws;
+mod nodes;
+mod reading;
+mod template;
+mod terms;

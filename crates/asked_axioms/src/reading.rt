@@ -1,0 +1,164 @@
+//! The outermost forms of terms and types that are given by number.
+
+ghost use Rattle.std.specs.Prelude.{◌≡◌, is_some};
+ghost use Rattle.cert.specs.Linear.{numeral_of};
+ghost use Rattle.formula_pool.specs.Pools.{IsMade};
+ghost use Rattle.formula_pool.specs.declared.node.Node.TheVariants.{Leaf as LeafNode, One as OneNode, Two as TwoNode, Three as ThreeNode};
+ghost use Rattle.asked_axioms.specs.Numbers.{HasForm, HasTypeForm, term_at};
+ghost use Rattle.asked_axioms.specs.Rows.{is_blank, divisor_kind, divisor_of};
+
+use fol::operators::{Binary, Constant, Ternary, Unary};
+use formula_pool::node::{Leaf, Node, One, Three, Two};
+use formula_pool::pool::Pool;
+use pv_base::types::Width;
+
+/// A term's outermost form, with the numbers of its parts.
+#[derive(Clone, Copy)]
+pub(crate) enum TermForm {
+    Constant(Constant),
+    Unary(Unary, usize),
+    Binary(Binary, usize, usize),
+    Ternary(Ternary, usize, usize, usize),
+    /// Of a formula and two terms.
+    If(usize, usize, usize),
+    /// Of a type and a list of terms.
+    Pack(usize, usize),
+    /// The field with this number, of a type and two terms.
+    SetField(u32, usize, usize, usize),
+    /// A variable, a field, or no term.
+    Other,
+}
+
+/// A type's outermost form.
+#[derive(Clone, Copy)]
+pub(crate) enum TypeForm {
+    Bool,
+    Int(Width),
+    Address,
+    Signer,
+    /// Of items of this type.
+    Vector(usize),
+    Struct,
+    Other,
+}
+
+/// Whether a divisor is 0, a numeral from 1, or something else.
+#[derive(Clone, Copy)]
+pub(crate) enum DivisorKind {
+    IsZero,
+    IsFromOne,
+    IsOther,
+}
+
+// ---- terms
+
+fn leaf_form(pool: &Pool, term: usize, head: Leaf) -> TermForm
+    requires { IsMade pool.now term (LeafNode head) }
+    ensures { HasForm pool.now term result }
+{
+    match head {
+        Leaf::Constant(constant) => TermForm::Constant(constant),
+        _ => TermForm::Other,
+    }
+}
+
+fn one_form(pool: &Pool, term: usize, head: One, a: usize) -> TermForm
+    requires { IsMade pool.now term (OneNode head a) }
+    ensures { HasForm pool.now term result }
+{
+    match head {
+        One::Unary(operator) => TermForm::Unary(operator, a),
+        _ => TermForm::Other,
+    }
+}
+
+fn two_form(pool: &Pool, term: usize, head: Two, a: usize, b: usize) -> TermForm
+    requires { IsMade pool.now term (TwoNode head a b) }
+    ensures { HasForm pool.now term result }
+{
+    match head {
+        Two::Binary(operator) => TermForm::Binary(operator, a, b),
+        Two::Pack => TermForm::Pack(a, b),
+        _ => TermForm::Other,
+    }
+}
+
+fn three_form(pool: &Pool, term: usize, head: Three, a: usize, b: usize, c: usize) -> TermForm
+    requires { IsMade pool.now term (ThreeNode head a b c) }
+    ensures { HasForm pool.now term result }
+{
+    match head {
+        Three::Ternary(operator) => TermForm::Ternary(operator, a, b, c),
+        Three::SetField(k) => TermForm::SetField(k, a, b, c),
+        Three::If => TermForm::If(a, b, c),
+        Three::TypeStruct(_) => TermForm::Other,
+    }
+}
+
+/// The form of a term.
+pub(crate) fn term_form(pool: &Pool, term: usize) -> TermForm
+    ensures { HasForm pool.now term result }
+{
+    match pool.node(term) {
+        Some(Node::Leaf(head)) => leaf_form(pool, term, head),
+        Some(Node::One(head, a)) => one_form(pool, term, head, a),
+        Some(Node::Two(head, a, b)) => two_form(pool, term, head, a, b),
+        Some(Node::Three(head, a, b, c)) => three_form(pool, term, head, a, b, c),
+        None => TermForm::Other,
+    }
+}
+
+/// Whether a term is a numeral.
+pub(crate) fn is_numeral(pool: &Pool, term: usize) -> bool
+    ensures { result ≡ is_some (numeral_of (term_at pool.now term)) }
+{
+    match term_form(pool, term) {
+        TermForm::Constant(Constant::Num(_)) => true,
+        _ => false,
+    }
+}
+
+/// Whether a term is the memory without entries.
+pub(crate) fn is_blank(pool: &Pool, term: usize) -> bool
+    ensures { result ≡ is_blank (term_at pool.now term) }
+{
+    match term_form(pool, term) {
+        TermForm::Constant(Constant::Blank) => true,
+        _ => false,
+    }
+}
+
+fn divisor_kind(constant: Constant) -> DivisorKind
+    ensures { result ≡ divisor_kind constant }
+{
+    match constant {
+        Constant::Num(value) => {
+            if value > 0 {
+                DivisorKind::IsFromOne
+            } else if value == 0 {
+                DivisorKind::IsZero
+            } else {
+                DivisorKind::IsOther
+            }
+        }
+        Constant::Wide(value) => {
+            if value > 0 {
+                DivisorKind::IsFromOne
+            } else {
+                DivisorKind::IsOther
+            }
+        }
+        Constant::Max => DivisorKind::IsFromOne,
+        _ => DivisorKind::IsOther,
+    }
+}
+
+/// What a term is as a divisor.
+pub(crate) fn divisor_at(pool: &Pool, term: usize) -> DivisorKind
+    ensures { result ≡ divisor_of (term_at pool.now term) }
+{
+    match term_form(pool, term) {
+        TermForm::Constant(constant) => divisor_kind(constant),
+        _ => DivisorKind::IsOther,
+    }
+}
