@@ -4,3 +4,8 @@ pub mod NumberLemmas
 pub mod FormLemmas
 pub mod RowLemmas
 pub mod StandingLaws
+pub mod TypeFormLemmas
+pub mod VectorLemmas
+pub mod QuietLemmas
+pub mod PairLemmas
+pub mod TypeLemmas

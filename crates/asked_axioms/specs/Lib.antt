@@ -4,3 +4,5 @@ pub mod Lists
 pub mod Rows
 pub mod Numbers
 pub mod Templates
+pub mod PairRows
+pub mod TypeRows

@@ -5,6 +5,8 @@ pub mod asked;
 pub mod instances;
 pub mod laws;
 mod nodes;
+mod pairs;
 mod reading;
 mod template;
 mod terms;
+mod types;

@@ -24,6 +24,14 @@ macro_rules! type_number {
 
 pub(crate) use type_number;
 
+macro_rules! type_address {
+    () => {
+        formula_pool::node::Node::Leaf(formula_pool::node::Leaf::TypeAddress)
+    };
+}
+
+pub(crate) use type_address;
+
 macro_rules! type_int {
     ($width:expr) => {
         formula_pool::node::Node::Leaf(formula_pool::node::Leaf::TypeInt($width))

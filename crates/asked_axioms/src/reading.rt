@@ -1,10 +1,11 @@
 //! The outermost forms of terms and types that are given by number.
 
-ghost use Rattle.std.specs.Prelude.{◌≡◌, is_some};
+ghost use Rattle.std.specs.Prelude.{◌≡◌, MatchOption, is_some};
 ghost use Rattle.cert.specs.Linear.{numeral_of};
 ghost use Rattle.formula_pool.specs.Pools.{IsMade};
 ghost use Rattle.formula_pool.specs.declared.node.Node.TheVariants.{Leaf as LeafNode, One as OneNode, Two as TwoNode, Three as ThreeNode};
-ghost use Rattle.asked_axioms.specs.Numbers.{HasForm, HasTypeForm, term_at};
+ghost use Rattle.asked_axioms.specs.Numbers.{HasForm, HasTypeForm, IsVector, term_at};
+ghost use Rattle.asked_axioms.specs.PairRows.{IsNoVector};
 ghost use Rattle.asked_axioms.specs.Rows.{is_blank, divisor_kind, divisor_of};
 
 use fol::operators::{Binary, Constant, Ternary, Unary};
@@ -160,5 +161,64 @@ pub(crate) fn divisor_at(pool: &Pool, term: usize) -> DivisorKind
     match term_form(pool, term) {
         TermForm::Constant(constant) => divisor_kind(constant),
         _ => DivisorKind::IsOther,
+    }
+}
+
+// ---- types
+
+fn leaf_type(pool: &Pool, of: usize, head: Leaf) -> TypeForm
+    requires { IsMade pool.now of (LeafNode head) }
+    ensures { HasTypeForm pool.now of result }
+{
+    match head {
+        Leaf::TypeInt(width) => TypeForm::Int(width),
+        Leaf::TypeAddress => TypeForm::Address,
+        Leaf::TypeSigner => TypeForm::Signer,
+        Leaf::TypeNum | Leaf::TypeParam(_) => TypeForm::Other,
+        _ => TypeForm::Bool,
+    }
+}
+
+fn one_type(pool: &Pool, of: usize, head: One, a: usize) -> TypeForm
+    requires { IsMade pool.now of (OneNode head a) }
+    ensures { HasTypeForm pool.now of result }
+{
+    match head {
+        One::TypeVector => TypeForm::Vector(a),
+        One::TypeShared | One::TypeMutable | One::TypeTuple => TypeForm::Other,
+        _ => TypeForm::Bool,
+    }
+}
+
+fn three_type(pool: &Pool, of: usize, head: Three, a: usize, b: usize, c: usize) -> TypeForm
+    requires { IsMade pool.now of (ThreeNode head a b c) }
+    ensures { HasTypeForm pool.now of result }
+{
+    match head {
+        Three::TypeStruct(_) => TypeForm::Struct,
+        _ => TypeForm::Bool,
+    }
+}
+
+/// The form of a type. What is none counts as that of truth values.
+pub(crate) fn type_form(pool: &Pool, of: usize) -> TypeForm
+    ensures { HasTypeForm pool.now of result }
+{
+    match pool.node(of) {
+        Some(Node::Leaf(head)) => leaf_type(pool, of, head),
+        Some(Node::One(head, a)) => one_type(pool, of, head, a),
+        Some(Node::Three(head, a, b, c)) => three_type(pool, of, head, a, b, c),
+        Some(Node::Two(_, _, _)) => TypeForm::Bool,
+        None => TypeForm::Bool,
+    }
+}
+
+/// The type of the items, where a type is one of vectors.
+pub(crate) fn vector_items(pool: &Pool, of: usize) -> Option<usize>
+    ensures { MatchOption result (IsNoVector pool.now of) (IsVector pool.now of) }
+{
+    match type_form(pool, of) {
+        TypeForm::Vector(items) => Some(items),
+        _ => None,
     }
 }
