@@ -1,0 +1,4 @@
+pub mod NumberLemmas
+pub mod StandLemmas
+pub mod EntryLemmas
+pub mod PartsLemmas

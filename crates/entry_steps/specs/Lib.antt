@@ -1,0 +1,3 @@
+pub mod Compounds
+pub mod Numbers
+pub mod Steps

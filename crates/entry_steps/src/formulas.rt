@@ -1,0 +1,71 @@
+//! Formulas by number: those of a list, and denials.
+
+ghost use Rattle.std.specs.Prelude.{◌≡◌, ◌∷◌, [], map, IfOk};
+ghost use Rattle.fol.specs.FormulaData.{NotFormula};
+ghost use Rattle.formula_pool.specs.Pools.{Extends};
+ghost use Rattle.pool_branch.specs.PoolBranches.{IsFormulaNumber};
+ghost use Rattle.entry_steps.specs.Numbers.{formula_at, formulas_at, IsNumberOf, AreNumbersOf, AreFormulas};
+
+use crate::compounds::first;
+use formula_pool::node::{Node, One};
+use formula_pool::pool::Pool;
+use pv_base::memory::NoMemory;
+use std::alloc::Global;
+
+/// An entry, and the formulas of a step at it: those that it adds, or the cases into which it splits the branch.
+#[derive(Drop)]
+pub struct EntryStep {
+    /// The number of the entry.
+    pub entry: usize,
+    /// The numbers of the formulas.
+    pub formulas: Vec<usize>,
+}
+
+// The numbers of the formulas of a list.
+pub(crate) fn listed(alloc: Global, pool: &Pool, list: usize) -> Result<Vec<usize>, NoMemory>
+    ensures { IfOk result (λ numbers. AreNumbersOf pool.now (formulas_at pool.now list) numbers.items) }
+{
+    let mut numbers = Vec::new(alloc);
+    let mut rest = list;
+    while let Some((formula, others)) = first(pool, rest) {
+        numbers.push(formula)?;
+        rest = others;
+    }
+    Ok(numbers)
+}
+
+// The number of the denial of a formula.
+pub(crate) fn denial(pool: &mut Pool, formula: usize) -> Result<usize, NoMemory>
+    requires { IsFormulaNumber pool.old formula }
+    ensures extends { Extends pool.old pool.new }
+    ensures is { IfOk result (IsNumberOf pool.new (NotFormula (formula_at pool.old formula))) }
+{
+    pool.insert(Node::One(One::Not, formula))
+}
+
+// The numbers of the denials of formulas, in order.
+pub(crate) fn denials(
+    alloc: Global,
+    pool: &mut Pool,
+    formulas: &[usize],
+) -> Result<Vec<usize>, NoMemory>
+    requires { AreFormulas pool.old formulas.now }
+    ensures extends { Extends pool.old pool.new }
+    ensures are { IfOk result (λ numbers. AreNumbersOf pool.new (map NotFormula (map (formula_at pool.old) formulas.now)) numbers.items) }
+{
+    let mut numbers = Vec::new(alloc);
+    for formula in formulas {
+        numbers.push(denial(pool, *formula)?)?;
+    }
+    Ok(numbers)
+}
+
+// Two numbers, in order.
+pub(crate) fn pair(alloc: Global, first: usize, second: usize) -> Result<Vec<usize>, NoMemory>
+    ensures { IfOk result (λ numbers. numbers.items ≡ first ∷ second ∷ []) }
+{
+    let mut numbers = Vec::new(alloc);
+    numbers.push(first)?;
+    numbers.push(second)?;
+    Ok(numbers)
+}
