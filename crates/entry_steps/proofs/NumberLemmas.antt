@@ -1,5 +1,5 @@
 -- Numbers of formulas while their pool grows.
-use Rattle.std.proofs.Common.{◌≡◌, ℕ, ◌+◌, ◌<◌, List, [], ◌∷◌, ◌++◌, length, map, get_or, take, refl, sym, ap, ◌∙◌, subst, arith, append_assoc, append-nil, length-append}
+use Rattle.std.proofs.Common.{Result, Ok, Err, IfOk, ◌≡◌, ℕ, ◌+◌, ◌<◌, List, [], ◌∷◌, ◌++◌, length, map, get_or, take, refl, sym, ap, ◌∙◌, subst, arith, append_assoc, append-nil, length-append}
 use Rattle.std.specs.Prelude.{All}
 use Rattle.std.proofs.lemmas.List.{map_push, map_more}
 use Rattle.std.proofs.lemmas.List.Elements.{All-nil, All-push, All-head, All-tail, All-weaker}
@@ -9,6 +9,7 @@ use Rattle.formula_pool.specs.Pools.{item_at, IsItem, Extends}
 use Rattle.formula_pool.specs.declared.node.Node.{Node}
 use Rattle.formula_pool.proofs.ItemLemmas.{item_kept}
 use Rattle.pool_branch.specs.PoolBranches.{IsFormulaNumber}
+use Rattle.cert.specs.Parts.{both_of}
 use Rattle.entry_steps.specs.Numbers.{formula_at, formulas_at, AreFormulas, IsNumberOf, AreNumbersOf, IsFirst}
 
 module _ (ns ms : List Node) (grown : Extends ns ms) where
@@ -33,6 +34,9 @@ module _ (ns ms : List Node) (grown : Extends ns ms) where
 
   pub numbers_stay : (ps : List FormulaData) (xs : List ℕ) → AreNumbersOf ns ps xs → AreNumbersOf ms ps xs
   numbers_stay ps xs h = record { formulas = formulas_stay xs h.formulas; are = map_stays xs h.formulas.each ∙ h.are }
+
+pub number_of_stays : (ns ms : List Node) → Extends ns ms → (p : FormulaData) (n : ℕ) → IsNumberOf ns p n → IsNumberOf ms p n
+number_of_stays ns ms grown p n h = record { number = number_stays ns ms grown n h.number; is = formula_stays ns ms grown n h.number ∙ h.is }
 
 -- ---- numbers that are put in one after another
 
@@ -74,6 +78,19 @@ module _ (ns : List Node) where
     formulas = h.formulas;
     are = sym (append-nil (map (formula_at ns) xs)) ∙ ap (λ ps. map (formula_at ns) xs ++ list_of_formulas ps) (sym e) ∙ h.all;
   }
+
+-- the conjunction of formulas that are given
+pub both_given : (ns ms : List Node) (p q : FormulaData) (a b k : ℕ) → IsNumberOf ns p a → IsNumberOf ns q b → IsNumberOf ms (both_of (formula_at ns a) (formula_at ns b)) k → IsNumberOf ms (both_of p q) k
+both_given ns ms p q a b k h g f = record { number = f.number; is = f.is ∙ (λ i. both_of (h.is i) (g.is i)) }
+
+-- the denial of a formula that stood before
+pub denied : (ns os ms : List Node) → Extends ns os → (n k : ℕ) → IsFormulaNumber ns n → IsNumberOf ms (NotFormula (formula_at os n)) k → IsNumberOf ms (NotFormula (formula_at ns n)) k
+denied ns os ms grown n k h g = record { number = g.number; is = g.is ∙ ap NotFormula (formula_stays ns os grown n h) }
+
+-- what is true of a vector that an answer carries
+pub vec_ok : {E V : Type 0} {P Q : V → Type 0} (r : Result V E) → ((v : V) → P v → Q v) → IfOk r P → IfOk r Q
+vec_ok (Ok v) f h = f v h
+vec_ok (Err e) f h = h
 
 -- ---- denials
 

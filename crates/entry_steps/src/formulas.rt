@@ -1,13 +1,15 @@
-//! Formulas by number: those of a list, and denials.
+//! Formulas by number: those of a list, denials and conjunctions.
 
 ghost use Rattle.std.specs.Prelude.{◌≡◌, ◌∷◌, [], map, IfOk};
 ghost use Rattle.fol.specs.FormulaData.{NotFormula};
+ghost use Rattle.cert.specs.Parts.{both_of};
 ghost use Rattle.formula_pool.specs.Pools.{Extends};
 ghost use Rattle.pool_branch.specs.PoolBranches.{IsFormulaNumber};
 ghost use Rattle.entry_steps.specs.Numbers.{formula_at, formulas_at, IsNumberOf, AreNumbersOf, AreFormulas};
 
 use crate::compounds::first;
-use formula_pool::node::{Node, One};
+use fol::operators::Junction;
+use formula_pool::node::{Leaf, Node, One, Two};
 use formula_pool::pool::Pool;
 use pv_base::memory::NoMemory;
 use std::alloc::Global;
@@ -58,6 +60,19 @@ pub(crate) fn denials(
         numbers.push(denial(pool, *formula)?)?;
     }
     Ok(numbers)
+}
+
+// The number of the conjunction of two formulas.
+pub(crate) fn both(pool: &mut Pool, left: usize, right: usize) -> Result<usize, NoMemory>
+    requires left { IsFormulaNumber pool.old left }
+    requires right { IsFormulaNumber pool.old right }
+    ensures extends { Extends pool.old pool.new }
+    ensures is { IfOk result (IsNumberOf pool.new (both_of (formula_at pool.old left) (formula_at pool.old right))) }
+{
+    let none = pool.insert(Node::Leaf(Leaf::NilFormulas))?;
+    let second = pool.insert(Node::Two(Two::ConsFormula, right, none))?;
+    let list = pool.insert(Node::Two(Two::ConsFormula, left, second))?;
+    pool.insert(Node::One(One::Join(Junction::AllOf), list))
 }
 
 // Two numbers, in order.

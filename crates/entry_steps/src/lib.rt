@@ -3,5 +3,7 @@
 
 mod compounds;
 pub mod formulas;
+pub mod laws;
 pub mod parts;
+pub mod split;
 mod stands;

@@ -1,6 +1,7 @@
 //! Whether formulas are new on a branch, and shallow.
 
 ghost use Rattle.std.specs.Prelude.{◌≡◌, ◌↔◌, map, All, IsTrue};
+ghost use Rattle.branches.specs.Branch.{IsNew};
 ghost use Rattle.branches.specs.Due.{HasNew, IsShallow};
 ghost use Rattle.pool_branch.specs.PoolBranches.{branch_in, IsOver};
 ghost use Rattle.entry_steps.specs.Numbers.{formula_at, AreFormulas};
@@ -33,4 +34,18 @@ pub(crate) fn has_new(pool: &Pool, branch: &PoolBranch, formulas: &[usize]) -> b
         }
     }
     false
+}
+
+// Whether each formula is new on the branch.
+pub(crate) fn are_new(pool: &Pool, branch: &PoolBranch, formulas: &[usize]) -> bool
+    requires over { IsOver pool.now branch.now }
+    requires formulas { AreFormulas pool.now formulas.now }
+    ensures { IsTrue result ↔ All (IsNew (branch_in pool.now branch.now)) (map (formula_at pool.now) formulas.now) }
+{
+    for formula in formulas {
+        if branch.stands(pool, *formula) {
+            return false;
+        }
+    }
+    true
 }
