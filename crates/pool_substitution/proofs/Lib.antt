@@ -1,0 +1,4 @@
+pub mod PutLemmas
+pub mod SizeLemmas
+pub mod ItemLemmas
+pub mod WalkLemmas
