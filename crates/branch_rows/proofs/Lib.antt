@@ -1,0 +1,12 @@
+pub mod ResultLemmas
+pub mod KeptLemmas
+pub mod CoefficientLemmas
+pub mod JoiningLemmas
+pub mod ShapeLemmas
+pub mod WalkLemmas
+pub mod SideLemmas
+pub mod EntryLemmas
+pub mod PutLemmas
+pub mod RowLemmas
+pub mod StateLemmas
+pub mod NameLemmas

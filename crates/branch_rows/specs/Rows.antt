@@ -1,0 +1,86 @@
+-- The rows of a branch, while they are made.
+use Rattle.std.specs.Prelude.{◌≡◌, ◌≢◌, ℕ, ◌≤◌, ℤ, pos, ◌-ℤ◌, Bool, true, false, List, [], ◌∷◌, ◌++◌, length, get_or, slice_get, slice_index, Some, None}
+use Rattle.std.specs.List.{AllPairs, AllZip}
+use Rattle.fol.specs.FormulaData.{TermData, VarTerm, FormulaData}
+use Rattle.cert.specs.Linear.{Row, row_of}
+use Rattle.linear_rows.specs.Inequality.{Inequality, coefficient}
+use Rattle.branches.specs.Branch.{Branch, IsTerm}
+use Rattle.branches.specs.Rows.{IsOver, IsRowOf, turned, AreRowsOf}
+use Rattle.formula_pool.specs.declared.node.Node.{Node}
+use Rattle.pool_branch.specs.PoolBranches.{IsTermNumber}
+use Rattle.branch_rows.specs.Sums.{Has, amount}
+use Rattle.branch_rows.specs.Shapes.{term_at}
+use Rattle.branch_rows.specs.declared.sum.LinearSum.{LinearSum}
+use Rattle.branch_rows.specs.declared.rows.RowOrigin.{RowOrigin}
+use Rattle.branch_rows.specs.declared.rows.BranchRows.{BranchRows}
+
+-- ---- names
+
+-- each number of a term of the branch has the name of its class
+pub record AreNames (ns : List Node) (b : Branch) (class : TermData → ℕ) (names : List ℕ) : Type 0 where
+  pub named : (n : ℕ) → IsTermNumber ns n → IsTerm b (term_at ns n) → slice_index names n ≡ class (term_at ns n)
+
+-- ---- where rows come from
+
+abbrev pub turned_if : Bool → Row → Row
+turned_if false row = row
+turned_if true row = turned row
+
+-- the row is that of the entry with the number, over classes, or the second one of its equation
+pub record IsRowFrom (class : TermData → ℕ) (ps : List FormulaData) (classes : List ℕ) (row : Inequality) (origin : RowOrigin) : Type 0 where
+  pub formula : FormulaData
+  pub found : slice_get ps origin.entry ≡ Some formula
+  pub comparison : FormulaData
+  pub is_over : IsOver class formula comparison
+  pub stated : Row
+  pub stated_is : row_of comparison ≡ Some stated
+  pub is_row : IsRowOf classes (turned_if origin.is_turned stated) row
+  pub equation : origin.is_turned ≡ true → stated.is_equation ≡ true
+
+-- ---- rows that are written
+
+-- the class stands in the list
+pub record IsAmong (ks : List ℕ) (n : ℕ) : Type 0 where
+  pub place : ℕ
+  pub found : slice_get ks place ≡ Some n
+
+-- the first list, and more
+pub record IsLonger (ks ls : List ℕ) : Type 0 where
+  pub more : List ℕ
+  pub is : ls ≡ ks ++ more
+
+abbrev pub AreDifferent : List ℕ → Type 0
+AreDifferent ks = AllPairs (λ m n. m ≢ n) ks
+
+-- the class got the number at its place, and a place if it had none
+pub record IsPut (ks : List ℕ) (cs : List ℤ) (class : ℕ) (number : ℤ) (ls : List ℕ) (ds : List ℤ) : Type 0 where
+  pub longer : IsLonger ks ls
+  pub different : AreDifferent ls
+  pub long : length ds ≡ length ls
+  pub among : IsAmong ls class
+  pub here : (k : ℕ) → slice_get ls k ≡ Some class → get_or ds k (pos 0) ≡ number
+  pub others : (k n : ℕ) → slice_get ls k ≡ Some n → n ≢ class → get_or ds k (pos 0) ≡ get_or cs k (pos 0)
+
+-- the numbers of the sum stand at the places of the classes
+pub record IsWritten (ks ls : List ℕ) (s : LinearSum) (row : Inequality) : Type 0 where
+  pub longer : IsLonger ks ls
+  pub different : AreDifferent ls
+  pub known : (n : ℕ) → Has s.coefficients.entries n → IsAmong ls n
+  pub few : length row.coefficients ≤ length ls
+  pub numbers : (k n : ℕ) → slice_get ls k ≡ Some n → coefficient k row ≡ amount s (Some (VarTerm n))
+  pub bound : row.bound ≡ pos 0 -ℤ amount s None
+
+-- one more row
+pub record IsPushed (old new : BranchRows) (s : LinearSum) (origin : RowOrigin) : Type 0 where
+  pub row : Inequality
+  pub written : IsWritten old.classes.keys new.classes.keys s row
+  pub rows : new.rows ≡ old.rows ++ row ∷ []
+  pub origins : new.origins.items ≡ old.origins.items ++ origin ∷ []
+
+-- the rows of these entries
+pub record AreRowsSoFar (class : TermData → ℕ) (ps : List FormulaData) (made : BranchRows) : Type 0 where
+  pub comparisons : List FormulaData
+  pub are_over : AllZip (IsOver class) ps comparisons
+  pub different : AreDifferent made.classes.keys
+  pub are_rows : AreRowsOf made.classes.keys comparisons made.rows
+  pub origins : AllZip (IsRowFrom class ps made.classes.keys) made.rows made.origins.items

@@ -1,0 +1,133 @@
+//! Entries as sums.
+
+ghost use Rattle.std.specs.Prelude.{◌≡◌, ◌<◌, ◌≤◌, ℕ, Bool, None, length, slice_index, IfOk, IfSome, MatchOption};
+ghost use Rattle.fol.specs.FormulaData.{TermData, VarTerm};
+ghost use Rattle.cert.specs.Linear.{row_of};
+ghost use Rattle.pool_branch.specs.PoolBranches.{IsTermNumber};
+ghost use Rattle.branch_rows.specs.Sums.{IsKept, IsSumOf};
+ghost use Rattle.branch_rows.specs.Shapes.{IsNamedUnder};
+ghost use Rattle.branch_rows.specs.Entries.{formula_at, gap_of, row_with, row_over, IsRowSum, LeavesRow, IsSumOfSides, IsEntrySum};
+
+use crate::comparison::{Sides, sides_of};
+use crate::sum::{LinearSum, constant, joined, single};
+use crate::walk::sum_of;
+use formula_pool::pool::Pool;
+use pv_base::memory::NoMemory;
+use std::alloc::Global;
+
+/// A comparison as a sum that is at most 0, or 0 where it is an equation.
+#[derive(Drop)]
+pub(crate) struct EntrySum {
+    pub(crate) sum: LinearSum,
+    pub(crate) is_equation: bool,
+}
+
+fn gap(is_strict: bool) -> i128
+    ensures { result ≡ gap_of is_strict }
+{
+    if is_strict { 1 } else { 0 }
+}
+
+// The lesser less the greater, and the gap. None where a number leaves 128 bits.
+fn row_sum(
+    alloc: Global,
+    lesser: LinearSum,
+    greater: LinearSum,
+    is_strict: bool,
+) -> Result<Option<LinearSum>, NoMemory>
+    requires lesser { IsKept lesser }
+    requires greater { IsKept greater }
+    ensures is { (t u : TermData) (is_equation : Bool) → IsSumOf t lesser → IsSumOf u greater → IfOk result (λ made. MatchOption made (LeavesRow (row_with t u is_strict is_equation)) (IsRowSum (row_with t u is_strict is_equation))) }
+    ensures fits { IfOk result (λ made. IfSome made IsKept) }
+{
+    let gap = constant(alloc, gap(is_strict));
+    let Some(difference) = joined(lesser, greater, true)? else {
+        return Ok(None);
+    };
+    joined(difference, gap, false)
+}
+
+// The sides over classes. None where a number leaves 128 bits.
+fn as_sums(
+    alloc: Global,
+    pool: &Pool,
+    names: &[usize],
+    sides: Sides,
+) -> Result<Option<LinearSum>, NoMemory>
+    requires lesser { IsTermNumber pool.now sides.lesser }
+    requires greater { IsTermNumber pool.now sides.greater }
+    requires named { length pool.now ≤ length names.now }
+    ensures is { (class : TermData → ℕ) → IsNamedUnder pool.now sides.lesser class names.now → IsNamedUnder pool.now sides.greater class names.now → IfOk result (λ made. MatchOption made (LeavesRow (row_over pool.now class sides)) (IsRowSum (row_over pool.now class sides))) }
+    ensures fits { IfOk result (λ made. IfSome made IsKept) }
+{
+    let Some(lesser) = sum_of(alloc, pool, names, sides.lesser)? else {
+        return Ok(None);
+    };
+    let Some(greater) = sum_of(alloc, pool, names, sides.greater)? else {
+        return Ok(None);
+    };
+    row_sum(alloc, lesser, greater, sides.is_strict)
+}
+
+// The sides as unknowns of these classes.
+fn as_unknowns(
+    alloc: Global,
+    lesser: usize,
+    greater: usize,
+    is_strict: bool,
+) -> Result<LinearSum, NoMemory>
+    ensures is { (is_equation : Bool) → IfOk result (IsRowSum (row_with (VarTerm lesser) (VarTerm greater) is_strict is_equation)) }
+    ensures fits { IfOk result IsKept }
+{
+    let lesser = single(alloc, lesser)?;
+    let greater = single(alloc, greater)?;
+    let Some(sum) = row_sum(alloc, lesser, greater, is_strict)? else {
+        unreachable!();
+    };
+    Ok(sum)
+}
+
+// The sum of a comparison: over classes, or with the sides as unknowns where that leaves 128 bits.
+fn sum_of_sides(
+    alloc: Global,
+    pool: &Pool,
+    names: &[usize],
+    sides: Sides,
+) -> Result<LinearSum, NoMemory>
+    requires lesser { IsTermNumber pool.now sides.lesser }
+    requires greater { IsTermNumber pool.now sides.greater }
+    requires named { length pool.now ≤ length names.now }
+    ensures is { (class : TermData → ℕ) → IsNamedUnder pool.now sides.lesser class names.now → IsNamedUnder pool.now sides.greater class names.now → IfOk result (IsSumOfSides pool.now class sides) }
+    ensures fits { IfOk result IsKept }
+{
+    match as_sums(alloc, pool, names, sides)? {
+        Some(sum) => Ok(sum),
+        None => as_unknowns(
+            alloc,
+            names[sides.lesser],
+            names[sides.greater],
+            sides.is_strict,
+        ),
+    }
+}
+
+/// The sum of the entry whose formula has this number, if it says a comparison.
+pub(crate) fn entry_sum(
+    alloc: Global,
+    pool: &Pool,
+    names: &[usize],
+    formula: usize,
+) -> Result<Option<EntrySum>, NoMemory>
+    requires { length pool.now ≤ length names.now }
+    ensures is { (class : TermData → ℕ) → IsNamedUnder pool.now formula class names.now → IfOk result (λ made. MatchOption made (row_of (formula_at pool.now formula) ≡ None) (IsEntrySum class (formula_at pool.now formula))) }
+    ensures fits { IfOk result (λ made. IfSome made (λ e. IsKept e.sum)) }
+{
+    let Some(sides) = sides_of(pool, formula) else {
+        return Ok(None);
+    };
+    let sum = sum_of_sides(alloc, pool, names, sides)?;
+    Ok(Some(EntrySum {
+        sum,
+        is_equation: sides.is_equation,
+    }))
+}

@@ -1,0 +1,194 @@
+//! The rows of a branch.
+
+ghost use Rattle.std.specs.Prelude.{◌≡◌, ◌≤◌, ℕ, ℤ, pos, List, [], ◌∷◌, ◌++◌, length, get_or, not, IfOk, OnOk};
+ghost use Rattle.std.specs.List.{AllZip};
+ghost use Rattle.fol.specs.FormulaData.{TermData, FormulaData};
+ghost use Rattle.linear_rows.specs.Fits.{Fits};
+ghost use Rattle.branches.specs.Branch.{formulas};
+ghost use Rattle.branches.specs.Rows.{IsClassing, AreBranchRows};
+ghost use Rattle.pool_branch.specs.PoolBranches.{branch_in, IsOver};
+ghost use Rattle.branch_rows.specs.Sums.{signed, IsKept};
+ghost use Rattle.branch_rows.specs.Shapes.{IsNamedUnder};
+ghost use Rattle.branch_rows.specs.Entries.{formula_at, IsEntrySum};
+ghost use Rattle.branch_rows.specs.Rows.{AreNames, IsRowFrom, IsPut, IsWritten, IsPushed, AreRowsSoFar};
+
+use crate::entry::{EntrySum, entry_sum};
+use crate::sum::{LinearSum, negated};
+use formula_pool::pool::Pool;
+use indexmap::IndexSet;
+use linear_rows::rows::{LinRow, Rows};
+use pool_branch::branch::PoolBranch;
+use pv_base::memory::NoMemory;
+use std::alloc::Global;
+
+/// Which entry a row comes from.
+#[derive(Clone, Copy, Debug, PartialEq, Eq)]
+pub struct RowOrigin {
+    /// The number of the entry.
+    pub entry: usize,
+    /// Whether it is the second row of an equation, which says that the greater side is at most the lesser.
+    pub is_turned: bool,
+}
+
+/// The comparisons of a branch as rows.
+#[derive(Drop)]
+pub struct BranchRows {
+    /// The classes of the unknowns, in the order of their first use: unknown k of a row is class k.
+    pub classes: IndexSet<usize>,
+    /// An inequality gives one row and an equation two, in the order of the entries.
+    pub rows: Rows,
+    /// The origin of each row.
+    pub origins: Vec<RowOrigin>,
+}
+
+fn signed(is_negated: bool, number: i128) -> i128
+    requires { Fits number }
+    ensures { result ≡ signed is_negated number }
+{
+    if is_negated { -number } else { number }
+}
+
+fn zeros(alloc: Global, count: usize) -> Result<Vec<i128>, NoMemory>
+    ensures len { IfOk result (λ numbers. length numbers.items ≡ count) }
+    ensures zero { IfOk result (λ numbers. (k : ℕ) → get_or numbers.items k (pos 0) ≡ pos 0) }
+{
+    let mut numbers = Vec::with_capacity(alloc, count)?;
+    for place in 0..count {
+        numbers.push(0)?;
+    }
+    Ok(numbers)
+}
+
+// Puts a number at the place of a class, which is the next one if the class has none.
+fn put(
+    classes: &mut IndexSet<usize>,
+    numbers: &mut Vec<i128>,
+    class: usize,
+    number: i128,
+) -> Result<(), NoMemory>
+    requires { length numbers.old.items ≡ length classes.old.keys }
+    ensures { OnOk result (IsPut classes.old.keys numbers.old.items class number classes.new.keys numbers.new.items) }
+{
+    let (place, _) = classes.insert_full(class)?;
+    if place < numbers.len() {
+        numbers[place] = number;
+        return Ok(());
+    }
+    numbers.push(number)?;
+    Ok(())
+}
+
+// The sum as a row: at most 0. Its classes get places.
+fn row_of(alloc: Global, classes: &mut IndexSet<usize>, sum: &LinearSum) -> Result<LinRow, NoMemory>
+    requires { IsKept sum.now }
+    ensures { IfOk result (IsWritten classes.old.keys classes.new.keys sum.now) }
+{
+    let mut numbers = zeros(alloc, classes.len())?;
+    for place in 0..sum.coefficients.len() {
+        if let Some((class, number)) = sum.coefficients.get_index(place) {
+            put(
+                classes,
+                &mut numbers,
+                *class,
+                signed(sum.is_negated, *number),
+            )?;
+        }
+    }
+    let bound = signed(!sum.is_negated, sum.constant);
+    Ok(LinRow::new(numbers, bound))
+}
+
+// One more row.
+fn push_row(
+    alloc: Global,
+    made: &mut BranchRows,
+    sum: &LinearSum,
+    origin: RowOrigin,
+) -> Result<(), NoMemory>
+    requires { IsKept sum.now }
+    ensures { OnOk result (IsPushed made.old made.new sum.now origin) }
+{
+    let row = row_of(alloc, &mut made.classes, sum)?;
+    made.rows.push(row)?;
+    made.origins.push(origin)?;
+    Ok(())
+}
+
+// The rows of one more entry.
+fn push_entry(
+    alloc: Global,
+    made: &mut BranchRows,
+    entry: usize,
+    row: EntrySum,
+) -> Result<(), NoMemory>
+    requires { IsKept row.sum }
+    ensures { (class : TermData → ℕ) (ps : List FormulaData) (p : FormulaData) → length ps ≡ entry → IsEntrySum class p row → AreRowsSoFar class ps made.old → OnOk result (AreRowsSoFar class (ps ++ p ∷ []) made.new) }
+{
+    let EntrySum { sum, is_equation } = row;
+    push_row(
+        alloc,
+        made,
+        &sum,
+        RowOrigin {
+            entry,
+            is_turned: false,
+        },
+    )?;
+    if !is_equation {
+        return Ok(());
+    }
+    let turned = negated(sum);
+    push_row(
+        alloc,
+        made,
+        &turned,
+        RowOrigin {
+            entry,
+            is_turned: true,
+        },
+    )
+}
+
+// The rows of the entry with this number and formula, if it says a comparison.
+fn take_entry(
+    alloc: Global,
+    pool: &Pool,
+    names: &[usize],
+    made: &mut BranchRows,
+    entry: usize,
+    formula: usize,
+) -> Result<(), NoMemory>
+    requires { length pool.now ≤ length names.now }
+    ensures { (class : TermData → ℕ) (ps : List FormulaData) → length ps ≡ entry → IsNamedUnder pool.now formula class names.now → AreRowsSoFar class ps made.old → OnOk result (AreRowsSoFar class (ps ++ formula_at pool.now formula ∷ []) made.new) }
+{
+    match entry_sum(alloc, pool, names, formula)? {
+        Some(row) => push_entry(alloc, made, entry, row),
+        None => Ok(()),
+    }
+}
+
+/// The comparisons of the branch as rows over whole numbers, with one unknown for each class of terms. Each number of a
+/// term of the branch has the name of its class. `NoMemory` comes where memory ran out.
+pub fn branch_rows(
+    alloc: Global,
+    pool: &Pool,
+    branch: &PoolBranch,
+    names: &[usize],
+) -> Result<BranchRows, NoMemory>
+    requires over { IsOver pool.now branch.now }
+    requires named { length pool.now ≤ length names.now }
+    ensures rows { (class : TermData → ℕ) → IsClassing (branch_in pool.now branch.now) class → AreNames pool.now (branch_in pool.now branch.now) class names.now → IfOk result (λ made. AreBranchRows (branch_in pool.now branch.now) class made.classes.keys made.rows) }
+    ensures origins { (class : TermData → ℕ) → IsClassing (branch_in pool.now branch.now) class → AreNames pool.now (branch_in pool.now branch.now) class names.now → IfOk result (λ made. AllZip (IsRowFrom class (formulas (branch_in pool.now branch.now)) made.classes.keys) made.rows made.origins.items) }
+{
+    let mut made = BranchRows {
+        classes: IndexSet::new(alloc),
+        rows: Rows::new(alloc),
+        origins: Vec::new(alloc),
+    };
+    for number in 0..branch.len() {
+        if let Some(entry) = branch.entry(number) {
+            take_entry(alloc, pool, names, &mut made, number, entry.formula)?;
+        }
+    }
+    Ok(made)
+}
