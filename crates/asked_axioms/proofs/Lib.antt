@@ -9,3 +9,5 @@ pub mod VectorLemmas
 pub mod QuietLemmas
 pub mod PairLemmas
 pub mod TypeLemmas
+pub mod StructLemmas
+pub mod FieldLemmas

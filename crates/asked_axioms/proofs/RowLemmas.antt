@@ -25,15 +25,15 @@ use Rattle.asked_axioms.specs.Asks.{AlwaysAsked, TruthsDiffering, TrueHolding, F
 
 -- ---- places in lists
 
-among_left : {a : Asked} {xs : List Asked} (ys : List Asked) → IsAmong a xs → IsAmong a (xs ++ ys)
+pub among_left : {a : Asked} {xs : List Asked} (ys : List Asked) → IsAmong a xs → IsAmong a (xs ++ ys)
 among_left ys (IsHere xs) = IsHere (xs ++ ys)
 among_left ys (IsLater b xs h) = IsLater b (xs ++ ys) (among_left ys h)
 
-among_right : {a : Asked} (xs : List Asked) {ys : List Asked} → IsAmong a ys → IsAmong a (xs ++ ys)
+pub among_right : {a : Asked} (xs : List Asked) {ys : List Asked} → IsAmong a ys → IsAmong a (xs ++ ys)
 among_right [] h = h
 among_right (x ∷ xs) {ys} h = IsLater x (xs ++ ys) (among_right xs h)
 
-both_only : (asks : Axiom → List TermData → FormulaData → Type 0) (xs ys : List Asked) → AreOnly asks xs → AreOnly asks ys → AreOnly asks (xs ++ ys)
+pub both_only : (asks : Axiom → List TermData → FormulaData → Type 0) (xs ys : List Asked) → AreOnly asks xs → AreOnly asks ys → AreOnly asks (xs ++ ys)
 both_only asks [] ys h k = k
 both_only asks (x ∷ xs) ys h k = (h.0, both_only asks xs ys h.1 k)
 

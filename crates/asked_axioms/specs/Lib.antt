@@ -6,3 +6,4 @@ pub mod Numbers
 pub mod Templates
 pub mod PairRows
 pub mod TypeRows
+pub mod StructRows

@@ -5,17 +5,20 @@ ghost use Rattle.fol.specs.declared.shapes.Shape.{Shape};
 ghost use Rattle.formula_pool.specs.Pools.{Extends};
 ghost use Rattle.asked_axioms.specs.Asks.{AlwaysAsked, AsksOfTerm, AsksOfType, AsksOfTypeAlone, AsksOfTypeBeside, AsksOfRead, AsksOfItem};
 ghost use Rattle.asked_axioms.specs.Lists.{ListsAll};
-ghost use Rattle.asked_axioms.specs.Numbers.{IsTermNumber, IsTypeNumber, term_at, type_at};
+ghost use Rattle.asked_axioms.specs.Numbers.{IsPack, IsTermNumber, IsTypeNumber, term_at, type_at};
+ghost use Rattle.asked_axioms.specs.StructRows.{HasFewFields};
 ghost use Rattle.asked_axioms.specs.Rows.{IsPlain};
 ghost use Rattle.asked_axioms.specs.TypeRows.{IsNoStruct};
 
 use crate::asked::{AskedAxiom, AskedList, AskedTerms, Row, ask};
 use crate::nodes::{constant, equal, holds, not, typed};
 use crate::pairs::{ask_beside, ask_item, ask_read};
+use crate::structs::ask_pack;
 use crate::terms::ask_term;
 use crate::types::ask_typed;
 use axioms::axiom::{Axiom, Fact};
 use fol::operators::Constant;
+use fol::shapes::Shapes;
 use formula_pool::pool::Pool;
 use pv_base::memory::NoMemory;
 use std::alloc::Global;
@@ -181,5 +184,28 @@ pub fn axioms_of_typed(
         items: Vec::new(alloc),
     };
     ask_typed(pool, &mut list, of, term)?;
+    Ok(list.items)
+}
+
+/// The instances that a struct of this type asks for that is made of its fields, under the shapes of structs, each of
+/// which has fewer than 2^32 fields.
+pub fn axioms_of_pack(
+    alloc: Global,
+    pool: &mut Pool,
+    shapes: &Shapes,
+    term: usize,
+    of: usize,
+    parts: usize,
+) -> Result<Vec<AskedAxiom>, NoMemory>
+    requires few { HasFewFields shapes.now }
+    requires term { IsPack pool.old term of parts }
+    ensures extends { Extends pool.old pool.new }
+    ensures all { IfOk result (λ found. ListsAll pool.new found.items (AsksOfTerm shapes.now (term_at pool.old term))) }
+{
+    let mut list = AskedList {
+        alloc,
+        items: Vec::new(alloc),
+    };
+    ask_pack(pool, &mut list, shapes, term, of, parts)?;
     Ok(list.items)
 }

@@ -7,6 +7,7 @@ pub mod laws;
 mod nodes;
 mod pairs;
 mod reading;
+mod structs;
 mod template;
 mod terms;
 mod types;
