@@ -1,5 +1,5 @@
 -- The parts of packs by their numbers, and the loops over fields.
-use Rattle.std.proofs.Common.{◌≡◌, ℕ, zero, suc, ◌+◌, ◌<◌, ◌^◌, Bool, true, false, List, [], ◌∷◌, ◌++◌, length, map, get_or, Some, refl, sym, ap, ◌∙◌, subst, arith, append_assoc, append-nil}
+use Rattle.std.proofs.Common.{◌≡◌, ℕ, zero, suc, ◌<◌, ◌^◌, Bool, true, false, List, [], ◌∷◌, ◌++◌, length, map, get_or, Some, refl, sym, ap, ◌∙◌, subst, arith, append_assoc, append-nil}
 use Rattle.std.specs.Prelude.{All, if◌then◌else◌}
 use Rattle.std.proofs.lemmas.List.{map-append}
 use Rattle.pv_base.specs.TypeData.{TypeData, TypesData, list_of_types}
@@ -9,13 +9,11 @@ use Rattle.fol.specs.TypedValue.{same_struct}
 use Rattle.fol.specs.FormulaData.{TermData, TermsData, NoTerms, MoreTerms, NothingTerm, PackTerm, terms_of, list_of_terms}
 use Rattle.axioms.specs.Fields.{HasFields, IsStruct, shape_of}
 use Rattle.formula_pool.specs.Items.{Item, TermItem, term_in}
-use Rattle.formula_pool.specs.Pools.{IsItem, Extends}
+use Rattle.formula_pool.specs.Pools.{IsItem}
 use Rattle.formula_pool.specs.declared.node.Node.{Node}
-use Rattle.formula_pool.proofs.GrowthLemmas.{item_stays}
-use Rattle.asked_axioms.specs.declared.asked.AskedAxiom.{AskedAxiom}
 use Rattle.asked_axioms.specs.Asks.{AsksOfTerm}
-use Rattle.asked_axioms.specs.Lists.{Asked, AreAll}
-use Rattle.asked_axioms.specs.Numbers.{IsTermNumber, IsTypeNumber, IsPack, term_at, terms_at, type_at}
+use Rattle.asked_axioms.specs.Lists.{AreAll}
+use Rattle.asked_axioms.specs.Numbers.{IsPack, term_at, terms_at, type_at}
 use Rattle.asked_axioms.specs.StructRows.{HasFewFields, HasNoFields, IsNextPart, upto, field_rows}
 use Rattle.asked_axioms.specs.Templates.{AreItems, NoItems, MoreItems}
 use Rattle.asked_axioms.proofs.TemplateLemmas.{items_more}

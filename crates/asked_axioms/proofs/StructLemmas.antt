@@ -1,18 +1,17 @@
 -- The whole lists of instances are what structs ask for that are made of their fields.
-use Rattle.std.proofs.Common.{◌≡◌, ◌≢◌, ℕ, zero, suc, ◌+◌, ◌<◌, ◌≤◌, ◌⊎◌, inl, inr, Bool, true, false, List, [], ◌∷◌, ◌++◌, length, get_or, slice_get, Some, refl, sym, ap, ◌∙◌, subst, arith}
+use Rattle.std.proofs.Common.{◌≡◌, ℕ, zero, suc, ◌+◌, ◌<◌, ◌⊎◌, inl, inr, List, [], ◌∷◌, ◌++◌, length, get_or, slice_get, Some, refl, sym, ap, ◌∙◌, subst, arith}
 use Rattle.std.proofs.lemmas.Option.{get_or_from_slice_get, slice_get-get_or, slice_get_within}
-use Rattle.pv_base.specs.TypeData.{TypeData, StructType, TypesData, list_of_types}
+use Rattle.pv_base.specs.TypeData.{TypeData, list_of_types}
 use Rattle.fol.specs.declared.shapes.Shape.{Shape}
-use Rattle.fol.specs.FormulaData.{TermData, NothingTerm, PackTerm, FieldTerm, SetFieldTerm, FormulaData, EqFormula, IsFormula, NotFormula, terms_of, list_of_terms, terms_of_injective}
+use Rattle.fol.specs.FormulaData.{TermData, NothingTerm, PackTerm, FieldTerm, FormulaData, EqFormula, terms_of, terms_of_injective}
 use Rattle.axioms.specs.declared.axiom.Axiom.{Axiom}
 use Rattle.axioms.specs.declared.axiom.Axiom.TheVariants.{OfStruct}
-use Rattle.axioms.specs.declared.axiom.StructAxiom.TheVariants.{FieldOfPack, FieldSet, FieldOfOther}
+use Rattle.axioms.specs.declared.axiom.StructAxiom.TheVariants.{FieldOfPack}
 use Rattle.axioms.specs.Facts.{IsWhole}
-use Rattle.axioms.specs.Fields.{HasFields, HasField, shape_of}
-use Rattle.branches.specs.Table.{some_of}
-use Rattle.asked_axioms.specs.Lists.{Asked, IsAmong, IsHere, IsLater, AreOnly, AreAll}
+use Rattle.axioms.specs.Fields.{HasFields, shape_of}
+use Rattle.asked_axioms.specs.Lists.{Asked, IsAmong, IsHere, AreOnly, AreAll}
 use Rattle.asked_axioms.specs.StructRows.{upto, field_rows}
-use Rattle.asked_axioms.specs.Asks.{AsksOfTerm, ByStore, ByBlank, ByLen, ByEmpty, ByPush, ByPushed, ByPop, BySet, BySetAt, ByPack, BySetField, ByOtherField, ByWhole, ByQuotient, ByRemainder, ByZeroDivisor, ByMax, ByIf, ByBits, ByShl, ByShr, ByProduct, ByProductOne, ByProductZero}
+use Rattle.asked_axioms.specs.Asks.{AsksOfTerm, ByPack, ByWhole}
 use Rattle.asked_axioms.proofs.RowLemmas.{among_left, among_right, both_only}
 
 -- ---- lists below a number

@@ -1,7 +1,6 @@
 use Rattle.std.proofs.Common.{◌<◌, ◌^◌, List, length, sym, ap, subst, arith}
 use Rattle.pv_base.specs.TypeData.{TypeData}
 use Rattle.axioms.specs.Fields.{HasFields}
-use Rattle.asked_axioms.specs.Numbers.{type_at}
 use Rattle.asked_axioms.specs.StructRows.{HasNoFields}
 use Rattle.asked_axioms.proofs.FieldLemmas.{few_here, fields_here, no_fields_here}
 use Rattle.asked_axioms.proofs.structs.field_count.Goals as goal
