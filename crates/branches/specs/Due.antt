@@ -1,5 +1,5 @@
 -- What is due on a branch, one definition a family, and when nothing is left to do.
-use Rattle.std.specs.Prelude.{◌≡◌, ◌≢◌, ℕ, ◌+◌, ◌≤◌, max, List, [], ◌∷◌, slice_get, Some, All}
+use Rattle.std.specs.Prelude.{◌≡◌, ◌≢◌, ℕ, ◌+◌, ◌≤◌, ◌<◌, ◌^◌, max, List, [], ◌∷◌, slice_get, Some, All}
 use Rattle.pv_base.specs.TypeData.{TypeData}
 use Rattle.fol.specs.declared.operators.Quantifier.TheVariants.{ForAll, Exists}
 use Rattle.fol.specs.declared.shapes.Shape.{Shape}
@@ -57,12 +57,17 @@ pub record IsNamed (b : Branch) (i : ℕ) : Type 0 where
   pub found : slice_get b place ≡ Some entry
   pub names : entry.origin ≡ Name i
 
+-- a number that a variable may have: those of a program are unsigned integers of 32 bits
+abbrev pub IsVariable : ℕ → Type 0
+IsVariable v = v < 2 ^ 32
+
 -- a name for the variable of an existential formula, which has none yet
 pub record NameDue (b : Branch) (i v : ℕ) (p : FormulaData) : Type 0 where
   pub entry : FormulaData
   pub says : Says b i entry
   pub is_body : IsBodyWith Exists (VarTerm v) entry p
   pub is_new : IsNewVariable v (formulas b)
+  pub is_variable : IsVariable v
   pub unnamed : IsNamed b i → ⊥
   pub shallow : IsShallow p
 
@@ -77,7 +82,13 @@ pub data IsMatched (b : Branch) (t : TermData) : FormulaData → Type 0 where
   ForAllMatched : (n : ℕ) (triggers : TriggersData) (body : FormulaData) → IsMatch b n triggers body t → IsMatched b t (QuantifyFormula ForAll n triggers body)
   NoneMatched : (n : ℕ) (triggers : TriggersData) (body : FormulaData) → IsMatch b n triggers body t → IsMatched b t (NotFormula (QuantifyFormula Exists n triggers body))
 
--- the formula for a term that matches: one generation above the entry and the term
+-- an entry says what the quantified formula says of the term; bound variables may have other numbers there
+pub record HasInstance (b : Branch) (entry : FormulaData) (t : TermData) : Type 0 where
+  pub body : FormulaData
+  pub stands : Stands b body
+  pub is_body : IsBodyWith ForAll t entry body
+
+-- the formula for a term that matches, of which nothing stands yet: one generation above the entry and the term
 pub record InstanceDue (b : Branch) (i : ℕ) (t : TermData) (p : FormulaData) (generation : ℕ) : Type 0 where
   pub entry : Entry
   pub found : slice_get b i ≡ Some entry
@@ -87,7 +98,7 @@ pub record InstanceDue (b : Branch) (i : ℕ) (t : TermData) (p : FormulaData) (
   pub is_older : IsGeneration b t older
   pub next : generation ≡ max entry.generation older + 1
   pub few : generation ≤ most_generations
-  pub is_new : IsNew b p
+  pub unsaid : HasInstance b entry.formula t → ⊥
   pub shallow : IsShallow p
   pub shallow_term : term_depth t ≤ most_deep
 
