@@ -16,6 +16,7 @@ use Rattle.cert.specs.Quantified.{IsBodyWith, IsNew as IsNewVariable}
 use Rattle.branches.specs.Branch.{Branch, Entry, formulas, Says, Stands, IsNew, IsGeneration}
 use Rattle.branches.specs.Joined.{Joined, IsAlike}
 use Rattle.branches.specs.Match.{IsMatch}
+use Rattle.branches.specs.Names.{above_all}
 use Rattle.branches.specs.Table.{Asks, some_of, range_axiom}
 use Rattle.branches.specs.Decisions.{AsksDecision, AreNumbers, IsUndecided}
 use Rattle.branches.specs.declared.origin.Origin.TheVariants.{Name}
@@ -57,16 +58,18 @@ pub record IsNamed (b : Branch) (i : ℕ) : Type 0 where
   pub found : slice_get b place ≡ Some entry
   pub names : entry.origin ≡ Name i
 
--- a number that a variable may have: those of a program are unsigned integers of 32 bits
+-- a number that a variable may have: they are unsigned integers of 32 bits
 abbrev pub IsVariable : ℕ → Type 0
 IsVariable v = v < 2 ^ 32
 
--- a name for the variable of an existential formula, which has none yet
+-- a name for the variable of an existential formula, which has none yet: the least number above all variables of the
+-- branch, free and bound. Where that is no number of a variable, no name is due
 pub record NameDue (b : Branch) (i v : ℕ) (p : FormulaData) : Type 0 where
   pub entry : FormulaData
   pub says : Says b i entry
   pub is_body : IsBodyWith Exists (VarTerm v) entry p
   pub is_new : IsNewVariable v (formulas b)
+  pub is_above : v ≡ above_all (formulas b)
   pub is_variable : IsVariable v
   pub unnamed : IsNamed b i → ⊥
   pub shallow : IsShallow p

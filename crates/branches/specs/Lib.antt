@@ -4,6 +4,7 @@ pub mod Joined
 pub mod Match
 pub mod Table
 pub mod Decisions
+pub mod Names
 pub mod Due
 pub mod Rows
 pub mod Turns
