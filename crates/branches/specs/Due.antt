@@ -112,10 +112,16 @@ abbrev pub trichotomy_axiom : TermData → TermData → FormulaData
 trichotomy_axiom t u =
     some_of (NotFormula (WholeFormula t) ∷ NotFormula (WholeFormula u) ∷ EqFormula t u ∷ LeFormula t (SubTerm u (number 1)) ∷ LeFormula u (SubTerm t (number 1)) ∷ [])
 
+-- it is not settled which of two numbers is the greater: they are of different classes, and the instance with the two
+-- turned does not stand
+pub record IsUnordered (b : Branch) (t u : TermData) : Type 0 where
+  pub not_joined : Joined b t u → ⊥
+  pub not_turned : Stands b (trichotomy_axiom u t) → ⊥
+
 -- by the table, or as a decision of two numbers
 pub data AsksAxiom (shapes : List Shape) (b : Branch) : Axiom → List TermData → FormulaData → Type 0 where
   ByTable : (name : Axiom) (ts : List TermData) (p : FormulaData) → Asks shapes b name ts p → AsksAxiom shapes b name ts p
-  AsDecision : (t u : TermData) → t ≢ u → AsksDecision b t u → AreNumbers b t u → AsksAxiom shapes b (Cases Trichotomy) (t ∷ u ∷ []) (trichotomy_axiom t u)
+  AsDecision : (t u : TermData) → IsUnordered b t u → AsksDecision b t u → AreNumbers b t u → AsksAxiom shapes b (Cases Trichotomy) (t ∷ u ∷ []) (trichotomy_axiom t u)
 
 -- the greatest of the generations of terms; of none it is 0
 pub data AreGenerations (b : Branch) : List TermData → ℕ → Type 0 where
