@@ -1,5 +1,6 @@
 pub mod Parts
 pub mod Branch
+pub mod Inside
 pub mod Joined
 pub mod Match
 pub mod Table

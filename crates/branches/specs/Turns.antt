@@ -20,7 +20,8 @@ use Rattle.linear_rows.specs.declared.rows.Fraction.{Fraction}
 use Rattle.lin_arith.specs.Answer.{IsSolution}
 use Rattle.lin_arith.specs.Values.{AreAllChosen}
 use Rattle.lin_arith.specs.Wide.{IsWide}
-use Rattle.branches.specs.Branch.{Branch, Entry, formulas, Says, IsTerm}
+use Rattle.branches.specs.Branch.{Branch, Entry, formulas, Says}
+use Rattle.branches.specs.Inside.{StandsInside}
 use Rattle.branches.specs.Due.{PartsDue, SplitDue, NameDue, InstanceDue, AxiomDue, CutDue, AreGenerations, IsNotClosed, IsSaturated, IsRange, IsShallow}
 use Rattle.branches.specs.Rows.{AreBranchRows, IsWholeIfNumber, Meets, MeetsWhole}
 use Rattle.branches.specs.declared.origin.Origin.{Origin}
@@ -112,11 +113,11 @@ pub record BoundDue (shapes : List Shape) (b : Branch) (i : ℕ) (t : TermData) 
 
 -- ---- closing
 
--- a term of the branch is itself
+-- a term that stands in an entry is itself
 pub record IsItself (b : Branch) (name : Axiom) (p : FormulaData) : Type 0 where
   pub is_axiom : name ≡ Equal Itself
   pub term : TermData
-  pub stands : IsTerm b term
+  pub stands : StandsInside b term
   pub is : p ≡ EqFormula term term
 
 -- a step by which a branch is closed up to its classes: a term is itself, or equals are put for equals
