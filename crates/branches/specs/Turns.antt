@@ -1,6 +1,6 @@
 -- The text of a search tree: its turns in the order in which a reader meets them who goes down the first branch and,
 -- where a turn closes it, on with the next one that is open. Each turn is due on its branch.
-use Rattle.std.specs.Prelude.{◌≡◌, ℕ, suc, ◌+◌, ◌≤◌, ℤ, pos, ◌+ℤ◌, ◌*ℤ◌, List, [], ◌∷◌, ◌++◌, length, map, slice_get, Option, Some, None, All, Contains}
+use Rattle.std.specs.Prelude.{◌≡◌, ℕ, suc, ◌+◌, ◌≤◌, ◌^◌, ℤ, pos, ◌+ℤ◌, ◌*ℤ◌, List, [], ◌∷◌, ◌++◌, length, map, slice_get, Option, Some, None, All, Contains}
 use Rattle.std.proofs.Common.{◌<ℤ◌}
 use Rattle.pv_base.specs.TypeData.{NumType}
 use Rattle.fol.specs.declared.shapes.Shape.{Shape}
@@ -22,6 +22,7 @@ use Rattle.lin_arith.specs.Values.{AreAllChosen}
 use Rattle.lin_arith.specs.Wide.{IsWide}
 use Rattle.branches.specs.Branch.{Branch, Entry, formulas, Says}
 use Rattle.branches.specs.Inside.{StandsInside}
+use Rattle.branches.specs.Names.{above_all}
 use Rattle.branches.specs.Due.{PartsDue, SplitDue, NameDue, InstanceDue, AxiomDue, CutDue, AreGenerations, IsNotClosed, IsSaturated, IsRange, IsShallow}
 use Rattle.branches.specs.Rows.{AreBranchRows, IsWholeIfNumber, Meets, MeetsWhole}
 use Rattle.branches.specs.declared.origin.Origin.{Origin}
@@ -244,9 +245,11 @@ pub record EndsInChain (shapes : List Shape) (p : FormulaData) (turns : List Tur
   pub steps : steps_in turns + length done ≡ count
 
 -- a branch that no certificate can go on with: it has as many entries as a branch may have, a turn that is due or the
--- links of what would close it bring it past them, or it has a formula deeper than a step and its denial may be
+-- links of what would close it bring it past them, it has a formula deeper than a step and its denial may be, or no
+-- number of a variable is left above those of its own
 pub data IsFull (shapes : List Shape) (b : Branch) : Type 0 where
   Now : length b ≡ most_entries → IsFull shapes b
   Next : (turn : Turn) → IsDueTurn shapes b turn → (All IsShortBranch (left_of b turn) → ⊥) → IsFull shapes b
   Chain : (chain : List StepData) (by : CloseData) → AreLinks shapes b (formulas b) chain → IsClose (after_links (formulas b) chain) by → (length (after_links (formulas b) chain) ≤ most_entries → ⊥) → IsFull shapes b
   Deep : (i : ℕ) (p : FormulaData) → Says b i p → (formula_depth p ≤ most_deep + 1 → ⊥) → IsFull shapes b
+  Crowded : 2 ^ 32 ≤ above_all (formulas b) → IsFull shapes b
