@@ -1,5 +1,7 @@
-//! Tests of pools of terms and formulas.
+//! Tests of pools of terms and formulas, and of the classes of terms.
 #![tactic(auto)]
 
+#[cfg(test)]
+mod history_tests;
 #[cfg(test)]
 mod number_tests;

@@ -1,0 +1,4 @@
+pub mod RootLemmas
+pub mod StepLemmas
+pub mod JoinLemmas
+pub mod AmongLemmas

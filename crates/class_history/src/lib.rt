@@ -1,0 +1,4 @@
+//! By which link two numbers came to be of one class.
+#![tactic(auto)]
+
+pub mod history;
