@@ -27,22 +27,22 @@ pub struct AskedAxiom {
     pub formula: usize,
 }
 
-// Instances as they are collected.
+/// Instances as they are collected.
 #[derive(Drop)]
-pub(crate) struct AskedList {
+pub struct AskedList {
     pub alloc: Global,
     pub items: Vec<AskedAxiom>,
 }
 
 /// An axiom, and the place of its instance among the items of a template.
 #[derive(Clone, Copy)]
-pub(crate) struct Row {
+pub struct Row {
     pub name: Axiom,
     pub place: usize,
 }
 
 /// Puts the instances that the rows tell behind the others.
-pub(crate) fn ask(
+pub fn ask(
     pool: &mut Pool,
     list: &mut AskedList,
     terms: AskedTerms,

@@ -15,7 +15,7 @@ use pv_base::types::Width;
 
 /// A term's outermost form, with the numbers of its parts.
 #[derive(Clone, Copy)]
-pub(crate) enum TermForm {
+pub enum TermForm {
     Constant(Constant),
     Unary(Unary, usize),
     Binary(Binary, usize, usize),
@@ -97,7 +97,7 @@ fn three_form(pool: &Pool, term: usize, head: Three, a: usize, b: usize, c: usiz
 }
 
 /// The form of a term.
-pub(crate) fn term_form(pool: &Pool, term: usize) -> TermForm
+pub fn term_form(pool: &Pool, term: usize) -> TermForm
     ensures { HasForm pool.now term result }
 {
     match pool.node(term) {
@@ -214,7 +214,7 @@ pub(crate) fn type_form(pool: &Pool, of: usize) -> TypeForm
 }
 
 /// The type of the items, where a type is one of vectors.
-pub(crate) fn vector_items(pool: &Pool, of: usize) -> Option<usize>
+pub fn vector_items(pool: &Pool, of: usize) -> Option<usize>
     ensures { MatchOption result (IsNoVector pool.now of) (IsVector pool.now of) }
 {
     match type_form(pool, of) {

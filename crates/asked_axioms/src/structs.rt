@@ -22,8 +22,8 @@ use formula_pool::reading::read_type;
 use pv_base::memory::NoMemory;
 use std::alloc::Global;
 
-// How many fields a struct has, if its type has a shape.
-fn field_count(
+/// How many fields a struct has, if its type has a shape.
+pub fn field_count(
     alloc: Global,
     pool: &Pool,
     shapes: &Shapes,
