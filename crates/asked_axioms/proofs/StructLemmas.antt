@@ -19,7 +19,7 @@ use Rattle.asked_axioms.proofs.RowLemmas.{among_left, among_right, both_only}
 pub upto_next : (f : ℕ → List Asked) (k : ℕ) → upto f (k + 1) ≡ upto f k ++ f k
 upto_next f k = let one : k + 1 ≡ suc k = omega arith in ap (upto f) one
 
-upto_only : (asks : Axiom → List TermData → FormulaData → Type 0) (f : ℕ → List Asked) (n : ℕ) → ((k : ℕ) → k < n → AreOnly asks (f k)) → AreOnly asks (upto f n)
+pub upto_only : (asks : Axiom → List TermData → FormulaData → Type 0) (f : ℕ → List Asked) (n : ℕ) → ((k : ℕ) → k < n → AreOnly asks (f k)) → AreOnly asks (upto f n)
 upto_only asks f zero h = tt
 upto_only asks f (suc n) h =
     both_only asks (upto f n) (f n) (upto_only asks f n (λ k w. h k (omega arith))) (h n (omega arith))
@@ -38,7 +38,7 @@ one_more : {a : Asked} (f : ℕ → List Asked) (n k : ℕ) → (k < n → IsAmo
 one_more f n k r h (inl w) = among_left (f n) (r w)
 one_more {a} f n k r h (inr e) = among_right (upto f n) (subst (λ j. IsAmong a (f j)) e h)
 
-upto_among : {a : Asked} (f : ℕ → List Asked) (n k : ℕ) → k < n → IsAmong a (f k) → IsAmong a (upto f n)
+pub upto_among : {a : Asked} (f : ℕ → List Asked) (n k : ℕ) → k < n → IsAmong a (f k) → IsAmong a (upto f n)
 upto_among f zero k w h = absurd (omega arith)
 upto_among f (suc n) k w h = one_more f n k (λ v. upto_among f n k v h) h (below k n w)
 
