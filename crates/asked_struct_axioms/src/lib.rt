@@ -1,4 +1,4 @@
-//! The instances of axioms that structs ask for with a field replaced, and struct types; and all that a term asks for.
+//! The instances of axioms that structs ask for with a field replaced, and all that a term asks for.
 #![tactic(auto)]
 
 mod nodes;
