@@ -1,0 +1,4 @@
+pub mod TermLemmas
+pub mod BranchLemmas
+pub mod GraphLemmas
+pub mod NearLemmas
