@@ -1,0 +1,9 @@
+pub mod ListLemmas
+pub mod WalkLemmas
+pub mod FreeLemmas
+pub mod BoundLemmas
+pub mod FillLemmas
+pub mod ApartLemmas
+pub mod FitLemmas
+pub mod ConditionLemmas
+pub mod HeadLemmas

@@ -1,0 +1,4 @@
+pub mod Numbers
+pub mod Heads
+pub mod Walks
+pub mod Fits

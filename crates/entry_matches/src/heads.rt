@@ -1,0 +1,88 @@
+//! An index from heads to the nodes of a pool.
+
+ghost use Rattle.std.specs.Prelude.{◌≡◌, List, None, slice_index_or, OnOk};
+ghost use Rattle.formula_pool.specs.declared.node.Node.{Node};
+ghost use Rattle.entry_matches.specs.Heads.{head_of, last_of, IsIndex, IsIndexOf, IsIndexedMore};
+
+use formula_pool::node::{Node, Two};
+use formula_pool::pool::Pool;
+use pv_base::memory::NoMemory;
+use std::alloc::Global;
+use std::collections::HashMap;
+
+/// The nodes of a pool, each linked to the one before it with the same head. It grows as the pool does, and needs no change
+/// when a branch is left. After an `Err` it is good for nothing.
+#[derive(Drop)]
+pub struct HeadIndex {
+    // The last node with each head.
+    last: HashMap<Node, usize>,
+    // By number, the node before with the same head.
+    before: Vec<Option<usize>>,
+}
+
+/// The node with 0 for its parts; the type that a term is said to have is kept.
+pub fn head_of(node: Node) -> Node
+    ensures { result ≡ head_of node }
+{
+    match node {
+        Node::Leaf(head) => Node::Leaf(head),
+        Node::One(head, _) => Node::One(head, 0),
+        Node::Two(Two::Is, a, _) => Node::Two(Two::Is, a, 0),
+        Node::Two(head, _, _) => Node::Two(head, 0, 0),
+        Node::Three(head, _, _, _) => Node::Three(head, 0, 0, 0),
+    }
+}
+
+impl HeadIndex {
+    /// An index without nodes: none of any pool was taken up.
+    pub fn new(alloc: Global) -> HeadIndex
+        ensures { (ns : List Node) → IsIndex ns result }
+    {
+        HeadIndex {
+            last: HashMap::new(alloc),
+            before: Vec::new(alloc),
+        }
+    }
+
+    /// The last node with the head.
+    pub fn last(&self, head: Node) -> Option<usize>
+        ensures { result ≡ last_of self.now head }
+    {
+        match self.last.get(&head) {
+            Some(number) => Some(*number),
+            None => None,
+        }
+    }
+
+    /// The node before the one with this number that has the same head.
+    pub fn before(&self, number: usize) -> Option<usize>
+        ensures { result ≡ slice_index_or self.now.before.items number None }
+    {
+        match self.before.get(number) {
+            Some(before) => *before,
+            None => None,
+        }
+    }
+
+    fn add(&mut self, node: Node) -> Result<(), NoMemory>
+        ensures { OnOk result (IsIndexedMore node self.old self.new) }
+    {
+        let number = self.before.len();
+        let head = head_of(node);
+        let before = self.last(head);
+        self.before.push(before)?;
+        self.last.insert(head, number)?;
+        Ok(())
+    }
+
+    /// Takes up the nodes that were added to the pool.
+    pub fn grow(&mut self, pool: &Pool) -> Result<(), NoMemory>
+        requires { IsIndex pool.now self.old }
+        ensures { OnOk result (IsIndexOf pool.now self.new) }
+    {
+        while let Some(node) = pool.node(self.before.len()) {
+            self.add(node)?;
+        }
+        Ok(())
+    }
+}
