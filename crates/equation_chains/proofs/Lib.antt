@@ -1,0 +1,4 @@
+pub mod FrameLemmas
+pub mod AboveLemmas
+pub mod InstanceLemmas
+pub mod ChainLemmas

@@ -1,0 +1,51 @@
+//! Heads with an open part, and what they make of an item that is put there.
+
+ghost use Rattle.std.specs.Prelude.{◌≡◌, ◌<◌, length, IfOk};
+ghost use Rattle.formula_pool.specs.Items.{sort_of};
+ghost use Rattle.formula_pool.specs.Pools.{item_at, IsItem, Extends};
+ghost use Rattle.equation_chains.specs.Frames.{node_with, filled, IsWay};
+
+use formula_pool::node::{Node, One, Three, Two};
+use formula_pool::pool::Pool;
+use pv_base::memory::NoMemory;
+
+/// A head of which one part is open, with the numbers of the other parts.
+#[derive(Clone, Copy)]
+pub enum Frame {
+    Only(One),
+    FirstOfTwo(Two, usize),
+    SecondOfTwo(Two, usize),
+    FirstOfThree(Three, usize, usize),
+    SecondOfThree(Three, usize, usize),
+    ThirdOfThree(Three, usize, usize),
+}
+
+// The node with this part at the open place.
+fn node_with(frame: Frame, part: usize) -> Node
+    ensures { result ≡ node_with frame part }
+{
+    match frame {
+        Frame::Only(head) => Node::One(head, part),
+        Frame::FirstOfTwo(head, b) => Node::Two(head, part, b),
+        Frame::SecondOfTwo(head, a) => Node::Two(head, a, part),
+        Frame::FirstOfThree(head, b, c) => Node::Three(head, part, b, c),
+        Frame::SecondOfThree(head, a, c) => Node::Three(head, a, part, c),
+        Frame::ThirdOfThree(head, a, b) => Node::Three(head, a, b, part),
+    }
+}
+
+/// The number of the formula that this way leads through, with this part at its end. The outermost head comes first.
+pub fn fill(pool: &mut Pool, way: &[Frame], part: usize) -> Result<usize, NoMemory>
+    requires part { part < length pool.old }
+    requires way { IsWay pool.old way.now (sort_of (item_at pool.old part)) }
+    ensures extends { Extends pool.old pool.new }
+    ensures is { IfOk result (λ number. IsItem pool.new number (filled pool.old way.now (item_at pool.old part))) }
+{
+    let mut number = part;
+    let mut rest = way.len();
+    while rest > 0 {
+        rest -= 1;
+        number = pool.insert(node_with(way[rest], number))?;
+    }
+    Ok(number)
+}
