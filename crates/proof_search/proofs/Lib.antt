@@ -1,0 +1,4 @@
+pub mod LevelLemmas
+pub mod LengthLemmas
+pub mod EndLemmas
+pub mod TurnLemmas

@@ -1,0 +1,18 @@
+use Rattle.pool_branch.specs.PoolBranches.{branch_in}
+use Rattle.branches.specs.Turns.{NothingEarly}
+use Rattle.proof_search.specs.Decisions.{IsLevel}
+use Rattle.proof_search.proofs.TurnLemmas.{over_stays, fact_stays, shaped_fact_stays, decided_back, ok_map, at_none}
+use Rattle.proof_search.proofs.decisions.decide.Goals as goal
+use Rattle.std.proofs.Common.{◌∙◌, subst}
+
+pub after_early-requires-clause-over : goal.after_early-requires-clause-over
+after_early-requires-clause-over g c = over_stays c.args.pool.now c.early.new.pool c.early.ensures.extends c.args.branch.now c.requires.over
+
+pub after_early-requires-clause-level : goal.after_early-requires-clause-level
+after_early-requires-clause-level g c = fact_stays c.args.pool.now c.early.new.pool c.early.ensures.extends IsLevel c.args.branch.now c.requires.over c.requires.level
+
+pub after_early-requires-clause-early : goal.after_early-requires-clause-early
+after_early-requires-clause-early g c = shaped_fact_stays c.args.pool.now c.early.new.pool c.early.ensures.extends c.args.branch.now c.requires.over (g.D.Deciders.shapes c.args.deciders.now) (g.D.Deciders.shapes c.early.new.self) (c.in_ok-growth.ensures.shapes ∙ c.in_ok-is_crowded.ensures.shapes) NothingEarly (subst (λ shapes. NothingEarly shapes (branch_in c.args.pool.now c.args.branch.now)) c.in_ok-is_crowded.ensures.shapes (at_none c.in_ok-growth.field-0 _ _ c.in-None.is c.in_ok-growth.ensures.due))
+
+pub returns-in-None-clause-decided : goal.returns-in-None-clause-decided
+returns-in-None-clause-decided g c = ok_map c.after_early.result _ _ (decided_back c.args.pool.now c.early.new.pool c.after_early.new.pool c.early.ensures.extends c.args.branch.now c.requires.over (g.D.Deciders.shapes c.args.deciders.now) (g.D.Deciders.shapes c.early.new.self) (c.in_ok-growth.ensures.shapes ∙ c.in_ok-is_crowded.ensures.shapes)) c.after_early.ensures.decided

@@ -1,0 +1,120 @@
+-- What deciders tell of a branch.
+use Rattle.std.specs.Prelude.{◌≡◌, ◌⊎◌, ℕ, ◌+◌, ◌<◌, ◌≤◌, ◌^◌, Bool, true, false, List}
+use Rattle.fol.specs.declared.shapes.Shape.{Shape}
+use Rattle.fol.specs.FormulaData.{TermData, FormulaData, NotFormula}
+use Rattle.axioms.specs.declared.axiom.Axiom.{Axiom}
+use Rattle.cert.specs.Closes.{most_entries}
+use Rattle.linear_rows.specs.Inequality.{Inequality}
+use Rattle.linear_rows.specs.Elimination.{ReachesLimit}
+use Rattle.linear_rows.specs.declared.rows.Fraction.{Fraction}
+use Rattle.lin_arith.specs.Wide.{IsWide}
+use Rattle.formula_pool.specs.declared.node.Node.{Node}
+use Rattle.branches.specs.Branch.{Branch, formulas, Says}
+use Rattle.branches.specs.Names.{above_all}
+use Rattle.branches.specs.Due.{SplitDue, InstanceDue, AxiomDue, CutDue, IsNotClosed, IsSaturated, IsShallow}
+use Rattle.branches.specs.Rows.{AreBranchRows, Meets, MeetsWhole}
+use Rattle.branches.specs.Turns.{Turn, IsDueTurn, IsFull}
+use Rattle.search_trees.specs.Turns.{entry_of, IsGenerationFrom, IsGrowthOf, IsClosingOf}
+use Rattle.search_trees.specs.declared.turn.Growth.{Growth}
+use Rattle.search_trees.specs.declared.turn.Closing.{Closing as ClosingTurn}
+use Rattle.proof_search.specs.declared.deciders.ClosingAnswer.{ClosingAnswer}
+use Rattle.proof_search.specs.declared.deciders.ClosingAnswer.TheVariants.{Open as NotClosed, Closes, TooLong}
+use Rattle.proof_search.specs.declared.deciders.RowsAnswer.{RowsAnswer}
+use Rattle.proof_search.specs.declared.deciders.RowsAnswer.TheVariants.{Met, Closes as RowsClose, TooLong as RowsTooLong, Wide, TooMany}
+use Rattle.proof_search.specs.declared.decisions.Stop.{Stop}
+use Rattle.proof_search.specs.declared.decisions.Stop.TheVariants.{Open as StopOpen, Wide as StopWide, TooManyRows as StopRows, Full as StopFull}
+use Rattle.proof_search.specs.declared.decisions.Decision.{Decision}
+use Rattle.proof_search.specs.declared.decisions.Decision.TheVariants.{Grows, Closes as ClosesBy, Stops}
+use Rattle.proof_search.specs.declared.deciders.LeafAnswer.{LeafAnswer}
+use Rattle.proof_search.specs.declared.deciders.LeafAnswer.TheVariants.{Open as LeafOpen, Bound}
+
+-- no number of a variable is left above those of the branch
+pub record IsCrowded (b : Branch) : Type 0 where
+  pub crowded : 2 ^ 32 ≤ above_all (formulas b)
+
+-- each entry is no deeper than a step may add, or denies a formula
+pub record IsLevel (b : Branch) : Type 0 where
+  pub level : (i : ℕ) (p : FormulaData) → Says b i p → IsShallow p ⊎ ((q : FormulaData) × (p ≡ NotFormula q))
+
+-- ---- turns
+
+-- the turn by number is due
+pub record IsGrowthDue (shapes : List Shape) (ns : List Node) (b : Branch) (g : Growth) : Type 0 where
+  pub turn : Turn
+  pub is : IsGrowthOf ns g turn
+  pub from : IsGenerationFrom b (entry_of g.reason) g.generation
+  pub due : IsDueTurn shapes b turn
+
+pub record IsClosingDue (shapes : List Shape) (ns : List Node) (b : Branch) (c : ClosingTurn) : Type 0 where
+  pub turn : Turn
+  pub is : IsClosingOf ns c turn
+  pub due : IsDueTurn shapes b turn
+
+-- the branches that so many formulas leave of one with so many entries are no longer than a branch may be
+abbrev pub LeavesShort : Bool → ℕ → ℕ → Type 0
+LeavesShort false entries formulas = entries + formulas ≤ most_entries
+LeavesShort true entries formulas = entries < most_entries
+
+-- no instance is due
+pub record NothingPlain (shapes : List Shape) (b : Branch) : Type 0 where
+  pub no_instance : (i : ℕ) (t : TermData) (p : FormulaData) (g : ℕ) → InstanceDue b i t p g → ⊥
+  pub no_axiom : (name : Axiom) (p : FormulaData) (g : ℕ) → AxiomDue shapes b name p g → ⊥
+
+-- neither a split nor a cut is
+pub record NothingLate (b : Branch) : Type 0 where
+  pub no_split : (i : ℕ) (ps : List FormulaData) → SplitDue b i ps → ⊥
+  pub no_cut : (t u : TermData) → CutDue b t u → ⊥
+
+-- ---- answers
+
+abbrev pub ShowsClosing : List Shape → List Node → Branch → ClosingAnswer → Type 0
+ShowsClosing shapes ns b NotClosed = IsNotClosed b
+ShowsClosing shapes ns b (Closes c) = IsClosingDue shapes ns b c
+ShowsClosing shapes ns b TooLong = IsFull shapes b
+
+-- values meet the rows
+pub record HasValues (b : Branch) : Type 0 where
+  pub values : List Fraction
+  pub met : Meets b values
+
+-- an elimination of the rows meets two rows whose sum leaves 128 bits
+pub record IsWideAt (b : Branch) (first second : Inequality) : Type 0 where
+  pub class : TermData → ℕ
+  pub classes : List ℕ
+  pub rows : List Inequality
+  pub are_rows : AreBranchRows b class classes rows
+  pub wide : IsWide rows first second
+
+-- or has these 5,000 rows
+pub record IsLargeAt (b : Branch) (found : List Inequality) : Type 0 where
+  pub class : TermData → ℕ
+  pub classes : List ℕ
+  pub rows : List Inequality
+  pub are_rows : AreBranchRows b class classes rows
+  pub limit : ReachesLimit rows found
+
+abbrev pub ShowsRows : List Shape → List Node → Branch → RowsAnswer → Type 0
+ShowsRows shapes ns b Met = HasValues b
+ShowsRows shapes ns b (RowsClose c) = IsClosingDue shapes ns b c
+ShowsRows shapes ns b RowsTooLong = IsFull shapes b
+ShowsRows shapes ns b (Wide first second) = IsWideAt b first second
+ShowsRows shapes ns b (TooMany rows) = IsLargeAt b rows
+
+abbrev pub ShowsLeaf : List Shape → List Node → Branch → LeafAnswer → Type 0
+ShowsLeaf shapes ns b (LeafOpen values) = MeetsWhole b values
+ShowsLeaf shapes ns b (Bound g) = IsGrowthDue shapes ns b g
+
+-- ---- decisions
+
+-- what an end shows of the branch
+abbrev pub ShowsStop : List Shape → Branch → Stop → Type 0
+ShowsStop shapes b (StopOpen values) = IsSaturated shapes b × MeetsWhole b values
+ShowsStop shapes b (StopWide first second) = IsWideAt b first second
+ShowsStop shapes b (StopRows rows) = IsLargeAt b rows
+ShowsStop shapes b StopFull = IsFull shapes b
+
+-- the turn is due, or the search ends here
+abbrev pub IsDecided : List Shape → List Node → Branch → Decision → Type 0
+IsDecided shapes ns b (Grows g) = IsGrowthDue shapes ns b g
+IsDecided shapes ns b (ClosesBy c) = IsClosingDue shapes ns b c
+IsDecided shapes ns b (Stops stop) = ShowsStop shapes b stop

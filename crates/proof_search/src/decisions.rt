@@ -1,0 +1,188 @@
+//! What comes next on a branch: a turn that is due, or the end of the search.
+
+ghost use Rattle.std.specs.Prelude.{◌≡◌, IfOk, OnOk};
+ghost use Rattle.formula_pool.specs.Pools.{Extends};
+ghost use Rattle.branches.specs.Due.{IsNotClosed, IsSaturated};
+ghost use Rattle.branches.specs.Turns.{NothingEarly, IsLate};
+ghost use Rattle.pool_branch.specs.PoolBranches.{branch_in, IsOver};
+ghost use Rattle.proof_search.specs.Decisions.{IsLevel, NothingPlain, IsDecided};
+
+use crate::deciders::{ClosingAnswer, Deciders, LeafAnswer, RowsAnswer};
+use formula_pool::pool::Pool;
+use linear_rows::rows::{Fractions, LinRow, Rows};
+use pool_branch::branch::PoolBranch;
+use pv_base::memory::NoMemory;
+use search_trees::turn::{Closing, Growth};
+use std::alloc::Global;
+
+/// Why a search ends at a branch.
+#[derive(Drop)]
+pub enum Stop {
+    /// The branch is saturated, and these values meet its rows, whole ones at numbers.
+    Open(Fractions),
+    /// An elimination of the rows of the branch meets two rows whose sum leaves 128 bits.
+    Wide(LinRow, LinRow),
+    /// It has these 5,000 rows.
+    TooManyRows(Rows),
+    /// No certificate can go on with the branch.
+    Full,
+}
+
+/// What comes next on a branch.
+#[derive(Drop)]
+pub enum Decision {
+    /// A turn by which formulas are added.
+    Grows(Growth),
+    /// A turn by which the branch is closed.
+    Closes(Closing),
+    /// The end of the search.
+    Stops(Stop),
+}
+
+/// The greatest number of entries of a branch.
+pub const MOST_ENTRIES: usize = 4_000;
+
+/// Decides what comes next on the branch: first what is early, then what closes it, instances, splits and cuts, bounds.
+pub(crate) fn decide<D: Deciders>(
+    alloc: Global,
+    deciders: &mut D,
+    pool: &mut Pool,
+    branch: &PoolBranch,
+) -> Result<Decision, NoMemory>
+    requires knows { D.knows deciders.old pool.old }
+    requires over { IsOver pool.old branch.now }
+    requires level { IsLevel (branch_in pool.old branch.now) }
+    ensures extends { Extends pool.old pool.new }
+    ensures knows { OnOk result (D.knows deciders.new pool.new) }
+    ensures shapes { OnOk result (D.shapes deciders.new ≡ D.shapes deciders.old) }
+    ensures decided { IfOk result (IsDecided (D.shapes deciders.old) pool.new (branch_in pool.old branch.now)) }
+{
+    if branch.len() == MOST_ENTRIES {
+        return Ok(Decision::Stops(Stop::Full));
+    }
+    if deciders.is_crowded(alloc, pool, branch)? {
+        return Ok(Decision::Stops(Stop::Full));
+    }
+    match deciders.early(alloc, pool, branch)? {
+        Some(growth) => Ok(Decision::Grows(growth)),
+        None => after_early(alloc, deciders, pool, branch),
+    }
+}
+
+// Nothing is early.
+fn after_early<D: Deciders>(
+    alloc: Global,
+    deciders: &mut D,
+    pool: &mut Pool,
+    branch: &PoolBranch,
+) -> Result<Decision, NoMemory>
+    requires knows { D.knows deciders.old pool.old }
+    requires over { IsOver pool.old branch.now }
+    requires level { IsLevel (branch_in pool.old branch.now) }
+    requires early { NothingEarly (D.shapes deciders.old) (branch_in pool.old branch.now) }
+    ensures extends { Extends pool.old pool.new }
+    ensures knows { OnOk result (D.knows deciders.new pool.new) }
+    ensures shapes { OnOk result (D.shapes deciders.new ≡ D.shapes deciders.old) }
+    ensures decided { IfOk result (IsDecided (D.shapes deciders.old) pool.new (branch_in pool.old branch.now)) }
+{
+    match deciders.closing(alloc, pool, branch)? {
+        ClosingAnswer::Closes(closing) => Ok(Decision::Closes(closing)),
+        ClosingAnswer::TooLong => Ok(Decision::Stops(Stop::Full)),
+        ClosingAnswer::Open => after_closing(alloc, deciders, pool, branch),
+    }
+}
+
+// Nor does a clash close the branch.
+fn after_closing<D: Deciders>(
+    alloc: Global,
+    deciders: &mut D,
+    pool: &mut Pool,
+    branch: &PoolBranch,
+) -> Result<Decision, NoMemory>
+    requires knows { D.knows deciders.old pool.old }
+    requires over { IsOver pool.old branch.now }
+    requires level { IsLevel (branch_in pool.old branch.now) }
+    requires early { NothingEarly (D.shapes deciders.old) (branch_in pool.old branch.now) }
+    requires closed { IsNotClosed (branch_in pool.old branch.now) }
+    ensures extends { Extends pool.old pool.new }
+    ensures knows { OnOk result (D.knows deciders.new pool.new) }
+    ensures shapes { OnOk result (D.shapes deciders.new ≡ D.shapes deciders.old) }
+    ensures decided { IfOk result (IsDecided (D.shapes deciders.old) pool.new (branch_in pool.old branch.now)) }
+{
+    match deciders.plain(alloc, pool, branch)? {
+        Some(growth) => Ok(Decision::Grows(growth)),
+        None => after_plain(alloc, deciders, pool, branch),
+    }
+}
+
+// Nor is an instance due.
+fn after_plain<D: Deciders>(
+    alloc: Global,
+    deciders: &mut D,
+    pool: &mut Pool,
+    branch: &PoolBranch,
+) -> Result<Decision, NoMemory>
+    requires knows { D.knows deciders.old pool.old }
+    requires over { IsOver pool.old branch.now }
+    requires level { IsLevel (branch_in pool.old branch.now) }
+    requires early { NothingEarly (D.shapes deciders.old) (branch_in pool.old branch.now) }
+    requires closed { IsNotClosed (branch_in pool.old branch.now) }
+    requires plain { NothingPlain (D.shapes deciders.old) (branch_in pool.old branch.now) }
+    ensures extends { Extends pool.old pool.new }
+    ensures knows { OnOk result (D.knows deciders.new pool.new) }
+    ensures shapes { OnOk result (D.shapes deciders.new ≡ D.shapes deciders.old) }
+    ensures decided { IfOk result (IsDecided (D.shapes deciders.old) pool.new (branch_in pool.old branch.now)) }
+{
+    match deciders.rows(alloc, pool, branch)? {
+        RowsAnswer::Met => after_rows(alloc, deciders, pool, branch),
+        RowsAnswer::Closes(closing) => Ok(Decision::Closes(closing)),
+        RowsAnswer::TooLong => Ok(Decision::Stops(Stop::Full)),
+        RowsAnswer::Wide(first, second) => Ok(Decision::Stops(Stop::Wide(first, second))),
+        RowsAnswer::TooMany(rows) => Ok(Decision::Stops(Stop::TooManyRows(rows))),
+    }
+}
+
+// Values meet the rows.
+fn after_rows<D: Deciders>(
+    alloc: Global,
+    deciders: &mut D,
+    pool: &mut Pool,
+    branch: &PoolBranch,
+) -> Result<Decision, NoMemory>
+    requires knows { D.knows deciders.old pool.old }
+    requires over { IsOver pool.old branch.now }
+    requires level { IsLevel (branch_in pool.old branch.now) }
+    requires late { IsLate (D.shapes deciders.old) (branch_in pool.old branch.now) }
+    requires plain { NothingPlain (D.shapes deciders.old) (branch_in pool.old branch.now) }
+    ensures extends { Extends pool.old pool.new }
+    ensures knows { OnOk result (D.knows deciders.new pool.new) }
+    ensures shapes { OnOk result (D.shapes deciders.new ≡ D.shapes deciders.old) }
+    ensures decided { IfOk result (IsDecided (D.shapes deciders.old) pool.new (branch_in pool.old branch.now)) }
+{
+    match deciders.late(alloc, pool, branch)? {
+        Some(growth) => Ok(Decision::Grows(growth)),
+        None => at_leaf(alloc, deciders, pool, branch),
+    }
+}
+
+// The branch is saturated.
+fn at_leaf<D: Deciders>(
+    alloc: Global,
+    deciders: &mut D,
+    pool: &mut Pool,
+    branch: &PoolBranch,
+) -> Result<Decision, NoMemory>
+    requires knows { D.knows deciders.old pool.old }
+    requires over { IsOver pool.old branch.now }
+    requires level { IsLevel (branch_in pool.old branch.now) }
+    requires saturated { IsSaturated (D.shapes deciders.old) (branch_in pool.old branch.now) }
+    ensures extends { Extends pool.old pool.new }
+    ensures knows { OnOk result (D.knows deciders.new pool.new) }
+    ensures shapes { OnOk result (D.shapes deciders.new ≡ D.shapes deciders.old) }
+    ensures decided { IfOk result (IsDecided (D.shapes deciders.old) pool.new (branch_in pool.old branch.now)) }
+{
+    match deciders.leaf(alloc, pool, branch)? {
+        LeafAnswer::Open(values) => Ok(Decision::Stops(Stop::Open(values))),
+        LeafAnswer::Bound(growth) => Ok(Decision::Grows(growth)),
+    }
+}

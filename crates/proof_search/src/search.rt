@@ -1,0 +1,59 @@
+//! The search.
+
+ghost use Rattle.std.specs.Prelude.{◌≡◌, ◌+◌, ◌≤◌, IfOk};
+ghost use Rattle.fol.specs.FormulaData.{NotFormula};
+ghost use Rattle.formula_pool.specs.Pools.{Extends};
+ghost use Rattle.pool_branch.specs.PoolBranches.{IsFormulaNumber};
+ghost use Rattle.entry_steps.specs.Numbers.{formula_at};
+ghost use Rattle.proof_search.specs.Ends.{Claim, IsOutcome};
+
+use crate::deciders::Deciders;
+use crate::end::End;
+use crate::turns::move_on;
+use formula_pool::pool::{MOST_DEPTH, Pool};
+use pv_base::memory::NoMemory;
+use pv_base::steps::Steps;
+use search_trees::tree::{SearchTree, begin};
+use std::alloc::Global;
+use std::sync::ledger::Ledger;
+
+/// The outcome of a search, with the tree that shows it.
+#[derive(Drop)]
+pub struct Outcome {
+    pub end: End,
+    pub tree: SearchTree,
+}
+
+/// Searches for a proof of the formula whose denial has this number. It takes no more steps than the budget has, and counts
+/// as many as the tree of the outcome has. `NoMemory` comes where memory ran out.
+pub fn search<D: Deciders, L: Ledger>(
+    alloc: Global,
+    deciders: &mut D,
+    pool: &mut Pool,
+    denial: usize,
+    budget: u64,
+    steps: &mut Steps<L>,
+) -> Result<Outcome, NoMemory>
+    ghost sought: { Claim }
+    requires knows { D.knows deciders.old pool.old }
+    requires denial { IsFormulaNumber pool.old denial }
+    requires denied { formula_at pool.old denial ≡ NotFormula sought.formula }
+    requires budget { budget ≡ sought.budget }
+    ensures extends { Extends pool.old pool.new }
+    ensures shown { IfOk result (IsOutcome (D.shapes deciders.old) sought steps.old steps.new pool.new) }
+    ensures most { steps.new ≤ steps.old + budget }
+{
+    let mut tree = begin(alloc, pool, denial)?;
+    if pool.depth(denial) > MOST_DEPTH + 1 {
+        return Ok(Outcome {
+            end: End::Full,
+            tree,
+        });
+    }
+    let mut left = budget;
+    loop {
+        if let Some(end) = move_on(alloc, deciders, pool, &mut tree, steps, &mut left)? {
+            return Ok(Outcome { end, tree });
+        }
+    }
+}
