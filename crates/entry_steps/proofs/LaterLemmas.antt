@@ -35,7 +35,7 @@ module _ (b more : Branch) where
     shallow = due.shallow;
   }
 
-  split_was_due : (i : ℕ) (ps : List FormulaData) → i < length b → SplitDue (b ++ more) i ps → SplitDue b i ps
+  pub split_was_due : (i : ℕ) (ps : List FormulaData) → i < length b → SplitDue (b ++ more) i ps → SplitDue b i ps
   split_was_due i ps w due = record {
     entry = due.entry;
     says = said i due.entry w due.says;

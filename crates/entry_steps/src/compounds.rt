@@ -35,8 +35,8 @@ fn compound_of(node: Node) -> Option<Compound>
     }
 }
 
-// What the formula is made of; none where it is an atom or quantified.
-pub(crate) fn compound_at(pool: &Pool, formula: usize) -> Option<Compound>
+/// What the formula is made of; none where it is an atom or quantified.
+pub fn compound_at(pool: &Pool, formula: usize) -> Option<Compound>
     requires { IsFormulaNumber pool.now formula }
     ensures { MatchOption result (HasNoConnective (formula_at pool.now formula)) (IsCompound pool.now (formula_at pool.now formula)) }
 {

@@ -1,7 +1,7 @@
 //! The steps that the entries of a branch ask for: parts of conjunctions, and cases of disjunctions.
 #![tactic(auto)]
 
-mod compounds;
+pub mod compounds;
 pub mod formulas;
 pub mod laws;
 pub mod parts;

@@ -118,8 +118,8 @@ pub fn next_split(
     Ok(None)
 }
 
-// The cases of the entry with this number, where a split is due there.
-fn cases_at(
+/// The numbers of the cases of the entry with this number, where a split is due there; none elsewhere.
+pub fn cases_at(
     alloc: Global,
     pool: &mut Pool,
     branch: &PoolBranch,
