@@ -1,4 +1,4 @@
--- The entries of a search's branches are no deeper than a step may add, but for denials.
+-- The entries of a search's branches are no deeper than a step may add, but for denials; and no branch is too long.
 use Rattle.std.proofs.Common.{◌≡◌, ◌⊎◌, inl, inr, ℕ, List, [], ◌∷◌, ◌++◌, map, refl, sym, ap, ◌∙◌, subst, arith, append_assoc, append-nil}
 use Rattle.std.specs.Prelude.{All}
 use Rattle.std.proofs.lemmas.List.Elements.{All-nil, All-cons, All-head, All-tail, All-append}
@@ -7,7 +7,7 @@ use Rattle.fol.specs.FormulaData.{FormulaData, NotFormula, EqFormula}
 use Rattle.axioms.specs.Forms.{DifferFormula}
 use Rattle.branches.specs.Branch.{Branch, Entry, Says}
 use Rattle.branches.specs.Due.{IsShallow}
-use Rattle.branches.specs.Turns.{Turn, PartsTurn, NameTurn, InstanceTurn, AxiomTurn, SplitTurn, CutTurn, BoundTurn, CloseTurn, OpenBranches, entry_with, left_of, IsDueTurn, AreDue, begun, after_turns}
+use Rattle.branches.specs.Turns.{Turn, PartsTurn, NameTurn, InstanceTurn, AxiomTurn, SplitTurn, CutTurn, BoundTurn, CloseTurn, OpenBranches, IsShortBranch, entry_with, left_of, IsDueTurn, AreDue, begun, after_turns}
 use Rattle.branches.specs.declared.origin.Origin.{Origin}
 use Rattle.branches.specs.declared.origin.Origin.TheVariants.{Other}
 use Rattle.pool_branch.proofs.ListLemmas.{push_cases}
@@ -75,3 +75,16 @@ level_begun p = one_level (entry_with 0 Other (NotFormula p) ∷ []) (record { l
 -- the open branches of a due text are level
 pub levels : (shapes : List Shape) (p : FormulaData) (turns : List Turn) → AreDue shapes (begun p) turns → All IsLevel (after_turns (begun p) turns)
 levels shapes p turns due = level_turns shapes turns (begun p) due (level_begun p)
+
+-- ---- lengths
+
+short_turns : (shapes : List Shape) (turns : List Turn) (bs : OpenBranches) → AreDue shapes bs turns → All IsShortBranch bs → All IsShortBranch (after_turns bs turns)
+short_turns shapes [] bs due short = short
+short_turns shapes (t ∷ ts) [] due short = absurd due.0
+short_turns shapes (t ∷ ts) (b ∷ bs) due short =
+    short_turns shapes ts (left_of b t ++ bs) due.1 (All-append IsShortBranch (left_of b t) bs due.0.1 (All-tail IsShortBranch b bs short))
+
+-- the open branches of a due text are no longer than a branch may be
+pub shorts : (shapes : List Shape) (p : FormulaData) (turns : List Turn) → AreDue shapes (begun p) turns → All IsShortBranch (after_turns (begun p) turns)
+shorts shapes p turns due =
+    short_turns shapes turns (begun p) due (All-cons IsShortBranch (entry_with 0 Other (NotFormula p) ∷ []) [] (omega arith) (All-nil IsShortBranch))

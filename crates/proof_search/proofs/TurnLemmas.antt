@@ -1,13 +1,16 @@
 -- A search that goes on, and what is known of its branch while the pool grows.
-use Rattle.std.proofs.Common.{◌≡◌, ◌⊎◌, inl, inr, ℕ, zero, suc, ◌+◌, ◌<◌, ◌≤◌, Bool, true, false, List, [], ◌∷◌, length, Option, None, Result, Ok, Err, IfOk, sym, subst, arith}
-use Rattle.std.specs.Prelude.{All, MatchBool, MatchOption}
+use Rattle.std.proofs.Common.{◌≡◌, ◌≢◌, ◌⊎◌, inl, inr, ℕ, zero, suc, ◌+◌, ◌<◌, ◌≤◌, ◌^◌, Bool, true, false, IsTrue, List, [], ◌∷◌, length, Option, None, Result, Ok, Err, IfOk, elim, absurd, sym, ◌∙◌, subst, arith}
+use Rattle.std.specs.Prelude.{◌↔◌, All, MatchBool, MatchOption}
+use Rattle.std.proofs.lemmas.Bool.{cases_lt}
 use Rattle.std.proofs.lemmas.List.{length-map}
 use Rattle.std.proofs.lemmas.List.Elements.{All-nil, All-head}
 use Rattle.fol.specs.declared.shapes.Shape.{Shape}
 use Rattle.fol.specs.FormulaData.{FormulaData}
+use Rattle.cert.specs.Closes.{most_entries}
 use Rattle.formula_pool.specs.Pools.{Extends}
 use Rattle.formula_pool.specs.declared.node.Node.{Node}
-use Rattle.branches.specs.Branch.{Branch}
+use Rattle.branches.specs.Branch.{Branch, formulas}
+use Rattle.branches.specs.Names.{above_all}
 use Rattle.branches.specs.Due.{IsNotClosed, IsSaturated}
 use Rattle.branches.specs.Turns.{Turn, NothingEarly, IsLate, IsDueTurn, IsShortBranch, left_of}
 use Rattle.pool_branch.specs.PoolBranches.{BranchData, entry_in, branch_in, IsOver}
@@ -19,11 +22,11 @@ use Rattle.search_trees.specs.declared.turn.Growth.{Growth}
 use Rattle.search_trees.specs.declared.turn.Closing.{Closing}
 use Rattle.search_trees.proofs.TreeLemmas.{match_map}
 use Rattle.search_trees.proofs.StayLemmas.{tree_stays}
-use Rattle.proof_search.specs.Decisions.{IsLevel, LeavesShort, IsGrowthDue, IsClosingDue, NothingPlain, NothingLate, HasValues, IsDecided}
+use Rattle.proof_search.specs.Decisions.{IsCrowded, HasRoom, IsLevel, LeavesShort, IsGrowthDue, IsClosingDue, NothingPlain, NothingLate, HasValues, IsDecided}
 use Rattle.proof_search.specs.declared.decisions.Decision.{Decision}
 use Rattle.proof_search.specs.Ends.{Claim, IsGoing, IsDone, ShowsEnd}
 use Rattle.proof_search.specs.declared.end.End.TheVariants.{Spent, SpentInChain, Full}
-use Rattle.proof_search.proofs.LevelLemmas.{levels}
+use Rattle.proof_search.proofs.LevelLemmas.{levels, shorts}
 use Rattle.proof_search.proofs.LengthLemmas.{due_on, full_next}
 
 module _ (ns ms : List Node) (grown : Extends ns ms) where
@@ -48,6 +51,12 @@ pub level_at : (shapes : List Shape) (p : FormulaData) (spent : ℕ) (ns : List 
 level_at shapes p spent ns t tree =
     let all : All IsLevel (branch_in ns t.branch ∷ _) = subst (All IsLevel) tree.text.branches (levels shapes p tree.text.turns tree.text.due) in
     All-head IsLevel (branch_in ns t.branch) _ all
+
+-- and no longer than a branch may be
+pub short_at : (shapes : List Shape) (p : FormulaData) (spent : ℕ) (ns : List Node) (t : SearchTree) → IsTree shapes p spent ns t → IsShortBranch (branch_in ns t.branch)
+short_at shapes p spent ns t tree =
+    let all : All IsShortBranch (branch_in ns t.branch ∷ _) = subst (All IsShortBranch) tree.text.branches (shorts shapes p tree.text.turns tree.text.due) in
+    All-head IsShortBranch (branch_in ns t.branch) _ all
 
 -- where nothing is due, and nothing closes it, the branch is saturated
 pub saturated_by : (shapes : List Shape) (b : Branch) → IsLate shapes b → NothingPlain shapes b → NothingLate b → IsSaturated shapes b
@@ -122,6 +131,9 @@ module _ (shapes : List Shape) (claim : Claim) (ns : List Node) (t : SearchTree)
   pub level_of : IsLevel (branch_in ns t.branch)
   level_of = level_at shapes claim.formula going.spent ns t going.tree
 
+  pub short_of : IsShortBranch (branch_in ns t.branch)
+  short_of = short_at shapes claim.formula going.spent ns t going.tree
+
 pub at_true : (b : Bool) (P Q : Type 0) → b ≡ true → MatchBool b P Q → P
 at_true b P Q e m = subst (λ t. MatchBool t P Q) e m
 
@@ -151,3 +163,19 @@ ok_map (Err e) P Q f h = tt
 
 pub at_none : {X : Type 0} (o : Option X) (P : Type 0) (R : X → Type 0) → o ≡ None → MatchOption o P R → P
 at_none o P R e m = subst (λ x. MatchOption x P R) e m
+
+-- a branch that is not crowded, and not as long as a branch may be, has room
+pub room_at : (r : Bool) (ns : List Node) (d : BranchData) → IsShortBranch (branch_in ns d) → length d.entries ≢ most_entries → r ≡ false → (IsTrue r ↔ IsCrowded (branch_in ns d)) → HasRoom (branch_in ns d)
+room_at r ns d short other no told = elim (cases_lt (above_all (formulas (branch_in ns d))) (2 ^ 32)) [
+  | inl less ↦ record { number = less; entry = (let same = length_in ns d in let differ = λ (e : length (branch_in ns d) ≡ most_entries). other (sym same ∙ e) in strictly (length (branch_in ns d)) most_entries short differ) }
+  | inr many ↦ absurd (not_both r (told.1 (record { crowded = many })) no)
+]
+
+not_both : (b : Bool) → b ≡ true → b ≡ false → ⊥
+not_both b t f = cc
+
+strictly : (n m : ℕ) → n ≤ m → (n ≡ m → ⊥) → n < m
+strictly n m within differ = elim (cases_lt n m) [
+  | inl less ↦ less
+  | inr more ↦ absurd (differ (omega (arith, within, more)))
+]

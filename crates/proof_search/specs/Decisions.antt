@@ -32,6 +32,11 @@ use Rattle.proof_search.specs.declared.deciders.LeafAnswer.TheVariants.{Open as 
 pub record IsCrowded (b : Branch) : Type 0 where
   pub crowded : 2 ^ 32 ≤ above_all (formulas b)
 
+-- one is left, and the branch may have another entry
+pub record HasRoom (b : Branch) : Type 0 where
+  pub number : above_all (formulas b) < 2 ^ 32
+  pub entry : length b < most_entries
+
 -- each entry is no deeper than a step may add, or denies a formula
 pub record IsLevel (b : Branch) : Type 0 where
   pub level : (i : ℕ) (p : FormulaData) → Says b i p → IsShallow p ⊎ ((q : FormulaData) × (p ≡ NotFormula q))

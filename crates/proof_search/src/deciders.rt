@@ -7,7 +7,7 @@ ghost use Rattle.formula_pool.specs.declared.node.Node.{Node};
 ghost use Rattle.branches.specs.Due.{IsSaturated};
 ghost use Rattle.branches.specs.Turns.{NothingEarly, IsLate};
 ghost use Rattle.pool_branch.specs.PoolBranches.{branch_in, IsOver};
-ghost use Rattle.proof_search.specs.Decisions.{IsCrowded, IsLevel, IsGrowthDue, NothingPlain, NothingLate, ShowsClosing, ShowsRows, ShowsLeaf};
+ghost use Rattle.proof_search.specs.Decisions.{IsCrowded, HasRoom, IsLevel, IsGrowthDue, NothingPlain, NothingLate, ShowsClosing, ShowsRows, ShowsLeaf};
 
 use formula_pool::pool::Pool;
 use linear_rows::rows::{Fractions, LinRow, Rows};
@@ -83,6 +83,7 @@ pub trait Deciders {
     ) -> Result<Option<Growth>, NoMemory>
         requires knows { knows self.old pool.old }
         requires over { IsOver pool.old branch.now }
+        requires room { HasRoom (branch_in pool.old branch.now) }
         ensures extends { Extends pool.old pool.new }
         ensures knows { OnOk result (knows self.new pool.new) }
         ensures shapes { OnOk result (shapes self.new ≡ shapes self.old) }
@@ -97,6 +98,7 @@ pub trait Deciders {
     ) -> Result<ClosingAnswer, NoMemory>
         requires knows { knows self.old pool.old }
         requires over { IsOver pool.old branch.now }
+        requires room { HasRoom (branch_in pool.old branch.now) }
         ensures extends { Extends pool.old pool.new }
         ensures knows { OnOk result (knows self.new pool.new) }
         ensures shapes { OnOk result (shapes self.new ≡ shapes self.old) }
@@ -111,6 +113,7 @@ pub trait Deciders {
     ) -> Result<Option<Growth>, NoMemory>
         requires knows { knows self.old pool.old }
         requires over { IsOver pool.old branch.now }
+        requires room { HasRoom (branch_in pool.old branch.now) }
         ensures extends { Extends pool.old pool.new }
         ensures knows { OnOk result (knows self.new pool.new) }
         ensures shapes { OnOk result (shapes self.new ≡ shapes self.old) }
@@ -125,6 +128,7 @@ pub trait Deciders {
     ) -> Result<RowsAnswer, NoMemory>
         requires knows { knows self.old pool.old }
         requires over { IsOver pool.old branch.now }
+        requires room { HasRoom (branch_in pool.old branch.now) }
         ensures extends { Extends pool.old pool.new }
         ensures knows { OnOk result (knows self.new pool.new) }
         ensures shapes { OnOk result (shapes self.new ≡ shapes self.old) }
@@ -139,6 +143,7 @@ pub trait Deciders {
     ) -> Result<Option<Growth>, NoMemory>
         requires knows { knows self.old pool.old }
         requires over { IsOver pool.old branch.now }
+        requires room { HasRoom (branch_in pool.old branch.now) }
         requires late { IsLate (shapes self.old) (branch_in pool.old branch.now) }
         ensures extends { Extends pool.old pool.new }
         ensures knows { OnOk result (knows self.new pool.new) }
@@ -154,6 +159,7 @@ pub trait Deciders {
     ) -> Result<LeafAnswer, NoMemory>
         requires knows { knows self.old pool.old }
         requires over { IsOver pool.old branch.now }
+        requires room { HasRoom (branch_in pool.old branch.now) }
         requires saturated { IsSaturated (shapes self.old) (branch_in pool.old branch.now) }
         requires level { IsLevel (branch_in pool.old branch.now) }
         ensures extends { Extends pool.old pool.new }

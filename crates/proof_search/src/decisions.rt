@@ -3,11 +3,12 @@
 ghost use Rattle.std.specs.Prelude.{◌≡◌, IfOk, OnOk};
 ghost use Rattle.formula_pool.specs.Pools.{Extends};
 ghost use Rattle.branches.specs.Due.{IsNotClosed, IsSaturated};
-ghost use Rattle.branches.specs.Turns.{NothingEarly, IsLate};
+ghost use Rattle.branches.specs.Turns.{NothingEarly, IsLate, IsShortBranch};
 ghost use Rattle.pool_branch.specs.PoolBranches.{branch_in, IsOver};
-ghost use Rattle.proof_search.specs.Decisions.{IsLevel, NothingPlain, IsDecided};
+ghost use Rattle.proof_search.specs.Decisions.{HasRoom, IsLevel, NothingPlain, IsDecided};
 
 use crate::deciders::{ClosingAnswer, Deciders, LeafAnswer, RowsAnswer};
+use cert::branch::MOST_ENTRIES;
 use formula_pool::pool::Pool;
 use linear_rows::rows::{Fractions, LinRow, Rows};
 use pool_branch::branch::PoolBranch;
@@ -39,9 +40,6 @@ pub enum Decision {
     Stops(Stop),
 }
 
-/// The greatest number of entries of a branch.
-pub const MOST_ENTRIES: usize = 4_000;
-
 /// Decides what comes next on the branch: first what is early, then what closes it, instances, splits and cuts, bounds.
 pub(crate) fn decide<D: Deciders>(
     alloc: Global,
@@ -51,6 +49,7 @@ pub(crate) fn decide<D: Deciders>(
 ) -> Result<Decision, NoMemory>
     requires knows { D.knows deciders.old pool.old }
     requires over { IsOver pool.old branch.now }
+    requires short { IsShortBranch (branch_in pool.old branch.now) }
     requires level { IsLevel (branch_in pool.old branch.now) }
     ensures extends { Extends pool.old pool.new }
     ensures knows { OnOk result (D.knows deciders.new pool.new) }
@@ -78,6 +77,7 @@ fn after_early<D: Deciders>(
 ) -> Result<Decision, NoMemory>
     requires knows { D.knows deciders.old pool.old }
     requires over { IsOver pool.old branch.now }
+    requires room { HasRoom (branch_in pool.old branch.now) }
     requires level { IsLevel (branch_in pool.old branch.now) }
     requires early { NothingEarly (D.shapes deciders.old) (branch_in pool.old branch.now) }
     ensures extends { Extends pool.old pool.new }
@@ -101,6 +101,7 @@ fn after_closing<D: Deciders>(
 ) -> Result<Decision, NoMemory>
     requires knows { D.knows deciders.old pool.old }
     requires over { IsOver pool.old branch.now }
+    requires room { HasRoom (branch_in pool.old branch.now) }
     requires level { IsLevel (branch_in pool.old branch.now) }
     requires early { NothingEarly (D.shapes deciders.old) (branch_in pool.old branch.now) }
     requires closed { IsNotClosed (branch_in pool.old branch.now) }
@@ -124,6 +125,7 @@ fn after_plain<D: Deciders>(
 ) -> Result<Decision, NoMemory>
     requires knows { D.knows deciders.old pool.old }
     requires over { IsOver pool.old branch.now }
+    requires room { HasRoom (branch_in pool.old branch.now) }
     requires level { IsLevel (branch_in pool.old branch.now) }
     requires early { NothingEarly (D.shapes deciders.old) (branch_in pool.old branch.now) }
     requires closed { IsNotClosed (branch_in pool.old branch.now) }
@@ -151,6 +153,7 @@ fn after_rows<D: Deciders>(
 ) -> Result<Decision, NoMemory>
     requires knows { D.knows deciders.old pool.old }
     requires over { IsOver pool.old branch.now }
+    requires room { HasRoom (branch_in pool.old branch.now) }
     requires level { IsLevel (branch_in pool.old branch.now) }
     requires late { IsLate (D.shapes deciders.old) (branch_in pool.old branch.now) }
     requires plain { NothingPlain (D.shapes deciders.old) (branch_in pool.old branch.now) }
@@ -174,6 +177,7 @@ fn at_leaf<D: Deciders>(
 ) -> Result<Decision, NoMemory>
     requires knows { D.knows deciders.old pool.old }
     requires over { IsOver pool.old branch.now }
+    requires room { HasRoom (branch_in pool.old branch.now) }
     requires level { IsLevel (branch_in pool.old branch.now) }
     requires saturated { IsSaturated (D.shapes deciders.old) (branch_in pool.old branch.now) }
     ensures extends { Extends pool.old pool.new }

@@ -12,8 +12,9 @@ ghost use Rattle.proof_search.specs.Ends.{Claim, IsGoing, Shows, ShowsEnd, Falls
 
 use crate::budget::{take_step, take_steps};
 use crate::deciders::Deciders;
-use crate::decisions::{Decision, MOST_ENTRIES, Stop, decide};
+use crate::decisions::{Decision, Stop, decide};
 use crate::end::End;
+use cert::branch::MOST_ENTRIES;
 use formula_pool::pool::Pool;
 use pv_base::memory::NoMemory;
 use pv_base::steps::Steps;

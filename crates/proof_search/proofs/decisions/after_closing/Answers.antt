@@ -1,11 +1,14 @@
 use Rattle.branches.specs.Due.{IsNotClosed}
 use Rattle.branches.specs.Turns.{NothingEarly}
-use Rattle.proof_search.specs.Decisions.{IsLevel, NothingPlain}
+use Rattle.proof_search.specs.Decisions.{HasRoom, IsLevel, NothingPlain}
 use Rattle.proof_search.proofs.TurnLemmas.{over_stays, fact_stays, shaped_fact_stays, decided_back, ok_map, at_none}
 use Rattle.proof_search.proofs.decisions.after_closing.Goals as goal
 
 pub after_plain-requires-clause-over : goal.after_plain-requires-clause-over
 after_plain-requires-clause-over g c = over_stays c.args.pool.now c.plain.new.pool c.plain.ensures.extends c.args.branch.now c.requires.over
+
+pub after_plain-requires-clause-room : goal.after_plain-requires-clause-room
+after_plain-requires-clause-room g c = fact_stays c.args.pool.now c.plain.new.pool c.plain.ensures.extends HasRoom c.args.branch.now c.requires.over c.requires.room
 
 pub after_plain-requires-clause-level : goal.after_plain-requires-clause-level
 after_plain-requires-clause-level g c = fact_stays c.args.pool.now c.plain.new.pool c.plain.ensures.extends IsLevel c.args.branch.now c.requires.over c.requires.level

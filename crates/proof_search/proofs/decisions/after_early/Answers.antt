@@ -1,13 +1,16 @@
 use Rattle.pool_branch.specs.PoolBranches.{branch_in}
 use Rattle.branches.specs.Due.{IsNotClosed}
 use Rattle.branches.specs.Turns.{NothingEarly}
-use Rattle.proof_search.specs.Decisions.{IsLevel, ShowsClosing}
+use Rattle.proof_search.specs.Decisions.{HasRoom, IsLevel, ShowsClosing}
 use Rattle.proof_search.proofs.TurnLemmas.{over_stays, fact_stays, shaped_fact_stays, decided_back, ok_map}
 use Rattle.proof_search.proofs.decisions.after_early.Goals as goal
 use Rattle.std.proofs.Common.{subst}
 
 pub after_closing-requires-clause-over : goal.after_closing-requires-clause-over
 after_closing-requires-clause-over g c = over_stays c.args.pool.now c.closing.new.pool c.closing.ensures.extends c.args.branch.now c.requires.over
+
+pub after_closing-requires-clause-room : goal.after_closing-requires-clause-room
+after_closing-requires-clause-room g c = fact_stays c.args.pool.now c.closing.new.pool c.closing.ensures.extends HasRoom c.args.branch.now c.requires.over c.requires.room
 
 pub after_closing-requires-clause-level : goal.after_closing-requires-clause-level
 after_closing-requires-clause-level g c = fact_stays c.args.pool.now c.closing.new.pool c.closing.ensures.extends IsLevel c.args.branch.now c.requires.over c.requires.level

@@ -1,12 +1,15 @@
 use Rattle.pool_branch.specs.PoolBranches.{branch_in}
 use Rattle.branches.specs.Turns.{IsLate}
-use Rattle.proof_search.specs.Decisions.{IsLevel, NothingPlain, ShowsRows}
+use Rattle.proof_search.specs.Decisions.{HasRoom, IsLevel, NothingPlain, ShowsRows}
 use Rattle.proof_search.proofs.TurnLemmas.{over_stays, fact_stays, shaped_fact_stays, decided_back, late_by, ok_map}
 use Rattle.proof_search.proofs.decisions.after_plain.Goals as goal
 use Rattle.std.proofs.Common.{subst}
 
 pub after_rows-requires-clause-over : goal.after_rows-requires-clause-over
 after_rows-requires-clause-over g c = over_stays c.args.pool.now c.rows.new.pool c.rows.ensures.extends c.args.branch.now c.requires.over
+
+pub after_rows-requires-clause-room : goal.after_rows-requires-clause-room
+after_rows-requires-clause-room g c = fact_stays c.args.pool.now c.rows.new.pool c.rows.ensures.extends HasRoom c.args.branch.now c.requires.over c.requires.room
 
 pub after_rows-requires-clause-level : goal.after_rows-requires-clause-level
 after_rows-requires-clause-level g c = fact_stays c.args.pool.now c.rows.new.pool c.rows.ensures.extends IsLevel c.args.branch.now c.requires.over c.requires.level

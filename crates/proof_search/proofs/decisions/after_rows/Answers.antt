@@ -1,11 +1,14 @@
 use Rattle.pool_branch.specs.PoolBranches.{branch_in}
 use Rattle.branches.specs.Due.{IsSaturated}
-use Rattle.proof_search.specs.Decisions.{IsLevel}
+use Rattle.proof_search.specs.Decisions.{HasRoom, IsLevel}
 use Rattle.proof_search.proofs.TurnLemmas.{over_stays, fact_stays, shaped_fact_stays, decided_back, saturated_by, ok_map, at_none}
 use Rattle.proof_search.proofs.decisions.after_rows.Goals as goal
 
 pub at_leaf-requires-clause-over : goal.at_leaf-requires-clause-over
 at_leaf-requires-clause-over g c = over_stays c.args.pool.now c.late.new.pool c.late.ensures.extends c.args.branch.now c.requires.over
+
+pub at_leaf-requires-clause-room : goal.at_leaf-requires-clause-room
+at_leaf-requires-clause-room g c = fact_stays c.args.pool.now c.late.new.pool c.late.ensures.extends HasRoom c.args.branch.now c.requires.over c.requires.room
 
 pub at_leaf-requires-clause-level : goal.at_leaf-requires-clause-level
 at_leaf-requires-clause-level g c = fact_stays c.args.pool.now c.late.new.pool c.late.ensures.extends IsLevel c.args.branch.now c.requires.over c.requires.level

@@ -1,12 +1,18 @@
 use Rattle.pool_branch.specs.PoolBranches.{branch_in}
 use Rattle.branches.specs.Turns.{NothingEarly}
-use Rattle.proof_search.specs.Decisions.{IsLevel}
-use Rattle.proof_search.proofs.TurnLemmas.{over_stays, fact_stays, shaped_fact_stays, decided_back, ok_map, at_none}
+use Rattle.proof_search.specs.Decisions.{HasRoom, IsLevel}
+use Rattle.proof_search.proofs.TurnLemmas.{room_at, over_stays, fact_stays, shaped_fact_stays, decided_back, ok_map, at_none}
 use Rattle.proof_search.proofs.decisions.decide.Goals as goal
 use Rattle.std.proofs.Common.{◌∙◌, subst}
 
 pub after_early-requires-clause-over : goal.after_early-requires-clause-over
 after_early-requires-clause-over g c = over_stays c.args.pool.now c.early.new.pool c.early.ensures.extends c.args.branch.now c.requires.over
+
+pub early-requires-clause-room : goal.early-requires-clause-room
+early-requires-clause-room g c = room_at c.in_ok-is_crowded.field-0 c.args.pool.now c.args.branch.now c.requires.short (λ e. absurd (cc)) c.if-in_ok-is_crowded.false c.in_ok-is_crowded.ensures.crowded
+
+pub after_early-requires-clause-room : goal.after_early-requires-clause-room
+after_early-requires-clause-room g c = fact_stays c.args.pool.now c.early.new.pool c.early.ensures.extends HasRoom c.args.branch.now c.requires.over (room_at c.in_ok-is_crowded.field-0 c.args.pool.now c.args.branch.now c.requires.short (λ e. absurd (cc)) c.if-in_ok-is_crowded.false c.in_ok-is_crowded.ensures.crowded)
 
 pub after_early-requires-clause-level : goal.after_early-requires-clause-level
 after_early-requires-clause-level g c = fact_stays c.args.pool.now c.early.new.pool c.early.ensures.extends IsLevel c.args.branch.now c.requires.over c.requires.level

@@ -2,11 +2,14 @@ use Rattle.std.proofs.Common.{sym, subst}
 use Rattle.pool_branch.specs.PoolBranches.{branch_in}
 use Rattle.proof_search.specs.Decisions.{IsGrowthDue, IsClosingDue, ShowsStop, IsDecided}
 use Rattle.proof_search.specs.Ends.{IsGoing}
-use Rattle.proof_search.proofs.TurnLemmas.{fact_stays, shaped_fact_stays, going_stays, level_of}
+use Rattle.proof_search.proofs.TurnLemmas.{fact_stays, shaped_fact_stays, going_stays, level_of, short_of}
 use Rattle.proof_search.proofs.turns.move_on.Goals as goal
 
 pub decide-requires-clause-level : goal.decide-requires-clause-level
 decide-requires-clause-level g c = level_of (g.D.Deciders.shapes c.args.deciders.now) g.sought c.args.pool.now c.args.tree.now c.args.left.now c.requires.1.1.1
+
+pub decide-requires-clause-short : goal.decide-requires-clause-short
+decide-requires-clause-short g c = short_of (g.D.Deciders.shapes c.args.deciders.now) g.sought c.args.pool.now c.args.tree.now c.args.left.now c.requires.1.1.1
 
 pub take-requires : goal.take-requires
 take-requires g c = λ κs lives. (
