@@ -4,6 +4,7 @@ pub mod CoefficientLemmas
 pub mod JoiningLemmas
 pub mod ShapeLemmas
 pub mod WalkLemmas
+pub mod MemoLemmas
 pub mod SideLemmas
 pub mod EntryLemmas
 pub mod PutLemmas

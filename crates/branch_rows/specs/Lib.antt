@@ -1,4 +1,5 @@
 pub mod Sums
 pub mod Shapes
+pub mod Memos
 pub mod Entries
 pub mod Rows

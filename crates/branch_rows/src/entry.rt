@@ -9,6 +9,7 @@ ghost use Rattle.branch_rows.specs.Shapes.{IsNamedUnder};
 ghost use Rattle.branch_rows.specs.Entries.{formula_at, gap_of, row_with, row_over, IsRowSum, LeavesRow, IsSumOfSides, IsEntrySum};
 
 use crate::comparison::{Sides, sides_of};
+use crate::memo::nothing_met;
 use crate::sum::{LinearSum, constant, joined, single};
 use crate::walk::sum_of;
 use formula_pool::pool::Pool;
@@ -60,10 +61,11 @@ fn as_sums(
     ensures is { (class : TermData → ℕ) → IsNamedUnder pool.now sides.lesser class names.now → IsNamedUnder pool.now sides.greater class names.now → IfOk result (λ made. MatchOption made (LeavesRow (row_over pool.now class sides)) (IsRowSum (row_over pool.now class sides))) }
     ensures fits { IfOk result (λ made. IfSome made IsKept) }
 {
-    let Some(lesser) = sum_of(alloc, pool, names, sides.lesser)? else {
+    let mut memo = nothing_met(alloc);
+    let Some(lesser) = sum_of(alloc, pool, names, &mut memo, sides.lesser)? else {
         return Ok(None);
     };
-    let Some(greater) = sum_of(alloc, pool, names, sides.greater)? else {
+    let Some(greater) = sum_of(alloc, pool, names, &mut memo, sides.greater)? else {
         return Ok(None);
     };
     row_sum(alloc, lesser, greater, sides.is_strict)

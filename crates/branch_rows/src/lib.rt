@@ -3,6 +3,7 @@
 
 mod comparison;
 mod entry;
+mod memo;
 pub mod rows;
 mod shape;
 mod sum;
