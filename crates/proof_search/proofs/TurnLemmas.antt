@@ -1,5 +1,5 @@
 -- A search that goes on, and what is known of its branch while the pool grows.
-use Rattle.std.proofs.Common.{◌≡◌, ◌≢◌, ◌⊎◌, inl, inr, ℕ, zero, suc, ◌+◌, ◌<◌, ◌≤◌, ◌^◌, Bool, true, false, IsTrue, List, [], ◌∷◌, length, Option, None, Result, Ok, Err, IfOk, elim, absurd, sym, ◌∙◌, subst, arith}
+use Rattle.std.proofs.Common.{◌≡◌, ◌≢◌, ◌⊎◌, inl, inr, ℕ, zero, suc, ◌+◌, ◌<◌, ◌≤◌, ◌^◌, Bool, true, false, IsTrue, List, [], ◌∷◌, length, Option, None, Result, Ok, Err, IfOk, sym, ◌∙◌, subst, arith}
 use Rattle.std.specs.Prelude.{◌↔◌, All, MatchBool, MatchOption}
 use Rattle.std.proofs.lemmas.Bool.{cases_lt}
 use Rattle.std.proofs.lemmas.List.{length-map}
@@ -164,13 +164,6 @@ ok_map (Err e) P Q f h = tt
 pub at_none : {X : Type 0} (o : Option X) (P : Type 0) (R : X → Type 0) → o ≡ None → MatchOption o P R → P
 at_none o P R e m = subst (λ x. MatchOption x P R) e m
 
--- a branch that is not crowded, and not as long as a branch may be, has room
-pub room_at : (r : Bool) (ns : List Node) (d : BranchData) → IsShortBranch (branch_in ns d) → length d.entries ≢ most_entries → r ≡ false → (IsTrue r ↔ IsCrowded (branch_in ns d)) → HasRoom (branch_in ns d)
-room_at r ns d short other no told = elim (cases_lt (above_all (formulas (branch_in ns d))) (2 ^ 32)) [
-  | inl less ↦ record { number = less; entry = (let same = length_in ns d in let differ = λ (e : length (branch_in ns d) ≡ most_entries). other (sym same ∙ e) in strictly (length (branch_in ns d)) most_entries short differ) }
-  | inr many ↦ absurd (not_both r (told.1 (record { crowded = many })) no)
-]
-
 not_both : (b : Bool) → b ≡ true → b ≡ false → ⊥
 not_both b t f = cc
 
@@ -179,3 +172,12 @@ strictly n m within differ = elim (cases_lt n m) [
   | inl less ↦ less
   | inr more ↦ absurd (differ (omega (arith, within, more)))
 ]
+
+-- a branch that is not crowded, and not as long as a branch may be, has room
+pub room_at : (r : Bool) (ns : List Node) (d : BranchData) → IsShortBranch (branch_in ns d) → length d.entries ≢ most_entries → r ≡ false → (IsTrue r ↔ IsCrowded (branch_in ns d)) → HasRoom (branch_in ns d)
+room_at r ns d short other failed told =
+    let entry : length (branch_in ns d) < most_entries = strictly (length (branch_in ns d)) most_entries short (λ e. other (sym (length_in ns d) ∙ e)) in
+    elim (cases_lt (above_all (formulas (branch_in ns d))) (2 ^ 32)) [
+      | inl less ↦ record { number = less; entry = entry }
+      | inr many ↦ absurd (not_both r (told.1 (record { crowded = many })) failed)
+    ]

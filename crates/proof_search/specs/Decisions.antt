@@ -1,5 +1,5 @@
 -- What deciders tell of a branch.
-use Rattle.std.specs.Prelude.{◌≡◌, ◌⊎◌, ℕ, ◌+◌, ◌<◌, ◌≤◌, ◌^◌, Bool, true, false, List}
+use Rattle.std.specs.Prelude.{◌≡◌, ◌⊎◌, ℕ, ◌+◌, ◌<◌, ◌≤◌, ◌^◌, Bool, true, false, List, length}
 use Rattle.fol.specs.declared.shapes.Shape.{Shape}
 use Rattle.fol.specs.FormulaData.{TermData, FormulaData, NotFormula}
 use Rattle.axioms.specs.declared.axiom.Axiom.{Axiom}
@@ -26,7 +26,7 @@ use Rattle.proof_search.specs.declared.decisions.Stop.TheVariants.{Open as StopO
 use Rattle.proof_search.specs.declared.decisions.Decision.{Decision}
 use Rattle.proof_search.specs.declared.decisions.Decision.TheVariants.{Grows, Closes as ClosesBy, Stops}
 use Rattle.proof_search.specs.declared.deciders.LeafAnswer.{LeafAnswer}
-use Rattle.proof_search.specs.declared.deciders.LeafAnswer.TheVariants.{Open as LeafOpen, Bound}
+use Rattle.proof_search.specs.declared.deciders.LeafAnswer.TheVariants.{Open as LeafOpen, Bound, Closes as LeafCloses, TooLong as LeafTooLong, Wide as LeafWide, TooMany as LeafTooMany}
 
 -- no number of a variable is left above those of the branch
 pub record IsCrowded (b : Branch) : Type 0 where
@@ -108,6 +108,10 @@ ShowsRows shapes ns b (TooMany rows) = IsLargeAt b rows
 abbrev pub ShowsLeaf : List Shape → List Node → Branch → LeafAnswer → Type 0
 ShowsLeaf shapes ns b (LeafOpen values) = MeetsWhole b values
 ShowsLeaf shapes ns b (Bound g) = IsGrowthDue shapes ns b g
+ShowsLeaf shapes ns b (LeafCloses c) = IsClosingDue shapes ns b c
+ShowsLeaf shapes ns b LeafTooLong = IsFull shapes b
+ShowsLeaf shapes ns b (LeafWide first second) = IsWideAt b first second
+ShowsLeaf shapes ns b (LeafTooMany rows) = IsLargeAt b rows
 
 -- ---- decisions
 

@@ -49,6 +49,14 @@ pub enum LeafAnswer {
     Open(Fractions),
     /// A bound is due.
     Bound(Growth),
+    /// The elimination that gives the values ends without them: its rows have no solution, and this closes the branch.
+    Closes(Closing),
+    /// They have none, but what would close the branch makes it longer than a branch may be.
+    TooLong,
+    /// It meets two rows whose sum leaves 128 bits.
+    Wide(LinRow, LinRow),
+    /// It has these 5,000 rows.
+    TooMany(Rows),
 }
 
 /// The deciders of what is due on a branch. Each tells a turn that is due, or that none of its kind is. `NoMemory` comes

@@ -188,5 +188,9 @@ fn at_leaf<D: Deciders>(
     match deciders.leaf(alloc, pool, branch)? {
         LeafAnswer::Open(values) => Ok(Decision::Stops(Stop::Open(values))),
         LeafAnswer::Bound(growth) => Ok(Decision::Grows(growth)),
+        LeafAnswer::Closes(closing) => Ok(Decision::Closes(closing)),
+        LeafAnswer::TooLong => Ok(Decision::Stops(Stop::Full)),
+        LeafAnswer::Wide(first, second) => Ok(Decision::Stops(Stop::Wide(first, second))),
+        LeafAnswer::TooMany(rows) => Ok(Decision::Stops(Stop::TooManyRows(rows))),
     }
 }

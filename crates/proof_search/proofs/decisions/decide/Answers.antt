@@ -9,10 +9,10 @@ pub after_early-requires-clause-over : goal.after_early-requires-clause-over
 after_early-requires-clause-over g c = over_stays c.args.pool.now c.early.new.pool c.early.ensures.extends c.args.branch.now c.requires.over
 
 pub early-requires-clause-room : goal.early-requires-clause-room
-early-requires-clause-room g c = room_at c.in_ok-is_crowded.field-0 c.args.pool.now c.args.branch.now c.requires.short (λ e. absurd (cc)) c.if-in_ok-is_crowded.false c.in_ok-is_crowded.ensures.crowded
+early-requires-clause-room g c = room_at c.in_ok-is_crowded.field-0 c.args.pool.now c.args.branch.now c.requires.short (λ e. c.if-len-eq-MOST_ENTRIES.false (c.len.ensures ∙ e)) c.if-branch.false c.in_ok-is_crowded.ensures.crowded
 
 pub after_early-requires-clause-room : goal.after_early-requires-clause-room
-after_early-requires-clause-room g c = fact_stays c.args.pool.now c.early.new.pool c.early.ensures.extends HasRoom c.args.branch.now c.requires.over (room_at c.in_ok-is_crowded.field-0 c.args.pool.now c.args.branch.now c.requires.short (λ e. absurd (cc)) c.if-in_ok-is_crowded.false c.in_ok-is_crowded.ensures.crowded)
+after_early-requires-clause-room g c = fact_stays c.args.pool.now c.early.new.pool c.early.ensures.extends HasRoom c.args.branch.now c.requires.over (room_at c.in_ok-is_crowded.field-0 c.args.pool.now c.args.branch.now c.requires.short (λ e. c.if-len-eq-MOST_ENTRIES.false (c.len.ensures ∙ e)) c.if-branch.false c.in_ok-is_crowded.ensures.crowded)
 
 pub after_early-requires-clause-level : goal.after_early-requires-clause-level
 after_early-requires-clause-level g c = fact_stays c.args.pool.now c.early.new.pool c.early.ensures.extends IsLevel c.args.branch.now c.requires.over c.requires.level
