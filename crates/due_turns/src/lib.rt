@@ -1,0 +1,4 @@
+//! The turns of a search that take what is due on its branch.
+#![tactic(auto)]
+
+pub mod growths;
