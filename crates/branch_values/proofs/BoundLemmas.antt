@@ -1,5 +1,5 @@
 -- The first value that asks for a bound.
-use Rattle.std.proofs.Common.{◌≡◌, ℕ, zero, suc, ◌+◌, ◌<◌, ◌≤◌, ℤ, List, [], ◌∷◌, ◌++◌, take, drop, length, get_or, Option, Some, None, refl, sym, ap, ◌∙◌, subst, arith}
+use Rattle.std.proofs.Common.{◌≡◌, ℕ, zero, suc, ◌+◌, ◌<◌, ◌≤◌, ℤ, pos, ◌+ℤ◌, List, [], ◌∷◌, ◌++◌, take, drop, length, get_or, Option, Some, None, refl, sym, ap, ◌∙◌, subst, arith}
 use Rattle.std.specs.Prelude.{slice_index, All, MatchOption}
 use Rattle.std.proofs.lemmas.List.Elements.{All-weaker, All-push}
 use Rattle.std.proofs.lemmas.List.{take_more, take_all, get_or_default}
@@ -62,6 +62,7 @@ module _ (ns : List Node) (b : Branch) (names : List ℕ) (found : ℕ → Optio
         whole_before = whole;
         of_term = h.has_class ∙ ap Some (sym it.named ∙ class_is h.entry number ∙ ap (λ n. class (term_at ns n)) (sym h.same_term));
         between = h.between;
+        next = h.next;
       }
 
   pub all_whole : (classes : List ℕ) (values : List Fraction) → All (AsksNone found classes) values → All (IsWholeIfNumber b class classes) values
@@ -91,7 +92,7 @@ match_option_map None P Q R S f g h = f h
 match_option_map (Some x) P Q R S f g h = g x h
 
 abbrev pub bound_on : NumberEntry → ℤ → Bound
-bound_on number k = record { entry = number.entry; term = number.term; below = k }
+bound_on number k = record { entry = number.entry; term = number.term; below = k; above = k +ℤ pos 1 }
 
 pub asked_push : (found : ℕ → Option NumberEntry) (classes : List ℕ) (values : List Fraction) (k : ℕ) (d : Fraction) → k < length values → All (AsksNone found classes) (take k values) → AsksNone found classes (get_or values k d) → All (AsksNone found classes) (take (k + 1) values)
 asked_push found classes values k d w h one = subst (All (AsksNone found classes)) (sym (take_more values k d w)) (All-push (AsksNone found classes) (take k values) (get_or values k d) h one)

@@ -1,8 +1,8 @@
 -- Values that are whole, and the whole numbers below those that are not.
-use Rattle.std.proofs.Common.{◌≡◌, ◌⊎◌, inl, inr, ℕ, zero, suc, ◌<◌, ◌/◌, pos, negsuc, ℤ, ◌+ℤ◌, ◌-ℤ◌, ◌*ℤ◌, ◌≤ℤ◌, ◌<ℤ◌, neg_ℤ, refl, sym, ap, ◌∙◌, subst, arith}
+use Rattle.std.proofs.Common.{◌≡◌, ◌⊎◌, inl, inr, ℕ, zero, suc, ◌-◌, ◌*◌, ◌^◌, ◌<◌, ◌≤◌, ◌/◌, pos, negsuc, ℤ, ◌+ℤ◌, ◌-ℤ◌, ◌*ℤ◌, ◌≤ℤ◌, ◌<ℤ◌, neg_ℤ, refl, sym, ap, ◌∙◌, subst, arith}
 use Rattle.std.specs.Prelude.{◌%◌, unsigned_abs}
 use Rattle.std.proofs.Math.IntN.{*ℤ_comm}
-use Rattle.std.proofs.Math.Nat.{mul-mod_right}
+use Rattle.std.proofs.Math.Nat.{mul-mod_right, le-mul_of_pos_right}
 use Rattle.std.proofs.lemmas.Int.{ints, unsigned_abs-mul}
 use Rattle.std.proofs.lemmas.Nat.Gcd.{dvd_of_mod-eq-zero}
 use Rattle.linear_rows.specs.Floor.{IsFloor}
@@ -76,3 +76,12 @@ pub is_between_by : (numerator denominator : ℤ) (n d : ℕ) (k : ℤ) → n �
 is_between_by numerator denominator n d k e f h rest floor v top bottom =
     is_between v k (subst (λ z. pos 0 <ℤ z) (sym bottom) h) (λ q. rest ((λ i. e i % f i) ∙ (λ i. unsigned_abs (sym top i) % unsigned_abs (sym bottom i)) ∙ q))
     (subst (λ x. IsFloor v.numerator x k) (f ∙ ap unsigned_abs (sym bottom)) (subst (λ z. IsFloor z d k) (sym top) floor))
+
+-- below a quotient of numbers of 128 bits is another one, with the next
+pub next_fits : (k n d : ℤ) → pos 0 <ℤ d → (k *ℤ d) <ℤ n → n <ℤ pos (2 ^ 127) → k <ℤ pos (2 ^ 127 - 1)
+next_fits (negsuc m) n d positive between top = omega (arith, ints)
+next_fits (pos m) n (negsuc e) positive between top = absurd (omega (arith, ints, positive))
+next_fits (pos m) n (pos e) positive between top =
+    let grows : m ≤ m * e = le-mul_of_pos_right m (omega (arith, ints, positive)) in
+    let product : pos (m * e) <ℤ n = between in
+    omega (arith, ints, grows, product, top)

@@ -1,6 +1,6 @@
 -- Bounds that are due on the values of a branch's rows: branch and bound splits on a number whose value is not whole (A.
 -- Schrijver, Theory of Linear and Integer Programming, section 24.1).
-use Rattle.std.specs.Prelude.{◌≡◌, ℕ, List, ◌∷◌, ◌++◌, slice_get, Option, Some, None, All}
+use Rattle.std.specs.Prelude.{◌≡◌, ℕ, pos, ◌+ℤ◌, List, ◌∷◌, ◌++◌, slice_get, Option, Some, None, All}
 use Rattle.pv_base.specs.TypeData.{NumType}
 use Rattle.fol.specs.FormulaData.{TermData, IsFormula}
 use Rattle.linear_rows.specs.declared.rows.Fraction.{Fraction}
@@ -25,6 +25,7 @@ pub record IsBound (ns : List Node) (b : Branch) (class : TermData → ℕ) (cla
   pub whole_before : All (IsWholeIfNumber b class classes) before
   pub of_term : slice_get classes value.unknown ≡ Some (class (term_at ns bound.term))
   pub between : IsBetween bound.below value
+  pub next : bound.above ≡ bound.below +ℤ pos 1
 
 -- ---- one value
 
@@ -43,6 +44,7 @@ pub record AsksBound (found : ℕ → Option NumberEntry) (classes : List ℕ) (
   pub same_entry : bound.entry ≡ entry.entry
   pub same_term : bound.term ≡ entry.term
   pub between : IsBetween bound.below value
+  pub next : bound.above ≡ bound.below +ℤ pos 1
 
 -- the first value that asks for a bound asks for this one
 pub record IsFirstAsked (found : ℕ → Option NumberEntry) (classes : List ℕ) (values : List Fraction) (bound : Bound) : Type 0 where

@@ -1,6 +1,6 @@
 //! The bound that the values of a branch's rows ask for.
 
-ghost use Rattle.std.specs.Prelude.{◌≡◌, ◌≤◌, ℕ, pos, length, slice_get, All, IfOk, MatchOption, nat_eq};
+ghost use Rattle.std.specs.Prelude.{◌≡◌, ◌≤◌, ℕ, ◌-◌, ◌^◌, pos, ◌+ℤ◌, length, slice_get, All, IfOk, IfSome, MatchOption, nat_eq};
 ghost use Rattle.std.proofs.Common.{◌<ℤ◌};
 ghost use Rattle.indexmap.specs.IndexMap.{get};
 ghost use Rattle.fol.specs.FormulaData.{TermData};
@@ -30,12 +30,15 @@ pub struct Bound {
     pub term: usize,
     /// The greatest whole number below the value that the rows give to it.
     pub below: i128,
+    /// The next whole number.
+    pub above: i128,
 }
 
 // The greatest whole number below a quotient; none where the quotient is whole.
 fn below(numerator: i128, denominator: i128) -> Option<i128>
     requires { pos 0 <ℤ denominator }
-    ensures { (value : Fraction) → value.numerator ≡ numerator → value.denominator ≡ denominator → MatchOption result (IsWholeValue value) (λ k. IsBetween k value) }
+    ensures is { (value : Fraction) → value.numerator ≡ numerator → value.denominator ≡ denominator → MatchOption result (IsWholeValue value) (λ k. IsBetween k value) }
+    ensures fits { IfSome result (λ k. k <ℤ pos (2 ^ 127 - 1)) }
 {
     let divisor = denominator.unsigned_abs();
     if numerator.unsigned_abs() % divisor == 0 {
@@ -56,12 +59,14 @@ fn class_at(classes: &IndexSet<usize>, unknown: usize) -> Option<usize>
 
 // The bound on the term of the entry.
 fn bound_with(number: NumberEntry, below: i128) -> Bound
-    ensures { result ≡ record { entry = number.entry; term = number.term; below = below } }
+    requires { below <ℤ pos (2 ^ 127 - 1) }
+    ensures { result ≡ record { entry = number.entry; term = number.term; below = below; above = below +ℤ pos 1 } }
 {
     Bound {
         entry: number.entry,
         term: number.term,
         below,
+        above: below + 1,
     }
 }
 

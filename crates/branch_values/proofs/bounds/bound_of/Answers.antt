@@ -1,4 +1,4 @@
-use Rattle.std.proofs.Common.{rules, FitsSigned, sym, ap, ◌∙◌, subst}
+use Rattle.std.proofs.Common.{rules, FitsSigned, ◌≡◌, pos, ◌+ℤ◌, refl, sym, ap, ◌∙◌, subst}
 use Rattle.std.specs.Int.{w128}
 use Rattle.std.proofs.lemmas.Int.{to_z-of_z}
 use Rattle.branches.specs.Turns.{IsBetween}
@@ -23,5 +23,6 @@ returns-in-Some-below c =
       has_number = sym c.look_up.ensures ∙ c.in-Some-look_up.is;
       same_entry = ap (λ (b : Bound). b.entry) made;
       same_term = ap (λ (b : Bound). b.term) made;
-      between = subst (λ (b : Bound). IsBetween b.below c.args.value) (sym made) (c.in-Some-below.ensures c.args.value (sym (to_z-of_z w128 c.args.value.numerator a)) (sym (to_z-of_z w128 c.args.value.denominator b)));
+      between = subst (λ (b : Bound). IsBetween b.below c.args.value) (sym made) (c.in-Some-below.ensures.is c.args.value (sym (to_z-of_z w128 c.args.value.numerator a)) (sym (to_z-of_z w128 c.args.value.denominator b)));
+      next = subst (λ (b : Bound). b.above ≡ b.below +ℤ pos 1) (sym made) refl;
     }
