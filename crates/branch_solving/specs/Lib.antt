@@ -1,0 +1,2 @@
+pub mod Eliminations
+pub mod Bounds
