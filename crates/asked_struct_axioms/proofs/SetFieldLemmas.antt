@@ -12,10 +12,10 @@ use Rattle.axioms.specs.Fields.{HasFields, HasField, shape_of}
 use Rattle.branches.specs.Table.{some_of}
 use Rattle.formula_pool.specs.Items.{term_in}
 use Rattle.formula_pool.specs.declared.node.Node.{Node}
-use Rattle.asked_axioms.specs.Lists.{Asked, IsAmong, IsHere, IsLater, AreOnly, AreAll}
+use Rattle.asked_axioms.specs.Lists.{IsAmong, IsHere, IsLater, AreOnly, AreAll}
 use Rattle.asked_axioms.specs.Numbers.{IsSetField, term_at, type_at}
-use Rattle.asked_axioms.specs.StructRows.{HasNoFields, upto}
-use Rattle.asked_struct_axioms.specs.SetFieldRows.{set_row, other_row, other_rows, set_field_rows}
+use Rattle.asked_axioms.specs.StructRows.{HasNoFields}
+use Rattle.asked_struct_axioms.specs.SetFieldRows.{other_row, other_rows, set_field_rows}
 use Rattle.asked_axioms.specs.Asks.{AsksOfTerm, BySetField, ByOtherField, ByWhole}
 use Rattle.asked_axioms.proofs.StructLemmas.{upto_only, upto_among}
 

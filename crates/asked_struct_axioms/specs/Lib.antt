@@ -1,1 +1,3 @@
 pub mod SetFieldRows
+pub mod PackedRows
+pub mod FieldTypedRows

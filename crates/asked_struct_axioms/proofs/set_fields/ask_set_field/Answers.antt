@@ -1,4 +1,4 @@
-use Rattle.std.proofs.Common.{◌≡◌, ◌<◌, [], subst, arith}
+use Rattle.std.proofs.Common.{[], subst, arith}
 use Rattle.std.specs.Prelude.{MatchOption}
 use Rattle.axioms.specs.Fields.{HasFields}
 use Rattle.asked_axioms.specs.Numbers.{type_at}
