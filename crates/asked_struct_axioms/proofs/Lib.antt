@@ -3,5 +3,9 @@ pub mod SetFieldLemmas
 pub mod PackedLemmas
 pub mod OnePut
 pub mod FieldTypedLemmas
+pub mod PackTypedLemmas
+pub mod TypedListLemmas
+pub mod TypedTermLemmas
 pub mod FieldRowLemmas
+pub mod PackAddedLemmas
 pub mod FieldLoopLemmas

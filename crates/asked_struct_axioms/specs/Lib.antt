@@ -1,3 +1,4 @@
 pub mod SetFieldRows
 pub mod PackedRows
 pub mod FieldTypedRows
+pub mod PackTypedRows
