@@ -1,28 +1,27 @@
 -- Two nodes that are taken apart: the one is filled to the other exactly where their parts are.
-use Rattle.std.proofs.Common.{◌≡◌, ◌⊎◌, inl, inr, ℕ, ◌<◌, false, List, [], ◌∷◌, length, Some, refl, sym, ap, ◌∙◌, subst, arith}
-use Rattle.std.specs.Prelude.{All, Contains}
+use Rattle.std.proofs.Common.{◌≡◌, ℕ, ◌<◌, List, [], ◌∷◌, length, refl, sym, ap, ◌∙◌, subst, arith}
+use Rattle.std.specs.Prelude.{Contains}
 use Rattle.fol.specs.declared.operators.Binary.{Binary as BinaryOperator}
 use Rattle.fol.specs.FormulaData.{TermData, VarTerm, ConstantTerm, UnaryTerm, BinaryTerm, TernaryTerm, PackTerm, FieldTerm, SetFieldTerm, IfTerm, TermsData, NoTerms, MoreTerms, terms_of, list_of_terms, list_of_terms-terms_of}
-use Rattle.substitution.specs.Free.{free_in}
-use Rattle.formula_pool.specs.Items.{Item, NoItem, TermItem, TermsItem, TriggersItem, FormulaItem, FormulasItem, TypeItem, TypesItem, BytesItem, Sort, TermSort, TermsSort, TriggersSort, FormulaSort, FormulasSort, TypeSort, TypesSort, BytesSort, sort_of, term_in, terms_in, formula_in, type_in, leaf_item, one_item, two_item, three_item}
-use Rattle.formula_pool.specs.Pools.{item_at, item_of, items, IsMade, HasParts, IsOneNumber}
+use Rattle.formula_pool.specs.Items.{Item, TermItem, TermsItem, FormulaItem, TypeItem, TermSort, TermsSort, sort_of, term_in, terms_in, type_in, one_item, two_item, three_item}
+use Rattle.formula_pool.specs.Pools.{item_at, item_of, items, IsMade, IsOneNumber}
 use Rattle.formula_pool.specs.declared.node.Leaf.{Leaf}
-use Rattle.formula_pool.specs.declared.node.Leaf.TheVariants.{Var, Constant, TypeBool, TypeInt, TypeNum, TypeAddress, TypeSigner, TypeParam, NilTerms, NilTriggers, NilFormulas, NilTypes, NilBytes}
+use Rattle.formula_pool.specs.declared.node.Leaf.TheVariants.{Var, Constant, NilTerms}
 use Rattle.formula_pool.specs.declared.node.One.{One}
-use Rattle.formula_pool.specs.declared.node.One.TheVariants.{Unary, Holds, Not, Join, TypeVector, TypeShared, TypeMutable, TypeTuple, ConsByte}
+use Rattle.formula_pool.specs.declared.node.One.TheVariants.{Unary}
 use Rattle.formula_pool.specs.declared.node.Two.{Two}
-use Rattle.formula_pool.specs.declared.node.Two.TheVariants.{Binary, Pack, Field, Compare, Is, Connect, Quantify, ConsTerm, ConsTrigger, ConsFormula, ConsType}
+use Rattle.formula_pool.specs.declared.node.Two.TheVariants.{Binary, Pack, Field, ConsTerm}
 use Rattle.formula_pool.specs.declared.node.Three.{Three}
 use Rattle.formula_pool.specs.declared.node.Three.TheVariants.{Ternary, SetField, If, TypeStruct}
 use Rattle.formula_pool.specs.declared.node.Node.{Node}
 use Rattle.formula_pool.specs.declared.node.Node.TheVariants.{Leaf as LeafNode, One as OneNode, Two as TwoNode, Three as ThreeNode}
 use Rattle.std.proofs.lemmas.Option.{slice_get_within}
-use Rattle.formula_pool.proofs.ShapeLemmas.{Shape, LeafShape, OneShape, TwoShape, ThreeShape, shape_of, leaf_shape, one_shape, two_shape, three_shape, a_term, a_list_of_terms, a_formula, a_type}
+use Rattle.formula_pool.proofs.ShapeLemmas.{Shape, LeafShape, OneShape, TwoShape, ThreeShape, shape_of, leaf_shape, one_shape, two_shape, three_shape, a_formula, a_type}
 use Rattle.branches.specs.Parts.{parts_of_term, with_parts}
-use Rattle.branches.specs.Match.{IsFreeCondition, IsFilled, OfVariable, OfOther, OfParts, AreFilled, NoneFilled, MoreFilled}
+use Rattle.branches.specs.Match.{IsFilled, AreFilled}
 use Rattle.entry_matches.specs.Numbers.{AreAll, formula_at}
-use Rattle.entry_matches.specs.Fits.{IsFilledItem, refilled, asked, IsClearNode, IsBoundNode, IsTaken, IsPatternSort, IsPair}
-use Rattle.entry_matches.proofs.FillLemmas.{by_parts, by_variable, by_other, none_filled, first_filled}
+use Rattle.entry_matches.specs.Fits.{IsFilledItem, refilled, asked, IsClearNode, IsBoundNode}
+use Rattle.entry_matches.proofs.FillLemmas.{by_parts, by_other, none_filled, first_filled}
 
 -- ---- the shape of a node's item
 

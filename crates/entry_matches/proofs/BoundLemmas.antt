@@ -1,17 +1,16 @@
 -- The variables that a formula binds: at its quantifiers, which a walk reaches.
 use Rattle.std.proofs.Common.{◌≡◌, ◌⊎◌, inl, inr, ℕ, zero, suc, ◌+◌, ◌<◌, ◌≤◌, List, [], ◌∷◌, ◌++◌, length, get_or, take, Option, Some, None, refl, sym, ap, ◌∙◌, subst, arith}
-use Rattle.std.specs.Prelude.{slice_get, Contains, ◌↔◌}
 use Rattle.std.proofs.lemmas.List.{take_more, take_all}
-use Rattle.formula_pool.specs.Items.{Item, NoItem, TermItem, TermsItem, TriggersItem, FormulaItem, FormulasItem, TypeItem, TypesItem, BytesItem, FormulaSort, FormulasSort, sort_of, formula_in, formulas_in, leaf_item, one_item, two_item, three_item, one_part, first_of_two, second_of_two}
+use Rattle.formula_pool.specs.Items.{Item, FormulaItem, FormulasItem, FormulaSort, FormulasSort, sort_of, formula_in, formulas_in, leaf_item, one_item, two_item, three_item, one_part, first_of_two, second_of_two}
 use Rattle.formula_pool.specs.Pools.{item_at, IsMade}
 use Rattle.formula_pool.specs.declared.node.Leaf.{Leaf}
-use Rattle.formula_pool.specs.declared.node.Leaf.TheVariants.{Var, Constant, TypeBool, TypeInt, TypeNum, TypeAddress, TypeSigner, TypeParam, NilTerms, NilTriggers, NilFormulas, NilTypes, NilBytes}
+use Rattle.formula_pool.specs.declared.node.Leaf.TheVariants.{Var}
 use Rattle.formula_pool.specs.declared.node.One.{One}
-use Rattle.formula_pool.specs.declared.node.One.TheVariants.{Unary, Holds, Not, Join, TypeVector, TypeShared, TypeMutable, TypeTuple, ConsByte}
+use Rattle.formula_pool.specs.declared.node.One.TheVariants.{Not, Join}
 use Rattle.formula_pool.specs.declared.node.Two.{Two}
-use Rattle.formula_pool.specs.declared.node.Two.TheVariants.{Binary, Pack, Field, Compare, Is, Connect, Quantify, ConsTerm, ConsTrigger, ConsFormula, ConsType}
+use Rattle.formula_pool.specs.declared.node.Two.TheVariants.{Connect, Quantify, ConsFormula}
 use Rattle.formula_pool.specs.declared.node.Three.{Three}
-use Rattle.formula_pool.specs.declared.node.Three.TheVariants.{Ternary, SetField, If, TypeStruct}
+use Rattle.formula_pool.specs.declared.node.Three.TheVariants.{Ternary}
 use Rattle.formula_pool.specs.declared.node.Node.{Node}
 use Rattle.formula_pool.specs.declared.node.Node.TheVariants.{Leaf as LeafNode, One as OneNode, Two as TwoNode, Three as ThreeNode}
 use Rattle.branches.specs.Match.{bound_in, bound_in_all}

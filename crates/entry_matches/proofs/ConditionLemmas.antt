@@ -1,5 +1,5 @@
 -- The condition of a node.
-use Rattle.std.proofs.Common.{Result, Ok, Err, IfOk, ◌≡◌, ℕ, Bool, true, false, List, length, Option, Some, None, refl, sym, ap, ◌∙◌, subst}
+use Rattle.std.proofs.Common.{Result, Ok, Err, IfOk, ◌≡◌, ℕ, Bool, false, List, length, Some, None, sym, subst}
 use Rattle.std.specs.Prelude.{All, ◌↔◌, IsTrue}
 use Rattle.pv_base.specs.declared.memory.NoMemory.{NoMemory}
 use Rattle.substitution.specs.Free.{free_in}

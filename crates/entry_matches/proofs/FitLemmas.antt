@@ -1,35 +1,28 @@
 -- A pattern that is filled to a target, part by part.
-use Rattle.std.proofs.Common.{◌≡◌, ◌⊎◌, inl, inr, ℕ, zero, suc, ◌+◌, ◌*◌, ◌<◌, ◌≤◌, Bool, true, false, List, [], ◌∷◌, ◌++◌, length, Option, Some, None, refl, sym, ap, ◌∙◌, subst, arith, append-nil, append_assoc, length-append}
-use Rattle.std.specs.Prelude.{slice_get, All, Contains}
+use Rattle.std.proofs.Common.{◌≡◌, ◌⊎◌, inl, inr, ℕ, zero, suc, ◌+◌, ◌*◌, ◌<◌, ◌≤◌, true, false, List, [], ◌∷◌, ◌++◌, length, Option, Some, None, refl, sym, ap, ◌∙◌, subst, arith, append-nil, append_assoc, length-append}
 use Rattle.std.proofs.lemmas.Bool.{cases_eq}
 use Rattle.std.proofs.lemmas.List.{length_push}
-use Rattle.std.proofs.lemmas.Option.{slice_get_within}
-use Rattle.fol.specs.FormulaData.{TermData, VarTerm, ConstantTerm, UnaryTerm, BinaryTerm, TernaryTerm, PackTerm, FieldTerm, SetFieldTerm, IfTerm, TermsData, terms_of, list_of_terms, terms_of-list_of_terms}
+use Rattle.fol.specs.FormulaData.{TermData, VarTerm, ConstantTerm, UnaryTerm, BinaryTerm, TernaryTerm, PackTerm, FieldTerm, SetFieldTerm, IfTerm, terms_of, list_of_terms, terms_of-list_of_terms}
 use Rattle.formula_pool.specs.Items.{Item, TermItem, TermsItem, Sort, TermSort, TermsSort, sort_of, term_in, terms_in, type_in, formula_in, leaf_item, one_item, two_item, three_item}
 use Rattle.formula_pool.specs.Pools.{item_at, item_of, items, IsMade, HasParts, IsOneNumber}
-use Rattle.formula_pool.specs.declared.node.Leaf.{Leaf}
-use Rattle.formula_pool.specs.declared.node.Leaf.TheVariants.{Var, Constant, TypeBool, TypeInt, TypeNum, TypeAddress, TypeSigner, TypeParam, NilTerms, NilTriggers, NilFormulas, NilTypes, NilBytes}
-use Rattle.formula_pool.specs.declared.node.One.{One}
-use Rattle.formula_pool.specs.declared.node.One.TheVariants.{Unary, Holds, Not, Join, TypeVector, TypeShared, TypeMutable, TypeTuple, ConsByte}
+use Rattle.formula_pool.specs.declared.node.Leaf.TheVariants.{Var, Constant, NilTerms}
+use Rattle.formula_pool.specs.declared.node.One.TheVariants.{Unary}
 use Rattle.formula_pool.specs.declared.node.Two.{Two}
-use Rattle.formula_pool.specs.declared.node.Two.TheVariants.{Binary, Pack, Field, Compare, Is, Connect, Quantify, ConsTerm, ConsTrigger, ConsFormula, ConsType}
+use Rattle.formula_pool.specs.declared.node.Two.TheVariants.{Binary, Pack, Field, Is, ConsTerm}
 use Rattle.formula_pool.specs.declared.node.Three.{Three}
 use Rattle.formula_pool.specs.declared.node.Three.TheVariants.{Ternary, SetField, If, TypeStruct}
 use Rattle.formula_pool.specs.declared.node.Node.{Node}
 use Rattle.formula_pool.specs.declared.node.Node.TheVariants.{Leaf as LeafNode, One as OneNode, Two as TwoNode, Three as ThreeNode}
-use Rattle.formula_pool.proofs.ShapeLemmas.{a_term, a_list_of_terms}
-use Rattle.branches.specs.Parts.{parts_of_term, with_parts}
-use Rattle.branches.specs.Match.{IsFilled, OfVariable, OfOther, OfParts, AreFilled, NoneFilled, MoreFilled}
+use Rattle.branches.specs.Match.{OfOther, OfParts, NoneFilled, MoreFilled}
 use Rattle.pool_branch.specs.Logs.{value_in, change_of}
-use Rattle.pool_branch.specs.Marks.{IsLonger, is_at_most, unmarked}
 use Rattle.pool_branch.specs.PoolBranches.{IsTermNumber}
 use Rattle.pool_branch.specs.declared.log.Change.{Change}
 use Rattle.pool_branch.proofs.LogLemmas.{value_written, value_other}
 use Rattle.entry_matches.specs.Numbers.{IsAmong, AreAll}
-use Rattle.entry_matches.specs.Fits.{IsFilledItem, refilled, asked, IsClearNode, IsBoundNode, IsTaken, AreTaken, Whole, ByParts, IsPatternSort, IsPair, AreKept, IsKeptPair, IsFilling, AreTargets, Meets, IsGrown, IsFitted, IsUnfit, IsFitAnswer, IsApart, IsNeverFilled, IsKeptBefore, IsKeptNow, IsRefused, IsTurn}
+use Rattle.entry_matches.specs.Fits.{IsFilledItem, refilled, asked, IsClearNode, IsBoundNode, IsTaken, AreTaken, Whole, ByParts, IsPatternSort, IsPair, IsKeptPair, IsFilling, AreTargets, Meets, IsGrown, IsFitAnswer, IsApart, IsNeverFilled, IsRefused, IsTurn}
 use Rattle.entry_matches.proofs.ListLemmas.{among_first, among_last, among_cases, among_push, among_push_cases}
-use Rattle.entry_matches.proofs.FillLemmas.{one_filling, one_filling_of_list, by_variable}
-use Rattle.entry_matches.proofs.ApartLemmas.{FilledPair, AreApart, apart, as_term, as_terms}
+use Rattle.entry_matches.proofs.FillLemmas.{one_filling, one_filling_of_list}
+use Rattle.entry_matches.proofs.ApartLemmas.{FilledPair, apart, as_term, as_terms}
 
 pub all_among : {X : Type 0} (P : X → Type 0) (xs : List X) (x : X) → AreAll P xs → IsAmong x xs → P x
 all_among P [] x h a = absurd a

@@ -1,13 +1,12 @@
 -- Where a variable is free in an item: in its parts, and in what a walk reaches.
-use Rattle.std.proofs.Common.{◌≡◌, ◌⊎◌, inl, inr, ℕ, zero, suc, ◌+◌, ◌<◌, ◌≤◌, Bool, true, false, not, cond, eqb, List, [], ◌∷◌, length, Option, Some, None, refl, sym, ap, ◌∙◌, subst, arith}
-use Rattle.std.specs.Prelude.{slice_get, ◌||◌, ◌&&◌, ◌==◌}
+use Rattle.std.proofs.Common.{◌≡◌, ◌⊎◌, inl, inr, ℕ, zero, suc, ◌<◌, ◌≤◌, Bool, true, false, not, cond, eqb, List, [], ◌∷◌, length, Some, refl, sym, ap, ◌∙◌, subst, arith}
+use Rattle.std.specs.Prelude.{slice_get, ◌||◌, ◌&&◌}
 use Rattle.std.proofs.lemmas.Bool.{or_cases, or_left, or_right, eqb-true, eq-eqb}
-use Rattle.fol.specs.FormulaData.{TermData, VarTerm}
 use Rattle.substitution.specs.Free.{free_in_term, free_in_terms, free_in_triggers, free_in, free_in_formulas}
-use Rattle.formula_pool.specs.Items.{Item, NoItem, TermItem, TermsItem, TriggersItem, FormulaItem, FormulasItem, TypeItem, TypesItem, BytesItem, Sort, TermSort, TermsSort, TriggersSort, FormulaSort, FormulasSort, TypeSort, TypesSort, BytesSort, sort_of, term_in, terms_in, triggers_in, formula_in, formulas_in, leaf_item, one_item, two_item, three_item, one_part, first_of_two, second_of_two, first_of_three, second_of_three, third_of_three}
-use Rattle.formula_pool.specs.Pools.{item_at, item_of, items, IsMade, HasParts}
+use Rattle.formula_pool.specs.Items.{Item, TermItem, TermsItem, TriggersItem, FormulaItem, FormulasItem, TypeItem, TypesItem, BytesItem, TermSort, TermsSort, TriggersSort, FormulaSort, FormulasSort, TypeSort, TypesSort, BytesSort, sort_of, term_in, terms_in, triggers_in, formula_in, formulas_in, leaf_item, one_item, two_item, three_item, one_part, first_of_two, second_of_two, first_of_three, second_of_three, third_of_three}
+use Rattle.formula_pool.specs.Pools.{item_at, IsMade}
 use Rattle.formula_pool.specs.declared.node.Leaf.{Leaf}
-use Rattle.formula_pool.specs.declared.node.Leaf.TheVariants.{Var, Constant, TypeBool, TypeInt, TypeNum, TypeAddress, TypeSigner, TypeParam, NilTerms, NilTriggers, NilFormulas, NilTypes, NilBytes}
+use Rattle.formula_pool.specs.declared.node.Leaf.TheVariants.{Var}
 use Rattle.formula_pool.specs.declared.node.One.{One}
 use Rattle.formula_pool.specs.declared.node.One.TheVariants.{Unary, Holds, Not, Join, TypeVector, TypeShared, TypeMutable, TypeTuple, ConsByte}
 use Rattle.formula_pool.specs.declared.node.Two.{Two}
@@ -17,7 +16,7 @@ use Rattle.formula_pool.specs.declared.node.Three.TheVariants.{Ternary, SetField
 use Rattle.formula_pool.specs.declared.node.Node.{Node}
 use Rattle.formula_pool.specs.declared.node.Node.TheVariants.{Leaf as LeafNode, One as OneNode, Two as TwoNode, Three as ThreeNode}
 use Rattle.entry_matches.specs.Numbers.{IsAmong}
-use Rattle.entry_matches.specs.Walks.{free_in_item, free_parts, parts_on, IsReached, Itself, Below, AreReached, IsFreeAt}
+use Rattle.entry_matches.specs.Walks.{free_in_item, free_parts, IsReached, Itself, Below, AreReached, IsFreeAt}
 use Rattle.entry_matches.specs.declared.walk.Way.TheVariants.{Free}
 use Rattle.entry_matches.proofs.WalkLemmas.{are_free_parts}
 

@@ -1,13 +1,13 @@
 -- The index of heads, one node after another.
-use Rattle.std.proofs.Common.{◌≡◌, ◌≢◌, ◌⊎◌, inl, inr, ℕ, zero, suc, ◌+◌, ◌<◌, ◌≤◌, Bool, true, false, List, [], ◌∷◌, ◌++◌, length, Option, Some, None, get_or, refl, sym, ap, ◌∙◌, subst, arith, length-append}
-use Rattle.std.specs.Prelude.{slice_get, slice_index_or, MatchOption}
+use Rattle.std.proofs.Common.{◌≡◌, ◌≢◌, ◌⊎◌, inl, inr, ℕ, zero, suc, ◌+◌, ◌<◌, ◌≤◌, Bool, true, false, List, [], ◌∷◌, ◌++◌, length, Option, Some, None, refl, sym, ap, ◌∙◌, subst, arith, length-append}
+use Rattle.std.specs.Prelude.{slice_get, slice_index_or}
 use Rattle.std.proofs.lemmas.Bool.{cases_eq, cases_lt}
 use Rattle.std.proofs.lemmas.List.{length_push}
 use Rattle.std.proofs.lemmas.Option.{slice_get_within}
 use Rattle.formula_pool.specs.NodeCodes.{same_node, same_node_decides}
 use Rattle.formula_pool.specs.Pools.{Extends}
 use Rattle.formula_pool.specs.declared.node.Node.{Node}
-use Rattle.entry_matches.specs.Heads.{head_of, last_of, HasHead, NoneBelow, IsLast, IsLastBelow, IsIndex, IsIndexOf, IsIndexedMore}
+use Rattle.entry_matches.specs.Heads.{head_of, last_of, HasHead, IsLastBelow, IsIndex, IsIndexOf, IsIndexedMore}
 use Rattle.entry_matches.specs.declared.heads.HeadIndex.{HeadIndex}
 
 pub index_none : (ns : List Node) (d : HeadIndex) → d.before.items ≡ [] → ((h : Node) → last_of d h ≡ None) → IsIndex ns d

@@ -7,3 +7,6 @@ pub mod ApartLemmas
 pub mod FitLemmas
 pub mod ConditionLemmas
 pub mod HeadLemmas
+pub mod QuantifiedLemmas
+pub mod FoundLemmas
+pub mod ListedLemmas

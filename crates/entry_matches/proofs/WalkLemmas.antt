@@ -1,24 +1,20 @@
 -- Walks along the parts of items.
-use Rattle.std.proofs.Common.{◌≡◌, ◌⊎◌, inl, inr, ℕ, zero, suc, ◌+◌, ◌*◌, ◌<◌, ◌≤◌, Bool, true, false, cond, eqb, List, [], ◌∷◌, ◌++◌, length, Option, Some, None, refl, sym, ap, ◌∙◌, subst, arith, length-append}
+use Rattle.std.proofs.Common.{◌≡◌, ◌⊎◌, inl, inr, ℕ, ◌+◌, ◌*◌, ◌<◌, ◌≤◌, Bool, true, false, cond, eqb, List, [], ◌∷◌, ◌++◌, length, Some, None, refl, sym, ap, ◌∙◌, subst, arith, length-append}
 use Rattle.std.specs.Prelude.{slice_get}
-use Rattle.std.proofs.lemmas.Bool.{cases_eq}
 use Rattle.std.proofs.lemmas.List.{length_push}
 use Rattle.std.proofs.lemmas.Option.{slice_get_within}
 use Rattle.formula_pool.specs.Pools.{IsMade, HasParts}
-use Rattle.formula_pool.specs.declared.node.One.{One}
-use Rattle.formula_pool.specs.declared.node.One.TheVariants.{Unary, Holds, Not, Join, TypeVector, TypeShared, TypeMutable, TypeTuple, ConsByte}
-use Rattle.formula_pool.specs.declared.node.Two.{Two}
-use Rattle.formula_pool.specs.declared.node.Two.TheVariants.{Binary, Pack, Field, Compare, Is, Connect, Quantify, ConsTerm, ConsTrigger, ConsFormula, ConsType}
-use Rattle.formula_pool.specs.declared.node.Three.{Three}
-use Rattle.formula_pool.specs.declared.node.Three.TheVariants.{Ternary, SetField, If, TypeStruct}
+use Rattle.formula_pool.specs.declared.node.One.TheVariants.{Not, Join}
+use Rattle.formula_pool.specs.declared.node.Two.TheVariants.{Pack, Field, Is, Connect, Quantify, ConsFormula}
+use Rattle.formula_pool.specs.declared.node.Three.TheVariants.{SetField}
 use Rattle.formula_pool.specs.declared.node.Node.{Node}
 use Rattle.formula_pool.specs.declared.node.Node.TheVariants.{Leaf as LeafNode, One as OneNode, Two as TwoNode, Three as ThreeNode}
 use Rattle.pool_branch.specs.Logs.{value_in, change_of}
 use Rattle.pool_branch.specs.Marks.{is_at_most, unmarked}
 use Rattle.pool_branch.specs.declared.log.Change.{Change}
-use Rattle.pool_branch.proofs.MarkLemmas.{given, value_cases, fewer}
+use Rattle.pool_branch.proofs.MarkLemmas.{value_cases, fewer}
 use Rattle.entry_matches.specs.Numbers.{IsAmong}
-use Rattle.entry_matches.specs.Walks.{free_parts, binding_parts, parts_on, IsReached, Itself, Below, IsNode, AreReached, IsPassed, IsVisited, IsTurn}
+use Rattle.entry_matches.specs.Walks.{free_parts, binding_parts, parts_on, IsReached, Itself, Below, IsNode, AreReached, IsTurn}
 use Rattle.entry_matches.specs.declared.walk.Way.{Way}
 use Rattle.entry_matches.specs.declared.walk.Way.TheVariants.{Free, Bound}
 use Rattle.entry_matches.proofs.ListLemmas.{among_first, among_last, among_cases, among_push, among_push_cases}

@@ -1,6 +1,6 @@
 -- Patterns that are filled to terms, by number. Of each pattern it is kept what it is filled to, so that a part that is
 -- shared is taken apart once.
-use Rattle.std.specs.Prelude.{◌≡◌, ◌⊎◌, ℕ, ◌<◌, Bool, true, false, List, [], ◌∷◌, ◌++◌, length, slice_get, Option, Some, None, All, Contains}
+use Rattle.std.specs.Prelude.{◌≡◌, ◌⊎◌, ℕ, ◌<◌, Bool, true, false, List, [], ◌∷◌, ◌++◌, length, Option, Some, None, All, Contains}
 use Rattle.fol.specs.FormulaData.{TermData, list_of_terms}
 use Rattle.substitution.specs.Free.{free_in}
 use Rattle.formula_pool.specs.Items.{Item, TermItem, TermsItem, Sort, TermSort, TermsSort, sort_of}

@@ -1,4 +1,6 @@
 pub mod Numbers
+pub mod Quantified
 pub mod Heads
+pub mod Listed
 pub mod Walks
 pub mod Fits

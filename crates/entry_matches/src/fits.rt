@@ -75,7 +75,7 @@ fn take_turn(
 
 /// Whether terms for variables that meet what is kept fill the pattern to the target. What the patterns are filled to is
 /// kept then; otherwise more may be kept than before.
-pub fn fits(
+pub(crate) fn fits(
     alloc: Global,
     pool: &Pool,
     bound: &[u32],

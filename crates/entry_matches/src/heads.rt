@@ -1,8 +1,9 @@
 //! An index from heads to the nodes of a pool.
 
-ghost use Rattle.std.specs.Prelude.{◌≡◌, List, None, slice_index_or, OnOk};
+ghost use Rattle.std.specs.Prelude.{◌≡◌, List, None, slice_index_or, OnOk, IfOk};
 ghost use Rattle.formula_pool.specs.declared.node.Node.{Node};
-ghost use Rattle.entry_matches.specs.Heads.{head_of, last_of, IsIndex, IsIndexOf, IsIndexedMore};
+ghost use Rattle.entry_matches.specs.Heads.{head_of, last_of, HasHead, IsIndex, IsIndexOf, IsIndexedMore};
+ghost use Rattle.entry_matches.specs.Listed.{AreThose, IsSomeIndex};
 
 use formula_pool::node::{Node, Two};
 use formula_pool::pool::Pool;
@@ -20,8 +21,8 @@ pub struct HeadIndex {
     before: Vec<Option<usize>>,
 }
 
-/// The node with 0 for its parts; the type that a term is said to have is kept.
-pub fn head_of(node: Node) -> Node
+// The node with 0 for its parts; the type that a term is said to have is kept.
+pub(crate) fn head_of(node: Node) -> Node
     ensures { result ≡ head_of node }
 {
     match node {
@@ -34,7 +35,7 @@ pub fn head_of(node: Node) -> Node
 }
 
 impl HeadIndex {
-    /// An index without nodes: none of any pool was taken up.
+    /// The index of a pool without nodes, or of the first ones, none, of any other.
     pub fn new(alloc: Global) -> HeadIndex
         ensures { (ns : List Node) → IsIndex ns result }
     {
@@ -44,8 +45,22 @@ impl HeadIndex {
         }
     }
 
-    /// The last node with the head.
-    pub fn last(&self, head: Node) -> Option<usize>
+    // The nodes with the head, the last one first.
+    pub(crate) fn with_head(&self, alloc: Global, head: Node) -> Result<Vec<usize>, NoMemory>
+        requires { IsSomeIndex self.now }
+        ensures { IfOk result (λ numbers. (ns : List Node) → IsIndexOf ns self.now → AreThose (HasHead ns head) numbers.items) }
+    {
+        let mut numbers = Vec::new(alloc);
+        let mut next = self.last(head);
+        while let Some(number) = next {
+            numbers.push(number)?;
+            next = self.previous(number);
+        }
+        Ok(numbers)
+    }
+
+    // The last node with the head.
+    fn last(&self, head: Node) -> Option<usize>
         ensures { result ≡ last_of self.now head }
     {
         match self.last.get(&head) {
@@ -54,8 +69,8 @@ impl HeadIndex {
         }
     }
 
-    /// The node before the one with this number that has the same head.
-    pub fn before(&self, number: usize) -> Option<usize>
+    // The node before the one with this number that has the same head.
+    fn previous(&self, number: usize) -> Option<usize>
         ensures { result ≡ slice_index_or self.now.before.items number None }
     {
         match self.before.get(number) {

@@ -1,8 +1,10 @@
-//! The terms of a branch that match quantified formulas: patterns that are filled to terms, and an index of terms by head.
+//! The terms of a branch that match quantified formulas.
 #![tactic(auto)]
 
-pub mod fits;
+mod fits;
+mod found;
 pub mod heads;
 pub mod laws;
 mod node;
-pub mod walk;
+pub mod quantified;
+mod walk;

@@ -113,7 +113,7 @@ fn reached(alloc: Global, pool: &Pool, way: Way, top: usize) -> Result<Vec<usize
 }
 
 // Whether the number is that of the variable.
-fn is_variable(pool: &Pool, number: usize, variable: u32) -> bool
+pub(crate) fn is_variable(pool: &Pool, number: usize, variable: u32) -> bool
     ensures { IsTrue result ↔ (slice_get pool.now number ≡ Some (LeafNode (Var variable))) }
 {
     match pool.node(number) {
@@ -123,7 +123,7 @@ fn is_variable(pool: &Pool, number: usize, variable: u32) -> bool
 }
 
 /// The number of the variable, where it is free in the item.
-pub fn free_at(
+pub(crate) fn free_at(
     alloc: Global,
     pool: &Pool,
     variable: u32,
@@ -161,7 +161,7 @@ fn bound_at(pool: &Pool, number: usize) -> Option<u32>
 }
 
 /// The variable, and those that the body binds outside terms; some may stand there twice.
-pub fn bound_variables(
+pub(crate) fn bound_variables(
     alloc: Global,
     pool: &Pool,
     variable: u32,

@@ -1,4 +1,4 @@
-use Rattle.std.proofs.Common.{ℕ, ◌++◌, ◌∷◌, [], true, sym, ap, ◌∙◌, subst}
+use Rattle.std.proofs.Common.{◌++◌, ◌∷◌, [], sym, ap, ◌∙◌, subst}
 use Rattle.std.proofs.lemmas.List.{nil_from_length}
 use Rattle.entry_matches.specs.Fits.{IsTurn, IsPair}
 use Rattle.entry_matches.proofs.FitLemmas.{fit_begun, fit_pair, fit_targets, fit_next, fit_done, fit_refused, fit_falls}

@@ -1,6 +1,5 @@
-use Rattle.std.proofs.Common.{◌≢◌, List, [], ◌∷◌, ◌++◌, Some, sym, ap, ◌∙◌, subst}
-use Rattle.formula_pool.specs.declared.node.Node.{Node}
-use Rattle.entry_matches.specs.Heads.{head_of, last_of}
+use Rattle.std.proofs.Common.{[], ◌∷◌, ◌++◌, Some, ap, ◌∙◌}
+use Rattle.entry_matches.specs.Heads.{last_of}
 use Rattle.entry_matches.proofs.HeadLemmas.{not_same_node}
 use Rattle.entry_matches.proofs.heads.HeadIndex.add.Goals as goal
 
