@@ -10,3 +10,7 @@ pub mod HeadLemmas
 pub mod QuantifiedLemmas
 pub mod FoundLemmas
 pub mod ListedLemmas
+pub mod HeldLemmas
+pub mod RowLemmas
+pub mod AssignmentLemmas
+pub mod JoinLemmas

@@ -4,3 +4,5 @@ pub mod Heads
 pub mod Listed
 pub mod Walks
 pub mod Fits
+pub mod Rows
+pub mod Joins

@@ -4,7 +4,9 @@
 mod fits;
 mod found;
 pub mod heads;
+mod joins;
 pub mod laws;
 mod node;
 pub mod quantified;
+mod rows;
 mod walk;
