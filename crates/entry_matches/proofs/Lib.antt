@@ -14,3 +14,5 @@ pub mod HeldLemmas
 pub mod RowLemmas
 pub mod AssignmentLemmas
 pub mod JoinLemmas
+pub mod TypeLemmas
+pub mod TriggerLemmas

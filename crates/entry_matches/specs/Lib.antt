@@ -6,3 +6,4 @@ pub mod Walks
 pub mod Fits
 pub mod Rows
 pub mod Joins
+pub mod Matches
