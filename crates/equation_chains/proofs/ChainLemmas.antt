@@ -1,18 +1,21 @@
 -- Chains over a pool that grows, and with one more link.
-use Rattle.std.proofs.Common.{◌≡◌, ◌⊎◌, inl, inr, ℕ, zero, suc, ◌+◌, ◌<◌, ◌≤◌, max, Bool, true, false, cond, eqb, nat_eq, List, [], ◌∷◌, ◌++◌, length, map, Option, Some, None, refl, sym, ap, ◌∙◌, subst, arith, append_assoc}
+use Rattle.std.proofs.Common.{◌≡◌, ◌⊎◌, inl, inr, ℕ, zero, suc, ◌+◌, ◌<◌, ◌≤◌, max, Bool, true, false, cond, nat_eq, List, [], ◌∷◌, ◌++◌, length, map, Option, Some, None, refl, sym, ap, ◌∙◌, subst, arith}
 use Rattle.std.specs.Prelude.{slice_get, slice_index_or, MatchOption, All, Contains}
 use Rattle.std.proofs.lemmas.Bool.{eqb-true, eq-eqb}
-use Rattle.std.proofs.lemmas.Option.{slice_get_within}
 use Rattle.std.proofs.lemmas.List.Elements.{All-nil, All-cons}
 use Rattle.fol.specs.declared.shapes.Shape.{Shape}
-use Rattle.fol.specs.FormulaData.{TermData, VarTerm, FormulaData, EqFormula}
+use Rattle.fol.specs.declared.operators.Comparison.TheVariants.{Eq}
+use Rattle.fol.specs.Depth.{term_depth}
+use Rattle.fol.specs.FormulaData.{TermData, VarTerm, ConstantTerm, UnaryTerm, BinaryTerm, TernaryTerm, PackTerm, FieldTerm, SetFieldTerm, IfTerm, FormulaData, EqFormula}
+use Rattle.substitution.specs.Free.{free_in_term}
 use Rattle.axioms.specs.declared.axiom.Axiom.TheVariants.{Equal}
 use Rattle.axioms.specs.declared.axiom.Equation.TheVariants.{Itself as SameTerm}
 use Rattle.cert.specs.CertData.{StepData, AxiomStep, RewriteStep}
 use Rattle.cert.specs.Closes.{most_deep, IsWithin, IsStep, added}
 use Rattle.cert.specs.Rewriting.{IsReplaced, IsRewriting}
-use Rattle.formula_pool.specs.Items.{Item, TermItem, FormulaItem, TermSort, FormulaSort, Sort, sort_of, term_in, formula_in}
+use Rattle.formula_pool.specs.Items.{Item, TermItem, FormulaItem, TermSort, FormulaSort, Sort, sort_of, formula_in}
 use Rattle.formula_pool.specs.Pools.{item_at, HasPart, IsItem, IsOneNumber, Extends}
+use Rattle.formula_pool.specs.declared.node.Two.TheVariants.{Compare}
 use Rattle.formula_pool.specs.declared.node.Node.{Node}
 use Rattle.formula_pool.proofs.ItemLemmas.{item_kept}
 use Rattle.formula_pool.proofs.GrowthLemmas.{item_stays, extends_then}
@@ -21,8 +24,9 @@ use Rattle.branches.specs.Branch.{Branch, formulas}
 use Rattle.branches.specs.Names.{above_term, above, above_all}
 use Rattle.branches.specs.Turns.{IsLinkStep, IsLink, AreLinks, after_links}
 use Rattle.equation_chains.specs.Frames.{filled, IsWay}
-use Rattle.equation_chains.specs.Chains.{term_at, formula_at, ChainData, IsNotAmong, IsPlaceOf, ArePlaces, Keeps, IsAt, step_in, NamesInPool, IsChain, AreEntries, CanBegin, Equates, CanSwap}
+use Rattle.equation_chains.specs.Chains.{term_at, formula_at, ChainData, IsNotAmong, IsPlaceOf, ArePlaces, Keeps, IsAt, step_in, NamesInPool, IsChain, AreEntries, CanBegin, Equates, CanSwap, CanPutRight}
 use Rattle.equation_chains.specs.declared.frame.Frame.{Frame}
+use Rattle.equation_chains.specs.declared.frame.Frame.TheVariants.{SecondOfTwo}
 use Rattle.equation_chains.specs.declared.chain.ChainStep.{ChainStep}
 use Rattle.equation_chains.specs.declared.chain.ChainStep.TheVariants.{Itself, Rewritten}
 use Rattle.equation_chains.specs.declared.chain.Swap.{Swap}
@@ -325,4 +329,39 @@ made_by ns fs vs ms d way swap formula variable pattern v vd e f g w from to is_
     within = is_pattern.within;
     is = is_pattern.is ∙ filled_kept ns vs (extends_then e f) FormulaSort TermSort way w.leads (item_at vs variable) ∙ ap (filled ns way) (is_variable.is ∙ ap (λ n. TermItem (VarTerm n)) vd);
   };
+}
+
+-- ---- the right side of an equation
+
+some_depth : (t : TermData) → 1 ≤ term_depth t
+some_depth (VarTerm n) = omega arith
+some_depth (ConstantTerm c) = omega arith
+some_depth (UnaryTerm o t) = omega arith
+some_depth (BinaryTerm o t u) = omega arith
+some_depth (TernaryTerm o t u v) = omega arith
+some_depth (PackTerm a ts) = omega arith
+some_depth (FieldTerm a k t) = omega arith
+some_depth (SetFieldTerm a k t u) = omega arith
+some_depth (IfTerm p t u) = omega arith
+
+right_shallow : (m n d : ℕ) → 1 ≤ n → 1 + max m n ≤ d → 1 + max m 1 ≤ d
+right_shallow m n d h e = omega arith
+
+-- the way to the right side of an equation
+abbrev pub right_of : ℕ → Frame
+right_of left = SecondOfTwo (Compare Eq) left
+
+pub right_way : (ns : List Node) (left : ℕ) → HasPart ns (length ns) left TermSort → IsWay ns (right_of left ∷ []) TermSort
+right_way ns left p = record { leads = (refl, p, refl) }
+
+pub right_swap : (ns : List Node) (d : ChainData) (left : ℕ) (swap : Swap) (source : ℕ) → CanPutRight ns d left swap source → CanSwap ns d (right_of left ∷ []) swap source
+right_swap ns d left swap source c = record {
+  equation = c.equation;
+  is_equation = c.is_equation;
+  equates = c.equates;
+  is_source = c.is_source;
+  free = All-nil (λ n. free_in_term n (term_at ns swap.from) ≡ false);
+  other_free = All-nil (λ n. free_in_term n (term_at ns swap.to) ≡ false);
+  shallow = c.shallow;
+  pattern_shallow = right_shallow (term_depth (term_at ns left)) (term_depth (term_at ns swap.to)) most_deep (some_depth (term_at ns swap.to)) c.shallow;
 }

@@ -1,7 +1,7 @@
 -- What heads with an open part make: sorts, and items and nodes in a pool that grows.
-use Rattle.std.proofs.Common.{◌≡◌, ℕ, zero, suc, ◌<◌, ◌≤◌, ◌-◌, List, [], ◌∷◌, ◌++◌, length, get_or, drop, refl, sym, ap, ◌∙◌, subst, arith, length-append}
+use Rattle.std.proofs.Common.{◌≡◌, ℕ, zero, suc, ◌<◌, ◌≤◌, ◌-◌, List, [], ◌∷◌, length, get_or, drop, refl, sym, ap, ◌∙◌, subst, arith, length-append}
 use Rattle.std.proofs.Math.Seq.{drop-cons}
-use Rattle.formula_pool.specs.Items.{Item, NoItem, Sort, FormulaSort, sort_of, one_item, two_item, three_item, one_part, first_of_two, second_of_two, first_of_three, second_of_three, third_of_three}
+use Rattle.formula_pool.specs.Items.{Item, NoItem, Sort, FormulaSort, sort_of, one_item, two_item, three_item, first_of_two, second_of_two, first_of_three, second_of_three, third_of_three}
 use Rattle.formula_pool.specs.Pools.{item_at, HasPart, HasParts, IsMade, IsItem, Extends}
 use Rattle.formula_pool.specs.declared.node.One.{One}
 use Rattle.formula_pool.specs.declared.node.One.TheVariants.{Unary}

@@ -17,7 +17,6 @@ use Rattle.branches.specs.Names.{above_term, above}
 use Rattle.branches.specs.Turns.{AreLinks, after_links}
 use Rattle.equation_chains.specs.Frames.{filled, bound_on}
 use Rattle.equation_chains.specs.declared.frame.Frame.{Frame}
-use Rattle.equation_chains.specs.declared.chain.Rewriting.{Rewriting}
 use Rattle.equation_chains.specs.declared.chain.ChainStep.{ChainStep}
 use Rattle.equation_chains.specs.declared.chain.ChainStep.TheVariants.{Itself, Rewritten}
 use Rattle.equation_chains.specs.declared.chain.Swap.{Swap}
@@ -112,3 +111,11 @@ pub record CanSwap (ns : List Node) (d : ChainData) (way : List Frame) (swap : S
   pub other_free : IsFreeOf (bound_on way) (term_at ns swap.to)
   pub shallow : IsShallow (formula_in (filled ns way (item_at ns swap.to)))
   pub pattern_shallow : IsShallow (formula_in (filled ns way (TermItem (VarTerm d.variable))))
+
+-- the source says that the left term is the one, and the chain that the other is equal to that
+pub record CanPutRight (ns : List Node) (d : ChainData) (left : ℕ) (swap : Swap) (source : ℕ) : Type 0 where
+  pub equation : FormulaData
+  pub is_equation : IsAt ns d swap.equation equation
+  pub equates : Equates equation (term_at ns swap.from) (term_at ns swap.to)
+  pub is_source : IsAt ns d source (EqFormula (term_at ns left) (term_at ns swap.from))
+  pub shallow : IsShallow (EqFormula (term_at ns left) (term_at ns swap.to))

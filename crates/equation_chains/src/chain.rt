@@ -9,7 +9,7 @@ ghost use Rattle.formula_pool.specs.declared.node.Node.{Node};
 ghost use Rattle.branches.specs.Branch.{Branch, formulas};
 ghost use Rattle.branches.specs.Names.{above_all};
 ghost use Rattle.equation_chains.specs.Frames.{filled, IsWay};
-ghost use Rattle.equation_chains.specs.Chains.{term_at, IsNotAmong, IsPlaceOf, ArePlaces, HasPlaces, Keeps, IsAt, IsChain, AreEntries, CanBegin, CanSwap};
+ghost use Rattle.equation_chains.specs.Chains.{term_at, IsNotAmong, IsPlaceOf, ArePlaces, HasPlaces, Keeps, IsAt, IsChain, AreEntries, CanBegin, CanSwap, CanPutRight};
 
 use crate::frame::{Frame, fill};
 use fol::operators::Comparison;
@@ -233,5 +233,29 @@ impl Chain {
                 Ok(place)
             }
         }
+    }
+
+    /// A place at which the equation of the left term with what is put for the right one stands, where the source is the
+    /// equation of the left term with the right one. It is added if need be.
+    pub fn put_right(
+        &mut self,
+        pool: &mut Pool,
+        left: usize,
+        swap: Swap,
+        source: usize,
+    ) -> Result<usize, NoMemory>
+        requires left { HasPart pool.old (length pool.old) left TermSort }
+        requires from { HasPart pool.old (length pool.old) swap.from TermSort }
+        requires to { HasPart pool.old (length pool.old) swap.to TermSort }
+        requires right { CanPutRight pool.old self.old left swap source }
+        requires places { HasPlaces self.old }
+        ensures extends { Extends pool.old pool.new }
+        ensures places { OnOk result (HasPlaces self.new) }
+        ensures keeps { OnOk result (Keeps self.old self.new) }
+        ensures at { IfOk result (λ place. IsAt pool.new self.new place (EqFormula (term_at pool.old left) (term_at pool.old swap.to))) }
+        ensures chain { OnOk result ((b : Branch) → IsChain pool.old b self.old → IsChain pool.new b self.new) }
+    {
+        let right = [Frame::SecondOfTwo(Two::Compare(Comparison::Eq), left)];
+        self.rewrite(pool, &right, swap, source)
     }
 }

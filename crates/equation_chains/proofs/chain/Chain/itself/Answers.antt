@@ -1,4 +1,4 @@
-use Rattle.std.proofs.Common.{refl, ap}
+use Rattle.std.proofs.Common.{ap}
 use Rattle.fol.specs.FormulaData.{EqFormula}
 use Rattle.fol.specs.declared.operators.Comparison.TheVariants.{Eq}
 use Rattle.formula_pool.specs.Items.{formula_in}

@@ -1,4 +1,4 @@
-use Rattle.std.proofs.Common.{take, ◌∙◌}
+use Rattle.std.proofs.Common.{◌∙◌}
 use Rattle.std.proofs.lemmas.List.{take_all}
 use Rattle.equation_chains.proofs.ChainLemmas.{begun}
 use Rattle.equation_chains.proofs.chain.Chain.of.Goals as goal

@@ -1,7 +1,6 @@
-use Rattle.std.proofs.Common.{refl, sym, ap, ◌∙◌, subst}
-use Rattle.fol.specs.FormulaData.{VarTerm}
-use Rattle.formula_pool.specs.Items.{TermItem, TermSort, sort_of, formula_in}
-use Rattle.formula_pool.specs.Pools.{item_at, IsItem}
+use Rattle.std.proofs.Common.{sym, ap, subst}
+use Rattle.formula_pool.specs.Items.{TermSort, sort_of, formula_in}
+use Rattle.formula_pool.specs.Pools.{item_at}
 use Rattle.formula_pool.specs.declared.node.Leaf.TheVariants.{Var}
 use Rattle.formula_pool.proofs.GrowthLemmas.{extends_then, leaf_made}
 use Rattle.equation_chains.specs.Frames.{filled, IsWay}
