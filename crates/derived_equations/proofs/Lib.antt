@@ -1,0 +1,4 @@
+pub mod GrowthLemmas
+pub mod DepthLemmas
+pub mod RouteLemmas
+pub mod ReplacingLemmas

@@ -1,0 +1,121 @@
+//! Routes: links, each entered where the one before it is left, and the equation of the two ends.
+
+ghost use Rattle.std.specs.Prelude.{◌≡◌, ℕ, None, slice_index_or, OnOk, IfOk, IfSome};
+ghost use Rattle.formula_pool.specs.Pools.{Extends};
+ghost use Rattle.branches.specs.Branch.{Branch};
+ghost use Rattle.equation_chains.specs.Chains.{term_at, HasPlaces, Keeps, IsChain, CanBegin};
+ghost use Rattle.derived_equations.specs.Routes.{number_at, equation_at, IsEquation, IsEither, CanPass, end_of, CanGo, IsSingle};
+
+use class_history::history::Join;
+use equation_chains::chain::{Chain, Swap};
+use formula_pool::pool::Pool;
+use pv_base::memory::NoMemory;
+
+/// The number that a node has in the pool.
+pub fn number_of(numbers: &[usize], node: usize) -> usize
+    ensures { result ≡ number_at numbers.now node }
+{
+    match numbers.get(node) {
+        Some(number) => *number,
+        None => 0,
+    }
+}
+
+/// The place of the equation of a link.
+pub fn equation_of(equations: &[Option<usize>], link: usize) -> Option<usize>
+    ensures { result ≡ equation_at equations.now link }
+{
+    match equations.get(link) {
+        Some(place) => *place,
+        None => None,
+    }
+}
+
+/// A place at which the equation of a term with the one at the far end of a link stands, where the source is that with the
+/// one at its near end.
+pub fn pass(
+    pool: &mut Pool,
+    chain: &mut Chain,
+    numbers: &[usize],
+    equations: &[Option<usize>],
+    left: usize,
+    join: Join,
+    source: usize,
+) -> Result<usize, NoMemory>
+    requires source { IsEquation pool.old chain.old source left (number_at numbers.now join.near) }
+    requires pass { CanPass pool.old chain.old numbers.now equations.now left join }
+    requires places { HasPlaces chain.old }
+    ensures extends { Extends pool.old pool.new }
+    ensures places { OnOk result (HasPlaces chain.new) }
+    ensures keeps { OnOk result (Keeps chain.old chain.new) }
+    ensures at { IfOk result (λ place. IsEquation pool.new chain.new place left (number_at numbers.now join.far)) }
+    ensures chain { OnOk result ((b : Branch) → IsChain pool.old b chain.old → IsChain pool.new b chain.new) }
+{
+    let from = number_of(numbers, join.near);
+    let to = number_of(numbers, join.far);
+    match equation_of(equations, join.link) {
+        Some(equation) => chain.put_right(pool, left, Swap { equation, from, to }, source),
+        None => Ok(source),
+    }
+}
+
+/// A place at which the equation of the terms at the ends of a route stands.
+pub fn along(
+    pool: &mut Pool,
+    chain: &mut Chain,
+    numbers: &[usize],
+    equations: &[Option<usize>],
+    from: usize,
+    route: &[Join],
+) -> Result<usize, NoMemory>
+    requires route { CanGo pool.old chain.old numbers.now equations.now from route.now }
+    requires places { HasPlaces chain.old }
+    ensures extends { Extends pool.old pool.new }
+    ensures places { OnOk result (HasPlaces chain.new) }
+    ensures keeps { OnOk result (Keeps chain.old chain.new) }
+    ensures at { IfOk result (λ place. IsEquation pool.new chain.new place (number_at numbers.now from) (number_at numbers.now (end_of from route.now))) }
+    ensures chain { OnOk result ((b : Branch) → IsChain pool.old b chain.old → CanBegin b chain.old (term_at pool.old (number_at numbers.now from)) → IsChain pool.new b chain.new) }
+{
+    let left = number_of(numbers, from);
+    let mut place = chain.itself(pool, left)?;
+    for join in route {
+        let next = pass(pool, chain, numbers, equations, left, *join, place)?;
+        place = next;
+    }
+    Ok(place)
+}
+
+// The place of the equation of the only link of a route.
+fn single(equations: &[Option<usize>], route: &[Join]) -> Option<usize>
+    ensures { IfSome result (λ place. IsSingle equations.now route.now place) }
+{
+    if route.len() == 1 {
+        equation_of(equations, route[0].link)
+    } else {
+        None
+    }
+}
+
+/// A place at which it stands that the terms at the ends of a route are equal, whichever comes first: that of a link, where
+/// the route is one.
+pub fn between(
+    pool: &mut Pool,
+    chain: &mut Chain,
+    numbers: &[usize],
+    equations: &[Option<usize>],
+    from: usize,
+    route: &[Join],
+) -> Result<usize, NoMemory>
+    requires route { CanGo pool.old chain.old numbers.now equations.now from route.now }
+    requires places { HasPlaces chain.old }
+    ensures extends { Extends pool.old pool.new }
+    ensures places { OnOk result (HasPlaces chain.new) }
+    ensures keeps { OnOk result (Keeps chain.old chain.new) }
+    ensures at { IfOk result (λ place. IsEither pool.new chain.new place (number_at numbers.now from) (number_at numbers.now (end_of from route.now))) }
+    ensures chain { OnOk result ((b : Branch) → IsChain pool.old b chain.old → CanBegin b chain.old (term_at pool.old (number_at numbers.now from)) → IsChain pool.new b chain.new) }
+{
+    match single(equations, route) {
+        Some(place) => Ok(place),
+        None => along(pool, chain, numbers, equations, from, route),
+    }
+}
