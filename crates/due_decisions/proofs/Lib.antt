@@ -1,0 +1,11 @@
+pub mod ShapeLemmas
+pub mod NumberLemmas
+pub mod DenialLemmas
+pub mod PlaceLemmas
+pub mod StableLemmas
+pub mod ChoiceLemmas
+pub mod OpenLemmas
+pub mod GrownLemmas
+pub mod CutLemmas
+pub mod PairLemmas
+pub mod OrderLemmas

@@ -1,0 +1,9 @@
+//! Decisions that are due on a branch: whether two indexes of near memories or vectors are equal, and which of two numbers
+//! is the greater.
+#![tactic(auto)]
+
+pub mod cuts;
+mod denials;
+mod numbers;
+pub mod orders;
+mod places;
