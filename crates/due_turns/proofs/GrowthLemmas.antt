@@ -1,21 +1,30 @@
 -- Turns that add what is due are due.
-use Rattle.std.proofs.Common.{◌≡◌, ℕ, ◌<◌, List, [], ◌∷◌, length, map, refl, sym, ap, ◌∙◌, subst}
-use Rattle.std.specs.Prelude.{All}
+use Rattle.std.proofs.Common.{◌≡◌, ◌⊎◌, inl, inr, ℕ, ◌<◌, max, List, [], ◌∷◌, ◌++◌, length, length-append, map, Option, Some, None, sym, ap, ◌∙◌, subst, arith}
+use Rattle.std.specs.Prelude.{All, MatchOption}
 use Rattle.std.proofs.lemmas.List.Elements.{All-nil, All-cons}
 use Rattle.fol.specs.declared.shapes.Shape.{Shape}
-use Rattle.fol.specs.FormulaData.{FormulaData}
+use Rattle.fol.specs.FormulaData.{TermData, FormulaData, EqFormula, NotFormula}
+use Rattle.axioms.specs.Forms.{DifferFormula}
+use Rattle.axioms.specs.declared.axiom.Axiom.{Axiom as AxiomName}
+use Rattle.formula_pool.specs.Items.{sort_of, term_in}
+use Rattle.formula_pool.specs.Pools.{Extends}
+use Rattle.formula_pool.proofs.ItemLemmas.{item_kept}
 use Rattle.formula_pool.specs.declared.node.Node.{Node}
-use Rattle.branches.specs.Branch.{Branch}
-use Rattle.branches.specs.Due.{PartsDue, SplitDue, NameDue}
-use Rattle.branches.specs.Turns.{PartsTurn, NameTurn, SplitTurn, generation_at, IsSplitTime}
-use Rattle.pool_branch.specs.PoolBranches.{IsFormulaNumber}
-use Rattle.entry_steps.specs.Numbers.{formula_at, AreFormulas}
+use Rattle.branches.specs.Branch.{Branch, IsTerm, IsGeneration}
+use Rattle.branches.specs.Due.{PartsDue, SplitDue, NameDue, InstanceDue, AxiomDue, CutDue, AreGenerations, OfNone, OfMore}
+use Rattle.branches.specs.Decisions.{AreIndexes}
+use Rattle.branches.specs.Turns.{PartsTurn, NameTurn, InstanceTurn, AxiomTurn, SplitTurn, CutTurn, generation_at, IsSplitTime, IsLate}
+use Rattle.pool_branch.specs.PoolBranches.{IsFormulaNumber, IsTermNumber, IsNoTerm}
+use Rattle.entry_steps.specs.Numbers.{formula_at, AreFormulas, IsNumberOf}
+use Rattle.entry_steps.proofs.NumberLemmas.{number_stays, formula_stays}
 use Rattle.entry_steps.specs.Steps.{ArePartsDue, AreCasesDue}
 use Rattle.entry_names.specs.Names.{IsNameStep}
 use Rattle.entry_names.specs.declared.names.NameStep.{NameStep}
-use Rattle.search_trees.specs.Turns.{terms_of, entry_of, IsGenerationFrom, IsAddedFor, AsParts, AsName, AsSplit}
+use Rattle.due_decisions.specs.Cuts.{IsCut}
+use Rattle.due_decisions.specs.declared.cuts.CutStep.{CutStep}
+use Rattle.search_trees.specs.Turns.{terms_of, entry_of, term_at, IsGenerationFrom, IsAddedFor, AsParts, AsName, AsInstance, AsAxiom, AsSplit, AsCut}
 use Rattle.search_trees.specs.declared.turn.Growth.{Growth}
-use Rattle.search_trees.specs.declared.turn.Reason.TheVariants.{Parts, Name, Split}
+use Rattle.search_trees.specs.declared.turn.Reason.TheVariants.{Parts, Name, Instance, Axiom, Split, Cut}
 use Rattle.proof_search.specs.Decisions.{IsGrowthDue}
 
 module _ (shapes : List Shape) (ns : List Node) (b : Branch) where
@@ -56,3 +65,85 @@ module _ (shapes : List Shape) (ns : List Node) (b : Branch) where
         from = subst (λ r. IsGenerationFrom b (entry_of r) g.generation) (sym reason) (generation ∙ ap (generation_at b) (sym same));
         due = subst (λ k. NameDue b k step.variable h.formula) (sym same) h.due;
       }
+
+  pub axiom_due : (g : Growth) (name : AxiomName) (formula : ℕ) (p : FormulaData) → g.reason ≡ Axiom name → g.formulas.items ≡ formula ∷ [] → IsNumberOf ns p formula → AxiomDue shapes b name p g.generation → IsGrowthDue shapes ns b g
+  axiom_due g name formula p reason formulas numbered due =
+      let one : map (formula_at ns) g.formulas.items ≡ p ∷ [] = ap (map (formula_at ns)) formulas ∙ ap (λ q. q ∷ []) numbered.is in
+      record {
+        turn = AxiomTurn name p g.generation;
+        is = record {
+          formulas = subst (AreFormulas ns) (sym formulas) (record { each = All-cons (IsFormulaNumber ns) formula [] numbered.number (All-nil (IsFormulaNumber ns)) });
+          terms = subst (λ r. All (λ t. t < length ns) (terms_of r)) (sym reason) (All-nil (λ t. t < length ns));
+          added = subst (λ r. IsAddedFor ns (map (formula_at ns) g.formulas.items) r g.generation (AxiomTurn name p g.generation)) (sym reason) (AsAxiom name g.generation p one);
+        };
+        from = subst (λ r. IsGenerationFrom b (entry_of r) g.generation) (sym reason) tt;
+        due = due;
+      }
+
+  pub instance_due : (g : Growth) (i term formula : ℕ) (p : FormulaData) → g.reason ≡ Instance i term → g.formulas.items ≡ formula ∷ [] → IsTermNumber ns term → IsNumberOf ns p formula → InstanceDue b i (term_at ns term) p g.generation → IsGrowthDue shapes ns b g
+  instance_due g i term formula p reason formulas number numbered due =
+      let one : map (formula_at ns) g.formulas.items ≡ p ∷ [] = ap (map (formula_at ns)) formulas ∙ ap (λ q. q ∷ []) numbered.is in
+      record {
+        turn = InstanceTurn i (term_at ns term) p g.generation;
+        is = record {
+          formulas = subst (AreFormulas ns) (sym formulas) (record { each = All-cons (IsFormulaNumber ns) formula [] numbered.number (All-nil (IsFormulaNumber ns)) });
+          terms = subst (λ r. All (λ t. t < length ns) (terms_of r)) (sym reason) (All-cons (λ t. t < length ns) term [] number.within (All-nil (λ t. t < length ns)));
+          added = subst (λ r. IsAddedFor ns (map (formula_at ns) g.formulas.items) r g.generation (InstanceTurn i (term_at ns term) p g.generation)) (sym reason) (AsInstance i term g.generation p one);
+        };
+        from = subst (λ r. IsGenerationFrom b (entry_of r) g.generation) (sym reason) tt;
+        due = due;
+      }
+
+  -- both terms stand on the branch, since their equation is not denied there
+  pub cut_terms : (t u : TermData) → CutDue b t u → AreIndexes b t u
+  cut_terms t u due = elim due.asked [
+    | inl indexes ↦ indexes
+    | inr denied ↦ absurd (due.denial_is_new.new denied)
+  ]
+
+  pub cut_due : (g : Growth) (left right equation denial l r : ℕ) → g.reason ≡ Cut left right → g.generation ≡ max l r → g.formulas.items ≡ equation ∷ denial ∷ [] → IsTermNumber ns left → IsTermNumber ns right → IsNumberOf ns (EqFormula (term_at ns left) (term_at ns right)) equation → IsNumberOf ns (NotFormula (EqFormula (term_at ns left) (term_at ns right))) denial → IsGeneration b (term_at ns left) l → IsGeneration b (term_at ns right) r → CutDue b (term_at ns left) (term_at ns right) → IsLate shapes b → IsGrowthDue shapes ns b g
+  cut_due g left right equation denial l r reason generation formulas one other equal differ first second due late =
+      let t : TermData = term_at ns left in
+      let u : TermData = term_at ns right in
+      let two : map (formula_at ns) g.formulas.items ≡ EqFormula t u ∷ DifferFormula t u ∷ [] = ap (map (formula_at ns)) formulas ∙ (λ i. equal.is i ∷ differ.is i ∷ []) in
+      let of_both : AreGenerations b (t ∷ u ∷ []) (max l (max r 0)) = OfMore t (u ∷ []) l (max r 0) first (OfMore u [] r 0 second OfNone) in
+      let same : max l (max r 0) ≡ g.generation = ap (max l) (max-zero r) ∙ sym generation in
+      record {
+        turn = CutTurn t u g.generation;
+        is = record {
+          formulas = subst (AreFormulas ns) (sym formulas) (record { each = All-cons (IsFormulaNumber ns) equation (denial ∷ []) equal.number (All-cons (IsFormulaNumber ns) denial [] differ.number (All-nil (IsFormulaNumber ns))) });
+          terms = subst (λ q. All (λ n. n < length ns) (terms_of q)) (sym reason) (All-cons (λ n. n < length ns) left (right ∷ []) one.within (All-cons (λ n. n < length ns) right [] other.within (All-nil (λ n. n < length ns))));
+          added = subst (λ q. IsAddedFor ns (map (formula_at ns) g.formulas.items) q g.generation (CutTurn t u g.generation)) (sym reason) (AsCut left right g.generation two);
+        };
+        from = subst (λ q. IsGenerationFrom b (entry_of q) g.generation) (sym reason) tt;
+        due = (due, subst (AreGenerations b (t ∷ u ∷ [])) same of_both, late);
+      }
+    where
+      max-zero : (n : ℕ) → max n 0 ≡ n
+      max-zero n = omega arith
+
+-- a generation that is looked up
+pub found_generation : (b : Branch) (t : TermData) (o : Option ℕ) (g : ℕ) → o ≡ Some g → MatchOption o (IsNoTerm b t) (IsGeneration b t) → IsGeneration b t g
+found_generation b t o g e h = subst (λ x. MatchOption x (IsNoTerm b t) (IsGeneration b t)) e h
+
+pub no_generation : (b : Branch) (t : TermData) (o : Option ℕ) → o ≡ None → MatchOption o (IsNoTerm b t) (IsGeneration b t) → IsTerm b t → ⊥
+no_generation b t o e h term = (subst (λ x. MatchOption x (IsNoTerm b t) (IsGeneration b t)) e h).none term
+
+module _ (ns ms : List Node) (grown : Extends ns ms) where
+  pub term_number_stays : (n : ℕ) → IsTermNumber ns n → IsTermNumber ms n
+  term_number_stays n h = record {
+    within = (let l = ap length grown.is in omega (arith, l, length-append ns grown.more, h.within));
+    sort = ap sort_of (item_kept ns ms grown n h.within) ∙ h.sort;
+  }
+
+  pub term_stays : (n : ℕ) → IsTermNumber ns n → term_at ms n ≡ term_at ns n
+  term_stays n h = ap term_in (item_kept ns ms grown n h.within)
+
+  -- a cut in the pool that has its denial too
+  pub cut_in_more : (shapes : List Shape) (b : Branch) (step : CutStep) → IsCut ns b step → (g : Growth) (denial l r : ℕ) → g.reason ≡ Cut step.left step.right → g.generation ≡ max l r → g.formulas.items ≡ step.equation ∷ denial ∷ [] → IsNumberOf ms (NotFormula (formula_at ns step.equation)) denial → IsGeneration b (term_at ns step.left) l → IsGeneration b (term_at ns step.right) r → IsLate shapes b → IsGrowthDue shapes ms b g
+  cut_in_more shapes b step cut g denial l r reason generation formulas denied first second late =
+      let one : term_at ns step.left ≡ term_at ms step.left = sym (term_stays step.left cut.left) in
+      let other : term_at ns step.right ≡ term_at ms step.right = sym (term_stays step.right cut.right) in
+      let equation : IsNumberOf ms (EqFormula (term_at ms step.left) (term_at ms step.right)) step.equation = record { number = number_stays ns ms grown step.equation cut.equation.number; is = formula_stays ns ms grown step.equation cut.equation.number ∙ cut.equation.is ∙ (λ i. EqFormula (one i) (other i)) } in
+      let denied_is = subst (λ p. IsNumberOf ms p denial) (λ i. NotFormula ((cut.equation.is ∙ (λ j. EqFormula (one j) (other j))) i)) denied in
+      cut_due shapes ms b g step.left step.right step.equation denial l r reason generation formulas (term_number_stays step.left cut.left) (term_number_stays step.right cut.right) equation denied_is (subst (λ t. IsGeneration b t l) one first) (subst (λ t. IsGeneration b t r) other second) (subst (λ u. CutDue b (term_at ms step.left) u) other (subst (λ t. CutDue b t (term_at ns step.right)) one cut.due)) late

@@ -2,3 +2,4 @@
 #![tactic(auto)]
 
 pub mod growths;
+pub mod late;
