@@ -1,0 +1,4 @@
+pub mod DueLemmas
+pub mod AskerLemmas
+pub mod TypingLemmas
+pub mod RangeLemmas

@@ -1,0 +1,21 @@
+use Rattle.std.proofs.Common.{length}
+use Rattle.pool_branch.specs.PoolBranches.{branch_in}
+use Rattle.due_axioms.specs.Askers.{asks_at}
+use Rattle.due_axioms.proofs.DueLemmas.{some_none}
+use Rattle.near_groups.proofs.GraphLemmas.{ok_map}
+use Rattle.due_axioms.proofs.RangeLemmas.{askers_are, ranges_answer}
+use Rattle.due_axioms.proofs.ranges.next_range_axiom.Goals as goal
+
+pub next_asked-requires-clause-askers : goal.next_asked-requires-clause-askers
+next_asked-requires-clause-askers c =
+    let ns = c.args.pool.now in
+    rw (c.as_slice-2.ensures.value, c.in_ok-askers.ensures, c.as_slice.ensures.value)
+    (askers_are ns (branch_in ns c.args.branch.now) c.args.terms.now c.requires.terms (length c.args.branch.now.entries) c.in_ok-found.found.items c.in_ok-found.ensures)
+
+pub next_asked-requires-clause-before : goal.next_asked-requires-clause-before
+next_asked-requires-clause-before c = some_none (asks_at c.args.shapes.now c.args.pool.now c.as_slice-2.result.now)
+
+pub returns-clause-due : goal.returns-clause-due
+returns-clause-due c =
+    let answer = rw (c.as_slice-2.ensures.value, c.in_ok-askers.ensures, c.as_slice.ensures.value) at c.next_asked.ensures.due in
+    ok_map c.next_asked.result (λ o h. ranges_answer c.args.shapes.now c.args.pool.now c.one_number.ensures c.args.branch.now c.requires.over c.args.terms.now c.requires.terms c.in_ok-found.found.items c.in_ok-found.ensures c.next_asked.ensures.extends o h) answer

@@ -1,0 +1,4 @@
+pub mod Due
+pub mod Instances
+pub mod Askers
+pub mod Typings

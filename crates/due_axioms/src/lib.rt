@@ -1,0 +1,8 @@
+//! The instances of axioms that are due on a branch of a search, by the table of axioms.
+#![tactic(auto)]
+
+pub mod askers;
+pub mod due;
+pub mod laws;
+pub mod ranges;
+pub mod typings;
