@@ -1,2 +1,4 @@
 pub mod Routes
 pub mod Replacing
+pub mod Graphs
+pub mod Places

@@ -1,5 +1,6 @@
 //! Why two terms are equal, as a chain of single steps: the equation of two terms is derived along links.
 #![tactic(auto)]
 
+pub mod difference;
 pub mod replacing;
 pub mod route;

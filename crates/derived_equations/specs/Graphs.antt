@@ -1,0 +1,82 @@
+-- Nodes of classes with the links between them, and the number that each has in a pool.
+use Rattle.std.specs.Prelude.{◌≡◌, ◌≢◌, ℕ, ◌+◌, ◌<◌, ◌≤◌, Bool, true, false, List, length, slice_get, Some}
+use Rattle.fol.specs.Depth.{term_depth}
+use Rattle.cert.specs.Closes.{most_deep}
+use Rattle.formula_pool.specs.Items.{TermSort, sort_of}
+use Rattle.formula_pool.specs.Pools.{item_at, HasPart, IsMade}
+use Rattle.formula_pool.specs.declared.node.Leaf.TheVariants.{Var, Constant, TypeParam}
+use Rattle.formula_pool.specs.declared.node.One.TheVariants.{Unary, Not}
+use Rattle.formula_pool.specs.declared.node.Two.TheVariants.{Binary, Pack, Field, Quantify}
+use Rattle.formula_pool.specs.declared.node.Three.TheVariants.{Ternary, SetField, If}
+use Rattle.formula_pool.specs.declared.node.Node.{Node}
+use Rattle.formula_pool.specs.declared.node.Node.TheVariants.{Leaf as LeafNode, One as OneNode, Two as TwoNode, Three as ThreeNode}
+use Rattle.classes.specs.Congruence.{IsWithin}
+use Rattle.classes.specs.Links.{Linked, AreShown}
+use Rattle.classes.specs.States.{IsPart}
+use Rattle.classes.specs.declared.link.Equation.{Equation}
+use Rattle.classes.specs.declared.link.Link.{Link}
+use Rattle.equation_chains.specs.Chains.{term_at}
+use Rattle.derived_equations.specs.Routes.{number_at}
+
+-- the node with the numbers of its parts
+abbrev pub renumbered : List ℕ → Node → Node
+renumbered numbers (LeafNode h) = LeafNode h
+renumbered numbers (OneNode h a) = OneNode h (number_at numbers a)
+renumbered numbers (TwoNode h a b) = TwoNode h (number_at numbers a) (number_at numbers b)
+renumbered numbers (ThreeNode h a b c) = ThreeNode h (number_at numbers a) (number_at numbers b) (number_at numbers c)
+
+-- where the node is a type parameter, it has the number of that
+pub record IsReal (pool ns : List Node) (numbers : List ℕ) (i : ℕ) : Type 0 where
+  pub made : (n : ℕ) → slice_get ns i ≡ Some (LeafNode (TypeParam n)) → IsMade pool (number_at numbers i) (LeafNode (TypeParam n))
+
+-- a node has the number of what its parts make; and a bound variable, which is the denial of a type parameter, that of the
+-- variable, whatever number the parameter has
+pub data IsNumbered (pool ns : List Node) (numbers : List ℕ) (i : ℕ) : Type 0 where
+  ByParts : (n : Node) → slice_get ns i ≡ Some n → IsMade pool (number_at numbers i) (renumbered numbers n) → ((p : ℕ) → IsPart p n → IsReal pool ns numbers p) → IsNumbered pool ns numbers i
+  Bound : (a n : ℕ) → slice_get ns i ≡ Some (OneNode Not a) → slice_get ns a ≡ Some (LeafNode (TypeParam n)) → IsMade pool (number_at numbers i) (LeafNode (Var n)) → IsNumbered pool ns numbers i
+  Parameter : (n : ℕ) → slice_get ns i ≡ Some (LeafNode (TypeParam n)) → IsNumbered pool ns numbers i
+
+-- the node is a term
+pub record IsTermNode (pool ns : List Node) (numbers : List ℕ) (i : ℕ) : Type 0 where
+  pub term : HasPart pool (length pool) (number_at numbers i) TermSort
+  pub no_parameter : (n : ℕ) → slice_get ns i ≡ Some (LeafNode (TypeParam n)) → ⊥
+
+-- each node has a number, the links are shown by equations of terms and by parts, and the equation of a term with another
+-- one is no deeper than it may be
+pub record IsGraph (pool ns : List Node) (ls : List Link) (numbers : List ℕ) : Type 0 where
+  pub long : length numbers ≡ length ns
+  pub numbered : (i : ℕ) → i < length ns → IsNumbered pool ns numbers i
+  pub parts : (i : ℕ) (n : Node) → slice_get ns i ≡ Some n → IsWithin (length ns) n
+  pub low : (i : ℕ) → i < length ns → sort_of (item_at pool (number_at numbers i)) ≡ TermSort → 1 + term_depth (term_at pool (number_at numbers i)) ≤ most_deep
+  pub equations : List Equation
+  pub left : (k : ℕ) (e : Equation) → slice_get equations k ≡ Some e → IsTermNode pool ns numbers e.left
+  pub right : (k : ℕ) (e : Equation) → slice_get equations k ≡ Some e → IsTermNode pool ns numbers e.right
+  pub shown : AreShown ns equations ls
+
+-- whether the node is that of a term, unless it is a bound variable
+abbrev pub is_term_node : Node → Bool
+is_term_node (LeafNode (Var n)) = true
+is_term_node (LeafNode (Constant c)) = true
+is_term_node (OneNode (Unary o) a) = true
+is_term_node (TwoNode (Binary o) a b) = true
+is_term_node (TwoNode Pack a b) = true
+is_term_node (TwoNode (Field k) a b) = true
+is_term_node (ThreeNode (Ternary o) a b c) = true
+is_term_node (ThreeNode (SetField k) a b c) = true
+is_term_node (ThreeNode If a b c) = true
+is_term_node _ = false
+
+-- whether the node is one of a quantifier
+abbrev pub is_quantified : Node → Bool
+is_quantified (TwoNode (Quantify o n) a b) = true
+is_quantified _ = false
+
+-- two linked nodes of different formulas that are quantified: what stands below is not gone through
+pub record IsBarred (ns : List Node) (ls : List Link) (numbers : List ℕ) : Type 0 where
+  pub one : ℕ
+  pub other : ℕ
+  pub linked : Linked ls one other
+  pub differ : number_at numbers one ≢ number_at numbers other
+  pub node : Node
+  pub found : slice_get ns one ≡ Some node
+  pub quantified : is_quantified node ≡ true

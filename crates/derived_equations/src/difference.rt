@@ -1,0 +1,344 @@
+//! Where the terms of two nodes differ: the places at which different terms stand that are linked.
+
+ghost use Rattle.std.specs.Prelude.{◌≡◌, ◌≢◌, ℕ, ◌<◌, ◌++◌, [], ◌∷◌, true, length, take, slice_index_or, MatchBool, MatchOption, OnOk, IfOk};
+ghost use Rattle.class_history.specs.Histories.{IsHistory};
+ghost use Rattle.classes.specs.Links.{Linked, AreAlikeAt};
+ghost use Rattle.formula_pool.specs.Items.{TermSort, sort_of};
+ghost use Rattle.formula_pool.specs.Pools.{item_at, IsMade};
+ghost use Rattle.formula_pool.specs.declared.node.Leaf.TheVariants.{NilTerms};
+ghost use Rattle.formula_pool.specs.declared.node.Node.TheVariants.{Leaf as LeafNode, Two as TwoNode};
+ghost use Rattle.equation_chains.specs.Frames.{bound_in};
+ghost use Rattle.derived_equations.specs.Routes.{number_at};
+ghost use Rattle.derived_equations.specs.Graphs.{IsGraph, IsBarred, is_term_node, is_quantified};
+ghost use Rattle.derived_equations.specs.Places.{one_at, other_at, IsPlace, AreTwo, AreThree, IsPair, IsStepTo, IsPushed, AreFound, IsNext, IsTurn};
+
+use crate::replacing::Difference;
+use crate::route::number_of;
+use class_history::history::History;
+use classes::link::Link;
+use equation_chains::frame::Frame;
+use formula_pool::node::{Leaf, Node, One, Three, Two};
+use formula_pool::pool::Pool;
+use link_paths::path::{Span, path};
+use pv_base::memory::NoMemory;
+use std::alloc::Global;
+
+/// The nodes of classes with the links between them, and the number that each node has in a pool.
+#[derive(Clone, Copy)]
+pub struct Graph<'a> {
+    pub nodes: &'a [Node],
+    pub links: &'a [Link],
+    pub history: &'a History,
+    pub numbers: &'a [usize],
+}
+
+/// A place on the way down in two items, and the nodes that stand there in the one and in the other.
+#[derive(Drop)]
+pub(crate) struct Place {
+    pub way: Vec<Frame>,
+    pub one: usize,
+    pub other: usize,
+}
+
+/// What is done at a place.
+#[derive(Drop)]
+pub(crate) enum Turn {
+    Done,
+    // Formulas that are quantified differ there.
+    Barred,
+    // This place is left.
+    Next(Place),
+}
+
+/// The parts of two nodes with one number of parts, by the head of the first one.
+#[derive(Clone, Copy)]
+pub(crate) enum Pair {
+    One(One, usize, usize),
+    Two(Two, (usize, usize), (usize, usize)),
+    Three(Three, (usize, usize, usize), (usize, usize, usize)),
+    // They have no parts, or not as many.
+    Unlike,
+}
+
+// The node with a number.
+fn node_of(nodes: &[Node], number: usize) -> Node
+    ensures { result ≡ slice_index_or nodes.now number (LeafNode NilTerms) }
+{
+    match nodes.get(number) {
+        Some(node) => *node,
+        None => Node::Leaf(Leaf::NilTerms),
+    }
+}
+
+fn pair_of(one: Node, other: Node) -> Pair
+    ensures { IsPair one other result }
+{
+    match one {
+        Node::Leaf(_) => Pair::Unlike,
+        Node::One(head, a) => match other {
+            Node::One(_, x) => Pair::One(head, a, x),
+            _ => Pair::Unlike,
+        },
+        Node::Two(head, a, b) => match other {
+            Node::Two(_, x, y) => Pair::Two(head, (a, b), (x, y)),
+            _ => Pair::Unlike,
+        },
+        Node::Three(head, a, b, c) => match other {
+            Node::Three(_, x, y, z) => Pair::Three(head, (a, b, c), (x, y, z)),
+            _ => Pair::Unlike,
+        },
+    }
+}
+
+// Whether a node is that of a term, unless it is a bound variable.
+fn is_term_node(node: Node) -> bool
+    ensures { result ≡ is_term_node node }
+{
+    match node {
+        Node::Leaf(Leaf::Var(_) | Leaf::Constant(_)) => true,
+        Node::One(One::Unary(_), _) => true,
+        Node::Two(Two::Binary(_) | Two::Pack | Two::Field(_), _, _) => true,
+        Node::Three(Three::Ternary(_) | Three::SetField(_) | Three::If, _, _, _) => true,
+        _ => false,
+    }
+}
+
+// Whether a number is that of a term.
+fn is_term(pool: &Pool, number: usize) -> bool
+    requires { number < length pool.now }
+    ensures { MatchBool result (sort_of (item_at pool.now number) ≡ TermSort) (sort_of (item_at pool.now number) ≢ TermSort) }
+{
+    match pool.node(number) {
+        Some(node) => is_term_node(node),
+        None => false,
+    }
+}
+
+fn is_quantifier(head: Two) -> bool
+    ensures { MatchBool result ((a b : ℕ) → is_quantified (TwoNode head a b) ≡ true) (bound_in head [] ≡ []) }
+{
+    match head {
+        Two::Quantify(_, _) => true,
+        _ => false,
+    }
+}
+
+// Whether two nodes have different numbers.
+fn are_apart(numbers: &[usize], one: usize, other: usize) -> bool
+    ensures { MatchBool result (number_at numbers.now one ≢ number_at numbers.now other) (number_at numbers.now one ≡ number_at numbers.now other) }
+{
+    number_of(numbers, one) != number_of(numbers, other)
+}
+
+// The place behind one more head.
+pub(crate) fn step(
+    alloc: Global,
+    way: &[Frame],
+    frame: Frame,
+    one: usize,
+    other: usize,
+) -> Result<Place, NoMemory>
+    ensures { IfOk result (IsStepTo way.now frame one other) }
+{
+    let mut longer = Vec::new(alloc);
+    for head in way {
+        longer.push(*head)?;
+    }
+    longer.push(frame)?;
+    Ok(Place {
+        way: longer,
+        one,
+        other,
+    })
+}
+
+// Puts the difference at a place where two terms stand behind the others.
+fn push_term(
+    alloc: Global,
+    graph: Graph<'_>,
+    before: usize,
+    place: Place,
+    found: &mut Vec<Difference>,
+) -> Result<(), NoMemory>
+    requires history { IsHistory graph.links.now (length graph.links.now) graph.history.now }
+    requires linked { Linked (take before graph.links.now) place.one place.other }
+    ensures { OnOk result (IsPushed graph.entry.links.now before place found.old.items found.new.items) }
+{
+    let span = Span {
+        from: place.one,
+        to: place.other,
+        before,
+    };
+    let route = path(alloc, graph.history, graph.links, span)?;
+    found.push(Difference {
+        way: place.way,
+        from: place.one,
+        to: place.other,
+        route,
+    })?;
+    Ok(())
+}
+
+// Goes through the first parts of two nodes with one head, up to the second ones.
+#[cycle(differences)]
+fn two(
+    alloc: Global,
+    pool: &Pool,
+    graph: Graph<'_>,
+    before: usize,
+    place: Place,
+    head: Two,
+    one: (usize, usize),
+    other: (usize, usize),
+    found: &mut Vec<Difference>,
+) -> Result<Option<Place>, NoMemory>
+    requires graph { IsGraph pool.now graph.nodes.now graph.links.now graph.numbers.now }
+    requires history { IsHistory graph.links.now (length graph.links.now) graph.history.now }
+    requires two { AreTwo pool.now graph.nodes.now graph.links.now graph.numbers.now before place head one other }
+    ensures { IfOk result (λ next. MatchOption next (IsBarred graph.entry.nodes.now graph.entry.links.now graph.entry.numbers.now) (IsNext pool.now graph.entry.nodes.now graph.entry.links.now graph.entry.numbers.now before place found.old.items found.new.items)) }
+{
+    let way = place.way.as_slice();
+    let rest = number_of(graph.numbers, one.1);
+    let first = step(alloc, way, Frame::FirstOfTwo(head, rest), one.0, other.0)?;
+    let done = differences(alloc, pool, graph, before, first, found)?;
+    if done {
+        let left = number_of(graph.numbers, other.0);
+        let second = step(alloc, way, Frame::SecondOfTwo(head, left), one.1, other.1)?;
+        Ok(Some(second))
+    } else {
+        Ok(None)
+    }
+}
+
+// Goes through the first parts of two nodes with one head, up to the third ones.
+#[cycle(differences)]
+fn three(
+    alloc: Global,
+    pool: &Pool,
+    graph: Graph<'_>,
+    before: usize,
+    place: Place,
+    head: Three,
+    one: (usize, usize, usize),
+    other: (usize, usize, usize),
+    found: &mut Vec<Difference>,
+) -> Result<Option<Place>, NoMemory>
+    requires graph { IsGraph pool.now graph.nodes.now graph.links.now graph.numbers.now }
+    requires history { IsHistory graph.links.now (length graph.links.now) graph.history.now }
+    requires three { AreThree pool.now graph.nodes.now graph.links.now graph.numbers.now before place head one other }
+    ensures { IfOk result (λ next. MatchOption next (IsBarred graph.entry.nodes.now graph.entry.links.now graph.entry.numbers.now) (IsNext pool.now graph.entry.nodes.now graph.entry.links.now graph.entry.numbers.now before place found.old.items found.new.items)) }
+{
+    let way = place.way.as_slice();
+    let b = number_of(graph.numbers, one.1);
+    let c = number_of(graph.numbers, one.2);
+    let first = step(alloc, way, Frame::FirstOfThree(head, b, c), one.0, other.0)?;
+    let done = differences(alloc, pool, graph, before, first, found)?;
+    if done {
+        let x = number_of(graph.numbers, other.0);
+        let second = step(alloc, way, Frame::SecondOfThree(head, x, c), one.1, other.1)?;
+        let both = differences(alloc, pool, graph, before, second, found)?;
+        if both {
+            let y = number_of(graph.numbers, other.1);
+            let third = step(alloc, way, Frame::ThirdOfThree(head, x, y), one.2, other.2)?;
+            Ok(Some(third))
+        } else {
+            Ok(None)
+        }
+    } else {
+        Ok(None)
+    }
+}
+
+// Goes through the parts of two nodes with one head, up to the last ones.
+#[cycle(differences)]
+pub(crate) fn parts(
+    alloc: Global,
+    pool: &Pool,
+    graph: Graph<'_>,
+    before: usize,
+    place: Place,
+    found: &mut Vec<Difference>,
+) -> Result<Option<Place>, NoMemory>
+    requires graph { IsGraph pool.now graph.nodes.now graph.links.now graph.numbers.now }
+    requires history { IsHistory graph.links.now (length graph.links.now) graph.history.now }
+    requires place { IsPlace pool.now graph.nodes.now graph.numbers.now place }
+    requires differ { number_at graph.numbers.now place.one ≢ number_at graph.numbers.now place.other }
+    requires alike { AreAlikeAt graph.nodes.now (Linked (take before graph.links.now)) place.one place.other }
+    requires joined { Linked graph.links.now place.one place.other }
+    ensures { IfOk result (λ next. MatchOption next (IsBarred graph.entry.nodes.now graph.entry.links.now graph.entry.numbers.now) (IsNext pool.now graph.entry.nodes.now graph.entry.links.now graph.entry.numbers.now before place found.old.items found.new.items)) }
+{
+    pool.one_number();
+    let one = node_of(graph.nodes, place.one);
+    let other = node_of(graph.nodes, place.other);
+    match pair_of(one, other) {
+        Pair::One(head, a, x) => {
+            let next = step(alloc, place.way.as_slice(), Frame::Only(head), a, x)?;
+            Ok(Some(next))
+        }
+        Pair::Two(head, one, other) => {
+            if is_quantifier(head) {
+                Ok(None)
+            } else {
+                two(alloc, pool, graph, before, place, head, one, other, found)
+            }
+        }
+        Pair::Three(head, one, other) => {
+            three(alloc, pool, graph, before, place, head, one, other, found)
+        }
+        Pair::Unlike => Ok(None),
+    }
+}
+
+// What is done at a place where different items stand.
+#[cycle(differences)]
+fn take_turn(
+    alloc: Global,
+    pool: &Pool,
+    graph: Graph<'_>,
+    before: usize,
+    place: Place,
+    found: &mut Vec<Difference>,
+) -> Result<Turn, NoMemory>
+    requires graph { IsGraph pool.now graph.nodes.now graph.links.now graph.numbers.now }
+    requires history { IsHistory graph.links.now (length graph.links.now) graph.history.now }
+    requires place { IsPlace pool.now graph.nodes.now graph.numbers.now place }
+    requires linked { Linked (take before graph.links.now) place.one place.other }
+    requires differ { number_at graph.numbers.now place.one ≢ number_at graph.numbers.now place.other }
+    ensures { IfOk result (IsTurn pool.now graph.entry.nodes.now graph.entry.links.now graph.entry.numbers.now before place found.old.items found.new.items) }
+{
+    if is_term(pool, number_of(graph.numbers, place.one)) {
+        push_term(alloc, graph, before, place, found)?;
+        return Ok(Turn::Done);
+    }
+    match parts(alloc, pool, graph, before, place, found)? {
+        Some(next) => Ok(Turn::Next(next)),
+        None => Ok(Turn::Barred),
+    }
+}
+
+// Puts the differences at a place behind the others; false where formulas differ that are quantified.
+#[cycle(differences)]
+pub(crate) fn differences(
+    alloc: Global,
+    pool: &Pool,
+    graph: Graph<'_>,
+    before: usize,
+    place: Place,
+    found: &mut Vec<Difference>,
+) -> Result<bool, NoMemory>
+    requires graph { IsGraph pool.now graph.nodes.now graph.links.now graph.numbers.now }
+    requires history { IsHistory graph.links.now (length graph.links.now) graph.history.now }
+    requires place { IsPlace pool.now graph.nodes.now graph.numbers.now place }
+    requires linked { Linked (take before graph.links.now) place.one place.other }
+    ensures { IfOk result (λ done. MatchBool done (AreFound pool.now graph.entry.links.now graph.entry.numbers.now before (one_at pool.now graph.entry.numbers.now place) (other_at pool.now graph.entry.numbers.now place) found.old.items found.new.items) (IsBarred graph.entry.nodes.now graph.entry.links.now graph.entry.numbers.now)) }
+{
+    let mut place = place;
+    while are_apart(graph.numbers, place.one, place.other) {
+        match take_turn(alloc, pool, graph, before, place, found)? {
+            Turn::Done => return Ok(true),
+            Turn::Barred => return Ok(false),
+            Turn::Next(next) => place = next,
+        }
+    }
+    Ok(true)
+}
