@@ -2,3 +2,4 @@ pub mod DueLemmas
 pub mod AskerLemmas
 pub mod TypingLemmas
 pub mod RangeLemmas
+pub mod BesideLemmas

@@ -2,3 +2,4 @@ pub mod Due
 pub mod Instances
 pub mod Askers
 pub mod Typings
+pub mod Beside

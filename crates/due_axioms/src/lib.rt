@@ -2,6 +2,7 @@
 #![tactic(auto)]
 
 pub mod askers;
+pub mod beside;
 pub mod due;
 pub mod laws;
 pub mod ranges;
