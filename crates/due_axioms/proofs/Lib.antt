@@ -3,3 +3,4 @@ pub mod AskerLemmas
 pub mod TypingLemmas
 pub mod RangeLemmas
 pub mod BesideLemmas
+pub mod FamilyLemmas

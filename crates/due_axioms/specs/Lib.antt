@@ -3,3 +3,4 @@ pub mod Instances
 pub mod Askers
 pub mod Typings
 pub mod Beside
+pub mod Families

@@ -1,13 +1,28 @@
-//! What no instance that is due means for what comes first in a search.
+//! What no instance that is due means for what comes first in a search, and what lists of what asks ask for.
 
-ghost use Rattle.std.specs.Prelude.{List};
+ghost use Rattle.std.specs.Prelude.{ℕ, List, length};
 ghost use Rattle.fol.specs.declared.shapes.Shape.{Shape};
+ghost use Rattle.formula_pool.specs.Pools.{IsOneNumber};
+ghost use Rattle.formula_pool.specs.declared.node.Node.{Node};
 ghost use Rattle.branches.specs.Branch.{Branch};
+ghost use Rattle.pool_branch.specs.PoolBranches.{BranchData, branch_in, IsOver};
+ghost use Rattle.near_groups.specs.Terms.{AreBranchTerms};
+ghost use Rattle.due_axioms.specs.declared.askers.Asker.{Asker};
+ghost use Rattle.due_axioms.specs.declared.typings.Typing.{Typing};
 ghost use Rattle.due_axioms.specs.Due.{NoAxiom, NothingOfRanges};
+ghost use Rattle.due_axioms.specs.Typings.{AreTypings};
+ghost use Rattle.due_axioms.specs.Beside.{AreTypeAskers};
+ghost use Rattle.due_axioms.specs.Families.{AskAll, AsksOfTypes};
 
 use crate::due::WantedAxioms;
 
 /// Where none is due of the axioms that say which terms are whole numbers of a range, nothing of these comes first.
 pub fn ranges_come_first()
     ensures { (shapes : List Shape) (b : Branch) → NoAxiom shapes b WantedAxioms.Ranges → NothingOfRanges shapes b }
+{}
+
+/// What asks by types, over the terms of a branch and the types that its entries give or deny, stands on it, and asks for
+/// all that is asked for at all times, by such a type and by it beside a term.
+pub fn types_ask()
+    ensures { (ns : List Node) (d : BranchData) (terms : List ℕ) (typings : List Typing) (askers : List Asker) → IsOneNumber ns → IsOver ns d → AreBranchTerms ns (branch_in ns d) terms → AreTypings ns (branch_in ns d) (length d.entries) typings → AreTypeAskers ns terms typings askers → AskAll ns (branch_in ns d) askers (AsksOfTypes (branch_in ns d)) }
 {}

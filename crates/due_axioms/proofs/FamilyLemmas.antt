@@ -1,0 +1,163 @@
+-- Lists of what asks at all times, by types and by types beside terms.
+use Rattle.std.proofs.Common.{◌≡◌, ◌⊎◌, inl, inr, ℕ, zero, suc, ◌<◌, Bool, true, false, true≢false, List, [], ◌∷◌, ◌++◌, length, map, cond, get_or, Some, refl, sym, ap, ◌∙◌, subst, arith}
+use Rattle.std.specs.Prelude.{slice_get, slice_index_or, All, Contains, filter}
+use Rattle.std.specs.List.{flat_map}
+use Rattle.std.proofs.lemmas.List.Elements.{All-nil, All-cons, All-append, All-map, Contains-get_or, Contains-append_left, Contains-append_right}
+use Rattle.std.proofs.lemmas.Option.{slice_get_within, slice_get-get_or, get_or_from_slice_get}
+use Rattle.pv_base.specs.TypeData.{TypeData}
+use Rattle.fol.specs.declared.shapes.Shape.{Shape}
+use Rattle.fol.specs.FormulaData.{TermData, FormulaData, IsFormula, NotFormula}
+use Rattle.axioms.specs.declared.axiom.Axiom.{Axiom}
+use Rattle.formula_pool.specs.Items.{term_in}
+use Rattle.formula_pool.specs.Pools.{item_at, IsOneNumber}
+use Rattle.formula_pool.specs.declared.node.Node.{Node}
+use Rattle.formula_pool.proofs.ShapeLemmas.{a_term}
+use Rattle.branches.specs.Branch.{Branch, IsTerm, IsTyped, Said, Denied}
+use Rattle.branches.specs.Table.{HasTyped}
+use Rattle.pool_branch.specs.PoolBranches.{BranchData, branch_in, IsOver}
+use Rattle.entry_steps.proofs.EntryLemmas.{says_within}
+use Rattle.near_groups.specs.Terms.{IsBranchTerm, AreBranchTerms}
+use Rattle.near_groups.proofs.BranchLemmas.{term_number}
+use Rattle.asked_axioms.specs.Asks.{AsksOfTypeAlone, AsksOfTypeBeside, ByEmptyTyped, BySetTyped, ByPushTyped, ByPopTyped}
+use Rattle.asked_axioms.specs.Numbers.{term_at, type_at}
+use Rattle.due_axioms.specs.declared.askers.Asker.{Asker}
+use Rattle.due_axioms.specs.declared.askers.Asker.TheVariants.{Always, TypeAlone, Beside}
+use Rattle.due_axioms.specs.declared.typings.Typing.{Typing}
+use Rattle.due_axioms.specs.Due.{AsksOfSome}
+use Rattle.due_axioms.specs.Askers.{asks_at}
+use Rattle.due_axioms.specs.Typings.{Gives, Denies, IsGivenOrDenied, IsListedTyping, AreTypings}
+use Rattle.due_axioms.specs.Beside.{is_vector_type, is_made_vector, alone_asker, beside_asker, beside_askers, AreVectorTypes, AreTypeAskers}
+use Rattle.due_axioms.specs.Families.{IsAskerOn, AskAll, AsksOfTypes, ByAlways, ByType, ByTypeBeside}
+use Rattle.due_axioms.proofs.AskerLemmas.{one_asks}
+use Rattle.due_axioms.proofs.RangeLemmas.{contains_map, typed_by}
+
+-- ---- lists
+
+module _ {X : Type 0} where
+  here : (xs : List X) (x : X) → Contains (x ∷ xs) x
+  here xs x = (0, omega arith, refl)
+
+  later : (xs : List X) (y x : X) → Contains xs x → Contains (y ∷ xs) x
+  later xs y x (k, w, e) = (suc k, omega (arith, w), e)
+
+  earlier : (P : Type 0) (xs : List X) (y x : X) → Contains (y ∷ xs) x → (y ≡ x → P) → (Contains xs x → P) → P
+  earlier P xs y x (zero, w, e) f g = f e
+  earlier P xs y x (suc k, w, e) f g = g (k, omega (arith, w), e)
+
+  in_filter : (test : X → Bool) (xs : List X) (x : X) → Contains xs x → test x ≡ true → Contains (filter test xs) x
+  in_filter test [] x (k, w, e) t = absurd (omega (arith, w))
+  in_filter test (y ∷ xs) x h t = go (test y) refl (λ rest. in_filter test xs x rest t)
+    where
+      go : (b : Bool) → test y ≡ b → (Contains xs x → Contains (filter test xs) x) → Contains (cond b (y ∷ filter test xs) (filter test xs)) x
+      go true e again = earlier (Contains (y ∷ filter test xs) x) xs y x h (λ same. subst (Contains (y ∷ filter test xs)) same (here (filter test xs) y)) (λ rest. later (filter test xs) y x (again rest))
+      go false e again = earlier (Contains (filter test xs) x) xs y x h (λ same. absurd (true≢false (sym t ∙ ap test (sym same) ∙ e))) again
+
+  of_filter : (test : X → Bool) (xs : List X) (x : X) → Contains (filter test xs) x → Contains xs x
+  of_filter test [] x (k, w, e) = absurd (omega (arith, w))
+  of_filter test (y ∷ xs) x h = go (test y) h (of_filter test xs x)
+    where
+      go : (b : Bool) → Contains (cond b (y ∷ filter test xs) (filter test xs)) x → (Contains (filter test xs) x → Contains xs x) → Contains (y ∷ xs) x
+      go true m again = earlier (Contains (y ∷ xs) x) (filter test xs) y x m (λ same. subst (Contains (y ∷ xs)) same (here xs y)) (λ rest. later xs y x (again rest))
+      go false m again = later xs y x (again m)
+
+module _ {X Y : Type 0} where
+  in_flat_map : (f : Y → List X) (ys : List Y) (y : Y) (x : X) → Contains ys y → Contains (f y) x → Contains (flat_map f ys) x
+  in_flat_map f [] y x (k, w, e) m = absurd (omega (arith, w))
+  in_flat_map f (z ∷ ys) y x (zero, w, e) m = Contains-append_left (f z) (flat_map f ys) x (subst (λ v. Contains (f v) x) (sym e) m)
+  in_flat_map f (z ∷ ys) y x (suc k, w, e) m = Contains-append_right (f z) (flat_map f ys) x (in_flat_map f ys y x (k, omega (arith, w), e) m)
+
+  all_flat_map : (P : X → Type 0) (f : Y → List X) (ys : List Y) → ((y : Y) → Contains ys y → All P (f y)) → All P (flat_map f ys)
+  all_flat_map P f [] h = All-nil P
+  all_flat_map P f (y ∷ ys) h = All-append P (f y) (flat_map f ys) (h y (here ys y)) (all_flat_map P f ys (λ z m. h z (later ys y z m)))
+
+-- ---- types beside terms
+
+beside_needs : {a : TypeData} {t : TermData} {name : Axiom} {ts : List TermData} {p : FormulaData} → AsksOfTypeBeside a t name ts p → (is_vector_type a ≡ true) × (is_made_vector t ≡ true)
+beside_needs (ByEmptyTyped a) = (refl, refl)
+beside_needs (BySetTyped a v i x) = (refl, refl)
+beside_needs (ByPushTyped a v x) = (refl, refl)
+beside_needs (ByPopTyped a v) = (refl, refl)
+
+given_at : (ns : List Node) (b : Branch) (count : ℕ) (typings : List Typing) (x : Typing) → AreTypings ns b count typings → Contains typings x → IsGivenOrDenied ns b x
+given_at ns b count typings x h (k, w, e) = subst (IsGivenOrDenied ns b) e (h.each k (slice_index_or typings k x) (slice_get-get_or typings k x w))
+
+module _ (ns : List Node) (one : IsOneNumber ns) (d : BranchData) (over : IsOver ns d) (terms : List ℕ) (are : AreBranchTerms ns (branch_in ns d) terms) (typings : List Typing) (typed : AreTypings ns (branch_in ns d) (length d.entries) typings) (askers : List Asker) (h : AreTypeAskers ns terms typings askers) where
+  abbrev b : Branch
+  b = branch_in ns d
+
+  abbrev made : List ℕ
+  made = filter (λ n. is_made_vector (term_at ns n)) terms
+
+  abbrev alone : List Asker
+  alone = map alone_asker typings
+
+  abbrev besides : List Asker
+  besides = beside_askers made h.types
+
+  abbrev listed : List Asker
+  listed = (Always ∷ []) ++ (alone ++ besides)
+
+  listed_typing : {a : TypeData} {t : TermData} → IsTyped b a t → IsListedTyping ns typings a t
+  listed_typing {a} {t} (Said s) = typed.all s.place (IsFormula a t) a t (says_within ns d s.place (IsFormula a t) s.says) s.says (Gives a t)
+  listed_typing {a} {t} (Denied s) = typed.all s.place (NotFormula (IsFormula a t)) a t (says_within ns d s.place (NotFormula (IsFormula a t)) s.says) s.says (Denies a t)
+
+  among : {a : TypeData} {t : TermData} (l : IsListedTyping ns typings a t) → Contains typings l.typing
+  among l = (l.place, slice_get_within typings l.place l.typing l.found, get_or_from_slice_get typings l.place l.typing l.typing l.found)
+
+  type_on : (x : Typing) → Contains typings x → IsAskerOn ns b (TypeAlone x.of)
+  type_on x m =
+      let g = given_at ns b (length d.entries) typings x typed m in
+      record { numbers = g.entry.is.of; stands = record { term = term_at ns x.term; typed = typed_by ns b x g } }
+
+  term_on : (n : ℕ) → Contains made n → IsBranchTerm ns b n
+  term_on n m = (are.each n).0 (of_filter (λ k. is_made_vector (term_at ns k)) terms n m)
+
+  beside_on : (a n : ℕ) → Contains h.types a → Contains made n → IsAskerOn ns b (Beside a n)
+  beside_on a n m k =
+      let it = h.are.each a m in
+      let g = given_at ns b (length d.entries) typings it.typing typed it.among in
+      let t = term_on n k in
+      subst (λ c. IsAskerOn ns b (Beside c n)) it.is (record {
+        numbers = record { of = g.entry.is.of; term = record { within = t.number.within; is = sym (a_term (item_at ns n) t.number.sort) } };
+        stands = (record { term = term_at ns it.typing.term; typed = typed_by ns b it.typing g }, t.stands);
+      })
+
+  alone_on : All (IsAskerOn ns b) alone
+  alone_on = All-map (IsAskerOn ns b) alone_asker typings (λ k x w. type_on (slice_index_or typings k x) (Contains-get_or typings k x w))
+
+  besides_on : All (IsAskerOn ns b) besides
+  besides_on = all_flat_map (IsAskerOn ns b) (λ a. map (beside_asker a) made) h.types (λ a m. All-map (IsAskerOn ns b) (beside_asker a) made (λ k n w. beside_on a (slice_index_or made k n) m (Contains-get_or made k n w)))
+
+  always_on : IsAskerOn ns b Always
+  always_on = record { numbers = tt; stands = tt }
+
+  listed_on : All (IsAskerOn ns b) listed
+  listed_on = All-append (IsAskerOn ns b) (Always ∷ []) (alone ++ besides) (All-cons (IsAskerOn ns b) Always [] always_on (All-nil (IsAskerOn ns b))) (All-append (IsAskerOn ns b) alone besides alone_on besides_on)
+
+  in_alone : (x : Typing) → Contains typings x → Contains listed (TypeAlone x.of)
+  in_alone x m = Contains-append_right (Always ∷ []) (alone ++ besides) (TypeAlone x.of) (Contains-append_left alone besides (TypeAlone x.of) (contains_map alone_asker typings x m))
+
+  in_besides : (a n : ℕ) → Contains h.types a → Contains made n → Contains listed (Beside a n)
+  in_besides a n m k = Contains-append_right (Always ∷ []) (alone ++ besides) (Beside a n) (Contains-append_right alone besides (Beside a n) (in_flat_map (λ c. map (beside_asker c) made) h.types a (Beside a n) m (contains_map (beside_asker a) made n k)))
+
+  module _ (shapes : List Shape) where
+    by_type : {a : TypeData} {t : TermData} {name : Axiom} {ts : List TermData} {p : FormulaData} → IsListedTyping ns typings a t → AsksOfTypeAlone a name ts p → AsksOfSome (length listed) (asks_at shapes ns listed) name ts p
+    by_type {name = name} {ts = ts} {p = p} l k = one_asks shapes ns listed (TypeAlone l.typing.of) (in_alone l.typing (among l)) (subst (λ c. AsksOfTypeAlone c name ts p) (sym l.type_is) k)
+
+    by_beside : {a : TypeData} {u : TermData} (t : TermData) {name : Axiom} {ts : List TermData} {p : FormulaData} → IsListedTyping ns typings a u → IsTerm b t → AsksOfTypeBeside a t name ts p → AsksOfSome (length listed) (asks_at shapes ns listed) name ts p
+    by_beside {a} t {name} {ts} {p} l s k =
+        let needs = beside_needs k in
+        let numbered = term_number ns one d over t s in
+        let is : term_at ns numbered.number ≡ t = ap term_in numbered.is in
+        let type_in_list = h.are.all l.typing (among l) (ap is_vector_type l.type_is ∙ needs.0) in
+        let term_in_list = in_filter (λ n. is_made_vector (term_at ns n)) terms numbered.number ((are.each numbered.number).1 numbered.term) (ap is_made_vector is ∙ needs.1) in
+        one_asks shapes ns listed (Beside l.typing.of numbered.number) (in_besides l.typing.of numbered.number type_in_list term_in_list)
+        (subst (λ c. AsksOfTypeBeside c (term_at ns numbered.number) name ts p) (sym l.type_is) (subst (λ v. AsksOfTypeBeside a v name ts p) (sym is) k))
+
+    all_asked : (name : Axiom) (ts : List TermData) (p : FormulaData) → AsksOfTypes b name ts p → AsksOfSome (length listed) (asks_at shapes ns listed) name ts p
+    all_asked name ts p (ByAlways k) = one_asks shapes ns listed Always (here (alone ++ besides) Always) k
+    all_asked name ts p (ByType a t k) = by_type (listed_typing t.typed) k
+    all_asked name ts p (ByTypeBeside a u t s k) = by_beside u (listed_typing t.typed) s k
+
+  pub types_ask : AskAll ns b askers (AsksOfTypes b)
+  types_ask = subst (λ xs. AskAll ns b xs (AsksOfTypes b)) (sym h.is) (record { on = listed_on; all = all_asked })
