@@ -1,0 +1,3 @@
+pub mod QuantifierFree
+pub mod Bodies
+pub mod Instances
