@@ -5,3 +5,5 @@ pub mod ReplacingLemmas
 pub mod LinkedLemmas
 pub mod PlaceLemmas
 pub mod TurnLemmas
+pub mod PlanLemmas
+pub mod AlikeLemmas

@@ -1,30 +1,31 @@
 -- On the way down in two items.
-use Rattle.std.proofs.Common.{◌≡◌, ◌≢◌, ◌⊎◌, inl, inr, ℕ, zero, suc, ◌+◌, ◌<◌, ◌≤◌, max, List, [], ◌∷◌, ◌++◌, length, take, Option, Some, refl, sym, ap, ◌∙◌, subst, arith}
+use Rattle.std.proofs.Common.{◌≡◌, ◌⊎◌, inl, inr, ℕ, zero, suc, ◌+◌, ◌<◌, ◌≤◌, max, List, [], ◌∷◌, ◌++◌, length, take, Some, refl, sym, ap, ◌∙◌, subst, arith}
 use Rattle.std.specs.Prelude.{slice_get}
-use Rattle.formula_pool.specs.Items.{Item, TermSort, FormulaSort, Sort, sort_of, NoItem, one_item, two_item, three_item, first_of_two, second_of_two, first_of_three, second_of_three, third_of_three}
+use Rattle.formula_pool.specs.Items.{Item, TermSort, TypeSort, FormulaSort, Sort, sort_of, NoItem, two_item, three_item, first_of_two, second_of_two, first_of_three, second_of_three, third_of_three}
 use Rattle.formula_pool.specs.Pools.{item_at, HasPart, IsMade}
 use Rattle.formula_pool.specs.Depths.{item_depth, two_steps}
+use Rattle.formula_pool.specs.declared.node.Leaf.TheVariants.{TypeParam}
 use Rattle.formula_pool.specs.declared.node.One.{One}
 use Rattle.formula_pool.specs.declared.node.Two.{Two}
 use Rattle.formula_pool.specs.declared.node.Two.TheVariants.{Binary}
 use Rattle.formula_pool.specs.declared.node.Three.{Three}
 use Rattle.formula_pool.specs.declared.node.Three.TheVariants.{Ternary}
 use Rattle.formula_pool.specs.declared.node.Node.{Node}
-use Rattle.formula_pool.specs.declared.node.Node.TheVariants.{One as OneNode, Two as TwoNode, Three as ThreeNode}
+use Rattle.formula_pool.specs.declared.node.Node.TheVariants.{Leaf as LeafNode}
 use Rattle.cert.specs.Closes.{most_deep}
 use Rattle.classes.specs.Links.{Linked}
 use Rattle.classes.specs.declared.link.Link.{Link}
-use Rattle.link_paths.specs.Paths.{IsPath}
-use Rattle.equation_chains.specs.Frames.{frame_item, filled, open_sort, made_sort, HasOthers, Leads, bound_in, bound_below, bound_after, bound_on}
+use Rattle.equation_chains.specs.Frames.{frame_item, filled, open_sort, made_sort, HasOthers, Leads, bound_below, bound_after, bound_on}
 use Rattle.equation_chains.specs.declared.frame.Frame.{Frame}
 use Rattle.equation_chains.specs.declared.frame.Frame.TheVariants.{Only, FirstOfTwo, SecondOfTwo, FirstOfThree, SecondOfThree, ThirdOfThree}
 use Rattle.equation_chains.proofs.FrameLemmas.{filled_sorted}
 use Rattle.derived_equations.specs.Routes.{number_at}
-use Rattle.derived_equations.specs.Replacing.{before_it, after_it, IsReplacement, after_all, AreInTurn}
-use Rattle.derived_equations.specs.Places.{whole, one_at, other_at, CanStand, IsPlaceOf, IsPlace, IsDifference, AreFound, IsNextOf, AreLinked, AreOne, AreTwo, AreThree, IsStepTo, IsPushed}
+use Rattle.derived_equations.specs.Replacing.{before_it, after_it, after_all, AreInTurn}
+use Rattle.derived_equations.specs.Graphs.{IsTermNode}
+use Rattle.derived_equations.specs.Places.{whole, one_at, other_at, IsPlaceOf, IsPlace, IsDifference, AreFound, IsNextOf, AreLinked, AreOne, AreTwo, AreThree, IsStepTo, IsPushed}
 use Rattle.derived_equations.specs.declared.replacing.Difference.{Difference}
 use Rattle.derived_equations.specs.declared.difference.Place.{Place}
-use Rattle.derived_equations.proofs.DepthLemmas.{one_depth, two_depth, three_depth, filled_deeper}
+use Rattle.derived_equations.proofs.DepthLemmas.{two_depth, three_depth, filled_deeper}
 
 -- ---- a way with one more head
 
@@ -83,24 +84,24 @@ append_again : (ds es fs : List Difference) → (ds ++ es) ++ fs ≡ ds ++ (es +
 append_again [] es fs = refl
 append_again (d ∷ ds) es fs = ap (λ gs. d ∷ gs) (append_again ds es fs)
 
-module _ (pool : List Node) (ls : List Link) (numbers : List ℕ) (before : ℕ) where
-  pub found_none : (x y : Item) (old new : List Difference) → x ≡ y → new ≡ old → AreFound pool ls numbers before x y old new
+module _ (pool ns : List Node) (ls : List Link) (numbers : List ℕ) (before : ℕ) where
+  pub found_none : (x y : Item) (old new : List Difference) → x ≡ y → new ≡ old → AreFound pool ns ls numbers before x y old new
   found_none x y old new e f = record { found = []; more = f ∙ sym (append_nothing old); in_turn = tt; ends = e; each = λ n d g. absurd (cc) }
 
-  pub found_then : (x y z : Item) (a b c : List Difference) → AreFound pool ls numbers before x y a b → AreFound pool ls numbers before y z b c → AreFound pool ls numbers before x z a c
+  pub found_then : (x y z : Item) (a b c : List Difference) → AreFound pool ns ls numbers before x y a b → AreFound pool ns ls numbers before y z b c → AreFound pool ns ls numbers before x z a c
   found_then x y z a b c f g = record {
     found = f.found ++ g.found;
     more = g.more ∙ ap (λ ds. ds ++ g.found) f.more ∙ append_again a f.found g.found;
     in_turn = turn_append pool numbers x f.found g.found f.in_turn (subst (λ w. AreInTurn pool numbers w g.found) (sym f.ends) g.in_turn);
     ends = after_append pool numbers x f.found g.found ∙ ap (λ w. after_all pool numbers w g.found) f.ends ∙ g.ends;
-    each = each_append (IsDifference pool ls numbers before) f.found g.found f.each g.each;
+    each = each_append (IsDifference pool ns ls numbers before) f.found g.found f.each g.each;
   }
 
-  pub found_one : (x y : Item) (old new : List Difference) (d : Difference) → IsDifference pool ls numbers before d → x ≡ before_it pool numbers d → after_it pool numbers d ≡ y → new ≡ old ++ d ∷ [] → AreFound pool ls numbers before x y old new
+  pub found_one : (x y : Item) (old new : List Difference) (d : Difference) → IsDifference pool ns ls numbers before d → x ≡ before_it pool numbers d → after_it pool numbers d ≡ y → new ≡ old ++ d ∷ [] → AreFound pool ns ls numbers before x y old new
   found_one x y old new d is e f more = record { found = d ∷ []; more = more; in_turn = (e, tt); ends = f; each = λ n c g. only n c g }
     where
-      only : (n : ℕ) (c : Difference) → slice_get (d ∷ []) n ≡ Some c → IsDifference pool ls numbers before c
-      only zero c g = let same : d ≡ c = cc in subst (IsDifference pool ls numbers before) same is
+      only : (n : ℕ) (c : Difference) → slice_get (d ∷ []) n ≡ Some c → IsDifference pool ns ls numbers before c
+      only zero c g = let same : d ≡ c = cc in subst (IsDifference pool ns ls numbers before) same is
       only (suc n) c g = absurd (cc)
 
 -- ---- depth half way
@@ -188,7 +189,7 @@ module _ (pool ns : List Node) (ls : List Link) (numbers : List ℕ) (before : �
     });
     linked = r.part.linked;
     less = r.one.parts.earlier;
-    found = found_none pool ls numbers before (one_at pool numbers p) (whole pool numbers (p.way.items ++ Only h ∷ []) a) old new (ap (filled pool p.way.items) r.one.item ∙ sym (filled_push pool p.way.items (Only h) (item a))) same;
+    found = found_none pool ns ls numbers before (one_at pool numbers p) (whole pool numbers (p.way.items ++ Only h ∷ []) a) old new (ap (filled pool p.way.items) r.one.item ∙ sym (filled_push pool p.way.items (Only h) (item a))) same;
     same = filled_push pool p.way.items (Only h) (item x) ∙ sym (ap (filled pool p.way.items) r.other.item);
   })
 
@@ -246,19 +247,19 @@ module _ (pool ns : List Node) (ls : List Link) (numbers : List ℕ) (before : �
     pub two_less : (first : Place) → IsStepTo p.way.items (FirstOfTwo h (number_at numbers ps.1)) ps.0 xs.0 first → number_at numbers first.one < number_at numbers p.one
     two_less first s = subst (λ i. number_at numbers i < number_at numbers p.one) (sym s.one_is) r.one.parts.0.earlier
 
-    two_found : (first : Place) (old new : List Difference) → IsStepTo p.way.items (FirstOfTwo h (number_at numbers ps.1)) ps.0 xs.0 first → AreFound pool ls numbers before (one_at pool numbers first) (other_at pool numbers first) old new → AreFound pool ls numbers before (one_at pool numbers p) (filled pool p.way.items (two_item h (item xs.0) (item ps.1))) old new
+    two_found : (first : Place) (old new : List Difference) → IsStepTo p.way.items (FirstOfTwo h (number_at numbers ps.1)) ps.0 xs.0 first → AreFound pool ns ls numbers before (one_at pool numbers first) (other_at pool numbers first) old new → AreFound pool ns ls numbers before (one_at pool numbers p) (filled pool p.way.items (two_item h (item xs.0) (item ps.1))) old new
     two_found first old new s f =
         let way : List Frame = p.way.items ++ FirstOfTwo h (number_at numbers ps.1) ∷ [] in
         let begin : one_at pool numbers first ≡ one_at pool numbers p = (λ i. whole pool numbers (s.way_is i) (s.one_is i)) ∙ filled_push pool p.way.items (FirstOfTwo h (number_at numbers ps.1)) (item ps.0) ∙ sym (ap (filled pool p.way.items) r.one.item) in
         let end : other_at pool numbers first ≡ filled pool p.way.items (two_item h (item xs.0) (item ps.1)) = (λ i. whole pool numbers (s.way_is i) (s.other_is i)) ∙ filled_push pool p.way.items (FirstOfTwo h (number_at numbers ps.1)) (item xs.0) in
-        subst (λ y. AreFound pool ls numbers before (one_at pool numbers p) y old new) end (subst (λ x. AreFound pool ls numbers before x (other_at pool numbers first) old new) begin f)
+        subst (λ y. AreFound pool ns ls numbers before (one_at pool numbers p) y old new) end (subst (λ x. AreFound pool ns ls numbers before x (other_at pool numbers first) old new) begin f)
 
-    pub two_next : (first next : Place) (old new : List Difference) → IsStepTo p.way.items (FirstOfTwo h (number_at numbers ps.1)) ps.0 xs.0 first → AreFound pool ls numbers before (one_at pool numbers first) (other_at pool numbers first) old new → IsStepTo p.way.items (SecondOfTwo h (number_at numbers xs.0)) ps.1 xs.1 next → IsNextOf pool ns ls numbers before p old new next.way.items next.one next.other
+    pub two_next : (first next : Place) (old new : List Difference) → IsStepTo p.way.items (FirstOfTwo h (number_at numbers ps.1)) ps.0 xs.0 first → AreFound pool ns ls numbers before (one_at pool numbers first) (other_at pool numbers first) old new → IsStepTo p.way.items (SecondOfTwo h (number_at numbers xs.0)) ps.1 xs.1 next → IsNextOf pool ns ls numbers before p old new next.way.items next.one next.other
     two_next first next old new s f t = behind (IsNextOf pool ns ls numbers before p old new) p.way.items (SecondOfTwo h (number_at numbers xs.0)) ps.1 xs.1 next t (record {
       at = place_behind p.way.items (SecondOfTwo h (number_at numbers xs.0)) ps.1 xs.1 second_head;
       linked = r.second.linked;
       less = r.one.parts.1.earlier;
-      found = subst (λ y. AreFound pool ls numbers before (one_at pool numbers p) y old new) (sym (filled_push pool p.way.items (SecondOfTwo h (number_at numbers xs.0)) (item ps.1))) (two_found first old new s f);
+      found = subst (λ y. AreFound pool ns ls numbers before (one_at pool numbers p) y old new) (sym (filled_push pool p.way.items (SecondOfTwo h (number_at numbers xs.0)) (item ps.1))) (two_found first old new s f);
       same = filled_push pool p.way.items (SecondOfTwo h (number_at numbers xs.0)) (item xs.1) ∙ sym (ap (filled pool p.way.items) r.other.item);
     })
 
@@ -379,29 +380,29 @@ module _ (pool ns : List Node) (ls : List Link) (numbers : List ℕ) (before : �
     pub three_second_less : (f : Frame) (q : Place) → IsStepTo p.way.items f ps.1 xs.1 q → number_at numbers q.one < number_at numbers p.one
     three_second_less f q s = subst (λ i. number_at numbers i < number_at numbers p.one) (sym s.one_is) r.one.parts.1.earlier
 
-    moved : (f : Frame) (i j : ℕ) (q : Place) (old new : List Difference) → IsStepTo p.way.items f i j q → AreFound pool ls numbers before (one_at pool numbers q) (other_at pool numbers q) old new → AreFound pool ls numbers before (filled pool p.way.items (frame_item pool f (item i))) (filled pool p.way.items (frame_item pool f (item j))) old new
+    moved : (f : Frame) (i j : ℕ) (q : Place) (old new : List Difference) → IsStepTo p.way.items f i j q → AreFound pool ns ls numbers before (one_at pool numbers q) (other_at pool numbers q) old new → AreFound pool ns ls numbers before (filled pool p.way.items (frame_item pool f (item i))) (filled pool p.way.items (frame_item pool f (item j))) old new
     moved f i j q old new s d =
         let begin : one_at pool numbers q ≡ filled pool p.way.items (frame_item pool f (item i)) = (λ k. whole pool numbers (s.way_is k) (s.one_is k)) ∙ filled_push pool p.way.items f (item i) in
         let end : other_at pool numbers q ≡ filled pool p.way.items (frame_item pool f (item j)) = (λ k. whole pool numbers (s.way_is k) (s.other_is k)) ∙ filled_push pool p.way.items f (item j) in
-        subst (λ w. AreFound pool ls numbers before (filled pool p.way.items (frame_item pool f (item i))) w old new) end (subst (λ w. AreFound pool ls numbers before w (other_at pool numbers q) old new) begin d)
+        subst (λ w. AreFound pool ns ls numbers before (filled pool p.way.items (frame_item pool f (item i))) w old new) end (subst (λ w. AreFound pool ns ls numbers before w (other_at pool numbers q) old new) begin d)
 
-    pub three_next : (q s next : Place) (old mid new : List Difference) → IsStepTo p.way.items (FirstOfThree h (number_at numbers ps.1) (number_at numbers ps.2)) ps.0 xs.0 q → AreFound pool ls numbers before (one_at pool numbers q) (other_at pool numbers q) old mid → IsStepTo p.way.items (SecondOfThree h (number_at numbers xs.0) (number_at numbers ps.2)) ps.1 xs.1 s → AreFound pool ls numbers before (one_at pool numbers s) (other_at pool numbers s) mid new → IsStepTo p.way.items (ThirdOfThree h (number_at numbers xs.0) (number_at numbers xs.1)) ps.2 xs.2 next → IsNextOf pool ns ls numbers before p old new next.way.items next.one next.other
+    pub three_next : (q s next : Place) (old mid new : List Difference) → IsStepTo p.way.items (FirstOfThree h (number_at numbers ps.1) (number_at numbers ps.2)) ps.0 xs.0 q → AreFound pool ns ls numbers before (one_at pool numbers q) (other_at pool numbers q) old mid → IsStepTo p.way.items (SecondOfThree h (number_at numbers xs.0) (number_at numbers ps.2)) ps.1 xs.1 s → AreFound pool ns ls numbers before (one_at pool numbers s) (other_at pool numbers s) mid new → IsStepTo p.way.items (ThirdOfThree h (number_at numbers xs.0) (number_at numbers xs.1)) ps.2 xs.2 next → IsNextOf pool ns ls numbers before p old new next.way.items next.one next.other
     three_next q s next old mid new qs qf ss sf t = behind (IsNextOf pool ns ls numbers before p old new) p.way.items three_frame ps.2 xs.2 next t (record {
       at = place_behind p.way.items three_frame ps.2 xs.2 three_head;
       linked = r.third.linked;
       less = r.one.parts.2.earlier;
-      found = found_then pool ls numbers before (one_at pool numbers p) (filled pool p.way.items (three_item h x b c)) (whole pool numbers (p.way.items ++ three_frame ∷ []) ps.2) old mid new
-          (subst (λ w. AreFound pool ls numbers before w (filled pool p.way.items (three_item h x b c)) old mid) (sym (ap (filled pool p.way.items) r.one.item)) (moved one_frame ps.0 xs.0 q old mid qs qf))
-          (subst (λ w. AreFound pool ls numbers before (filled pool p.way.items (three_item h x b c)) w mid new) (sym (filled_push pool p.way.items three_frame c)) (moved two_frame ps.1 xs.1 s mid new ss sf));
+      found = found_then pool ns ls numbers before (one_at pool numbers p) (filled pool p.way.items (three_item h x b c)) (whole pool numbers (p.way.items ++ three_frame ∷ []) ps.2) old mid new
+          (subst (λ w. AreFound pool ns ls numbers before w (filled pool p.way.items (three_item h x b c)) old mid) (sym (ap (filled pool p.way.items) r.one.item)) (moved one_frame ps.0 xs.0 q old mid qs qf))
+          (subst (λ w. AreFound pool ns ls numbers before (filled pool p.way.items (three_item h x b c)) w mid new) (sym (filled_push pool p.way.items three_frame c)) (moved two_frame ps.1 xs.1 s mid new ss sf));
       same = filled_push pool p.way.items three_frame z ∙ sym (ap (filled pool p.way.items) r.other.item);
     })
 
 -- ---- a place where two terms stand
 
-pub term_found : (pool ns : List Node) (ls : List Link) (numbers : List ℕ) (before : ℕ) (p : Place) (old new : List Difference) → IsPlaceOf pool ns numbers p.way.items p.one p.other → sort_of (item_at pool (number_at numbers p.one)) ≡ TermSort → IsPushed ls before p old new → AreFound pool ls numbers before (one_at pool numbers p) (other_at pool numbers p) old new
+pub term_found : (pool ns : List Node) (ls : List Link) (numbers : List ℕ) (before : ℕ) (p : Place) (old new : List Difference) → IsPlaceOf pool ns numbers p.way.items p.one p.other → sort_of (item_at pool (number_at numbers p.one)) ≡ TermSort → IsPushed ls before p old new → AreFound pool ns ls numbers before (one_at pool numbers p) (other_at pool numbers p) old new
 term_found pool ns ls numbers before p old new at sort pushed =
     let d : Difference = pushed.difference in
-    found_one pool ls numbers before (one_at pool numbers p) (other_at pool numbers p) old new pushed.difference (record {
+    found_one pool ns ls numbers before (one_at pool numbers p) (other_at pool numbers p) old new pushed.difference (record {
       is = record {
         leads = record { leads = subst (λ w. Leads pool FormulaSort w TermSort) (sym pushed.way) (subst (Leads pool FormulaSort p.way.items) sort at.leads) };
         unbound = ap bound_on pushed.way ∙ at.unbound;
@@ -409,8 +410,13 @@ term_found pool ns ls numbers before p old new at sort pushed =
         to_term = subst (λ i. HasPart pool (length pool) (number_at numbers i) TermSort) (sym pushed.to) (record { earlier = at.other.number; sort = at.same_sort ∙ sort });
         low = subst (λ x. item_depth x ≤ most_deep) (λ k. sym (ends pushed.way pushed.to) k) at.other_low;
       };
+      term = subst (IsTermNode pool ns numbers) (sym pushed.from) (record { term = record { earlier = at.one.number; sort = sort }; no_parameter = λ n f. no_type p.one sort n (at.one.real.made n f) });
+      within = subst (λ i. i < length ns) (sym pushed.from) at.one.node;
       path = pushed.path;
     }) (sym (ends pushed.way pushed.from)) (ends pushed.way pushed.to) pushed.is
   where
+    no_type : (i : ℕ) → sort_of (item_at pool (number_at numbers i)) ≡ TermSort → (n : ℕ) → IsMade pool (number_at numbers i) (LeafNode (TypeParam n)) → ⊥
+    no_type i e n m = let both : TermSort ≡ TypeSort = sym e ∙ ap sort_of m.item in absurd (cc)
+
     ends : {way way2 : List Frame} {i j : ℕ} → way ≡ way2 → i ≡ j → whole pool numbers way i ≡ whole pool numbers way2 j
     ends e f = λ k. whole pool numbers (e k) (f k)

@@ -1,9 +1,9 @@
 -- What two nodes at a place are.
-use Rattle.std.proofs.Common.{◌≡◌, ◌≢◌, ◌⊎◌, inl, inr, ℕ, ◌<◌, ◌≤◌, Bool, true, false, MatchBool, get_or, List, [], length, take, Option, Some, refl, sym, ap, ◌∙◌, subst, arith}
+use Rattle.std.proofs.Common.{◌≡◌, ◌≢◌, ◌⊎◌, inl, inr, ℕ, ◌<◌, ◌≤◌, Bool, true, false, MatchBool, get_or, List, [], length, take, Some, refl, sym, ap, ◌∙◌, subst, arith}
 use Rattle.std.specs.Prelude.{slice_get}
 use Rattle.std.proofs.lemmas.Option.{slice_get-get_or}
 use Rattle.formula_pool.specs.Items.{TermSort, sort_of}
-use Rattle.formula_pool.specs.Pools.{item_at, item_of, items, IsMade, IsOneNumber}
+use Rattle.formula_pool.specs.Pools.{item_at, IsMade, IsOneNumber}
 use Rattle.formula_pool.specs.declared.node.Leaf.{Leaf}
 use Rattle.formula_pool.specs.declared.node.Leaf.TheVariants.{Var, TypeParam}
 use Rattle.formula_pool.specs.declared.node.One.{One}
@@ -12,14 +12,13 @@ use Rattle.formula_pool.specs.declared.node.Two.{Two}
 use Rattle.formula_pool.specs.declared.node.Three.{Three}
 use Rattle.formula_pool.specs.declared.node.Node.{Node}
 use Rattle.formula_pool.specs.declared.node.Node.TheVariants.{Leaf as LeafNode, One as OneNode, Two as TwoNode, Three as ThreeNode}
-use Rattle.classes.specs.Congruence.{IsWithin}
 use Rattle.classes.specs.States.{IsPart}
 use Rattle.classes.specs.Links.{Linked, AreAlike, AreAlikeAt}
 use Rattle.classes.specs.declared.link.Link.{Link}
 use Rattle.equation_chains.specs.Frames.{bound_in}
 use Rattle.derived_equations.specs.Routes.{number_at}
 use Rattle.derived_equations.specs.Graphs.{renumbered, IsReal, IsNumbered, ByParts, Bound, Parameter, IsTermNode, IsGraph, IsBarred, is_term_node, is_quantified}
-use Rattle.derived_equations.specs.Places.{CanStand, IsPlace, AreLinked, AreOne, AreTwo, AreThree, arity, HasOne, HasTwo, HasThree}
+use Rattle.derived_equations.specs.Places.{CanStand, IsPlace, AreOne, AreTwo, AreThree, arity, HasOne, HasTwo, HasThree}
 use Rattle.derived_equations.specs.declared.difference.Place.{Place}
 use Rattle.derived_equations.proofs.LinkedLemmas.{same_node, true_false, made_term, term_made, IsPlain, IsOneOrAlike, parameter_linked, no_denied_parameter, term_or_plain, plain_linked}
 

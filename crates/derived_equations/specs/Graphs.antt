@@ -47,6 +47,7 @@ pub record IsGraph (pool ns : List Node) (ls : List Link) (numbers : List ℕ) :
   pub long : length numbers ≡ length ns
   pub numbered : (i : ℕ) → i < length ns → IsNumbered pool ns numbers i
   pub parts : (i : ℕ) (n : Node) → slice_get ns i ≡ Some n → IsWithin (length ns) n
+  pub among : (k : ℕ) (l : Link) → slice_get ls k ≡ Some l → (l.left < length ns) × (l.right < length ns)
   pub low : (i : ℕ) → i < length ns → sort_of (item_at pool (number_at numbers i)) ≡ TermSort → 1 + term_depth (term_at pool (number_at numbers i)) ≤ most_deep
   pub equations : List Equation
   pub left : (k : ℕ) (e : Equation) → slice_get equations k ≡ Some e → IsTermNode pool ns numbers e.left

@@ -2,3 +2,4 @@ pub mod Routes
 pub mod Replacing
 pub mod Graphs
 pub mod Places
+pub mod Plans

@@ -16,7 +16,7 @@ use Rattle.equation_chains.specs.Frames.{filled, Leads, bound_in, bound_on}
 use Rattle.equation_chains.specs.declared.frame.Frame.{Frame}
 use Rattle.derived_equations.specs.Routes.{number_at}
 use Rattle.derived_equations.specs.Replacing.{IsReplacement, after_all, AreInTurn}
-use Rattle.derived_equations.specs.Graphs.{renumbered, IsReal, IsBarred}
+use Rattle.derived_equations.specs.Graphs.{IsReal, IsTermNode, IsBarred}
 use Rattle.derived_equations.specs.declared.replacing.Difference.{Difference}
 use Rattle.derived_equations.specs.declared.difference.Place.{Place}
 use Rattle.derived_equations.specs.declared.difference.Pair.{Pair}
@@ -54,31 +54,33 @@ abbrev pub IsPlace : List Node → List Node → List ℕ → Place → Type 0
 IsPlace pool ns numbers p = IsPlaceOf pool ns numbers p.way.items p.one p.other
 
 -- a difference with its route
-pub record IsDifference (pool : List Node) (ls : List Link) (numbers : List ℕ) (before : ℕ) (d : Difference) : Type 0 where
+pub record IsDifference (pool ns : List Node) (ls : List Link) (numbers : List ℕ) (before : ℕ) (d : Difference) : Type 0 where
   pub is : IsReplacement pool numbers d
+  pub term : IsTermNode pool ns numbers d.from
+  pub within : d.from < length ns
   pub path : IsPath ls before d.from d.route.items d.to
 
 -- the differences that were found make the one item the other
-pub record AreFound (pool : List Node) (ls : List Link) (numbers : List ℕ) (before : ℕ) (x y : Item) (old new : List Difference) : Type 0 where
+pub record AreFound (pool ns : List Node) (ls : List Link) (numbers : List ℕ) (before : ℕ) (x y : Item) (old new : List Difference) : Type 0 where
   pub found : List Difference
   pub more : new ≡ old ++ found
   pub in_turn : AreInTurn pool numbers x found
   pub ends : after_all pool numbers x found ≡ y
-  pub each : (n : ℕ) (d : Difference) → slice_get found n ≡ Some d → IsDifference pool ls numbers before d
+  pub each : (n : ℕ) (d : Difference) → slice_get found n ≡ Some d → IsDifference pool ns ls numbers before d
 
 -- a place further down, where nothing but what stands there is left to do
 pub record IsNextOf (pool ns : List Node) (ls : List Link) (numbers : List ℕ) (before : ℕ) (p : Place) (old new : List Difference) (way : List Frame) (i j : ℕ) : Type 0 where
   pub at : IsPlaceOf pool ns numbers way i j
   pub linked : Linked (take before ls) i j
   pub less : number_at numbers i < number_at numbers p.one
-  pub found : AreFound pool ls numbers before (one_at pool numbers p) (whole pool numbers way i) old new
+  pub found : AreFound pool ns ls numbers before (one_at pool numbers p) (whole pool numbers way i) old new
   pub same : whole pool numbers way j ≡ other_at pool numbers p
 
 abbrev pub IsNext : List Node → List Node → List Link → List ℕ → ℕ → Place → List Difference → List Difference → Place → Type 0
 IsNext pool ns ls numbers before p old new next = IsNextOf pool ns ls numbers before p old new next.way.items next.one next.other
 
 abbrev pub IsTurn : List Node → List Node → List Link → List ℕ → ℕ → Place → List Difference → List Difference → Turn → Type 0
-IsTurn pool ns ls numbers before p old new Done = AreFound pool ls numbers before (one_at pool numbers p) (other_at pool numbers p) old new
+IsTurn pool ns ls numbers before p old new Done = AreFound pool ns ls numbers before (one_at pool numbers p) (other_at pool numbers p) old new
 IsTurn pool ns ls numbers before p old new Barred = IsBarred ns ls numbers
 IsTurn pool ns ls numbers before p old new (Next next) = IsNext pool ns ls numbers before p old new next
 

@@ -124,7 +124,7 @@ fn is_quantifier(head: Two) -> bool
 }
 
 // Whether two nodes have different numbers.
-fn are_apart(numbers: &[usize], one: usize, other: usize) -> bool
+pub(crate) fn are_apart(numbers: &[usize], one: usize, other: usize) -> bool
     ensures { MatchBool result (number_at numbers.now one ≢ number_at numbers.now other) (number_at numbers.now one ≡ number_at numbers.now other) }
 {
     number_of(numbers, one) != number_of(numbers, other)
@@ -330,7 +330,7 @@ pub(crate) fn differences(
     requires history { IsHistory graph.links.now (length graph.links.now) graph.history.now }
     requires place { IsPlace pool.now graph.nodes.now graph.numbers.now place }
     requires linked { Linked (take before graph.links.now) place.one place.other }
-    ensures { IfOk result (λ done. MatchBool done (AreFound pool.now graph.entry.links.now graph.entry.numbers.now before (one_at pool.now graph.entry.numbers.now place) (other_at pool.now graph.entry.numbers.now place) found.old.items found.new.items) (IsBarred graph.entry.nodes.now graph.entry.links.now graph.entry.numbers.now)) }
+    ensures { IfOk result (λ done. MatchBool done (AreFound pool.now graph.entry.nodes.now graph.entry.links.now graph.entry.numbers.now before (one_at pool.now graph.entry.numbers.now place) (other_at pool.now graph.entry.numbers.now place) found.old.items found.new.items) (IsBarred graph.entry.nodes.now graph.entry.links.now graph.entry.numbers.now)) }
 {
     let mut place = place;
     while are_apart(graph.numbers, place.one, place.other) {

@@ -2,5 +2,6 @@
 #![tactic(auto)]
 
 pub mod difference;
+pub mod plan;
 pub mod replacing;
 pub mod route;

@@ -1,4 +1,4 @@
-use Rattle.std.proofs.Common.{◌∙◌, sym, ap, refl, subst, arith}
+use Rattle.std.proofs.Common.{◌∙◌, refl, subst, arith}
 use Rattle.equation_chains.specs.declared.frame.Frame.TheVariants.{Only, FirstOfTwo, SecondOfTwo, FirstOfThree, SecondOfThree, ThirdOfThree}
 use Rattle.derived_equations.specs.Routes.{number_at}
 use Rattle.derived_equations.specs.Places.{one_at, other_at, IsStepTo, AreFound, IsTurn}
@@ -11,8 +11,8 @@ pub differences-returns-in-Done : goal.differences-returns-in-Done
 differences-returns-in-Done t c =
     let done : IsTurn c.args.pool.now c.args.graph.nodes.now c.args.graph.links.now c.args.graph.numbers.now c.args.before c.loop-alloc.place c.loop-alloc.found.items c.take_turn.new.found.items c.in_ok-take_turn.field-0 = c.in_ok-take_turn.ensures in
     let found = subst (IsTurn c.args.pool.now c.args.graph.nodes.now c.args.graph.links.now c.args.graph.numbers.now c.args.before c.loop-alloc.place c.loop-alloc.found.items c.take_turn.new.found.items) c.in-Done.is done in
-    found_then c.args.pool.now c.args.graph.links.now c.args.graph.numbers.now c.args.before (one_at c.args.pool.now c.args.graph.numbers.now c.args.place) (one_at c.args.pool.now c.args.graph.numbers.now c.loop-alloc.place) (other_at c.args.pool.now c.args.graph.numbers.now c.args.place) c.args.found.now.items c.loop-alloc.found.items c.take_turn.new.found.items c.loop-alloc.invariant.found
-    (subst (λ y. AreFound c.args.pool.now c.args.graph.links.now c.args.graph.numbers.now c.args.before (one_at c.args.pool.now c.args.graph.numbers.now c.loop-alloc.place) y c.loop-alloc.found.items c.take_turn.new.found.items) c.loop-alloc.invariant.same found)
+    found_then c.args.pool.now c.args.graph.nodes.now c.args.graph.links.now c.args.graph.numbers.now c.args.before (one_at c.args.pool.now c.args.graph.numbers.now c.args.place) (one_at c.args.pool.now c.args.graph.numbers.now c.loop-alloc.place) (other_at c.args.pool.now c.args.graph.numbers.now c.args.place) c.args.found.now.items c.loop-alloc.found.items c.take_turn.new.found.items c.loop-alloc.invariant.found
+    (subst (λ y. AreFound c.args.pool.now c.args.graph.nodes.now c.args.graph.links.now c.args.graph.numbers.now c.args.before (one_at c.args.pool.now c.args.graph.numbers.now c.loop-alloc.place) y c.loop-alloc.found.items c.take_turn.new.found.items) c.loop-alloc.invariant.same found)
 
 pub differences-loop-alloc-preserved : goal.differences-loop-alloc-preserved
 differences-loop-alloc-preserved t c =
@@ -22,7 +22,7 @@ differences-loop-alloc-preserved t c =
       at = next.at;
       linked = next.linked;
       less = omega (arith, next.less, c.loop-alloc.invariant.less);
-      found = found_then c.args.pool.now c.args.graph.links.now c.args.graph.numbers.now c.args.before (one_at c.args.pool.now c.args.graph.numbers.now c.args.place) (one_at c.args.pool.now c.args.graph.numbers.now c.loop-alloc.place) (one_at c.args.pool.now c.args.graph.numbers.now c.in-Next.next) c.args.found.now.items c.loop-alloc.found.items c.take_turn.new.found.items c.loop-alloc.invariant.found next.found;
+      found = found_then c.args.pool.now c.args.graph.nodes.now c.args.graph.links.now c.args.graph.numbers.now c.args.before (one_at c.args.pool.now c.args.graph.numbers.now c.args.place) (one_at c.args.pool.now c.args.graph.numbers.now c.loop-alloc.place) (one_at c.args.pool.now c.args.graph.numbers.now c.in-Next.next) c.args.found.now.items c.loop-alloc.found.items c.take_turn.new.found.items c.loop-alloc.invariant.found next.found;
       same = next.same ∙ c.loop-alloc.invariant.same;
     }
 

@@ -24,7 +24,7 @@ invariant-differences-loop-alloc l = record {
   at : IsPlace l.pool l.graph.nodes.now l.graph.numbers.now l.place;
   linked : Linked (take l.before l.graph.links.now) l.place.one l.place.other;
   less : number_at l.graph.numbers.now l.place.one ≤ number_at l.graph.numbers.now l.fn.place.one;
-  found : AreFound l.pool l.graph.links.now l.graph.numbers.now l.before (one_at l.pool l.graph.numbers.now l.fn.place) (one_at l.pool l.graph.numbers.now l.place) l.fn.found.items l.found.items;
+  found : AreFound l.pool l.graph.nodes.now l.graph.links.now l.graph.numbers.now l.before (one_at l.pool l.graph.numbers.now l.fn.place) (one_at l.pool l.graph.numbers.now l.place) l.fn.found.items l.found.items;
   same : other_at l.pool l.graph.numbers.now l.place ≡ other_at l.pool l.graph.numbers.now l.fn.place;
 }
 
