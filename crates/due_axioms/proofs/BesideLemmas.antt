@@ -1,5 +1,5 @@
 -- Types of vectors beside vectors that are made of others.
-use Rattle.std.proofs.Common.{◌≡◌, ◌⊎◌, inl, inr, ℕ, zero, suc, ◌+◌, ◌<◌, Bool, true, false, not, true≢false, List, [], ◌∷◌, ◌++◌, length, take, get_or, cond, if◌then◌else◌, append-nil, refl, sym, ap, ◌∙◌, subst, arith}
+use Rattle.std.proofs.Common.{◌≡◌, ◌⊎◌, inl, inr, ℕ, ◌+◌, ◌<◌, Bool, true, false, not, true≢false, List, [], ◌∷◌, ◌++◌, length, take, get_or, cond, if◌then◌else◌, append-nil, refl, sym, ap, ◌∙◌, subst, arith}
 use Rattle.std.specs.Prelude.{Contains, filter, nat_eq}
 use Rattle.std.specs.List.{list_any}
 use Rattle.std.proofs.lemmas.Bool.{eqb-true}
@@ -20,7 +20,7 @@ use Rattle.asked_axioms.specs.declared.reading.TermForm.TheVariants.{Constant, U
 use Rattle.asked_axioms.specs.Numbers.{HasForm, IsOtherTerm, IsVariable, IsField, IsNone, IsVector, term_at, type_at}
 use Rattle.asked_axioms.specs.PairRows.{IsNoVector}
 use Rattle.due_axioms.specs.declared.typings.Typing.{Typing}
-use Rattle.due_axioms.specs.Beside.{is_vector_type, is_made_vector, is_made_form, HaveNumber, AreIn, IsTypeOf, AreVectorTypes}
+use Rattle.due_axioms.specs.Beside.{is_vector_type, is_made_vector, is_made_form, HaveNumber, AreIn, AreVectorTypes}
 
 -- ---- types of vectors
 

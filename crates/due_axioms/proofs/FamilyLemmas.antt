@@ -1,6 +1,6 @@
 -- Lists of what asks at all times, by types and by types beside terms.
-use Rattle.std.proofs.Common.{◌≡◌, ◌⊎◌, inl, inr, ℕ, zero, suc, ◌<◌, Bool, true, false, true≢false, List, [], ◌∷◌, ◌++◌, length, map, cond, get_or, Some, refl, sym, ap, ◌∙◌, subst, arith}
-use Rattle.std.specs.Prelude.{slice_get, slice_index_or, All, Contains, filter}
+use Rattle.std.proofs.Common.{◌≡◌, ℕ, zero, suc, Bool, true, false, true≢false, List, [], ◌∷◌, ◌++◌, length, map, cond, refl, sym, ap, ◌∙◌, subst, arith}
+use Rattle.std.specs.Prelude.{slice_index_or, All, Contains, filter}
 use Rattle.std.specs.List.{flat_map}
 use Rattle.std.proofs.lemmas.List.Elements.{All-nil, All-cons, All-append, All-map, Contains-get_or, Contains-append_left, Contains-append_right}
 use Rattle.std.proofs.lemmas.Option.{slice_get_within, slice_get-get_or, get_or_from_slice_get}
@@ -13,20 +13,19 @@ use Rattle.formula_pool.specs.Pools.{item_at, IsOneNumber}
 use Rattle.formula_pool.specs.declared.node.Node.{Node}
 use Rattle.formula_pool.proofs.ShapeLemmas.{a_term}
 use Rattle.branches.specs.Branch.{Branch, IsTerm, IsTyped, Said, Denied}
-use Rattle.branches.specs.Table.{HasTyped}
 use Rattle.pool_branch.specs.PoolBranches.{BranchData, branch_in, IsOver}
 use Rattle.entry_steps.proofs.EntryLemmas.{says_within}
 use Rattle.near_groups.specs.Terms.{IsBranchTerm, AreBranchTerms}
 use Rattle.near_groups.proofs.BranchLemmas.{term_number}
 use Rattle.asked_axioms.specs.Asks.{AsksOfTypeAlone, AsksOfTypeBeside, ByEmptyTyped, BySetTyped, ByPushTyped, ByPopTyped}
-use Rattle.asked_axioms.specs.Numbers.{term_at, type_at}
+use Rattle.asked_axioms.specs.Numbers.{term_at}
 use Rattle.due_axioms.specs.declared.askers.Asker.{Asker}
 use Rattle.due_axioms.specs.declared.askers.Asker.TheVariants.{Always, TypeAlone, Beside}
 use Rattle.due_axioms.specs.declared.typings.Typing.{Typing}
 use Rattle.due_axioms.specs.Due.{AsksOfSome}
 use Rattle.due_axioms.specs.Askers.{asks_at}
 use Rattle.due_axioms.specs.Typings.{Gives, Denies, IsGivenOrDenied, IsListedTyping, AreTypings}
-use Rattle.due_axioms.specs.Beside.{is_vector_type, is_made_vector, alone_asker, beside_asker, beside_askers, AreVectorTypes, AreTypeAskers}
+use Rattle.due_axioms.specs.Beside.{is_vector_type, is_made_vector, alone_asker, beside_asker, beside_askers, AreTypeAskers}
 use Rattle.due_axioms.specs.Families.{IsAskerOn, AskAll, AsksOfTypes, ByAlways, ByType, ByTypeBeside}
 use Rattle.due_axioms.proofs.AskerLemmas.{one_asks}
 use Rattle.due_axioms.proofs.RangeLemmas.{contains_map, typed_by}

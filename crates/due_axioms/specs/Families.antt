@@ -1,5 +1,5 @@
 -- What asks at all times, by types alone and by types beside terms, and lists of what asks for all that they ask for.
-use Rattle.std.specs.Prelude.{ℕ, List, length, All}
+use Rattle.std.specs.Prelude.{List, length, All}
 use Rattle.pv_base.specs.TypeData.{TypeData}
 use Rattle.fol.specs.declared.shapes.Shape.{Shape}
 use Rattle.fol.specs.FormulaData.{TermData, FormulaData}

@@ -1,4 +1,4 @@
-use Rattle.std.proofs.Common.{◌≡◌, [], ◌∷◌, ◌++◌, map, ap, ◌∙◌}
+use Rattle.std.proofs.Common.{[], ◌∷◌, ◌++◌, map, ap, ◌∙◌}
 use Rattle.std.specs.Prelude.{filter}
 use Rattle.asked_axioms.specs.Numbers.{term_at}
 use Rattle.due_axioms.specs.declared.askers.Asker.TheVariants.{Always}
