@@ -1,26 +1,24 @@
 -- Bounds that are due.
-use Rattle.std.proofs.Common.{◌≡◌, ◌⊎◌, inl, inr, ℕ, ◌<◌, ◌≤◌, max, ℤ, pos, ◌+ℤ◌, List, [], ◌∷◌, ◌++◌, length, length-append, map, Option, Some, None, refl, sym, ap, ◌∙◌, subst, arith}
+use Rattle.std.proofs.Common.{◌≡◌, inl, inr, ℕ, ◌<◌, ℤ, pos, ◌+ℤ◌, List, [], ◌∷◌, length, length-append, map, sym, ap, ◌∙◌, subst, arith}
 use Rattle.std.specs.Prelude.{All}
 use Rattle.std.proofs.lemmas.List.Elements.{All-nil, All-cons}
 use Rattle.pv_base.specs.TypeData.{NumType}
 use Rattle.fol.specs.declared.shapes.Shape.{Shape}
 use Rattle.fol.specs.FormulaData.{TermData, NumTerm, FormulaData, LeFormula, IsFormula, NotFormula}
-use Rattle.fol.specs.declared.operators.Comparison.TheVariants.{Le}
 use Rattle.fol.specs.declared.operators.Constant.TheVariants.{Num}
 use Rattle.formula_pool.specs.Items.{TermItem, sort_of, term_in}
-use Rattle.formula_pool.specs.Pools.{item_at, IsItem, IsMade, Extends}
+use Rattle.formula_pool.specs.Pools.{IsItem, IsMade, Extends}
 use Rattle.formula_pool.specs.declared.node.Leaf.TheVariants.{Constant}
-use Rattle.formula_pool.specs.declared.node.Two.TheVariants.{Compare}
 use Rattle.formula_pool.specs.declared.node.Node.{Node}
-use Rattle.formula_pool.specs.declared.node.Node.TheVariants.{Leaf as LeafNode, Two as TwoNode}
+use Rattle.formula_pool.specs.declared.node.Node.TheVariants.{Leaf as LeafNode}
 use Rattle.formula_pool.proofs.ItemLemmas.{item_kept}
-use Rattle.formula_pool.proofs.GrowthLemmas.{leaf_made, two_made}
+use Rattle.formula_pool.proofs.GrowthLemmas.{leaf_made}
 use Rattle.branches.specs.Branch.{Branch, Says}
 use Rattle.branches.specs.Due.{IsSaturated, IsShallow}
-use Rattle.branches.specs.Turns.{BoundTurn, BoundDue, generation_at}
+use Rattle.branches.specs.Turns.{BoundTurn, BoundDue}
 use Rattle.pool_branch.specs.PoolBranches.{IsFormulaNumber, IsTermNumber}
 use Rattle.entry_steps.specs.Numbers.{formula_at, AreNumbersOf, IsNumberOf}
-use Rattle.entry_steps.proofs.NumberLemmas.{number_stays, formula_stays, number_of_item}
+use Rattle.entry_steps.proofs.NumberLemmas.{number_stays, formula_stays}
 use Rattle.branch_values.specs.Numbers.{term_at}
 use Rattle.branch_values.specs.Bounds.{IsBound}
 use Rattle.branch_values.specs.declared.bounds.Bound.{Bound as BoundData}
@@ -31,7 +29,6 @@ use Rattle.branch_rows.specs.declared.rows.BranchRows.{BranchRows}
 use Rattle.linear_rows.specs.declared.rows.Fraction.{Fraction}
 use Rattle.search_trees.specs.Turns.{terms_of, entry_of, IsGenerationFrom, IsAddedFor, AsBound}
 use Rattle.search_trees.specs.declared.turn.Growth.{Growth}
-use Rattle.search_trees.specs.declared.turn.Reason.TheVariants.{Bound}
 use Rattle.proof_search.specs.Decisions.{IsLevel, IsGrowthDue}
 use Rattle.branch_solving.specs.Eliminations.{AreNamedRows, AreValues}
 use Rattle.branch_solving.specs.Bounds.{IsNumeral, IsBoundTurn}
