@@ -16,6 +16,7 @@ use Rattle.branches.specs.Branch.{Branch, Entry, formula_of, formulas, Says}
 use Rattle.branches.specs.Due.{PartsDue, SplitDue, NameDue, InstanceDue, AxiomDue, CutDue, AsksAxiom, ByTable, AsDecision}
 use Rattle.branches.specs.Turns.{Turn, PartsTurn, NameTurn, InstanceTurn, AxiomTurn, SplitTurn, CutTurn, BoundTurn, CloseTurn, entry_with, left_of, BoundDue, AreLinks, after_links, ClosesBranch, OpenBranches, after_turns, IsShortBranch, AreDue, begun, IsProof}
 use Rattle.branches.specs.declared.origin.Origin.{Origin}
+use Rattle.branches.specs.Moves.{all_moves}
 use Rattle.branches.proofs.TableLaws.{asked}
 
 -- ---- entries
@@ -54,17 +55,6 @@ all_short (b ∷ bs) h =
 
 -- ---- moves
 
-abbrev pub all_moves : List Turn → List MoveData
-all_moves [] = []
-all_moves (PartsTurn i ps ∷ turns) = StraightMove (PartsStep i ps) ∷ all_moves turns
-all_moves (NameTurn i v p ∷ turns) = StraightMove (NameStep i v p) ∷ all_moves turns
-all_moves (InstanceTurn i t p generation ∷ turns) = StraightMove (InstanceStep i t p) ∷ all_moves turns
-all_moves (AxiomTurn name p generation ∷ turns) = StraightMove (AxiomStep name p) ∷ all_moves turns
-all_moves (SplitTurn i ps ∷ turns) = ForkedMove (Split i) ps ∷ all_moves turns
-all_moves (CutTurn t u generation ∷ turns) = ForkedMove Cut (EqFormula t u ∷ DifferFormula t u ∷ []) ∷ all_moves turns
-all_moves (BoundTurn i t k ∷ turns) = ForkedMove (Bound i) (LeFormula t (NumTerm k) ∷ LeFormula (NumTerm (k +ℤ pos 1)) t ∷ []) ∷ all_moves turns
-all_moves (CloseTurn chain by ∷ turns) = map StraightMove chain ++ ClosedMove by ∷ all_moves turns
-
 axiom_of : (shapes : List Shape) (b : Branch) {name : Axiom} {ts : List TermData} {p : FormulaData} → AsksAxiom shapes b name ts p → IsAxiom shapes name p
 axiom_of shapes b (ByTable name ts p h) = asked shapes b h
 axiom_of shapes b (AsDecision t u d a n) = (_, (t, u, refl), refl)
@@ -96,7 +86,7 @@ module _ (shapes : List Shape) where
   links_longer ps [] = omega arith
   links_longer ps (s ∷ ss) = (let l = length-append ps (added s) in let k = links_longer (ps ++ added s) ss in omega (arith, l, k))
 
-  by_chain : (b : Branch) (ps : List FormulaData) (others : OpenData) (ss : List StepData) (by : CloseData) (moves : List MoveData) → AreLinks shapes b ps ss → length (after_links ps ss) ≤ most_entries → IsClose (after_links ps ss) by → Closes shapes others moves → Closes shapes (ps ∷ others) (map StraightMove ss ++ ClosedMove by ∷ moves)
+  by_chain : (b : Branch) (ps : List FormulaData) (others : OpenData) (ss : List StepData) (by : CloseData) (moves : List MoveData) → AreLinks shapes b ps ss → length (after_links ps ss) ≤ most_entries → IsClose (after_links ps ss) by → Closes shapes others moves → Closes shapes (ps ∷ others) ((map StraightMove ss ++ ClosedMove by ∷ []) ++ moves)
   by_chain b ps others [] by moves links short closes rest = ((closes, All-nil IsShort), rest)
   by_chain b ps others (s ∷ ss) by moves links short closes rest = (
     (links.1, All-cons IsShort (ps ++ added s) [] (let k = links_longer (ps ++ added s) ss in omega (arith, k, short)) (All-nil IsShort)),

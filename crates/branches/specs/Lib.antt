@@ -9,3 +9,4 @@ pub mod Names
 pub mod Due
 pub mod Rows
 pub mod Turns
+pub mod Moves

@@ -152,7 +152,7 @@ module _ (ns : List Node) (node : Node) where
       inside k i (inr e) = omega (arith, e, longer)
 
   -- the whole
-  module _ (es : List Equation) (cs : List ℕ) (ms us us2 : List (List ℕ)) (T T2 : Node → Option ℕ) (ls ws ws2 : List Link) (kept : IsKept ns es cs ms us T ls ws) (w : IsWithin (length ns) node) where
+  module _ (es : List Equation) (cs : List ℕ) (ms us us2 : List (List ℕ)) (T new_table : Node → Option ℕ) (ls ws new_links : List Link) (kept : IsKept ns es cs ms us T ls ws) (w : IsWithin (length ns) node) where
     same_classes : class_in (cs ++ length ns ∷ []) ≡ class_in cs
     same_classes = ap (λ k. class_in (cs ++ k ∷ [])) (sym kept.one_each) ∙ alone_more cs
 
@@ -162,16 +162,16 @@ module _ (ns : List Node) (node : Node) where
     pub new_honest : IsHonest (ns ++ node ∷ []) (class_in (cs ++ length ns ∷ [])) T
     new_honest = subst (λ d. IsHonest (ns ++ node ∷ []) d T) (sym same_classes) (honest_more (class_in cs) T kept.tabled.honest)
 
-    pub node_kept : AreUsersAdded (us ++ [] ∷ []) us2 (length ns) (IsPartOf node) → AreEntered (ns ++ node ∷ []) (class_in (cs ++ length ns ∷ [])) T ws T2 ws2 (λ i. i ≡ length ns) → IsKept (ns ++ node ∷ []) es (cs ++ length ns ∷ []) (ms ++ (length ns ∷ []) ∷ []) us2 T2 ls ws2
+    pub node_kept : AreUsersAdded (us ++ [] ∷ []) us2 (length ns) (IsPartOf node) → AreEntered (ns ++ node ∷ []) (class_in (cs ++ length ns ∷ [])) T ws new_table new_links (λ i. i ≡ length ns) → IsKept (ns ++ node ∷ []) es (cs ++ length ns ∷ []) (ms ++ (length ns ∷ []) ∷ []) us2 new_table ls new_links
     node_kept added entered = record {
       one_each = length_push cs (length ns) ∙ ap (λ k. k + 1) kept.one_each ∙ sym longer;
-      sound = sound_grown (ns ++ node ∷ []) es (class_in (cs ++ length ns ∷ [])) ls T ws T2 ws2 (subst (λ d. IsSound (ns ++ node ∷ []) es d ls ws) (sym same_classes) (sound_more es (class_in cs) ls ws w kept.sound)) entered.grown;
+      sound = sound_grown (ns ++ node ∷ []) es (class_in (cs ++ length ns ∷ [])) ls T ws new_table new_links (subst (λ d. IsSound (ns ++ node ∷ []) es d ls ws) (sym same_classes) (sound_more es (class_in cs) ls ws w kept.sound)) entered.grown;
       tabled = record { honest = entered.grown.honest; each = λ i v. at i v (cases_lt i (length ns)) };
       members = subst (λ d. AreMembers d (length (ns ++ node ∷ [])) (ms ++ (length ns ∷ []) ∷ [])) (sym same_classes) (members_more (class_in cs) ms kept.sound.named kept.members);
       users = users_more us us2 kept.users added kept.sound.terms.parts;
     }
       where
-        at : (i : ℕ) → i < length (ns ++ node ∷ []) → (i < length ns) ⊎ (length ns ≤ i) → IsTabled (ns ++ node ∷ []) (class_in (cs ++ length ns ∷ [])) T2 ws2 i
+        at : (i : ℕ) → i < length (ns ++ node ∷ []) → (i < length ns) ⊎ (length ns ≤ i) → IsTabled (ns ++ node ∷ []) (class_in (cs ++ length ns ∷ [])) new_table new_links i
         at i v (inl h) = entered.grown.kept i (subst (λ d. IsTabled (ns ++ node ∷ []) d T ws i) (sym same_classes) (tabled_more (class_in cs) T ws i (kept.tabled.each i h)))
         at i v (inr h) = entered.tabled i (omega (arith, h, v, longer))
 
@@ -193,16 +193,16 @@ module _ (ns : List Node) (es : List Equation) (cs : List ℕ) (ms us : List (Li
       subst (λ (xs : List Node). IsHonest xs (class_in cs2) T) (sym nodes)
       (subst (λ (xs : List ℕ). IsHonest (ns ++ node ∷ []) (class_in xs) T) (sym classes_are) (new_honest ns node es cs ms us us T T ls ws ws kept w))
 
-  pub node_in : (ms2 us0 us2 us3 : List (List ℕ)) (T2 : Node → Option ℕ) (ws2 : List Link) → ms2 ≡ ms ++ (number ∷ []) ∷ [] → us0 ≡ us ++ [] ∷ [] → us3 ≡ us2 → AreUsersAdded us0 us2 number (IsPartOf node) → AreEntered ns2 (class_in cs2) T ws T2 ws2 (λ i. i ≡ number) → IsKept ns2 es cs2 ms2 us3 T2 ls ws2
-  node_in ms2 us0 us2 us3 T2 ws2 members users same added entered =
+  pub node_in : (ms2 us0 us2 us3 : List (List ℕ)) (new_table : Node → Option ℕ) (new_links : List Link) → ms2 ≡ ms ++ (number ∷ []) ∷ [] → us0 ≡ us ++ [] ∷ [] → us3 ≡ us2 → AreUsersAdded us0 us2 number (IsPartOf node) → AreEntered ns2 (class_in cs2) T ws new_table new_links (λ i. i ≡ number) → IsKept ns2 es cs2 ms2 us3 new_table ls new_links
+  node_in ms2 us0 us2 us3 new_table new_links members users same added entered =
       let members_are : ms2 ≡ ms ++ (length ns ∷ []) ∷ [] = members ∙ ap (λ k. ms ++ (k ∷ []) ∷ []) is_number in
       let added_there : AreUsersAdded (us ++ [] ∷ []) us2 (length ns) (IsPartOf node) = subst (λ (k : ℕ). AreUsersAdded (us ++ [] ∷ []) us2 k (IsPartOf node)) is_number (subst (λ (xs : List (List ℕ)). AreUsersAdded xs us2 number (IsPartOf node)) users added) in
-      let entered_there : AreEntered (ns ++ node ∷ []) (class_in (cs ++ length ns ∷ [])) T ws T2 ws2 (λ i. i ≡ length ns) =
-      subst (λ (k : ℕ). AreEntered (ns ++ node ∷ []) (class_in (cs ++ length ns ∷ [])) T ws T2 ws2 (λ i. i ≡ k)) is_number
-      (subst (λ (xs : List ℕ). AreEntered (ns ++ node ∷ []) (class_in xs) T ws T2 ws2 (λ i. i ≡ number)) classes_are
-      (subst (λ (xs : List Node). AreEntered xs (class_in cs2) T ws T2 ws2 (λ i. i ≡ number)) nodes entered)) in
-      subst (λ (xs : List Node). IsKept xs es cs2 ms2 us3 T2 ls ws2) (sym nodes)
-      (subst (λ (xs : List ℕ). IsKept (ns ++ node ∷ []) es xs ms2 us3 T2 ls ws2) (sym classes_are)
-      (subst (λ (xs : List (List ℕ)). IsKept (ns ++ node ∷ []) es (cs ++ length ns ∷ []) xs us3 T2 ls ws2) (sym members_are)
-      (subst (λ (xs : List (List ℕ)). IsKept (ns ++ node ∷ []) es (cs ++ length ns ∷ []) (ms ++ (length ns ∷ []) ∷ []) xs T2 ls ws2) (sym same)
-      (node_kept ns node es cs ms us us2 T T2 ls ws ws2 kept w added_there entered_there))))
+      let entered_there : AreEntered (ns ++ node ∷ []) (class_in (cs ++ length ns ∷ [])) T ws new_table new_links (λ i. i ≡ length ns) =
+      subst (λ (k : ℕ). AreEntered (ns ++ node ∷ []) (class_in (cs ++ length ns ∷ [])) T ws new_table new_links (λ i. i ≡ k)) is_number
+      (subst (λ (xs : List ℕ). AreEntered (ns ++ node ∷ []) (class_in xs) T ws new_table new_links (λ i. i ≡ number)) classes_are
+      (subst (λ (xs : List Node). AreEntered xs (class_in cs2) T ws new_table new_links (λ i. i ≡ number)) nodes entered)) in
+      subst (λ (xs : List Node). IsKept xs es cs2 ms2 us3 new_table ls new_links) (sym nodes)
+      (subst (λ (xs : List ℕ). IsKept (ns ++ node ∷ []) es xs ms2 us3 new_table ls new_links) (sym classes_are)
+      (subst (λ (xs : List (List ℕ)). IsKept (ns ++ node ∷ []) es (cs ++ length ns ∷ []) xs us3 new_table ls new_links) (sym members_are)
+      (subst (λ (xs : List (List ℕ)). IsKept (ns ++ node ∷ []) es (cs ++ length ns ∷ []) (ms ++ (length ns ∷ []) ∷ []) xs new_table ls new_links) (sym same)
+      (node_kept ns node es cs ms us us2 T new_table ls ws new_links kept w added_there entered_there))))
