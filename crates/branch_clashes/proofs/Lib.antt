@@ -1,0 +1,5 @@
+pub mod FormLemmas
+pub mod FalseLemmas
+pub mod IndexLemmas
+pub mod ClashLemmas
+pub mod LiteralLemmas

@@ -1,0 +1,52 @@
+-- What closes a branch up to its classes: a closed tableau with equality (R. Smullyan, First-Order Logic, chapter II) whose
+-- terms are taken by their classes.
+use Rattle.std.specs.Prelude.{◌≡◌, ℕ, ◌<◌, []}
+use Rattle.fol.specs.FormulaData.{TermData, FormulaData, EqFormula, NotFormula}
+use Rattle.axioms.specs.Forms.{DifferFormula}
+use Rattle.cert.specs.Closes.{IsFalseForm}
+use Rattle.branches.specs.Branch.{Branch, Says, Stands}
+use Rattle.branches.specs.Joined.{Joined, IsAlike}
+use Rattle.branch_clashes.specs.declared.clash.Clash.{Clash}
+use Rattle.branch_clashes.specs.declared.clash.Clash.TheVariants.{Opposed, Differing, False}
+
+-- the second entry denies what the first one says, up to classes
+pub record AreOpposed (b : Branch) (said denied : ℕ) : Type 0 where
+  pub formula : FormulaData
+  pub other : FormulaData
+  pub says : Says b said formula
+  pub denies : Says b denied (NotFormula other)
+  pub alike : IsAlike b [] formula other
+
+-- the formula says that two terms are equal which are joined
+pub record EquatesJoined (b : Branch) (p : FormulaData) : Type 0 where
+  pub left : TermData
+  pub right : TermData
+  pub is : p ≡ EqFormula left right
+  pub joined : Joined b left right
+
+-- the entry denies such a formula
+pub record DeniesJoined (b : Branch) (i : ℕ) : Type 0 where
+  pub formula : FormulaData
+  pub denies : Says b i (NotFormula formula)
+  pub equates : EquatesJoined b formula
+
+-- the entry can't be true by its form
+pub record IsFalseEntry (b : Branch) (i : ℕ) : Type 0 where
+  pub formula : FormulaData
+  pub says : Says b i formula
+  pub is_false : IsFalseForm formula
+
+abbrev pub IsClashOf : Branch → Clash → Type 0
+IsClashOf b (Opposed said denied) = AreOpposed b said denied
+IsClashOf b (Differing i) = DeniesJoined b i
+IsClashOf b (False i) = IsFalseEntry b i
+
+-- the entry is not false by its form, and denies nothing that the branch says or that equates joined terms
+pub record IsNotClosedAt (b : Branch) (i : ℕ) : Type 0 where
+  pub no_clash : (p q : FormulaData) → Stands b p → Says b i (NotFormula q) → IsAlike b [] p q → ⊥
+  pub no_differing : (t u : TermData) → Says b i (DifferFormula t u) → Joined b t u → ⊥
+  pub no_false : (p : FormulaData) → Says b i p → IsFalseForm p → ⊥
+
+-- nor is any entry before this one
+pub record IsNotClosedBefore (b : Branch) (count : ℕ) : Type 0 where
+  pub each : (i : ℕ) → i < count → IsNotClosedAt b i

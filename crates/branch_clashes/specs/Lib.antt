@@ -1,0 +1,4 @@
+pub mod Clashes
+pub mod Forms
+pub mod Indexes
+pub mod Literal

@@ -1,0 +1,91 @@
+//! A search for what closes a branch up to its classes.
+
+ghost use Rattle.std.specs.Prelude.{◌↔◌, nat_eq, IsTrue, IfOk, MatchOption};
+ghost use Rattle.indexmap.specs.IndexMap.{get};
+ghost use Rattle.branches.specs.Due.{IsNotClosed};
+ghost use Rattle.pool_branch.specs.PoolBranches.{branch_in, IsFormulaNumber, IsOver};
+ghost use Rattle.branch_classes.specs.Known.{IsKnown};
+ghost use Rattle.entry_steps.specs.Numbers.{formula_at};
+ghost use Rattle.near_groups.specs.Terms.{AreClassesOf};
+ghost use Rattle.branch_clashes.specs.Clashes.{EquatesJoined, IsClashOf, IsNotClosedAt};
+ghost use Rattle.branch_clashes.specs.Indexes.{AreEntriesByClass};
+
+use crate::clash::Clash;
+use crate::forms::{denied, is_false_form, sides};
+use crate::index::{entries_by_class, look_up};
+use branch_classes::branch_classes::BranchClasses;
+use formula_pool::pool::Pool;
+use indexmap::IndexMap;
+use pool_branch::branch::PoolBranch;
+use pv_base::memory::NoMemory;
+use std::alloc::Global;
+
+// Whether the formula equates two joined terms.
+fn equates_joined(pool: &Pool, branch: &PoolBranch, classes: &BranchClasses, formula: usize) -> bool
+    requires over { IsOver pool.now branch.now }
+    requires classes { AreClassesOf pool.now branch.now classes.now }
+    requires formula { IsFormulaNumber pool.now formula }
+    requires known { IsKnown classes.now formula }
+    ensures { IsTrue result ↔ EquatesJoined (branch_in pool.now branch.now) (formula_at pool.now formula) }
+{
+    pool.one_number();
+    match sides(pool, formula) {
+        Some((left, right)) => classes.are_joined(left, right),
+        None => false,
+    }
+}
+
+// What closes the branch by the entry with this number, which is false by its form or denies something.
+fn clash_at(
+    pool: &Pool,
+    branch: &PoolBranch,
+    classes: &BranchClasses,
+    by_class: &IndexMap<usize, usize>,
+    i: usize,
+) -> Option<Clash>
+    requires over { IsOver pool.now branch.now }
+    requires classes { AreClassesOf pool.now branch.now classes.now }
+    requires by_class { AreEntriesByClass branch.now classes.now (get nat_eq by_class.now) }
+    ensures { MatchOption result (IsNotClosedAt (branch_in pool.now branch.now) i) (IsClashOf (branch_in pool.now branch.now)) }
+{
+    pool.one_number();
+    classes.exact();
+    let Some(entry) = branch.entry(i) else {
+        return None;
+    };
+    if is_false_form(pool, entry.formula) {
+        return Some(Clash::False(i));
+    }
+    let Some(inner) = denied(pool, entry.formula) else {
+        return None;
+    };
+    if equates_joined(pool, branch, classes, inner) {
+        return Some(Clash::Differing(i));
+    }
+    match look_up(by_class, classes.class(inner)) {
+        Some(said) => Some(Clash::Opposed(said, i)),
+        None => None,
+    }
+}
+
+/// What closes a branch up to its classes; none where nothing does. These are the classes into which its entries were
+/// put. The time is that of the number of entries.
+pub fn next_clash(
+    alloc: Global,
+    pool: &Pool,
+    branch: &PoolBranch,
+    classes: &BranchClasses,
+) -> Result<Option<Clash>, NoMemory>
+    requires over { IsOver pool.now branch.now }
+    requires classes { AreClassesOf pool.now branch.now classes.now }
+    ensures { IfOk result (λ found. MatchOption found (IsNotClosed (branch_in pool.now branch.now)) (IsClashOf (branch_in pool.now branch.now))) }
+{
+    pool.one_number();
+    let by_class = entries_by_class(alloc, branch, classes)?;
+    for i in 0..branch.len() {
+        if let Some(clash) = clash_at(pool, branch, classes, &by_class, i) {
+            return Ok(Some(clash));
+        }
+    }
+    Ok(None)
+}
