@@ -1,0 +1,7 @@
+//! Turns by which a branch is closed.
+#![tactic(auto)]
+
+pub mod closing;
+pub mod literal;
+pub mod rewriting;
+pub mod rows;

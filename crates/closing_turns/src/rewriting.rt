@@ -1,0 +1,40 @@
+//! A formula of a chain, with terms put for equal ones.
+
+ghost use Rattle.std.specs.Prelude.{◌<◌, length, OnOk, IfOk};
+ghost use Rattle.formula_pool.specs.Items.{formula_in};
+ghost use Rattle.formula_pool.specs.Pools.{Extends};
+ghost use Rattle.branches.specs.Branch.{Branch};
+ghost use Rattle.equation_chains.specs.Chains.{HasPlaces, Keeps, IsAt, IsChain};
+ghost use Rattle.derived_equations.specs.Replacing.{after_all};
+ghost use Rattle.closing_turns.specs.Rewriting.{source_item, CanRewrite, CanBeginEach};
+
+use derived_equations::replacing::{Difference, replace};
+use equation_chains::chain::Chain;
+use formula_pool::pool::Pool;
+use pv_base::memory::NoMemory;
+
+/// A place at which it stands what the formula at the source's place becomes by these differences, one after another.
+pub fn rewritten(
+    pool: &mut Pool,
+    chain: &mut Chain,
+    numbers: &[usize],
+    equations: &[Option<usize>],
+    differences: &[Difference],
+    source: usize,
+) -> Result<usize, NoMemory>
+    requires source { source < length chain.old.formulas }
+    requires replaced { CanRewrite pool.old chain.old numbers.now equations.now source differences.now }
+    requires places { HasPlaces chain.old }
+    ensures extends { Extends pool.old pool.new }
+    ensures places { OnOk result (HasPlaces chain.new) }
+    ensures keeps { OnOk result (Keeps chain.old chain.new) }
+    ensures at { IfOk result (λ place. IsAt pool.new chain.new place (formula_in (after_all pool.old numbers.now (source_item pool.old chain.old source) differences.now))) }
+    ensures chain { OnOk result ((b : Branch) → IsChain pool.old b chain.old → CanBeginEach pool.old b chain.old numbers.now differences.now → IsChain pool.new b chain.new) }
+{
+    let mut place = source;
+    for difference in differences {
+        let next = replace(pool, chain, numbers, equations, difference, place)?;
+        place = next;
+    }
+    Ok(place)
+}
