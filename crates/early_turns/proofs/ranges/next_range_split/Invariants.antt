@@ -1,0 +1,10 @@
+use Rattle.formula_pool.specs.Pools.{Extends}
+use Rattle.pool_branch.specs.PoolBranches.{branch_in}
+use Rattle.branch_state.specs.States.{NoRangeSplitBefore}
+use Rattle.early_turns.proofs.ranges.next_range_split.Given as goal
+
+abbrev pub invariant-loop-i : goal.invariant-loop-i
+invariant-loop-i l = record {
+  extends : Extends l.fn.pool l.pool;
+  before : NoRangeSplitBefore (branch_in l.pool l.branch) l.i;
+}

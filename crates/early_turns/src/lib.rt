@@ -1,0 +1,5 @@
+//! The turns of a search that come before all others.
+#![tactic(auto)]
+
+pub mod early;
+pub mod ranges;
