@@ -36,6 +36,9 @@ at_grown ns ms x d e k place p some h = record { number = h.number; found = k.ke
 an_equation : (t u : TermData) → EqFormula t u ≡ JoinFormula AnyOf NoFormulas → ⊥
 an_equation t u e = let both : CompareFormula Eq t u ≡ JoinFormula AnyOf NoFormulas = e in absurd (cc)
 
+pub equation_within : (ns : List Node) (k : ℕ) (t u : TermData) → formula_at ns k ≡ EqFormula t u → k < length ns
+equation_within ns k t u e = formula_within ns k (EqFormula t u) (an_equation t u) e
+
 -- the equation of terms, as the greater pool has them
 pub equation_by : (ns ms : List Node) → Extends ns ms → (e : ChainData) (place left right : ℕ) → HasPart ns (length ns) left TermSort → HasPart ns (length ns) right TermSort → IsAt ms e place (EqFormula (term_at ns left) (term_at ns right)) → IsEquation ms e place left right
 equation_by ns ms x e place left right p q h =

@@ -7,3 +7,4 @@ pub mod PlaceLemmas
 pub mod TurnLemmas
 pub mod PlanLemmas
 pub mod AlikeLemmas
+pub mod DeriveLemmas

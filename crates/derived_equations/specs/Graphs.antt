@@ -45,6 +45,7 @@ pub record IsTermNode (pool ns : List Node) (numbers : List ℕ) (i : ℕ) : Typ
 -- one is no deeper than it may be
 pub record IsGraph (pool ns : List Node) (ls : List Link) (numbers : List ℕ) : Type 0 where
   pub long : length numbers ≡ length ns
+  pub inside : (i : ℕ) → i < length ns → number_at numbers i < length pool
   pub numbered : (i : ℕ) → i < length ns → IsNumbered pool ns numbers i
   pub parts : (i : ℕ) (n : Node) → slice_get ns i ≡ Some n → IsWithin (length ns) n
   pub among : (k : ℕ) (l : Link) → slice_get ls k ≡ Some l → (l.left < length ns) × (l.right < length ns)

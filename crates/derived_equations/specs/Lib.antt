@@ -3,3 +3,4 @@ pub mod Replacing
 pub mod Graphs
 pub mod Places
 pub mod Plans
+pub mod Derivations
