@@ -1,0 +1,71 @@
+-- What an outcome shows where the formula is proved, and the denial that a search begins with.
+use Rattle.std.proofs.Common.{◌≡◌, ℕ, ◌<◌, ◌≤◌, true, false, List, length, ap, ◌∙◌}
+use Rattle.std.specs.List.{AllZip}
+use Rattle.std.proofs.lemmas.Option.{slice_get_within}
+use Rattle.fol.specs.declared.shapes.Shape.{Shape}
+use Rattle.fol.specs.FormulaData.{FormulaData, NotFormula}
+use Rattle.certificate_bytes.specs.Lengths.{IsLengthOf}
+use Rattle.formula_pool.specs.Items.{FormulaItem, FormulaSort, sort_of, formula_in}
+use Rattle.formula_pool.specs.Pools.{HasPart, IsItem, IsMade, Extends}
+use Rattle.formula_pool.specs.declared.node.One.TheVariants.{Not}
+use Rattle.formula_pool.specs.declared.node.Node.{Node}
+use Rattle.formula_pool.specs.declared.node.Node.TheVariants.{One as OneNode}
+use Rattle.formula_pool.proofs.ItemLemmas.{item_kept}
+use Rattle.branches.specs.Moves.{all_moves}
+use Rattle.branches.specs.Turns.{Turn, IsProof}
+use Rattle.pool_branch.specs.PoolBranches.{IsFormulaNumber}
+use Rattle.entry_steps.specs.Numbers.{formula_at}
+use Rattle.search_trees.specs.Turns.{IsTurnOf}
+use Rattle.search_trees.specs.declared.turn.PoolTurn.{PoolTurn}
+use Rattle.search_trees.specs.declared.tree.SearchTree.{SearchTree}
+use Rattle.tree_certificates.specs.Moves.{DueText, IsTextOf, FitTurns}
+use Rattle.proof_search.specs.Ends.{HasTurns, IsShown, Claim, IsOutcome}
+use Rattle.proof_search.specs.declared.search.Outcome.{Outcome}
+use Rattle.proof_search.specs.declared.end.End.{End}
+use Rattle.proof_search.specs.declared.end.End.TheVariants.{Proved}
+use Rattle.formula_prover.specs.declared.answer.Search.{Search}
+use Rattle.formula_prover.specs.declared.answer.Answer.TheVariants.{Ended, TooLong}
+use Rattle.formula_prover.specs.Answers.{most_bytes, is_proved, IsProofOfLength, IsReadable, IsSearched, Shows}
+
+proved_turns : (shapes : List Shape) (p : FormulaData) (budget taken : ℕ) (ns : List Node) (tree : SearchTree) (e : End) → is_proved e ≡ true → IsShown shapes p budget taken ns tree e → HasTurns ns tree taken (IsProof shapes p)
+proved_turns shapes p budget taken ns tree Proved is h = h
+proved_turns shapes p budget taken ns tree _ is h = absurd (cc)
+
+turns_of : (shapes : List Shape) (sought : Claim) (before after : ℕ) (ns : List Node) (outcome : Outcome) → IsOutcome shapes sought before after ns outcome → is_proved outcome.end ≡ true → (taken : ℕ) × HasTurns ns outcome.tree taken (IsProof shapes sought.formula)
+turns_of shapes sought before after ns outcome h is = (h.taken, proved_turns shapes sought.formula sought.budget h.taken ns outcome.tree outcome.end is h.shown)
+
+-- a certificate can hold the numbers of what is proved
+pub readable : ((ns : List Node) (text : List PoolTurn) (due : DueText) → IsTextOf ns text due → FitTurns text) → (shapes : List Shape) (sought : Claim) (before after : ℕ) (s : Search) → IsOutcome shapes sought before after s.pool s.outcome → IsReadable s
+readable fit shapes sought before after s h = record {
+  fits = λ is. (
+      let found = (turns_of shapes sought before after s.pool s.outcome h is).1 in
+      fit s.pool s.outcome.tree.text.items (record { shapes = shapes; formula = sought.formula; turns = found.turns }) (record { are_turns = found.are_turns; due = found.shown.due }));
+}
+
+module _ (shapes : List Shape) (sought : Claim) (before after : ℕ) (s : Search) (h : IsSearched shapes sought before after s) where
+  module _ (proved : is_proved s.outcome.end ≡ true) (len : ℕ) (counted : (turns : List Turn) → AllZip (IsTurnOf s.pool) s.outcome.tree.text.items turns → IsLengthOf (all_moves turns) len) where
+    proof_of : IsProofOfLength shapes sought.formula s.pool s.outcome.tree.text.items len
+    proof_of =
+        let found = (turns_of shapes sought before after s.pool s.outcome h.outcome proved).1 in
+        record { turns = found.turns; are_turns = found.are_turns; proof = found.shown; length = counted found.turns found.are_turns }
+
+    pub ended_short : len ≤ most_bytes → Shows shapes sought before after (Ended s)
+    ended_short short = record { searched = h; short = record { short = λ is. (len, proof_of, short) } }
+
+    pub ended_long : most_bytes < len → Shows shapes sought before after (TooLong s len)
+    ended_long long = record { searched = h; proved = proved; proof = proof_of; long = long }
+
+  pub ended_other : is_proved s.outcome.end ≡ false → Shows shapes sought before after (Ended s)
+  ended_other other = record { searched = h; short = record { short = λ is. absurd (cc) } }
+
+-- ---- the denial
+
+module _ (ns ms : List Node) (grown : Extends ns ms) (p : FormulaData) (n denial : ℕ) (is : IsItem ns n (FormulaItem p)) (made : IsMade ms denial (OneNode Not n)) where
+  pub denial_number : IsFormulaNumber ms denial
+  denial_number = record { within = slice_get_within ms denial (OneNode Not n) made.found; sort = ap sort_of made.item }
+
+  pub denied : formula_at ms denial ≡ NotFormula p
+  denied = ap formula_in made.item ∙ ap (λ x. NotFormula (formula_in x)) (item_kept ns ms grown n is.within ∙ is.is)
+
+pub formula_part : (ns : List Node) (p : FormulaData) (n : ℕ) → IsItem ns n (FormulaItem p) → HasPart ns (length ns) n FormulaSort
+formula_part ns p n is = record { earlier = is.within; sort = ap sort_of is.is }

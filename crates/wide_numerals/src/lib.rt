@@ -1,0 +1,4 @@
+//! Numerals that are too great for a search.
+#![tactic(auto)]
+
+pub mod numerals;
