@@ -6,4 +6,5 @@ pub mod NodeLemmas
 pub mod ValueLemmas
 pub mod ExactLemmas
 pub mod WalkLemmas
+pub mod NumberLemmas
 pub mod OverLemmas

@@ -1,9 +1,9 @@
 -- What is kept as terms and formulas come to be known, and as entries are put in.
-use Rattle.std.proofs.Common.{◌≡◌, ◌⊎◌, inl, inr, ℕ, zero, suc, ◌<◌, List, [], ◌∷◌, ◌++◌, length, map, Option, Some, None, Result, Ok, Err, IfOk, Bool, ◌↔◌, refl, sym, ap, ◌∙◌, subst, arith, rules}
+use Rattle.std.proofs.Common.{◌≡◌, ◌⊎◌, inl, inr, ℕ, zero, suc, ◌<◌, ◌≤◌, List, [], ◌∷◌, ◌++◌, length, map, Option, Some, None, Result, Ok, Err, IfOk, Bool, ◌↔◌, refl, sym, ap, ◌∙◌, subst, arith, rules}
 use Rattle.std.specs.Prelude.{slice_get}
 use Rattle.fol.specs.FormulaData.{TermData, FormulaData}
 use Rattle.formula_pool.specs.declared.node.Leaf.{Leaf}
-use Rattle.formula_pool.specs.declared.node.Leaf.TheVariants.{Var}
+use Rattle.formula_pool.specs.declared.node.Leaf.TheVariants.{Var, TypeParam}
 use Rattle.formula_pool.specs.declared.node.One.{One}
 use Rattle.formula_pool.specs.declared.node.One.TheVariants.{Unary}
 use Rattle.formula_pool.specs.declared.node.Two.{Two}
@@ -14,7 +14,7 @@ use Rattle.formula_pool.specs.declared.node.Node.{Node}
 use Rattle.formula_pool.specs.declared.node.Node.TheVariants.{Leaf as LeafNode, One as OneNode, Two as TwoNode, Three as ThreeNode}
 use Rattle.formula_pool.specs.Items.{Item, TermItem, FormulaItem, TermSort, sort_of, term_in, formula_in, leaf_item, one_item, two_item, three_item}
 use Rattle.branch_classes.specs.Nodes.{IsNode, AreSides, IsEquation, IsSaid, AreEquations}
-use Rattle.branch_classes.specs.Known.{BranchClassesData, IsKnown, IsOuterPart, IsFound, ArePartsFound, class_of, node_in, IsNodeOf, AreKnown, AreExact, formula_at, IsEntry, AreWithin, IsOver, AreEntriesOf, TellsJoined, TellsAlike, Keeps, IsWalked, IsPutIn, NoEquation, OneEquation, IsEquated}
+use Rattle.branch_classes.specs.Known.{BranchClassesData, IsKnown, IsOuterPart, IsFound, ArePartsFound, class_of, node_in, IsNodeOf, AreKnown, AreExact, formula_at, IsEntry, AreWithin, IsOfEntry, IsOver, StandsInEntry, AreInEntries, AreEntriesOf, TellsJoined, TellsAlike, Keeps, IsWalked, IsPutIn, NoEquation, OneEquation, IsEquated}
 use Rattle.classes.specs.Congruence.{Congruent}
 use Rattle.classes.specs.declared.link.Equation.{Equation}
 use Rattle.std.specs.Prelude.{IsTrue, is_some, ◌==◌, unwrap_or}
@@ -22,12 +22,16 @@ use Rattle.classes.specs.Signatures.{class_in}
 use Rattle.classes.proofs.ExactLemmas.{joined_exactly}
 use Rattle.fol.specs.FormulaData.{EqFormula}
 use Rattle.fol.specs.declared.operators.Comparison.TheVariants.{Eq}
-use Rattle.formula_pool.specs.Pools.{item_at, IsMade, Extends}
-use Rattle.formula_pool.proofs.ItemLemmas.{item_kept}
+use Rattle.formula_pool.specs.Pools.{item_at, item_of, items, HasParts, IsMade, Extends}
+use Rattle.formula_pool.proofs.ItemLemmas.{item_kept, parts_kept}
 use Rattle.classes.specs.States.{AreClasses, ClassesData}
+use Rattle.branch_classes.specs.declared.numbered.Numbered.{Numbered}
 use Rattle.classes.proofs.ListLemmas.{push_kept, push_new, push_cases}
+use Rattle.std.proofs.lemmas.Option.{slice_get_within}
 use Rattle.branches.specs.Branch.{Branch, formula_of, Says}
-use Rattle.branch_classes.proofs.WalkLemmas.{node_kept, node_of_kept, node_within, extends_more, nothing_known, none_some, grown_then, walked_then}
+use Rattle.branch_classes.specs.Numbers.{number_at, IsNumbered, ByParts, Bound, Parameter, IsReal, AreNumbered, IsMadeFor, StandsIn, Itself, InPart, AreMoreIn, AreKnownFor, IsKnownFor, AreSidesOf, ArePutIn}
+use Rattle.branch_classes.proofs.NumberLemmas.{less_or, before_append, stays, made_then, nothing_made, stands_below, known_then}
+use Rattle.branch_classes.proofs.WalkLemmas.{node_kept, node_of_kept, node_within, extends_more, nothing_known, none_some, grown_then, walked_then, kept}
 use Rattle.branch_classes.proofs.ExactLemmas.{exactly_joined, exactly_alike}
 
 -- ---- equations among formulas
@@ -95,24 +99,47 @@ kept_known d d2 number h k = record { node = k.node; found = h number k.node k.f
 pub keeps_known : (d d2 : BranchClassesData) → ((i k : ℕ) → node_in d i ≡ Some k → node_in d2 i ≡ Some k) → Keeps d d2
 keeps_known d d2 h = record { known = λ number k. kept_known d d2 number h k }
 
-pub over_walked : (pool : List Node) (d d2 : BranchClassesData) (number node : ℕ) → IsOver pool d → d2.classes.equations ≡ d.classes.equations → d2.entries ≡ d.entries → IsWalked pool [] number d.classes.nodes d2.classes.nodes (node_in d) (node_in d2) node → IsOver pool d2
-over_walked pool d d2 number node over ee en w = record {
+sides_stay : (pool ns ms : List Node) (whole : ℕ) (numbers after : List ℕ) (number : ℕ) (e : Equation) → AreNumbered pool ns numbers → AreMoreIn pool whole ns ms numbers after → AreSidesOf pool ns numbers number e → AreSidesOf pool ms after number e
+sides_stay pool ns ms whole numbers after number e a g s = record { left = s.left; right = s.right; made = s.made; left_made = made_then a g s.left_made; right_made = made_then a g s.right_made }
+
+pub over_walked : (pool : List Node) (d d2 : BranchClassesData) (number node : ℕ) → IsOver pool d → d2.classes.equations ≡ d.classes.equations → d2.entries ≡ d.entries → IsWalked pool [] number d.classes.nodes d2.classes.nodes (node_in d) (node_in d2) node → IsKnownFor pool number d.classes.nodes d2.classes.nodes d.numbers d2.numbers (node_in d2) node → IsOver pool d2
+over_walked pool d d2 number node over ee en w k = record {
   nodes = w.grown.nodes;
   known = w.grown.known;
-  entries = λ place k f. kept_known d d2 k w.grown.stays (over.entries place k (subst (λ ks. slice_get ks place ≡ Some k) en f));
+  entries = λ place i f. kept_known d d2 i w.grown.stays (over.entries place i (subst (λ ks. slice_get ks place ≡ Some i) en f));
   equations = subst (λ es. AreEquations d2.classes.nodes es (IsEntry pool d2.entries)) (sym ee) (subst (λ ks. AreEquations d2.classes.nodes d.classes.equations (IsEntry pool ks)) (sym en) (equations_kept d.classes.nodes d2.classes.nodes d.classes.equations (IsEntry pool d.entries) w.grown.extends over.equations));
+  numbered = k.grown.more.numbered;
+  made = k.grown.all_made;
+  sides = λ i e f. sides e (over.sides i e (subst (λ es. slice_get es i ≡ Some e) ee f));
 }
+  where
+    sides : (e : Equation) → IsOfEntry pool d e → IsOfEntry pool d2 e
+    sides e h = record { place = h.place; number = h.number; found = subst (λ ks. slice_get ks h.place ≡ Some h.number) (sym en) h.found; sides = sides_stay pool d.classes.nodes d2.classes.nodes number d.numbers d2.numbers h.number e over.numbered k.grown.more h.sides }
 
 nowhere : {X : Type 0} (xs : List X) → xs ≡ [] → (k : ℕ) (x : X) → slice_get xs k ≡ Some x → ⊥
 nowhere xs none k x e = let never : None ≡ Some x = sym (ap (λ ys. slice_get ys k) none) ∙ e in absurd (cc)
 
-pub nothing_over : (pool : List Node) (d : BranchClassesData) → d.classes.nodes ≡ [] → d.classes.equations ≡ [] → d.known ≡ [] → d.entries ≡ [] → IsOver pool d
-nothing_over pool d nodes equations known entries = record {
+pub nothing_over : (pool : List Node) (d : BranchClassesData) → d.classes.nodes ≡ [] → d.classes.equations ≡ [] → d.numbers ≡ [] → d.known ≡ [] → d.entries ≡ [] → IsOver pool d
+nothing_over pool d nodes equations numbers known entries = record {
   nodes = record { each = λ i w. absurd (let l = ap length nodes in omega (arith, l, w)) };
   known = nothing_known pool d.classes.nodes [] d.known known;
   entries = λ place number e. absurd (nowhere d.entries entries place number e);
   equations = record { given = λ k e f. absurd (nowhere d.classes.equations equations k e f); all = λ i t u s. absurd (nowhere d.entries entries i s.number s.found) };
+  numbered = record {
+    long = ap length numbers ∙ sym (ap length nodes);
+    parts = λ i n e. absurd (nowhere d.classes.nodes nodes i n e);
+    inside = λ i w. absurd (none i w);
+    numbered = λ i w. absurd (none i w);
+  };
+  made = nothing_made pool d.classes.nodes d.numbers d.known known;
+  sides = λ k e f. absurd (nowhere d.classes.equations equations k e f);
 }
+  where
+    none : (i : ℕ) → i < length d.classes.nodes → ⊥
+    none i w = let l = ap length nodes in omega (arith, l, w)
+
+pub nothing_inside : (pool : List Node) (d : BranchClassesData) → d.classes.nodes ≡ [] → AreInEntries pool d
+nothing_inside pool d nodes = record { each = λ i w. absurd (let l = ap length nodes in omega (arith, l, w)) }
 
 -- ---- one more entry
 
@@ -157,21 +184,42 @@ put_in pool ns es es2 entries number (OneEquation e t u more is sides) a = subst
             let su : u ≡ w = cc in
             record { place = length es; equation = e; found = push_new es e; sides = subst (λ x. AreSides ns e x w) st (subst (λ x. AreSides ns e t x) su sides) }
 
-pub over_entry : (pool : List Node) (d d2 : BranchClassesData) (number : ℕ) → IsOver pool d → d2.entries ≡ d.entries ++ number ∷ [] → IsEquated pool number d.classes d2.classes (node_in d) (node_in d2) → IsOver pool d2
-over_entry pool d d2 number over en q = record {
+pub over_entry : (pool : List Node) (d d2 : BranchClassesData) (number : ℕ) → IsOver pool d → d2.entries ≡ d.entries ++ number ∷ [] → IsEquated pool number d.classes d2.classes (node_in d) (node_in d2) → AreKnownFor pool number d.classes.nodes d2.classes.nodes d.numbers d2.numbers (node_in d2) → ArePutIn pool d2.classes.nodes d2.numbers number d.classes.equations d2.classes.equations → IsOver pool d2
+over_entry pool d d2 number over en q k p = record {
   nodes = q.walked.grown.nodes;
   known = q.walked.grown.known;
-  entries = λ place k f. go place k (push_cases d.entries number place k (subst (λ ks. slice_get ks place ≡ Some k) en f));
+  entries = λ place i f. go place i (push_cases d.entries number place i (subst (λ ks. slice_get ks place ≡ Some i) en f));
   equations = subst (λ ks. AreEquations d2.classes.nodes d2.classes.equations (IsEntry pool ks)) (sym en)
       (put_in pool d2.classes.nodes d.classes.equations d2.classes.equations d.entries number q.equations (equations_kept d.classes.nodes d2.classes.nodes d.classes.equations (IsEntry pool d.entries) q.walked.grown.extends over.equations));
+  numbered = k.more.numbered;
+  made = k.all_made;
+  sides = λ i e f. sides e (elim (p.each i e f) [ inl h ↦ inl (over.sides i e h) | inr h ↦ inr h ]);
 }
   where
+    later : (place i : ℕ) → slice_get d.entries place ≡ Some i → slice_get d2.entries place ≡ Some i
+    later place i f = subst (λ ks. slice_get ks place ≡ Some i) (sym en) (push_kept d.entries number place i f)
+
+    sides : (e : Equation) → IsOfEntry pool d e ⊎ AreSidesOf pool d2.classes.nodes d2.numbers number e → IsOfEntry pool d2 e
+    sides e (inl h) = record { place = h.place; number = h.number; found = later h.place h.number h.found; sides = sides_stay pool d.classes.nodes d2.classes.nodes number d.numbers d2.numbers h.number e over.numbered k.more h.sides }
+    sides e (inr h) = record { place = length d.entries; number = number; found = subst (λ ks. slice_get ks (length d.entries) ≡ Some number) (sym en) (push_new d.entries number); sides = h }
+
     go : (place k : ℕ) → (slice_get d.entries place ≡ Some k) ⊎ ((place ≡ length d.entries) × (k ≡ number)) → IsKnown d2 k
     go place k (inl f) = kept_known d d2 k q.walked.grown.stays (over.entries place k f)
     go place k (inr p) = subst (IsKnown d2) (sym p.1) (record { node = q.node; found = q.found })
 
+-- what stands in entries, after one more
+pub still_inside : (pool : List Node) (d d2 : BranchClassesData) (number : ℕ) → IsOver pool d → d2.entries ≡ d.entries ++ number ∷ [] → AreKnownFor pool number d.classes.nodes d2.classes.nodes d.numbers d2.numbers (node_in d2) → AreInEntries pool d → AreInEntries pool d2
+still_inside pool d d2 number over en k inside = record { each = λ i w. go i w (less_or i (length d.classes.nodes)) }
+  where
+    go : (i : ℕ) → i < length d2.classes.nodes → (i < length d.classes.nodes) ⊎ (length d.classes.nodes ≤ i) → StandsInEntry pool d2.entries (number_at d2.numbers i)
+    go i w (inl v) =
+        let s = inside.each i v in
+        let same : number_at d2.numbers i ≡ number_at d.numbers i = stays pool d.classes.nodes d2.classes.nodes d.numbers d2.numbers k.more.more k.more.nodes k.more.is over.numbered i v in
+        record { place = s.place; entry = s.entry; found = subst (λ ks. slice_get ks s.place ≡ Some s.entry) (sym en) (push_kept d.entries number s.place s.entry s.found); stands = subst (λ j. StandsIn pool j s.entry) (sym same) s.stands }
+    go i w (inr v) = record { place = length d.entries; entry = number; found = subst (λ ks. slice_get ks (length d.entries) ≡ Some number) (sym en) (push_new d.entries number); stands = k.more.each i v w }
+
 -- the sides of an equation were walked and joined
-pub equated_by : {E : Type 0} (pool : List Node) (number left right : ℕ) (d0 d1 d2 d3 : ClassesData) (f0 f1 f2 f3 : ℕ → Option ℕ) (node i j : ℕ) (r : Result ClassesData E) → IsMade pool number (TwoNode (Compare Eq) left right) → d1.equations ≡ d0.equations → d2.equations ≡ d1.equations → d3.equations ≡ d2.equations → IsWalked pool [] number d0.nodes d1.nodes f0 f1 node → f1 number ≡ Some node → IsWalked pool [] left d1.nodes d2.nodes f1 f2 i → IsWalked pool [] right d2.nodes d3.nodes f2 f3 j → IfOk r (λ new. new.nodes ≡ d3.nodes) → IfOk r (λ new. new.equations ≡ d3.equations ++ record { left = i; right = j } ∷ []) → IfOk r (λ new. IsEquated pool number d0 new f0 f3)
+pub equated_by : {E : Type 0} (pool : List Node) (number left right : ℕ) (d0 d1 d2 d3 : ClassesData) (f0 f1 f2 f3 : ℕ → Option ℕ) (node i j : ℕ) (r : Result Numbered E) → IsMade pool number (TwoNode (Compare Eq) left right) → d1.equations ≡ d0.equations → d2.equations ≡ d1.equations → d3.equations ≡ d2.equations → IsWalked pool [] number d0.nodes d1.nodes f0 f1 node → f1 number ≡ Some node → IsWalked pool [] left d1.nodes d2.nodes f1 f2 i → IsWalked pool [] right d2.nodes d3.nodes f2 f3 j → IfOk r (λ new. new.classes.nodes ≡ d3.nodes) → IfOk r (λ new. new.classes.equations ≡ d3.equations ++ record { left = i; right = j } ∷ []) → IfOk r (λ new. IsEquated pool number d0 new.classes f0 f3)
 equated_by pool number left right d0 d1 d2 d3 f0 f1 f2 f3 node i j (Ok new) made e1 e2 e3 u found v w en ee =
     let e : Equation = record { left = i; right = j } in
     let all : IsWalked pool [] number d0.nodes d3.nodes f0 f3 node = walked_then u (grown_then v.grown w.grown) in
@@ -184,6 +232,28 @@ equated_by pool number left right d0 d1 d2 d3 f0 f1 f2 f3 node i j (Ok new) made
           (subst (λ ns. AreSides ns e (term_in (item_at pool left)) (term_in (item_at pool right))) (sym en) sides);
     }
 equated_by pool number left right d0 d1 d2 d3 f0 f1 f2 f3 node i j (Err x) made e1 e2 e3 u found v w en ee = en
+
+pub none_put : (pool ns : List Node) (numbers : List ℕ) (number : ℕ) (es es2 : List Equation) → es2 ≡ es → ArePutIn pool ns numbers number es es2
+none_put pool ns numbers number es es2 same = record { each = λ k e f. inl (subst (λ xs. slice_get xs k ≡ Some e) same f) }
+
+-- the equation that was put in is that of the sides
+pub sides_put : {E : Type 0} (pool : List Node) (number left right : ℕ) (n1 n2 n3 : List Node) (m1 m2 m3 : List ℕ) (f2 f3 : ℕ → Option ℕ) (es0 es1 es2 es3 : List Equation) (i j : ℕ) (r : Result Numbered E) → IsMade pool number (TwoNode (Compare Eq) left right) → es1 ≡ es0 → es2 ≡ es1 → es3 ≡ es2 → IsKnownFor pool left n1 n2 m1 m2 f2 i → IsKnownFor pool right n2 n3 m2 m3 f3 j → IfOk r (λ new. new.classes.nodes ≡ n3) → IfOk r (λ new. new.numbers.items ≡ m3) → IfOk r (λ new. new.classes.equations ≡ es3 ++ record { left = i; right = j } ∷ []) → IfOk r (λ new. ArePutIn pool new.classes.nodes new.numbers.items number es0 new.classes.equations)
+sides_put pool number left right n1 n2 n3 m1 m2 m3 f2 f3 es0 es1 es2 es3 i j (Ok new) made e1 e2 e3 v w en em ee = record { each = λ k e f. go k e (push_cases es3 (record { left = i; right = j }) k e (subst (λ es. slice_get es k ≡ Some e) ee f)) }
+  where
+    sides : AreSidesOf pool n3 m3 number (record { left = i; right = j })
+    sides = record { left = left; right = right; made = made; left_made = made_then v.grown.more.numbered w.grown.more v.made; right_made = w.made }
+
+    go : (k : ℕ) (e : Equation) → (slice_get es3 k ≡ Some e) ⊎ ((k ≡ length es3) × (e ≡ record { left = i; right = j })) → (slice_get es0 k ≡ Some e) ⊎ AreSidesOf pool new.classes.nodes new.numbers.items number e
+    go k e (inl h) = inl (subst (λ es. slice_get es k ≡ Some e) (e3 ∙ e2 ∙ e1) h)
+    go k e (inr h) = inr (subst (λ ns. AreSidesOf pool ns new.numbers.items number e) (sym en) (subst (λ ms. AreSidesOf pool n3 ms number e) (sym em) (subst (AreSidesOf pool n3 m3 number) (sym h.1) sides)))
+sides_put pool number left right n1 n2 n3 m1 m2 m3 f2 f3 es0 es1 es2 es3 i j (Err x) made e1 e2 e3 v w en em ee = en
+
+-- what is known after the sides were walked too
+pub equation_known : {E : Type 0} (pool : List Node) (number left right : ℕ) (n0 n1 n2 n3 : List Node) (m0 m1 m2 m3 : List ℕ) (f1 f2 f3 : ℕ → Option ℕ) (node i j : ℕ) (r : Result Numbered E) → IsMade pool number (TwoNode (Compare Eq) left right) → IsKnownFor pool number n0 n1 m0 m1 f1 node → IsKnownFor pool left n1 n2 m1 m2 f2 i → IsKnownFor pool right n2 n3 m2 m3 f3 j → IfOk r (λ new. new.classes.nodes ≡ n3) → IfOk r (λ new. new.numbers.items ≡ m3) → IfOk r (λ new. AreKnownFor pool number n0 new.classes.nodes m0 new.numbers.items f3)
+equation_known pool number left right n0 n1 n2 n3 m0 m1 m2 m3 f1 f2 f3 node i j (Ok new) made u v w en em =
+    let all : AreKnownFor pool number n0 n3 m0 m3 f3 = known_then (known_then u.grown (stands_below (TwoNode (Compare Eq) left right) made (inl refl)) v.grown) (stands_below (TwoNode (Compare Eq) left right) made (inr refl)) w.grown in
+    subst (λ ns. AreKnownFor pool number n0 ns m0 new.numbers.items f3) (sym en) (subst (λ ms. AreKnownFor pool number n0 n3 m0 ms f3) (sym em) all)
+equation_known pool number left right n0 n1 n2 n3 m0 m1 m2 m3 f1 f2 f3 node i j (Err x) made u v w en em = en
 
 pub known_within : (pool ns : List Node) (known : ℕ → Option ℕ) → AreKnown pool ns [] known → AreWithin ns known
 known_within pool ns known a = record { each = λ number node e. node_within pool ns [] number node (a.each number node e) }
@@ -204,10 +274,52 @@ part_known pool d number part n over k e o =
 
 -- ---- a pool that grew
 
-before_append : {X : Type 0} (xs ys : List X) (k : ℕ) (x : X) → k < length xs → slice_get (xs ++ ys) k ≡ Some x → slice_get xs k ≡ Some x
-before_append [] ys k x w e = absurd (omega (arith, w))
-before_append (y ∷ xs) ys zero x w e = e
-before_append (y ∷ xs) ys (suc k) x w e = before_append xs ys k x (omega (arith, w)) e
+module _ (pool more : List Node) (g : Extends pool more) where
+  -- what a node of parts that stand earlier is
+  same_made : (i : ℕ) → i < length pool → (n : Node) → HasParts pool i n → item_of (items pool) n ≡ item_of (items more) n
+  same_made i w (LeafNode h) p = refl
+  same_made i w (OneNode h a) p = let e = p.earlier in ap (one_item h) (sym (item_kept pool more g a (omega (arith, w, e))))
+  same_made i w (TwoNode h a b) p =
+      let e = p.0.earlier in
+      let f = p.1.earlier in
+      let same : item_at pool a ≡ item_at more a = sym (item_kept pool more g a (omega (arith, w, e))) in
+      let other : item_at pool b ≡ item_at more b = sym (item_kept pool more g b (omega (arith, w, f))) in
+      λ k. two_item h (same k) (other k)
+  same_made i w (ThreeNode h a b c) p =
+      let e = p.0.earlier in
+      let f = p.1.earlier in
+      let d = p.2.earlier in
+      let first : item_at pool a ≡ item_at more a = sym (item_kept pool more g a (omega (arith, w, e))) in
+      let second : item_at pool b ≡ item_at more b = sym (item_kept pool more g b (omega (arith, w, f))) in
+      let third : item_at pool c ≡ item_at more c = sym (item_kept pool more g c (omega (arith, w, d))) in
+      λ k. three_item h (first k) (second k) (third k)
+
+  pub made_more : (i : ℕ) (n : Node) → IsMade pool i n → IsMade more i n
+  made_more i n m =
+      let w : i < length pool = slice_get_within pool i n m.found in
+      record { found = kept pool more g i n m.found; item = item_kept pool more g i w ∙ m.item ∙ same_made i w n m.parts; parts = parts_kept pool more g i n (omega (arith, w)) m.parts }
+
+  pub stands_more : {number whole : ℕ} → StandsIn pool number whole → StandsIn more number whole
+  stands_more Itself = Itself
+  stands_more (InPart whole part n made o s) = InPart whole part n (made_more whole n made) o (stands_more s)
+
+  module _ (ns : List Node) (numbers : List ℕ) where
+    real_more : (i : ℕ) → IsReal pool ns numbers i → IsReal more ns numbers i
+    real_more i r = record { made = λ n e. made_more (number_at numbers i) (LeafNode (TypeParam n)) (r.made n e) }
+
+    pub made_for_more : (number node : ℕ) → IsMadeFor pool ns numbers number node → IsMadeFor more ns numbers number node
+    made_for_more number node m = record { within = m.within; is = m.is; real = real_more node m.real }
+
+    numbered_more : (i : ℕ) → IsNumbered pool ns numbers i → IsNumbered more ns numbers i
+    numbered_more i (ByParts n f m r) = ByParts n f (made_more (number_at numbers i) _ m) (λ p o. real_more p (r p o))
+    numbered_more i (Bound p n f h m) = Bound p n f h (made_more (number_at numbers i) (LeafNode (Var n)) m)
+    numbered_more i (Parameter n f) = Parameter n f
+
+    pub all_numbered_more : AreNumbered pool ns numbers → AreNumbered more ns numbers
+    all_numbered_more a = record { long = a.long; parts = a.parts; inside = λ i w. extends_more pool more g (number_at numbers i) (a.inside i w); numbered = λ i w. numbered_more i (a.numbered i w) }
+
+pub inside_more : (pool more : List Node) (d : BranchClassesData) → Extends pool more → AreInEntries pool d → AreInEntries more d
+inside_more pool more d g inside = record { each = λ i w. (let s = inside.each i w in record { place = s.place; entry = s.entry; found = s.found; stands = stands_more pool more g s.stands }) }
 
 pub still_over : (pool more : List Node) (d : BranchClassesData) → Extends pool more → IsOver pool d → IsOver more d
 still_over pool more d g over = record {
@@ -215,6 +327,20 @@ still_over pool more d g over = record {
   known = record { each = λ number node e. known number node (over.known.each number node e); parts = parts };
   entries = over.entries;
   equations = equations_said d.classes.nodes d.classes.equations (IsEntry pool d.entries) (IsEntry more d.entries) to from over.equations;
+  numbered = all_numbered_more pool more g d.classes.nodes d.numbers over.numbered;
+  made = record { each = λ number node e. made_for_more pool more g d.classes.nodes d.numbers number node (over.made.each number node e) };
+  sides = λ k e f. (let h = over.sides k e f in let s = h.sides in record {
+    place = h.place;
+    number = h.number;
+    found = h.found;
+    sides = record {
+      left = s.left;
+      right = s.right;
+      made = made_more pool more g h.number (TwoNode (Compare Eq) s.left s.right) s.made;
+      left_made = made_for_more pool more g d.classes.nodes d.numbers s.left e.left s.left_made;
+      right_made = made_for_more pool more g d.classes.nodes d.numbers s.right e.right s.right_made;
+    };
+  });
 }
   where
     known : (number node : ℕ) → IsNodeOf pool d.classes.nodes [] number node → IsNodeOf more d.classes.nodes [] number node
@@ -252,7 +378,7 @@ map_at f (y ∷ xs) zero x e = let same : y ≡ x = cc in ap (λ z. Some (f z)) 
 map_at f (y ∷ xs) (suc i) x e = map_at f xs i x e
 
 module _ (pool : List Node) (d : BranchClassesData) (b : Branch) (of : AreEntriesOf pool d b) where
-  to_branch : (i : ℕ) (p : FormulaData) → IsEntry pool d.entries i p → Says b i p
+  pub to_branch : (i : ℕ) (p : FormulaData) → IsEntry pool d.entries i p → Says b i p
   to_branch i p e =
       let at : slice_get (map formula_of b) i ≡ Some (formula_at pool e.number) = ap (λ qs. slice_get qs i) of.formulas ∙ map_at (formula_at pool) d.entries i e.number e.found in
       let m : IsMapped formula_of b i (formula_at pool e.number) = mapped formula_of b i (formula_at pool e.number) at in

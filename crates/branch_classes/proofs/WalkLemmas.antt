@@ -34,7 +34,7 @@ append_kept [] ys k x e = absurd (cc)
 append_kept (y ∷ xs) ys zero x e = e
 append_kept (y ∷ xs) ys (suc k) x e = append_kept xs ys k x e
 
-kept : (ns ms : List Node) → Extends ns ms → (i : ℕ) (n : Node) → slice_get ns i ≡ Some n → slice_get ms i ≡ Some n
+pub kept : (ns ms : List Node) → Extends ns ms → (i : ℕ) (n : Node) → slice_get ns i ≡ Some n → slice_get ms i ≡ Some n
 kept ns ms x i n e = subst (λ ks. slice_get ks i ≡ Some n) (sym x.is) (append_kept ns x.more i n e)
 
 pub tree_kept : (ns ms : List Node) → Extends ns ms → (i : ℕ) (x : Tree) → IsTree ns i x → IsTree ms i x
@@ -52,7 +52,7 @@ node_of_kept pool ns ms bound number node g n = record { within = n.within; is =
 pub known_kept : (pool ns ms : List Node) (bound : List ℕ) (known : ℕ → Option ℕ) → Extends ns ms → AreKnown pool ns bound known → AreKnown pool ms bound known
 known_kept pool ns ms bound known g a = record { each = λ number node e. node_of_kept pool ns ms bound number node g (a.each number node e); parts = a.parts }
 
-pushed : (ns : List Node) (n : Node) → Extends ns (ns ++ n ∷ [])
+pub pushed : (ns : List Node) (n : Node) → Extends ns (ns ++ n ∷ [])
 pushed ns n = record { more = n ∷ []; is = refl }
 
 pub nodes_pushed : (ns : List Node) (n : Node) → AreNodes ns → IsSomeNode (ns ++ n ∷ []) (length ns) → AreNodes (ns ++ n ∷ [])
@@ -180,7 +180,7 @@ extends_more ns ms g i w = (let l = ap length g.is in let m = length-append ns g
 
 -- ---- parts that are known
 
-some_same : {X : Type 0} {x y : X} → Some x ≡ Some y → x ≡ y
+pub some_same : {X : Type 0} {x y : X} → Some x ≡ Some y → x ≡ y
 some_same e = cc
 
 parts_made : (pool : List Node) (known : ℕ → Option ℕ) (number : ℕ) (n : Node) → IsMade pool number n → ((part : ℕ) → IsOuterPart part n → IsFound known part) → ArePartsFound pool known number

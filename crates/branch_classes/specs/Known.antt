@@ -12,11 +12,14 @@ use Rattle.classes.specs.Signatures.{class_in}
 use Rattle.classes.specs.States.{IsPart, ClassesData}
 use Rattle.branches.specs.Branch.{Branch, formulas}
 use Rattle.branches.specs.Joined.{Joined, IsAlike}
+use Rattle.branch_classes.specs.Numbers.{number_at, AreNumbered, AreMadeFor, StandsIn, AreSidesOf}
 use Rattle.branch_classes.specs.Nodes.{IsNode, AreNodes, AreSides, AreEquations}
 
--- the classes, the numbers of the pool that are known with their nodes, and the numbers of the formulas of the entries
+-- the classes, the number of the pool for which each node was made, the numbers that are known with their nodes, and the
+-- numbers of the formulas of the entries
 pub record BranchClassesData : Type 0 where
   pub classes : ClassesData
+  pub numbers : List ℕ
   pub known : List (ℕ × ℕ)
   pub entries : List ℕ
 
@@ -68,13 +71,34 @@ pub record IsEntry (pool : List Node) (entries : List ℕ) (place : ℕ) (p : Fo
 pub record AreWithin (ns : List Node) (known : ℕ → Option ℕ) : Type 0 where
   pub each : (number node : ℕ) → known number ≡ Some node → node < length ns
 
+-- the equation is an entry
+pub record IsOfEntry (pool : List Node) (d : BranchClassesData) (e : Equation) : Type 0 where
+  pub place : ℕ
+  pub number : ℕ
+  pub found : slice_get d.entries place ≡ Some number
+  pub sides : AreSidesOf pool d.classes.nodes d.numbers number e
+
 -- each node stands for what it is to stand for, the formulas of the entries are known, and the equations are those among
--- them
+-- them; and each has the number that it was made for
 pub record IsOver (pool : List Node) (d : BranchClassesData) : Type 0 where
   pub nodes : AreNodes d.classes.nodes
   pub known : AreKnown pool d.classes.nodes [] (node_in d)
   pub entries : (place number : ℕ) → slice_get d.entries place ≡ Some number → IsKnown d number
   pub equations : AreEquations d.classes.nodes d.classes.equations (IsEntry pool d.entries)
+  pub numbered : AreNumbered pool d.classes.nodes d.numbers
+  pub made : AreMadeFor pool d.classes.nodes d.numbers (node_in d)
+  pub sides : (k : ℕ) (e : Equation) → slice_get d.classes.equations k ≡ Some e → IsOfEntry pool d e
+
+-- the number stands in an entry
+pub record StandsInEntry (pool : List Node) (entries : List ℕ) (number : ℕ) : Type 0 where
+  pub place : ℕ
+  pub entry : ℕ
+  pub found : slice_get entries place ≡ Some entry
+  pub stands : StandsIn pool number entry
+
+-- each node was made for what stands in an entry
+pub record AreInEntries (pool : List Node) (d : BranchClassesData) : Type 0 where
+  pub each : (i : ℕ) → i < length d.classes.nodes → StandsInEntry pool d.entries (number_at d.numbers i)
 
 -- the entries are those of the branch
 pub record AreEntriesOf (pool : List Node) (d : BranchClassesData) (b : Branch) : Type 0 where

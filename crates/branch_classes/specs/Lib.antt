@@ -1,3 +1,4 @@
 pub mod Trees
 pub mod Nodes
+pub mod Numbers
 pub mod Known

@@ -8,12 +8,15 @@ ghost use Rattle.formula_pool.specs.Pools.{IsMade};
 ghost use Rattle.formula_pool.specs.declared.node.Node.{Node};
 ghost use Rattle.formula_pool.specs.declared.node.Two.TheVariants.{Compare};
 ghost use Rattle.formula_pool.specs.declared.node.Node.TheVariants.{Two as TwoNode};
+ghost use Rattle.classes.specs.States.{AreClasses};
 ghost use Rattle.branch_classes.specs.Nodes.{AreNodes};
-ghost use Rattle.branch_classes.specs.Known.{IsKnown, node_in, class_of, AreKnown, IsOver, AreExact, Keeps, IsEquated, TellsJoined, TellsAlike, formula_at};
+ghost use Rattle.branch_classes.specs.Numbers.{AreNumbered, AreMadeFor, AreKnownFor, ArePutIn};
+ghost use Rattle.branch_classes.specs.Known.{IsKnown, node_in, class_of, AreKnown, IsOver, AreInEntries, AreExact, Keeps, IsEquated, TellsJoined, TellsAlike, formula_at};
 
 use crate::leaves::look_up;
+use crate::numbered::{Numbered, join, nothing};
 use crate::walk::node_of;
-use classes::classes::Classes;
+use classes::link::Link;
 use fol::operators::Comparison;
 use formula_pool::node::{Node, Two};
 use formula_pool::pool::Pool;
@@ -26,7 +29,8 @@ use std::marker::Model;
 /// known. The entries of the branch are put in one by one.
 #[derive(Drop)]
 pub struct BranchClasses {
-    classes: Classes,
+    // The nodes of terms and formulas.
+    nodes: Numbered,
     // The node of each number that is known.
     known: IndexMap<usize, usize>,
     // The numbers of the formulas of the entries.
@@ -40,9 +44,9 @@ impl Model for BranchClasses {
 
     ghost Value = { BranchClassesData };
 
-    ghost view = { λ c. record { classes = c.classes; known = c.known.entries; entries = c.entries.items } };
+    ghost view = { λ c. record { classes = c.nodes.classes; numbers = c.nodes.numbers.items; known = c.known.entries; entries = c.entries.items } };
 
-    ghost invariant = { λ c. AreWithin c.classes.nodes (get nat_eq c.known) };
+    ghost invariant = { λ c. AreWithin c.nodes.classes.nodes (get nat_eq c.known) };
 }
 
 fn is_equality(head: Two) -> bool
@@ -75,25 +79,29 @@ fn sides_of(pool: &Pool, number: usize) -> Option<(usize, usize)>
 // Makes an entry known, and joins its sides where it is an equation.
 fn equated(
     alloc: Global,
-    before: Classes,
+    before: Numbered,
     known: &mut IndexMap<usize, usize>,
     pool: &Pool,
     number: usize,
-) -> Result<Classes, NoMemory>
+) -> Result<Numbered, NoMemory>
     requires within { number < length pool.now }
-    requires nodes { AreNodes before.nodes }
-    requires known { AreKnown pool.now before.nodes [] (get nat_eq known.old) }
-    ensures { IfOk result (λ new. IsEquated pool.now number before new (get nat_eq known.old) (get nat_eq known.new)) }
+    requires nodes { AreNodes before.classes.nodes }
+    requires known { AreKnown pool.now before.classes.nodes [] (get nat_eq known.old) }
+    requires numbered { AreNumbered pool.now before.classes.nodes before.numbers.items }
+    requires made_for { AreMadeFor pool.now before.classes.nodes before.numbers.items (get nat_eq known.old) }
+    ensures equated { IfOk result (λ new. IsEquated pool.now number before.classes new.classes (get nat_eq known.old) (get nat_eq known.new)) }
+    ensures numbered { IfOk result (λ new. AreKnownFor pool.now number before.classes.nodes new.classes.nodes before.numbers.items new.numbers.items (get nat_eq known.new)) }
+    ensures sides { IfOk result (λ new. ArePutIn pool.now new.classes.nodes new.numbers.items number before.classes.equations new.classes.equations) }
 {
-    let mut classes = before;
-    node_of(alloc, &mut classes, known, pool, &[], number)?;
+    let mut nodes = before;
+    node_of(alloc, &mut nodes, known, pool, &[], number)?;
     match sides_of(pool, number) {
         Some((left, right)) => {
-            let left = node_of(alloc, &mut classes, known, pool, &[], left)?;
-            let right = node_of(alloc, &mut classes, known, pool, &[], right)?;
-            classes.with_equation(left, right)
+            let left = node_of(alloc, &mut nodes, known, pool, &[], left)?;
+            let right = node_of(alloc, &mut nodes, known, pool, &[], right)?;
+            join(nodes, left, right)
         }
-        None => Ok(classes),
+        None => Ok(nodes),
     }
 }
 
@@ -101,11 +109,12 @@ impl BranchClasses {
     /// No entries, and nothing known.
     pub fn new(alloc: Global) -> BranchClasses
         ensures over { (pool : List Node) → IsOver pool result }
+        ensures inside { (pool : List Node) → AreInEntries pool result }
         ensures known { result.known ≡ [] }
         ensures entries { result.entries ≡ [] }
     {
         BranchClasses {
-            classes: Classes::new(alloc),
+            nodes: nothing(alloc),
             known: IndexMap::new(alloc),
             entries: Vec::new(alloc),
         }
@@ -120,12 +129,12 @@ impl BranchClasses {
         ensures keeps { IfOk result (λ new. Keeps self new) }
         ensures entries { IfOk result (λ new. new.entries ≡ self.entries) }
     {
-        let mut classes = self.classes;
+        let mut nodes = self.nodes;
         let mut known = self.known;
         let entries = self.entries;
-        node_of(alloc, &mut classes, &mut known, pool, &[], number)?;
+        node_of(alloc, &mut nodes, &mut known, pool, &[], number)?;
         Ok(BranchClasses {
-            classes,
+            nodes,
             known,
             entries,
         })
@@ -144,13 +153,14 @@ impl BranchClasses {
         ensures known { IfOk result (λ new. IsKnown new number) }
         ensures keeps { IfOk result (λ new. Keeps self new) }
         ensures entries { IfOk result (λ new. new.entries ≡ self.entries ++ number ∷ []) }
+        ensures inside { IfOk result (λ new. AreInEntries pool.now self → AreInEntries pool.now new) }
     {
         let mut known = self.known;
-        let classes = equated(alloc, self.classes, &mut known, pool, number)?;
+        let nodes = equated(alloc, self.nodes, &mut known, pool, number)?;
         let mut entries = self.entries;
         entries.push(number)?;
         Ok(BranchClasses {
-            classes,
+            nodes,
             known,
             entries,
         })
@@ -163,8 +173,8 @@ impl BranchClasses {
         look_up(&self.known, number).is_some()
     }
 
-    // The node of a number.
-    fn node(&self, number: usize) -> usize
+    /// The node of a number that is known.
+    pub fn node(&self, number: usize) -> usize
         requires { IsKnown self.now number }
         ensures found { node_in self.now number ≡ Some result }
         ensures within { result < length self.now.classes.nodes }
@@ -181,7 +191,7 @@ impl BranchClasses {
         requires { IsKnown self.now number }
         ensures { result ≡ class_of self.now number }
     {
-        self.classes.class(self.node(number))
+        self.nodes.classes.class(self.node(number))
     }
 
     /// Whether two terms that are known are joined on the branch of the entries.
@@ -208,6 +218,34 @@ impl BranchClasses {
     pub fn exact(&self)
         ensures { AreExact self.now }
     {
-        self.classes.exact();
+        self.nodes.classes.exact();
+    }
+
+    /// The nodes: those of the terms and formulas that are known, and of what stands in them.
+    pub fn nodes(&self) -> &[Node]
+        ensures { result.now ≡ self.now.classes.nodes }
+    {
+        self.nodes.classes.nodes()
+    }
+
+    /// What joined classes of nodes, in order.
+    pub fn links(&self) -> &[Link]
+        ensures { result.now ≡ self.now.classes.links }
+    {
+        self.nodes.classes.links()
+    }
+
+    /// The number of the pool for which each node was made.
+    pub fn numbers(&self) -> &[usize]
+        ensures { result.now ≡ self.now.numbers }
+    {
+        self.nodes.numbers.as_slice()
+    }
+
+    /// The classes of the nodes are exactly the least congruence, and links show them.
+    pub fn shown(&self)
+        ensures { AreClasses self.now.classes.nodes self.now.classes.equations self.now.classes.names self.now.classes.links }
+    {
+        self.nodes.classes.exact();
     }
 }

@@ -10,7 +10,7 @@ ghost use Rattle.classes.specs.States.{ClassesData, AreClasses};
 ghost use Rattle.branches.specs.Branch.{Branch, Says};
 ghost use Rattle.branches.specs.Joined.{Joined, IsAlike};
 ghost use Rattle.branch_classes.specs.Nodes.{IsNode, AreNodes, AreEquations};
-ghost use Rattle.branch_classes.specs.Known.{BranchClassesData, IsKnown, IsOuterPart, IsOver};
+ghost use Rattle.branch_classes.specs.Known.{BranchClassesData, IsKnown, IsOuterPart, IsOver, AreInEntries};
 
 /// Nodes of two terms are congruent exactly where the terms are joined on the branch whose equations were put in.
 pub fn congruent_as_joined()
@@ -30,4 +30,9 @@ pub fn part_known()
 /// What is known of a pool is known of it once it has more nodes.
 pub fn known_of_more()
     ensures { (pool more : List Node) (d : BranchClassesData) → Extends pool more → IsOver pool d → IsOver more d }
+{}
+
+/// What stands in entries of a pool stands in them once it has more nodes.
+pub fn inside_of_more()
+    ensures { (pool more : List Node) (d : BranchClassesData) → Extends pool more → AreInEntries pool d → AreInEntries more d }
 {}

@@ -4,30 +4,16 @@ ghost use Rattle.std.specs.Prelude.{◌≡◌, ℕ, ◌<◌, ◌∷◌, ◌++◌
 ghost use Rattle.indexmap.specs.IndexMap.{get};
 ghost use Rattle.formula_pool.specs.Pools.{IsMade};
 ghost use Rattle.formula_pool.specs.declared.node.Node.TheVariants.{Leaf as LeafNode};
-ghost use Rattle.classes.specs.Congruence.{IsWithin};
 ghost use Rattle.branch_classes.specs.Trees.{BoundTree, LeafTree, among, under, leaf_tree};
 ghost use Rattle.branch_classes.specs.Nodes.{AreNodes};
+ghost use Rattle.branch_classes.specs.Numbers.{AreNumbered, IsNewFor};
 ghost use Rattle.branch_classes.specs.Known.{IsAdded};
 
-use classes::classes::Classes;
+use crate::numbered::{Numbered, add};
 use formula_pool::node::{Leaf, Node, One, Two};
 use indexmap::IndexMap;
 use pv_base::memory::NoMemory;
 use std::alloc::Global;
-use std::mem;
-
-/// Puts a node behind the others, and gives its number.
-pub(crate) fn add(alloc: Global, classes: &mut Classes, node: Node) -> Result<usize, NoMemory>
-    requires { IsWithin (length classes.old.nodes) node }
-    ensures number { IfOk result (λ number. number ≡ length classes.old.nodes) }
-    ensures nodes { OnOk result (classes.new.nodes ≡ classes.old.nodes ++ node ∷ []) }
-    ensures equations { OnOk result (classes.new.equations ≡ classes.old.equations) }
-{
-    let number = classes.len();
-    let before = mem::replace(classes, Classes::new(alloc));
-    *classes = before.with_node(node)?;
-    Ok(number)
-}
 
 /// Which node stands for a number.
 pub(crate) fn look_up(known: &IndexMap<usize, usize>, number: usize) -> Option<usize>
@@ -96,22 +82,24 @@ fn bound_variable(bound: &[u32], head: Leaf) -> Option<u32>
     }
 }
 
-/// Adds the node of a leaf: of a bound variable the denial of a type parameter with its number.
+/// Adds the node of a leaf with this number: of a bound variable the denial of a type parameter with the variable's.
 pub(crate) fn add_leaf(
     alloc: Global,
-    classes: &mut Classes,
+    nodes: &mut Numbered,
     bound: &[u32],
+    number: usize,
     head: Leaf,
 ) -> Result<usize, NoMemory>
-    requires nodes { AreNodes classes.old.nodes }
-    ensures equations { OnOk result (classes.new.equations ≡ classes.old.equations) }
-    ensures added { IfOk result (λ node. (pool : List Node) (number : ℕ) → IsMade pool number (LeafNode head) → IsAdded pool bound.now number classes.old.nodes classes.new.nodes node) }
+    requires nodes { AreNodes nodes.old.classes.nodes }
+    ensures equations { OnOk result (nodes.new.classes.equations ≡ nodes.old.classes.equations) }
+    ensures added { IfOk result (λ node. (pool : List Node) (number : ℕ) → IsMade pool number (LeafNode head) → IsAdded pool bound.now number nodes.old.classes.nodes nodes.new.classes.nodes node) }
+    ensures numbered { IfOk result (λ node. (pool : List Node) → IsMade pool number (LeafNode head) → AreNumbered pool nodes.old.classes.nodes nodes.old.numbers.items → IsNewFor pool number nodes.old.classes.nodes nodes.new.classes.nodes nodes.old.numbers.items nodes.new.numbers.items node) }
 {
     match bound_variable(bound, head) {
         Some(n) => {
-            let parameter = add(alloc, classes, Node::Leaf(Leaf::TypeParam(n)))?;
-            add(alloc, classes, Node::One(One::Not, parameter))
+            let parameter = add(alloc, nodes, Node::Leaf(Leaf::TypeParam(n)), number)?;
+            add(alloc, nodes, Node::One(One::Not, parameter), number)
         }
-        None => add(alloc, classes, Node::Leaf(head)),
+        None => add(alloc, nodes, Node::Leaf(head), number),
     }
 }

@@ -4,4 +4,5 @@
 pub mod branch_classes;
 pub mod laws;
 mod leaves;
+mod numbered;
 mod walk;

@@ -4,31 +4,43 @@ ghost use Rattle.std.specs.Prelude.{◌≡◌, ℕ, ◌<◌, ◌≤◌, ◌∷�
 ghost use Rattle.indexmap.specs.IndexMap.{get};
 ghost use Rattle.formula_pool.specs.Pools.{IsMade};
 ghost use Rattle.formula_pool.specs.declared.node.Node.TheVariants.{One as OneNode, Two as TwoNode, Three as ThreeNode};
+ghost use Rattle.classes.specs.States.{IsPart};
 ghost use Rattle.branch_classes.specs.Trees.{under};
 ghost use Rattle.branch_classes.specs.Nodes.{AreNodes};
+ghost use Rattle.branch_classes.specs.Numbers.{AreNumbered, AreMadeFor, StandsIn, IsNewFor, AreKnownFor, IsKnownFor};
 ghost use Rattle.branch_classes.specs.Known.{AreKnown, IsAdded, IsGrown, IsWalked};
 
-use crate::leaves::{add, add_leaf, look_up, note, variable_of, with_variable};
-use classes::classes::Classes;
+use crate::leaves::{add_leaf, look_up, note, variable_of, with_variable};
+use crate::numbered::{Numbered, add};
 use formula_pool::node::{Node, One, Three, Two};
 use formula_pool::pool::Pool;
 use indexmap::IndexMap;
 use pv_base::memory::NoMemory;
 use std::alloc::Global;
 
+// The rest of a list that is not empty.
+fn rest_of(list: Node) -> Option<usize>
+    ensures { IfSome result (λ rest. IsPart rest list) }
+{
+    match list {
+        Node::One(One::ConsByte(_), rest) => Some(rest),
+        Node::Two(Two::ConsTerm | Two::ConsTrigger | Two::ConsFormula | Two::ConsType, _, rest) =>
+            Some(rest),
+        _ => None,
+    }
+}
+
 // The rest of a list whose node is not known.
 fn unknown_rest(known: &IndexMap<usize, usize>, pool: &Pool, list: usize) -> Option<usize>
-    ensures { IfSome result (λ rest. rest < list) }
+    ensures less { IfSome result (λ rest. rest < list) }
+    ensures inside { IfSome result (λ rest. StandsIn pool.now rest list) }
 {
     if look_up(known, list).is_some() {
         return None;
     }
     match pool.node(list) {
-        Some(Node::One(One::ConsByte(_), rest)) => Some(rest),
-        Some(
-            Node::Two(Two::ConsTerm | Two::ConsTrigger | Two::ConsFormula | Two::ConsType, _, rest),
-        ) => Some(rest),
-        _ => None,
+        Some(node) => rest_of(node),
+        None => None,
     }
 }
 
@@ -39,7 +51,8 @@ fn unknown_lists(
     pool: &Pool,
     list: usize,
 ) -> Result<Vec<usize>, NoMemory>
-    ensures { IfOk result (λ lists. All (λ it. it ≤ list) lists.items) }
+    ensures within { IfOk result (λ lists. All (λ it. it ≤ list) lists.items) }
+    ensures inside { IfOk result (λ lists. All (λ it. StandsIn pool.now it list) lists.items) }
 {
     let mut lists = Vec::new(alloc);
     let mut rest = list;
@@ -54,23 +67,26 @@ fn unknown_lists(
 #[cycle(node_of)]
 fn walk_list(
     alloc: Global,
-    classes: &mut Classes,
+    nodes: &mut Numbered,
     known: &mut IndexMap<usize, usize>,
     pool: &Pool,
     bound: &[u32],
     list: usize,
 ) -> Result<(), NoMemory>
     requires within { list < length pool.now }
-    requires nodes { AreNodes classes.old.nodes }
-    requires known { AreKnown pool.now classes.old.nodes bound.now (get nat_eq known.old) }
-    ensures equations { OnOk result (classes.new.equations ≡ classes.old.equations) }
-    ensures grown { OnOk result (IsGrown pool.now bound.now classes.old.nodes classes.new.nodes (get nat_eq known.old) (get nat_eq known.new)) }
+    requires nodes { AreNodes nodes.old.classes.nodes }
+    requires known { AreKnown pool.now nodes.old.classes.nodes bound.now (get nat_eq known.old) }
+    requires numbered { AreNumbered pool.now nodes.old.classes.nodes nodes.old.numbers.items }
+    requires made_for { AreMadeFor pool.now nodes.old.classes.nodes nodes.old.numbers.items (get nat_eq known.old) }
+    ensures equations { OnOk result (nodes.new.classes.equations ≡ nodes.old.classes.equations) }
+    ensures grown { OnOk result (IsGrown pool.now bound.now nodes.old.classes.nodes nodes.new.classes.nodes (get nat_eq known.old) (get nat_eq known.new)) }
+    ensures numbered { OnOk result (AreKnownFor pool.now list nodes.old.classes.nodes nodes.new.classes.nodes nodes.old.numbers.items nodes.new.numbers.items (get nat_eq known.new)) }
 {
     let lists = unknown_lists(alloc, known, pool, list)?;
     let mut rest = lists.len();
     while rest > 0 {
         rest -= 1;
-        node_of(alloc, classes, known, pool, bound, lists[rest])?;
+        node_of(alloc, nodes, known, pool, bound, lists[rest])?;
     }
     Ok(())
 }
@@ -78,7 +94,7 @@ fn walk_list(
 #[cycle(node_of)]
 fn one(
     alloc: Global,
-    classes: &mut Classes,
+    nodes: &mut Numbered,
     known: &mut IndexMap<usize, usize>,
     pool: &Pool,
     bound: &[u32],
@@ -87,20 +103,23 @@ fn one(
     a: usize,
 ) -> Result<usize, NoMemory>
     requires made { IsMade pool.now number (OneNode head a) }
-    requires nodes { AreNodes classes.old.nodes }
-    requires known { AreKnown pool.now classes.old.nodes bound.now (get nat_eq known.old) }
-    ensures equations { OnOk result (classes.new.equations ≡ classes.old.equations) }
-    ensures walked { IfOk result (λ node. IsWalked pool.now bound.now number classes.old.nodes classes.new.nodes (get nat_eq known.old) (get nat_eq known.new) node) }
+    requires nodes { AreNodes nodes.old.classes.nodes }
+    requires known { AreKnown pool.now nodes.old.classes.nodes bound.now (get nat_eq known.old) }
+    requires numbered { AreNumbered pool.now nodes.old.classes.nodes nodes.old.numbers.items }
+    requires made_for { AreMadeFor pool.now nodes.old.classes.nodes nodes.old.numbers.items (get nat_eq known.old) }
+    ensures equations { OnOk result (nodes.new.classes.equations ≡ nodes.old.classes.equations) }
+    ensures walked { IfOk result (λ node. IsWalked pool.now bound.now number nodes.old.classes.nodes nodes.new.classes.nodes (get nat_eq known.old) (get nat_eq known.new) node) }
+    ensures numbered { IfOk result (λ node. IsKnownFor pool.now number nodes.old.classes.nodes nodes.new.classes.nodes nodes.old.numbers.items nodes.new.numbers.items (get nat_eq known.new) node) }
 {
-    walk_list(alloc, classes, known, pool, bound, a)?;
-    let a = node_of(alloc, classes, known, pool, bound, a)?;
-    add(alloc, classes, Node::One(head, a))
+    walk_list(alloc, nodes, known, pool, bound, a)?;
+    let a = node_of(alloc, nodes, known, pool, bound, a)?;
+    add(alloc, nodes, Node::One(head, a), number)
 }
 
 #[cycle(node_of)]
 fn two(
     alloc: Global,
-    classes: &mut Classes,
+    nodes: &mut Numbered,
     known: &mut IndexMap<usize, usize>,
     pool: &Pool,
     bound: &[u32],
@@ -111,21 +130,24 @@ fn two(
 ) -> Result<usize, NoMemory>
     requires made { IsMade pool.now number (TwoNode head a b) }
     requires plain { under head bound.now ≡ bound.now }
-    requires nodes { AreNodes classes.old.nodes }
-    requires known { AreKnown pool.now classes.old.nodes bound.now (get nat_eq known.old) }
-    ensures equations { OnOk result (classes.new.equations ≡ classes.old.equations) }
-    ensures walked { IfOk result (λ node. IsWalked pool.now bound.now number classes.old.nodes classes.new.nodes (get nat_eq known.old) (get nat_eq known.new) node) }
+    requires nodes { AreNodes nodes.old.classes.nodes }
+    requires known { AreKnown pool.now nodes.old.classes.nodes bound.now (get nat_eq known.old) }
+    requires numbered { AreNumbered pool.now nodes.old.classes.nodes nodes.old.numbers.items }
+    requires made_for { AreMadeFor pool.now nodes.old.classes.nodes nodes.old.numbers.items (get nat_eq known.old) }
+    ensures equations { OnOk result (nodes.new.classes.equations ≡ nodes.old.classes.equations) }
+    ensures walked { IfOk result (λ node. IsWalked pool.now bound.now number nodes.old.classes.nodes nodes.new.classes.nodes (get nat_eq known.old) (get nat_eq known.new) node) }
+    ensures numbered { IfOk result (λ node. IsKnownFor pool.now number nodes.old.classes.nodes nodes.new.classes.nodes nodes.old.numbers.items nodes.new.numbers.items (get nat_eq known.new) node) }
 {
-    walk_list(alloc, classes, known, pool, bound, b)?;
-    let a = node_of(alloc, classes, known, pool, bound, a)?;
-    let b = node_of(alloc, classes, known, pool, bound, b)?;
-    add(alloc, classes, Node::Two(head, a, b))
+    walk_list(alloc, nodes, known, pool, bound, b)?;
+    let a = node_of(alloc, nodes, known, pool, bound, a)?;
+    let b = node_of(alloc, nodes, known, pool, bound, b)?;
+    add(alloc, nodes, Node::Two(head, a, b), number)
 }
 
 #[cycle(node_of)]
 fn three(
     alloc: Global,
-    classes: &mut Classes,
+    nodes: &mut Numbered,
     known: &mut IndexMap<usize, usize>,
     pool: &Pool,
     bound: &[u32],
@@ -136,22 +158,25 @@ fn three(
     c: usize,
 ) -> Result<usize, NoMemory>
     requires made { IsMade pool.now number (ThreeNode head a b c) }
-    requires nodes { AreNodes classes.old.nodes }
-    requires known { AreKnown pool.now classes.old.nodes bound.now (get nat_eq known.old) }
-    ensures equations { OnOk result (classes.new.equations ≡ classes.old.equations) }
-    ensures walked { IfOk result (λ node. IsWalked pool.now bound.now number classes.old.nodes classes.new.nodes (get nat_eq known.old) (get nat_eq known.new) node) }
+    requires nodes { AreNodes nodes.old.classes.nodes }
+    requires known { AreKnown pool.now nodes.old.classes.nodes bound.now (get nat_eq known.old) }
+    requires numbered { AreNumbered pool.now nodes.old.classes.nodes nodes.old.numbers.items }
+    requires made_for { AreMadeFor pool.now nodes.old.classes.nodes nodes.old.numbers.items (get nat_eq known.old) }
+    ensures equations { OnOk result (nodes.new.classes.equations ≡ nodes.old.classes.equations) }
+    ensures walked { IfOk result (λ node. IsWalked pool.now bound.now number nodes.old.classes.nodes nodes.new.classes.nodes (get nat_eq known.old) (get nat_eq known.new) node) }
+    ensures numbered { IfOk result (λ node. IsKnownFor pool.now number nodes.old.classes.nodes nodes.new.classes.nodes nodes.old.numbers.items nodes.new.numbers.items (get nat_eq known.new) node) }
 {
-    let a = node_of(alloc, classes, known, pool, bound, a)?;
-    let b = node_of(alloc, classes, known, pool, bound, b)?;
-    let c = node_of(alloc, classes, known, pool, bound, c)?;
-    add(alloc, classes, Node::Three(head, a, b, c))
+    let a = node_of(alloc, nodes, known, pool, bound, a)?;
+    let b = node_of(alloc, nodes, known, pool, bound, b)?;
+    let c = node_of(alloc, nodes, known, pool, bound, c)?;
+    add(alloc, nodes, Node::Three(head, a, b, c), number)
 }
 
 // A quantifier binds its variable in its parts, whose numbers stand for other nodes there.
 #[cycle(node_of)]
 fn quantified(
     alloc: Global,
-    classes: &mut Classes,
+    nodes: &mut Numbered,
     pool: &Pool,
     outside: &[u32],
     number: usize,
@@ -162,42 +187,47 @@ fn quantified(
 ) -> Result<usize, NoMemory>
     requires made { IsMade pool.now number (TwoNode head a b) }
     requires binds { under head outside.now ≡ variable ∷ outside.now }
-    requires nodes { AreNodes classes.old.nodes }
-    ensures equations { OnOk result (classes.new.equations ≡ classes.old.equations) }
-    ensures added { IfOk result (λ node. IsAdded pool.now outside.now number classes.old.nodes classes.new.nodes node) }
+    requires nodes { AreNodes nodes.old.classes.nodes }
+    requires numbered { AreNumbered pool.now nodes.old.classes.nodes nodes.old.numbers.items }
+    ensures equations { OnOk result (nodes.new.classes.equations ≡ nodes.old.classes.equations) }
+    ensures added { IfOk result (λ node. IsAdded pool.now outside.now number nodes.old.classes.nodes nodes.new.classes.nodes node) }
+    ensures numbered { IfOk result (λ node. IsNewFor pool.now number nodes.old.classes.nodes nodes.new.classes.nodes nodes.old.numbers.items nodes.new.numbers.items node) }
 {
     let bound = with_variable(alloc, variable, outside)?;
     let mut known = IndexMap::new(alloc);
-    let a = node_of(alloc, classes, &mut known, pool, bound.as_slice(), a)?;
-    let b = node_of(alloc, classes, &mut known, pool, bound.as_slice(), b)?;
-    add(alloc, classes, Node::Two(head, a, b))
+    let a = node_of(alloc, nodes, &mut known, pool, bound.as_slice(), a)?;
+    let b = node_of(alloc, nodes, &mut known, pool, bound.as_slice(), b)?;
+    add(alloc, nodes, Node::Two(head, a, b), number)
 }
 
 // Makes the node of a number by its parts.
 #[cycle(node_of)]
 fn make(
     alloc: Global,
-    classes: &mut Classes,
+    nodes: &mut Numbered,
     known: &mut IndexMap<usize, usize>,
     pool: &Pool,
     bound: &[u32],
     number: usize,
 ) -> Result<usize, NoMemory>
     requires within { number < length pool.now }
-    requires nodes { AreNodes classes.old.nodes }
-    requires known { AreKnown pool.now classes.old.nodes bound.now (get nat_eq known.old) }
-    ensures equations { OnOk result (classes.new.equations ≡ classes.old.equations) }
-    ensures walked { IfOk result (λ node. IsWalked pool.now bound.now number classes.old.nodes classes.new.nodes (get nat_eq known.old) (get nat_eq known.new) node) }
+    requires nodes { AreNodes nodes.old.classes.nodes }
+    requires known { AreKnown pool.now nodes.old.classes.nodes bound.now (get nat_eq known.old) }
+    requires numbered { AreNumbered pool.now nodes.old.classes.nodes nodes.old.numbers.items }
+    requires made_for { AreMadeFor pool.now nodes.old.classes.nodes nodes.old.numbers.items (get nat_eq known.old) }
+    ensures equations { OnOk result (nodes.new.classes.equations ≡ nodes.old.classes.equations) }
+    ensures walked { IfOk result (λ node. IsWalked pool.now bound.now number nodes.old.classes.nodes nodes.new.classes.nodes (get nat_eq known.old) (get nat_eq known.new) node) }
+    ensures numbered { IfOk result (λ node. IsKnownFor pool.now number nodes.old.classes.nodes nodes.new.classes.nodes nodes.old.numbers.items nodes.new.numbers.items (get nat_eq known.new) node) }
 {
     match pool.node(number) {
-        Some(Node::Leaf(head)) => add_leaf(alloc, classes, bound, head),
-        Some(Node::One(head, a)) => one(alloc, classes, known, pool, bound, number, head, a),
+        Some(Node::Leaf(head)) => add_leaf(alloc, nodes, bound, number, head),
+        Some(Node::One(head, a)) => one(alloc, nodes, known, pool, bound, number, head, a),
         Some(Node::Two(head, a, b)) => match variable_of(head) {
-            Some(n) => quantified(alloc, classes, pool, bound, number, head, n, a, b),
-            None => two(alloc, classes, known, pool, bound, number, head, a, b),
+            Some(n) => quantified(alloc, nodes, pool, bound, number, head, n, a, b),
+            None => two(alloc, nodes, known, pool, bound, number, head, a, b),
         },
         Some(Node::Three(head, a, b, c)) => {
-            three(alloc, classes, known, pool, bound, number, head, a, b, c)
+            three(alloc, nodes, known, pool, bound, number, head, a, b, c)
         }
         None => Ok(0),
     }
@@ -208,23 +238,26 @@ fn make(
 #[cycle(node_of)]
 pub(crate) fn node_of(
     alloc: Global,
-    classes: &mut Classes,
+    nodes: &mut Numbered,
     known: &mut IndexMap<usize, usize>,
     pool: &Pool,
     bound: &[u32],
     number: usize,
 ) -> Result<usize, NoMemory>
     requires within { number < length pool.now }
-    requires nodes { AreNodes classes.old.nodes }
-    requires known { AreKnown pool.now classes.old.nodes bound.now (get nat_eq known.old) }
-    ensures equations { OnOk result (classes.new.equations ≡ classes.old.equations) }
-    ensures walked { IfOk result (λ node. IsWalked pool.now bound.now number classes.old.nodes classes.new.nodes (get nat_eq known.old) (get nat_eq known.new) node) }
+    requires nodes { AreNodes nodes.old.classes.nodes }
+    requires known { AreKnown pool.now nodes.old.classes.nodes bound.now (get nat_eq known.old) }
+    requires numbered { AreNumbered pool.now nodes.old.classes.nodes nodes.old.numbers.items }
+    requires made_for { AreMadeFor pool.now nodes.old.classes.nodes nodes.old.numbers.items (get nat_eq known.old) }
+    ensures equations { OnOk result (nodes.new.classes.equations ≡ nodes.old.classes.equations) }
+    ensures walked { IfOk result (λ node. IsWalked pool.now bound.now number nodes.old.classes.nodes nodes.new.classes.nodes (get nat_eq known.old) (get nat_eq known.new) node) }
+    ensures numbered { IfOk result (λ node. IsKnownFor pool.now number nodes.old.classes.nodes nodes.new.classes.nodes nodes.old.numbers.items nodes.new.numbers.items (get nat_eq known.new) node) }
     ensures found { IfOk result (λ node. get nat_eq known.new number ≡ Some node) }
 {
     if let Some(node) = look_up(known, number) {
         return Ok(node);
     }
-    let node = make(alloc, classes, known, pool, bound, number)?;
+    let node = make(alloc, nodes, known, pool, bound, number)?;
     note(known, number, node)?;
     Ok(node)
 }

@@ -89,6 +89,13 @@ impl Classes {
         Ok(Classes { state })
     }
 
+    /// The nodes, by number.
+    pub fn nodes(&self) -> &[Node]
+        ensures { result.now ≡ self.now.nodes }
+    {
+        self.state.nodes.as_slice()
+    }
+
     /// How many nodes there are.
     pub fn len(&self) -> usize
         ensures { result ≡ length self.now.nodes }

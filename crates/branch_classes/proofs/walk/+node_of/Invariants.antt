@@ -1,5 +1,6 @@
 use Rattle.std.proofs.Common.{◌≡◌, ◌≤◌, ◌+◌, ◌*◌, max, length, nat_eq}
 use Rattle.indexmap.specs.IndexMap.{get}
+use Rattle.branch_classes.specs.Numbers.{AreKnownFor}
 use Rattle.branch_classes.specs.Known.{IsGrown}
 use Rattle.branch_classes.proofs.walk.+node_of.Given as goal
 
@@ -26,8 +27,9 @@ decreases-three l = 4 * max l.a (max l.b l.c) + 4
 
 abbrev pub invariant-walk_list-loop-rest : goal.invariant-walk_list-loop-rest
 invariant-walk_list-loop-rest l = record {
-  equations : l.classes.equations ≡ l.fn.classes.equations;
-  grown : IsGrown l.pool l.bound l.fn.classes.nodes l.classes.nodes (get nat_eq l.fn.known) (get nat_eq l.known);
+  equations : l.nodes.classes.equations ≡ l.fn.nodes.classes.equations;
+  grown : IsGrown l.pool l.bound l.fn.nodes.classes.nodes l.nodes.classes.nodes (get nat_eq l.fn.known) (get nat_eq l.known);
+  numbered : AreKnownFor l.pool l.list l.fn.nodes.classes.nodes l.nodes.classes.nodes l.fn.nodes.numbers.items l.nodes.numbers.items (get nat_eq l.known);
   within : l.rest ≤ length l.lists.items;
 }
 

@@ -7,5 +7,5 @@ use Rattle.branch_classes.proofs.branch_classes.BranchClasses.is_known.Goals as 
 pub returns : goal.returns
 returns c =
     let s = c.self.inside in
-    let d : BranchClassesData = record { classes = s.classes; known = s.known.entries; entries = s.entries.items } in
+    let d : BranchClassesData = record { classes = s.nodes.classes; numbers = s.nodes.numbers.items; known = s.known.entries; entries = s.entries.items } in
     subst (λ (e : BranchClassesData). IsTrue c.is_some.result ↔ IsKnown e c.args.number) c.self.view_is (known_test d c.args.number c.is_some.result (c.is_some.ensures ∙ ap is_some c.look_up.ensures))
