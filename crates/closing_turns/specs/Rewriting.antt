@@ -6,7 +6,7 @@ use Rattle.formula_pool.specs.declared.node.Node.{Node}
 use Rattle.branches.specs.Branch.{Branch}
 use Rattle.equation_chains.specs.Chains.{term_at, ChainData, CanBegin}
 use Rattle.derived_equations.specs.Replacing.{CanReplace, AreInTurn}
-use Rattle.derived_equations.specs.Routes.{number_at}
+use Rattle.branch_classes.specs.Numbers.{number_at}
 use Rattle.derived_equations.specs.declared.replacing.Difference.{Difference}
 
 -- the formula at the place

@@ -13,7 +13,7 @@ use Rattle.classes.specs.declared.link.Link.{Link}
 use Rattle.equation_chains.specs.Chains.{term_at}
 use Rattle.equation_chains.specs.declared.frame.Frame.{Frame}
 use Rattle.equation_chains.specs.declared.frame.Frame.TheVariants.{SecondOfTwo}
-use Rattle.derived_equations.specs.Routes.{number_at}
+use Rattle.branch_classes.specs.Numbers.{number_at}
 use Rattle.derived_equations.specs.Replacing.{itself_item}
 use Rattle.derived_equations.specs.Graphs.{IsTermNode, IsGraph}
 use Rattle.derived_equations.specs.Places.{whole, one_at, other_at, CanStand, IsPlaceOf, IsStepTo, IsNextOf, AreFound}

@@ -4,11 +4,10 @@ use Rattle.std.specs.Prelude.{slice_get}
 use Rattle.std.proofs.lemmas.List.{length_push}
 use Rattle.std.proofs.lemmas.Option.{slice_get_within}
 use Rattle.fol.specs.Depth.{term_depth}
-use Rattle.fol.specs.declared.operators.Junction.TheVariants.{AnyOf}
-use Rattle.fol.specs.FormulaData.{TermData, CompareFormula, JoinFormula, NoFormulas, EqFormula}
+use Rattle.fol.specs.FormulaData.{EqFormula}
 use Rattle.fol.specs.declared.operators.Comparison.TheVariants.{Eq}
 use Rattle.cert.specs.Closes.{most_deep}
-use Rattle.formula_pool.specs.Items.{Item, NoItem, TermItem, TermsItem, TriggersItem, FormulaItem, FormulasItem, TypeItem, TypesItem, BytesItem, TermSort, sort_of, term_in, formula_in, two_item}
+use Rattle.formula_pool.specs.Items.{Item, FormulaItem, TermSort, sort_of, term_in, formula_in, two_item}
 use Rattle.formula_pool.specs.Pools.{item_at, IsItem, IsOneNumber, HasPart, Extends}
 use Rattle.formula_pool.specs.declared.node.Two.TheVariants.{Compare}
 use Rattle.formula_pool.specs.declared.node.Node.{Node}
@@ -23,8 +22,9 @@ use Rattle.branches.specs.Branch.{Branch}
 use Rattle.equation_chains.specs.Chains.{term_at, ChainData, Keeps, IsAt, IsNotAmong, CanBegin}
 use Rattle.equation_chains.proofs.FrameLemmas.{longer}
 use Rattle.equation_chains.proofs.ChainLemmas.{push_kept, push_new}
-use Rattle.derived_equations.specs.Routes.{number_at, equation_at, IsEquation, IsEither, CanPass, end_of, IsRoute, CanGo}
-use Rattle.derived_equations.specs.Replacing.{after_it, IsReplacement, CanReplace, after_all, AreInTurn, itself_item, CanReplaceAll, CanBeginAll}
+use Rattle.branch_classes.specs.Numbers.{number_at}
+use Rattle.derived_equations.specs.Routes.{equation_at, IsEquation, IsEither, CanPass, end_of, IsRoute, CanGo}
+use Rattle.derived_equations.specs.Replacing.{CanReplace, after_all, AreInTurn, itself_item, CanReplaceAll, CanBeginAll}
 use Rattle.derived_equations.specs.Graphs.{IsTermNode, IsGraph}
 use Rattle.derived_equations.specs.Places.{AreFound, IsDifference}
 use Rattle.derived_equations.specs.Plans.{is_needed, IsOn, IsOnAny, CanMark, AreMarked, equation_item, IsPlan, AreNeeded, IsPlanOf}
@@ -33,7 +33,7 @@ use Rattle.derived_equations.specs.declared.replacing.Difference.{Difference}
 use Rattle.derived_equations.specs.declared.plan.Plan.{Plan}
 use Rattle.derived_equations.proofs.PlanLemmas.{plan_each, route_ends}
 use Rattle.derived_equations.proofs.GrowthLemmas.{part_grown, equation_within, equation_by, equation_grown, begin_grown}
-use Rattle.derived_equations.proofs.ReplacingLemmas.{before_grown, after_grown, replacement_grown}
+use Rattle.derived_equations.proofs.ReplacingLemmas.{replacement_grown, all_grown, turn_grown, only_equation}
 
 -- ---- a pool that grows
 
@@ -43,21 +43,8 @@ said_grown ns ms x d e k ls numbers s = record { each = λ i q l f w. (let h = s
 pub place_grown : (ns ms : List Node) → Extends ns ms → (d e : ChainData) → Keeps d e → (ls : List Link) (numbers : List ℕ) (equations : List (Option ℕ)) (c : ℕ) → HasPlace ns d ls numbers equations c → HasPlace ms e ls numbers equations c
 place_grown ns ms x d e k ls numbers equations c h = record { place = h.place; found = h.found; is = λ l f. equation_grown ns ms x d e k h.place (number_at numbers l.left) (number_at numbers l.right) (h.is l f) }
 
-module _ (ns ms : List Node) (x : Extends ns ms) (numbers : List ℕ) where
-  all_grown : (y : Item) (ds : List Difference) → ((n : ℕ) (d : Difference) → slice_get ds n ≡ Some d → IsReplacement ns numbers d) → after_all ms numbers y ds ≡ after_all ns numbers y ds
-  all_grown y [] each = refl
-  all_grown y (d ∷ ds) each =
-      ap (λ z. after_all ms numbers z ds) (after_grown ns ms x numbers d (each zero d refl)) ∙ all_grown (after_it ns numbers d) ds (λ n c f. each (suc n) c f)
-
-  turn_grown : (y : Item) (ds : List Difference) → ((n : ℕ) (d : Difference) → slice_get ds n ≡ Some d → IsReplacement ns numbers d) → AreInTurn ns numbers y ds → AreInTurn ms numbers y ds
-  turn_grown y [] each t = tt
-  turn_grown y (d ∷ ds) each t = (
-    t.0 ∙ sym (before_grown ns ms x numbers d (each zero d refl)),
-    subst (λ z. AreInTurn ms numbers z ds) (sym (after_grown ns ms x numbers d (each zero d refl))) (turn_grown (after_it ns numbers d) ds (λ n c f. each (suc n) c f) t.1),
-  )
-
-  equation_kept : (l r : ℕ) → l < length ns → r < length ns → equation_item ms l r ≡ equation_item ns l r
-  equation_kept l r w v = λ i. two_item (Compare Eq) (item_kept ns ms x l w i) (item_kept ns ms x r v i)
+equation_kept : (ns ms : List Node) (x : Extends ns ms) (l r : ℕ) → l < length ns → r < length ns → equation_item ms l r ≡ equation_item ns l r
+equation_kept ns ms x l r w v = λ i. two_item (Compare Eq) (item_kept ns ms x l w i) (item_kept ns ms x r v i)
 
 -- ---- routes of links that have places
 
@@ -114,7 +101,7 @@ module _ (ns ms nodes : List Node) (ls : List Link) (numbers : List ℕ) (g : Is
   pub go_ends : (before from to : ℕ) (route : List Join) → IsPath ls before from route to → end_of from route ≡ to
   go_ends before from to route path = (route_of before from to route path).1
 
-  replace_by : (k : ℕ) (difference : Difference) → IsDifference ns nodes ls numbers k difference → ((c : ℕ) → IsOn difference.route.items c → HasPlace ms d ls numbers equations c) → CanReplace ms d numbers equations difference
+  pub replace_by : (k : ℕ) (difference : Difference) → IsDifference ns nodes ls numbers k difference → ((c : ℕ) → IsOn difference.route.items c → HasPlace ms d ls numbers equations c) → CanReplace ms d numbers equations difference
   replace_by k difference h places = record {
     is = replacement_grown ns ms x numbers difference h.is;
     route = go_by k difference.from difference.to difference.route.items h.is.from_term h.within h.path places;
@@ -138,7 +125,7 @@ module _ (ns ms nodes : List Node) (ls : List Link) (numbers : List ℕ) (g : Is
       each n c f = plan_each ns nodes ls numbers g k ds p n c f
 
       itself_kept : itself_item ms (number_at numbers p.link.left) ≡ itself_item ns (number_at numbers p.link.left)
-      itself_kept = equation_kept ns ms x numbers (number_at numbers p.link.left) (number_at numbers p.link.left) p.left.term.earlier p.left.term.earlier
+      itself_kept = equation_kept ns ms x (number_at numbers p.link.left) (number_at numbers p.link.left) p.left.term.earlier p.left.term.earlier
 
       turns : AreFound ns nodes ls numbers k (itself_item ns (number_at numbers p.link.left)) (equation_item ns (number_at numbers p.link.left) (number_at numbers p.link.right)) [] ds → AreInTurn ns numbers (itself_item ns (number_at numbers p.link.left)) ds
       turns f = subst (AreInTurn ns numbers (itself_item ns (number_at numbers p.link.left))) (sym f.more) f.in_turn
@@ -157,23 +144,12 @@ module _ (ns ms nodes : List Node) (ls : List Link) (numbers : List ℕ) (g : Is
           ∙ all_grown ns ms x numbers (itself_item ns (number_at numbers p.link.left)) ds (λ n c e. (each n c e).is)
           ∙ ap (after_all ns numbers (itself_item ns (number_at numbers p.link.left))) f.more
           ∙ f.ends
-          ∙ sym (equation_kept ns ms x numbers (number_at numbers p.link.left) (number_at numbers p.link.right) p.left.term.earlier p.right.term.earlier)
+          ∙ sym (equation_kept ns ms x (number_at numbers p.link.left) (number_at numbers p.link.right) p.left.term.earlier p.right.term.earlier)
 
 -- ---- an equation that stands
 
 pub stands_at : (ns ms : List Node) → Extends ns ms → (d : ChainData) (place left right formula : ℕ) → HasPart ns (length ns) left TermSort → HasPart ns (length ns) right TermSort → IsItem ms formula (equation_item ns left right) → slice_get d.formulas place ≡ Some formula → IsEquation ms d place left right
 stands_at ns ms x d place left right formula p q it f = equation_by ns ms x d place left right p q (record { number = formula; found = f; is = ap formula_in it.is })
-
-only_equation : (y : Item) (t u : TermData) → formula_in y ≡ EqFormula t u → y ≡ FormulaItem (EqFormula t u)
-only_equation (FormulaItem p) t u e = ap FormulaItem e
-only_equation NoItem t u e = absurd (let both : JoinFormula AnyOf NoFormulas ≡ CompareFormula Eq t u = e in (cc))
-only_equation (TermItem a) t u e = absurd (let both : JoinFormula AnyOf NoFormulas ≡ CompareFormula Eq t u = e in (cc))
-only_equation (TermsItem a) t u e = absurd (let both : JoinFormula AnyOf NoFormulas ≡ CompareFormula Eq t u = e in (cc))
-only_equation (TriggersItem a) t u e = absurd (let both : JoinFormula AnyOf NoFormulas ≡ CompareFormula Eq t u = e in (cc))
-only_equation (FormulasItem a) t u e = absurd (let both : JoinFormula AnyOf NoFormulas ≡ CompareFormula Eq t u = e in (cc))
-only_equation (TypeItem a) t u e = absurd (let both : JoinFormula AnyOf NoFormulas ≡ CompareFormula Eq t u = e in (cc))
-only_equation (TypesItem a) t u e = absurd (let both : JoinFormula AnyOf NoFormulas ≡ CompareFormula Eq t u = e in (cc))
-only_equation (BytesItem a) t u e = absurd (let both : JoinFormula AnyOf NoFormulas ≡ CompareFormula Eq t u = e in (cc))
 
 pub not_said : (ns ms : List Node) → Extends ns ms → (d : ChainData) (left right formula : ℕ) → HasEquation ns d left right → IsOneNumber ms → IsItem ms formula (equation_item ns left right) → IsNotAmong d.formulas formula → ⊥
 not_said ns ms x d left right formula h one it none =
@@ -260,8 +236,8 @@ placed_none ms d ls numbers needed xs ys b is e f placed = record { each = λ c 
 -- what is begun with
 begin_all : (ns ms nodes : List Node) (x : Extends ns ms) (ls : List Link) (numbers : List ℕ) (g : IsGraph ns nodes ls numbers) (b : Branch) (d e : ChainData) → Keeps d e → (k : ℕ) (ds : List Difference) (p : IsPlan ns nodes ls numbers k ds) (l : Link) → l ≡ p.link → CanBeginAny ns nodes b d numbers → CanBeginAll ms b e numbers (number_at numbers l.left) ds
 begin_all ns ms nodes x ls numbers g b d e k number ds p l same can = record {
-  itself = subst (λ (o : Link). CanBegin b e (term_at ms (number_at numbers o.left))) (sym same) (begin_grown ns ms x b d e k (number_at numbers p.link.left) TermSort p.left.term (can.each p.link.left p.left));
-  each = λ n c f. (let h = plan_each ns nodes ls numbers g number ds p n c f in begin_grown ns ms x b d e k (number_at numbers c.from) TermSort h.term.term (can.each c.from h.term));
+  itself = subst (λ (o : Link). CanBegin b e (term_at ms (number_at numbers o.left))) (sym same) (begin_grown ns ms x b d e k (number_at numbers p.link.left) TermSort p.left.term (can.each p.link.left (g.among number p.link p.is_link).0 p.left));
+  each = λ n c f. (let h = plan_each ns nodes ls numbers g number ds p n c f in begin_grown ns ms x b d e k (number_at numbers c.from) TermSort h.term.term (can.each c.from h.within h.term));
 }
 
 -- the next link is ready where it is needed

@@ -13,7 +13,8 @@ use Rattle.branches.specs.Due.{IsShallow}
 use Rattle.equation_chains.specs.Chains.{term_at, formula_at, ChainData, Keeps, IsAt, CanBegin}
 use Rattle.equation_chains.proofs.FrameLemmas.{longer}
 use Rattle.class_history.specs.declared.history.Join.{Join}
-use Rattle.derived_equations.specs.Routes.{number_at, IsEquation, IsEither, CanPass, CanGo}
+use Rattle.branch_classes.specs.Numbers.{number_at}
+use Rattle.derived_equations.specs.Routes.{IsEquation, IsEither, CanPass, CanGo}
 
 less_or : (m n : ℕ) → (m < n) ⊎ (n ≤ m)
 less_or m zero = inr (omega arith)

@@ -8,3 +8,6 @@ pub mod TurnLemmas
 pub mod PlanLemmas
 pub mod AlikeLemmas
 pub mod DeriveLemmas
+pub mod StandLemmas
+pub mod BranchLemmas
+pub mod FormulaLemmas

@@ -19,8 +19,8 @@ use Rattle.classes.specs.States.{IsPart}
 use Rattle.classes.specs.declared.link.Link.{Link}
 use Rattle.classes.specs.declared.link.Why.{Why}
 use Rattle.classes.specs.declared.link.Why.TheVariants.{Given, Alike}
-use Rattle.derived_equations.specs.Routes.{number_at}
-use Rattle.derived_equations.specs.Graphs.{renumbered, IsReal, IsNumbered, ByParts, Bound, Parameter, IsTermNode, IsGraph, is_term_node}
+use Rattle.branch_classes.specs.Numbers.{number_at, renumbered, IsReal, IsNumbered, ByParts, Bound, Parameter}
+use Rattle.derived_equations.specs.Graphs.{IsTermNode, IsGraph, is_term_node}
 
 -- ---- links of a longer list
 

@@ -19,7 +19,7 @@ use Rattle.equation_chains.specs.Frames.{frame_item, filled, open_sort, made_sor
 use Rattle.equation_chains.specs.declared.frame.Frame.{Frame}
 use Rattle.equation_chains.specs.declared.frame.Frame.TheVariants.{Only, FirstOfTwo, SecondOfTwo, FirstOfThree, SecondOfThree, ThirdOfThree}
 use Rattle.equation_chains.proofs.FrameLemmas.{filled_sorted}
-use Rattle.derived_equations.specs.Routes.{number_at}
+use Rattle.branch_classes.specs.Numbers.{number_at}
 use Rattle.derived_equations.specs.Replacing.{before_it, after_it, after_all, AreInTurn}
 use Rattle.derived_equations.specs.Graphs.{IsTermNode}
 use Rattle.derived_equations.specs.Places.{whole, one_at, other_at, IsPlaceOf, IsPlace, IsDifference, AreFound, IsNextOf, AreLinked, AreOne, AreTwo, AreThree, IsStepTo, IsPushed}

@@ -3,10 +3,11 @@ use Rattle.std.proofs.Common.{◌≡◌, inl, inr, false, ℕ, zero, suc, ◌≤
 use Rattle.std.specs.Prelude.{slice_get}
 use Rattle.formula_pool.proofs.GrowthLemmas.{if_ok}
 use Rattle.std.proofs.lemmas.List.Elements.{All-nil}
+use Rattle.fol.specs.declared.operators.Comparison.TheVariants.{Eq}
 use Rattle.fol.specs.declared.operators.Junction.TheVariants.{AnyOf}
-use Rattle.fol.specs.FormulaData.{TermData, VarTerm, FormulaData, JoinFormula, NoFormulas, EqFormula}
+use Rattle.fol.specs.FormulaData.{TermData, VarTerm, FormulaData, CompareFormula, JoinFormula, NoFormulas, EqFormula}
 use Rattle.substitution.specs.Free.{free_in_term}
-use Rattle.formula_pool.specs.Items.{Item, TermItem, FormulaItem, FormulasItem, TermSort, FormulaSort, FormulasSort, Sort, sort_of, formula_in, one_part, first_of_two, second_of_two, first_of_three, second_of_three, third_of_three}
+use Rattle.formula_pool.specs.Items.{Item, NoItem, TermItem, TermsItem, TriggersItem, FormulaItem, FormulasItem, TypeItem, TypesItem, BytesItem, TermSort, FormulaSort, FormulasSort, Sort, sort_of, formula_in, one_part, first_of_two, second_of_two, first_of_three, second_of_three, third_of_three}
 use Rattle.formula_pool.specs.Pools.{item_at, HasPart, Extends}
 use Rattle.formula_pool.specs.Depths.{item_depth}
 use Rattle.formula_pool.specs.declared.node.Node.{Node}
@@ -15,6 +16,7 @@ use Rattle.formula_pool.specs.declared.node.Leaf.TheVariants.{NilFormulas}
 use Rattle.formula_pool.specs.declared.node.One.{One}
 use Rattle.formula_pool.specs.declared.node.One.TheVariants.{Join}
 use Rattle.formula_pool.proofs.ShapeLemmas.{a_formula, shape_of, LeafShape, OneShape, TwoShape, ThreeShape, one_shape, two_shape, three_shape}
+use Rattle.branches.specs.Branch.{Branch}
 use Rattle.branches.specs.Due.{IsShallow}
 use Rattle.branches.specs.Joined.{IsFreeOf}
 use Rattle.cert.specs.Closes.{most_deep}
@@ -23,10 +25,11 @@ use Rattle.equation_chains.specs.Frames.{frame_item, filled, open_sort, HasOther
 use Rattle.equation_chains.specs.declared.frame.Frame.{Frame}
 use Rattle.equation_chains.specs.declared.frame.Frame.TheVariants.{Only, FirstOfTwo, SecondOfTwo, FirstOfThree, SecondOfThree, ThirdOfThree}
 use Rattle.equation_chains.proofs.FrameLemmas.{filled_sorted, filled_kept, leads_stay}
-use Rattle.derived_equations.specs.Routes.{number_at, IsEither}
-use Rattle.derived_equations.specs.Replacing.{before_it, after_it, IsReplacement, CanReplace, after_all, AreInTurn}
+use Rattle.branch_classes.specs.Numbers.{number_at}
+use Rattle.derived_equations.specs.Routes.{IsEither}
+use Rattle.derived_equations.specs.Replacing.{before_it, after_it, IsReplacement, CanReplace, after_all, AreInTurn, CanReplaceAt, IsReplacedAt, CanBeginEach, itself_item, CanReplaceAll, CanBeginAll}
 use Rattle.derived_equations.specs.declared.replacing.Difference.{Difference}
-use Rattle.derived_equations.proofs.GrowthLemmas.{part_grown, at_grown, go_grown}
+use Rattle.derived_equations.proofs.GrowthLemmas.{part_grown, at_grown, begin_grown, go_grown}
 use Rattle.derived_equations.proofs.DepthLemmas.{filled_deeper, some_depth}
 
 -- ---- in the order of the list
@@ -198,3 +201,56 @@ swap_read ns d numbers difference equation source from to way w f t h =
 pub replaced_at : {E : Type 0} (ns ms ks : List Node) (x : Extends ns ms) (e : ChainData) (numbers : List ℕ) (difference : Difference) (to : ℕ) (way : List Frame) → IsReplacement ns numbers difference → way ≡ difference.way.items → to ≡ number_at numbers difference.to → (r : Result ℕ E) → IfOk r (λ place. IsAt ks e place (formula_in (filled ms way (item_at ms to)))) → IfOk r (λ place. IsAt ks e place (formula_in (after_it ns numbers difference)))
 replaced_at ns ms ks x e numbers difference to way is w t r h =
     if_ok r (λ place g. subst (λ y. IsAt ks e place (formula_in y)) ((λ i. filled ms (w i) (item_at ms (t i))) ∙ after_grown ns ms x numbers difference is) g) h
+
+-- ---- all of them over a greater pool
+
+module _ (ns ms : List Node) (x : Extends ns ms) (numbers : List ℕ) where
+  pub all_grown : (y : Item) (ds : List Difference) → ((n : ℕ) (d : Difference) → slice_get ds n ≡ Some d → IsReplacement ns numbers d) → after_all ms numbers y ds ≡ after_all ns numbers y ds
+  all_grown y [] each = refl
+  all_grown y (d ∷ ds) each =
+      ap (λ z. after_all ms numbers z ds) (after_grown ns ms x numbers d (each zero d refl)) ∙ all_grown (after_it ns numbers d) ds (λ n c f. each (suc n) c f)
+
+  pub turn_grown : (y : Item) (ds : List Difference) → ((n : ℕ) (d : Difference) → slice_get ds n ≡ Some d → IsReplacement ns numbers d) → AreInTurn ns numbers y ds → AreInTurn ms numbers y ds
+  turn_grown y [] each t = tt
+  turn_grown y (d ∷ ds) each t = (
+    t.0 ∙ sym (before_grown ns ms x numbers d (each zero d refl)),
+    subst (λ z. AreInTurn ms numbers z ds) (sym (after_grown ns ms x numbers d (each zero d refl))) (turn_grown (after_it ns numbers d) ds (λ n c f. each (suc n) c f) t.1),
+  )
+
+pub only_equation : (y : Item) (t u : TermData) → formula_in y ≡ EqFormula t u → y ≡ FormulaItem (EqFormula t u)
+only_equation (FormulaItem p) t u e = ap FormulaItem e
+only_equation NoItem t u e = absurd (let both : JoinFormula AnyOf NoFormulas ≡ CompareFormula Eq t u = e in (cc))
+only_equation (TermItem a) t u e = absurd (let both : JoinFormula AnyOf NoFormulas ≡ CompareFormula Eq t u = e in (cc))
+only_equation (TermsItem a) t u e = absurd (let both : JoinFormula AnyOf NoFormulas ≡ CompareFormula Eq t u = e in (cc))
+only_equation (TriggersItem a) t u e = absurd (let both : JoinFormula AnyOf NoFormulas ≡ CompareFormula Eq t u = e in (cc))
+only_equation (FormulasItem a) t u e = absurd (let both : JoinFormula AnyOf NoFormulas ≡ CompareFormula Eq t u = e in (cc))
+only_equation (TypeItem a) t u e = absurd (let both : JoinFormula AnyOf NoFormulas ≡ CompareFormula Eq t u = e in (cc))
+only_equation (TypesItem a) t u e = absurd (let both : JoinFormula AnyOf NoFormulas ≡ CompareFormula Eq t u = e in (cc))
+only_equation (BytesItem a) t u e = absurd (let both : JoinFormula AnyOf NoFormulas ≡ CompareFormula Eq t u = e in (cc))
+
+module _ (ns ms : List Node) (x : Extends ns ms) (d e : ChainData) (numbers : List ℕ) (equations : List (Option ℕ)) (left source : ℕ) (ds : List Difference) (h : IsAt ms e source (EqFormula (term_at ns left) (term_at ns left))) (can : CanReplaceAll ns d numbers equations left ds) where
+  is_itself : item_at ms h.number ≡ itself_item ns left
+  is_itself = only_equation (item_at ms h.number) (term_at ns left) (term_at ns left) h.is
+
+  each : (n : ℕ) (difference : Difference) → slice_get ds n ≡ Some difference → IsReplacement ns numbers difference
+  each n difference f = (can.each n difference f).is
+
+  replaced_in : Keeps d e → CanReplaceAt ms e numbers equations source ds
+  replaced_in k = record {
+    number = h.number;
+    found = h.found;
+    in_turn = subst (λ y. AreInTurn ms numbers y ds) (sym is_itself) (turn_grown ns ms x numbers (itself_item ns left) ds each can.in_turn);
+    each = λ n difference f. replace_grown ns ms x d e k numbers equations difference (can.each n difference f);
+  }
+
+  became_in : (ks : List Node) (f : ChainData) (place : ℕ) → IsReplacedAt ms e numbers source ds ks f place → IsAt ks f place (formula_in (after_all ns numbers (itself_item ns left) ds))
+  became_in ks f place r = subst (λ y. IsAt ks f place (formula_in y)) (ap (λ y. after_all ms numbers y ds) is_itself ∙ all_grown ns ms x numbers (itself_item ns left) ds each) (r.at h.number h.found)
+
+pub itself_replaced : (ns ms : List Node) (x : Extends ns ms) (d e : ChainData) → Keeps d e → (numbers : List ℕ) (equations : List (Option ℕ)) (left source : ℕ) (ds : List Difference) → IsAt ms e source (EqFormula (term_at ns left) (term_at ns left)) → CanReplaceAll ns d numbers equations left ds → CanReplaceAt ms e numbers equations source ds
+itself_replaced ns ms x d e k numbers equations left source ds h can = replaced_in ns ms x d e numbers equations left source ds h can k
+
+pub itself_became : (ns ms : List Node) (x : Extends ns ms) (d e : ChainData) (numbers : List ℕ) (equations : List (Option ℕ)) (left source : ℕ) (ds : List Difference) → IsAt ms e source (EqFormula (term_at ns left) (term_at ns left)) → CanReplaceAll ns d numbers equations left ds → (ks : List Node) (f : ChainData) (place : ℕ) → IsReplacedAt ms e numbers source ds ks f place → IsAt ks f place (formula_in (after_all ns numbers (itself_item ns left) ds))
+itself_became ns ms x d e numbers equations left source ds h can ks f place r = became_in ns ms x d e numbers equations left source ds h can ks f place r
+
+pub begun_each : (ns ms : List Node) → Extends ns ms → (b : Branch) (d e : ChainData) → Keeps d e → (numbers : List ℕ) (equations : List (Option ℕ)) (left : ℕ) (ds : List Difference) → CanReplaceAll ns d numbers equations left ds → CanBeginAll ns b d numbers left ds → CanBeginEach ms b e numbers ds
+begun_each ns ms x b d e k numbers equations left ds can begin = record { each = λ n difference f. begin_grown ns ms x b d e k (number_at numbers difference.from) TermSort (can.each n difference f).is.from_term (begin.each n difference f) }

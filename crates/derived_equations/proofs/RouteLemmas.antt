@@ -10,7 +10,8 @@ use Rattle.formula_pool.specs.declared.node.Node.{Node}
 use Rattle.branches.specs.Due.{IsShallow}
 use Rattle.equation_chains.specs.Chains.{term_at, ChainData, Keeps, IsAt, CanPutRight}
 use Rattle.class_history.specs.declared.history.Join.{Join}
-use Rattle.derived_equations.specs.Routes.{number_at, equation_at, IsEquation, IsEither, CanPass, end_of, IsRoute, CanGo, IsSingle}
+use Rattle.branch_classes.specs.Numbers.{number_at}
+use Rattle.derived_equations.specs.Routes.{equation_at, IsEquation, IsEither, CanPass, end_of, IsRoute, CanGo, IsSingle}
 use Rattle.derived_equations.proofs.GrowthLemmas.{equation_by, pass_grown}
 
 pub end_nowhere : (i : ℕ) (route : List Join) → end_of i (take zero route) ≡ i

@@ -16,8 +16,8 @@ use Rattle.classes.specs.States.{IsPart}
 use Rattle.classes.specs.Links.{Linked, AreAlike, AreAlikeAt}
 use Rattle.classes.specs.declared.link.Link.{Link}
 use Rattle.equation_chains.specs.Frames.{bound_in}
-use Rattle.derived_equations.specs.Routes.{number_at}
-use Rattle.derived_equations.specs.Graphs.{renumbered, IsReal, IsNumbered, ByParts, Bound, Parameter, IsTermNode, IsGraph, IsBarred, is_term_node, is_quantified}
+use Rattle.branch_classes.specs.Numbers.{number_at, renumbered, IsReal, IsNumbered, ByParts, Bound, Parameter}
+use Rattle.derived_equations.specs.Graphs.{IsTermNode, IsGraph, IsBarred, is_term_node, is_quantified}
 use Rattle.derived_equations.specs.Places.{CanStand, IsPlace, AreOne, AreTwo, AreThree, arity, HasOne, HasTwo, HasThree}
 use Rattle.derived_equations.specs.declared.difference.Place.{Place}
 use Rattle.derived_equations.proofs.LinkedLemmas.{same_node, true_false, made_term, term_made, IsPlain, IsOneOrAlike, parameter_linked, no_denied_parameter, term_or_plain, plain_linked}

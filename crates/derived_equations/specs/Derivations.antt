@@ -7,7 +7,8 @@ use Rattle.branches.specs.Branch.{Branch}
 use Rattle.classes.specs.declared.link.Link.{Link}
 use Rattle.classes.specs.declared.link.Why.TheVariants.{Given, Alike}
 use Rattle.equation_chains.specs.Chains.{term_at, ChainData, CanBegin}
-use Rattle.derived_equations.specs.Routes.{number_at, equation_at, IsEquation}
+use Rattle.branch_classes.specs.Numbers.{number_at}
+use Rattle.derived_equations.specs.Routes.{equation_at, IsEquation}
 use Rattle.derived_equations.specs.Graphs.{IsTermNode}
 use Rattle.derived_equations.specs.Replacing.{after_all, itself_item, CanReplaceAll, CanBeginAll}
 use Rattle.derived_equations.specs.Plans.{is_needed, equation_item}
@@ -30,7 +31,7 @@ pub record HasPlace (ns : List Node) (d : ChainData) (ls : List Link) (numbers :
 
 -- each term of a node may be begun with
 pub record CanBeginAny (ns nodes : List Node) (b : Branch) (d : ChainData) (numbers : List ℕ) : Type 0 where
-  pub each : (i : ℕ) → IsTermNode ns nodes numbers i → CanBegin b d (term_at ns (number_at numbers i))
+  pub each : (i : ℕ) → i < length nodes → IsTermNode ns nodes numbers i → CanBegin b d (term_at ns (number_at numbers i))
 
 -- the equation of the ends of a link can be had
 pub record IsReady (ns : List Node) (d : ChainData) (numbers : List ℕ) (equations : List (Option ℕ)) (l : Link) (found : List Difference) : Type 0 where

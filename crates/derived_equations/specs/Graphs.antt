@@ -3,38 +3,19 @@ use Rattle.std.specs.Prelude.{◌≡◌, ◌≢◌, ℕ, ◌+◌, ◌<◌, ◌�
 use Rattle.fol.specs.Depth.{term_depth}
 use Rattle.cert.specs.Closes.{most_deep}
 use Rattle.formula_pool.specs.Items.{TermSort, sort_of}
-use Rattle.formula_pool.specs.Pools.{item_at, HasPart, IsMade}
+use Rattle.formula_pool.specs.Pools.{item_at, HasPart}
 use Rattle.formula_pool.specs.declared.node.Leaf.TheVariants.{Var, Constant, TypeParam}
-use Rattle.formula_pool.specs.declared.node.One.TheVariants.{Unary, Not}
+use Rattle.formula_pool.specs.declared.node.One.TheVariants.{Unary}
 use Rattle.formula_pool.specs.declared.node.Two.TheVariants.{Binary, Pack, Field, Quantify}
 use Rattle.formula_pool.specs.declared.node.Three.TheVariants.{Ternary, SetField, If}
 use Rattle.formula_pool.specs.declared.node.Node.{Node}
 use Rattle.formula_pool.specs.declared.node.Node.TheVariants.{Leaf as LeafNode, One as OneNode, Two as TwoNode, Three as ThreeNode}
 use Rattle.classes.specs.Congruence.{IsWithin}
 use Rattle.classes.specs.Links.{Linked, AreShown}
-use Rattle.classes.specs.States.{IsPart}
 use Rattle.classes.specs.declared.link.Equation.{Equation}
 use Rattle.classes.specs.declared.link.Link.{Link}
 use Rattle.equation_chains.specs.Chains.{term_at}
-use Rattle.derived_equations.specs.Routes.{number_at}
-
--- the node with the numbers of its parts
-abbrev pub renumbered : List ℕ → Node → Node
-renumbered numbers (LeafNode h) = LeafNode h
-renumbered numbers (OneNode h a) = OneNode h (number_at numbers a)
-renumbered numbers (TwoNode h a b) = TwoNode h (number_at numbers a) (number_at numbers b)
-renumbered numbers (ThreeNode h a b c) = ThreeNode h (number_at numbers a) (number_at numbers b) (number_at numbers c)
-
--- where the node is a type parameter, it has the number of that
-pub record IsReal (pool ns : List Node) (numbers : List ℕ) (i : ℕ) : Type 0 where
-  pub made : (n : ℕ) → slice_get ns i ≡ Some (LeafNode (TypeParam n)) → IsMade pool (number_at numbers i) (LeafNode (TypeParam n))
-
--- a node has the number of what its parts make; and a bound variable, which is the denial of a type parameter, that of the
--- variable, whatever number the parameter has
-pub data IsNumbered (pool ns : List Node) (numbers : List ℕ) (i : ℕ) : Type 0 where
-  ByParts : (n : Node) → slice_get ns i ≡ Some n → IsMade pool (number_at numbers i) (renumbered numbers n) → ((p : ℕ) → IsPart p n → IsReal pool ns numbers p) → IsNumbered pool ns numbers i
-  Bound : (a n : ℕ) → slice_get ns i ≡ Some (OneNode Not a) → slice_get ns a ≡ Some (LeafNode (TypeParam n)) → IsMade pool (number_at numbers i) (LeafNode (Var n)) → IsNumbered pool ns numbers i
-  Parameter : (n : ℕ) → slice_get ns i ≡ Some (LeafNode (TypeParam n)) → IsNumbered pool ns numbers i
+use Rattle.branch_classes.specs.Numbers.{number_at, IsNumbered}
 
 -- the node is a term
 pub record IsTermNode (pool ns : List Node) (numbers : List ℕ) (i : ℕ) : Type 0 where

@@ -4,3 +4,5 @@ pub mod Graphs
 pub mod Places
 pub mod Plans
 pub mod Derivations
+pub mod BranchGraphs
+pub mod Formulas

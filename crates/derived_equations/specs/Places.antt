@@ -14,9 +14,9 @@ use Rattle.classes.specs.declared.link.Link.{Link}
 use Rattle.link_paths.specs.Paths.{IsPath}
 use Rattle.equation_chains.specs.Frames.{filled, Leads, bound_in, bound_on}
 use Rattle.equation_chains.specs.declared.frame.Frame.{Frame}
-use Rattle.derived_equations.specs.Routes.{number_at}
+use Rattle.branch_classes.specs.Numbers.{number_at, IsReal}
 use Rattle.derived_equations.specs.Replacing.{IsReplacement, after_all, AreInTurn}
-use Rattle.derived_equations.specs.Graphs.{IsReal, IsTermNode, IsBarred}
+use Rattle.derived_equations.specs.Graphs.{IsTermNode, IsBarred}
 use Rattle.derived_equations.specs.declared.replacing.Difference.{Difference}
 use Rattle.derived_equations.specs.declared.difference.Place.{Place}
 use Rattle.derived_equations.specs.declared.difference.Pair.{Pair}

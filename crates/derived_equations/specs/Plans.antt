@@ -8,7 +8,7 @@ use Rattle.formula_pool.specs.declared.node.Node.{Node}
 use Rattle.classes.specs.declared.link.Link.{Link}
 use Rattle.classes.specs.declared.link.Why.TheVariants.{Given, Alike}
 use Rattle.class_history.specs.declared.history.Join.{Join}
-use Rattle.derived_equations.specs.Routes.{number_at}
+use Rattle.branch_classes.specs.Numbers.{number_at}
 use Rattle.derived_equations.specs.Replacing.{itself_item}
 use Rattle.derived_equations.specs.Graphs.{IsTermNode}
 use Rattle.derived_equations.specs.Places.{AreFound}

@@ -5,12 +5,9 @@ use Rattle.formula_pool.specs.Items.{TermSort}
 use Rattle.formula_pool.specs.Pools.{HasPart}
 use Rattle.formula_pool.specs.declared.node.Node.{Node}
 use Rattle.branches.specs.Due.{IsShallow}
+use Rattle.branch_classes.specs.Numbers.{number_at}
 use Rattle.class_history.specs.declared.history.Join.{Join}
 use Rattle.equation_chains.specs.Chains.{term_at, ChainData, IsAt}
-
--- the number that a node has in the pool
-abbrev pub number_at : List ℕ → ℕ → ℕ
-number_at numbers node = slice_index_or numbers node 0
 
 -- the place of the equation of a link
 abbrev pub equation_at : List (Option ℕ) → ℕ → Option ℕ

@@ -7,7 +7,8 @@ ghost use Rattle.formula_pool.specs.Items.{TermSort};
 ghost use Rattle.formula_pool.specs.Pools.{HasPart, Extends};
 ghost use Rattle.branches.specs.Branch.{Branch};
 ghost use Rattle.equation_chains.specs.Chains.{HasPlaces, Keeps, IsChain};
-ghost use Rattle.derived_equations.specs.Routes.{number_at, IsEquation};
+ghost use Rattle.branch_classes.specs.Numbers.{number_at};
+ghost use Rattle.derived_equations.specs.Routes.{IsEquation};
 ghost use Rattle.derived_equations.specs.Replacing.{CanBeginAll};
 ghost use Rattle.derived_equations.specs.Graphs.{IsTermNode, IsGraph, IsBarred};
 ghost use Rattle.derived_equations.specs.Plans.{ArePlans};
@@ -120,8 +121,8 @@ fn next_equation(
     }
 }
 
-// The places of the equations of the links that are needed.
-fn equations(
+/// The places of the equations of the links that are needed.
+pub(crate) fn equations(
     alloc: Global,
     pool: &mut Pool,
     chain: &mut Chain,
@@ -148,8 +149,8 @@ fn equations(
     Ok(equations)
 }
 
-// No link is marked.
-fn unmarked(alloc: Global, count: usize) -> Result<Vec<bool>, NoMemory>
+/// No link is marked.
+pub(crate) fn unmarked(alloc: Global, count: usize) -> Result<Vec<bool>, NoMemory>
     ensures { IfOk result (λ needed. IsUnmarked count needed.items) }
 {
     let mut needed = Vec::new(alloc);

@@ -8,7 +8,7 @@ ghost use Rattle.formula_pool.specs.Pools.{item_at, IsMade};
 ghost use Rattle.formula_pool.specs.declared.node.Leaf.TheVariants.{NilTerms};
 ghost use Rattle.formula_pool.specs.declared.node.Node.TheVariants.{Leaf as LeafNode, Two as TwoNode};
 ghost use Rattle.equation_chains.specs.Frames.{bound_in};
-ghost use Rattle.derived_equations.specs.Routes.{number_at};
+ghost use Rattle.branch_classes.specs.Numbers.{number_at};
 ghost use Rattle.derived_equations.specs.Graphs.{IsGraph, IsBarred, is_term_node, is_quantified};
 ghost use Rattle.derived_equations.specs.Places.{one_at, other_at, IsPlace, AreTwo, AreThree, IsPair, IsStepTo, IsPushed, AreFound, IsNext, IsTurn};
 

@@ -3,7 +3,7 @@
 ghost use Rattle.std.specs.Prelude.{◌≡◌, ℕ, ◌+◌, ◌<◌, [], true, length, take, slice_get, MatchBool, MatchOption, OnOk, IfOk};
 ghost use Rattle.class_history.specs.Histories.{IsHistory};
 ghost use Rattle.classes.specs.Links.{Linked, AreAlikeAt};
-ghost use Rattle.derived_equations.specs.Routes.{number_at};
+ghost use Rattle.branch_classes.specs.Numbers.{number_at};
 ghost use Rattle.derived_equations.specs.Replacing.{itself_item};
 ghost use Rattle.derived_equations.specs.Graphs.{IsTermNode, IsGraph, IsBarred};
 ghost use Rattle.derived_equations.specs.Places.{AreFound};

@@ -5,8 +5,8 @@ ghost use Rattle.formula_pool.specs.Items.{formula_in};
 ghost use Rattle.formula_pool.specs.Pools.{Extends};
 ghost use Rattle.branches.specs.Branch.{Branch};
 ghost use Rattle.equation_chains.specs.Chains.{term_at, HasPlaces, Keeps, IsAt, IsChain, CanBegin};
-ghost use Rattle.derived_equations.specs.Routes.{number_at};
-ghost use Rattle.derived_equations.specs.Replacing.{before_it, after_it, CanReplace, after_all, itself_item, CanReplaceAll, CanBeginAll};
+ghost use Rattle.branch_classes.specs.Numbers.{number_at};
+ghost use Rattle.derived_equations.specs.Replacing.{before_it, after_it, CanReplace, after_all, CanReplaceAt, IsReplacedAt, CanBeginEach, itself_item, CanReplaceAll, CanBeginAll};
 
 use crate::route::{between, number_of};
 use class_history::history::Join;
@@ -52,6 +52,31 @@ pub fn replace(
     chain.rewrite(pool, way, Swap { equation, from, to }, source)
 }
 
+/// A place at which what the formula at the source becomes by these differences stands.
+pub fn replace_each(
+    pool: &mut Pool,
+    chain: &mut Chain,
+    numbers: &[usize],
+    equations: &[Option<usize>],
+    source: usize,
+    differences: &[Difference],
+) -> Result<usize, NoMemory>
+    requires replaced { CanReplaceAt pool.old chain.old numbers.now equations.now source differences.now }
+    requires places { HasPlaces chain.old }
+    ensures extends { Extends pool.old pool.new }
+    ensures places { OnOk result (HasPlaces chain.new) }
+    ensures keeps { OnOk result (Keeps chain.old chain.new) }
+    ensures at { IfOk result (IsReplacedAt pool.old chain.old numbers.now source differences.now pool.new chain.new) }
+    ensures chain { OnOk result ((b : Branch) → IsChain pool.old b chain.old → CanBeginEach pool.old b chain.old numbers.now differences.now → IsChain pool.new b chain.new) }
+{
+    let mut place = source;
+    for difference in differences {
+        let next = replace(pool, chain, numbers, equations, difference, place)?;
+        place = next;
+    }
+    Ok(place)
+}
+
 /// A place at which the equation of a term with what it becomes by these differences stands.
 pub fn replace_all(
     pool: &mut Pool,
@@ -69,10 +94,7 @@ pub fn replace_all(
     ensures at { IfOk result (λ place. IsAt pool.new chain.new place (formula_in (after_all pool.old numbers.now (itself_item pool.old left) differences.now))) }
     ensures chain { OnOk result ((b : Branch) → IsChain pool.old b chain.old → CanBeginAll pool.old b chain.old numbers.now left differences.now → IsChain pool.new b chain.new) }
 {
-    let mut place = chain.itself(pool, left)?;
-    for difference in differences {
-        let next = replace(pool, chain, numbers, equations, difference, place)?;
-        place = next;
-    }
+    let itself = chain.itself(pool, left)?;
+    let place = replace_each(pool, chain, numbers, equations, itself, differences)?;
     Ok(place)
 }

@@ -4,7 +4,8 @@ ghost use Rattle.std.specs.Prelude.{◌≡◌, ℕ, None, slice_index_or, OnOk, 
 ghost use Rattle.formula_pool.specs.Pools.{Extends};
 ghost use Rattle.branches.specs.Branch.{Branch};
 ghost use Rattle.equation_chains.specs.Chains.{term_at, HasPlaces, Keeps, IsChain, CanBegin};
-ghost use Rattle.derived_equations.specs.Routes.{number_at, equation_at, IsEquation, IsEither, CanPass, end_of, CanGo, IsSingle};
+ghost use Rattle.branch_classes.specs.Numbers.{number_at};
+ghost use Rattle.derived_equations.specs.Routes.{equation_at, IsEquation, IsEither, CanPass, end_of, CanGo, IsSingle};
 
 use class_history::history::Join;
 use equation_chains::chain::{Chain, Swap};

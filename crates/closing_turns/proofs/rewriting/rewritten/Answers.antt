@@ -3,7 +3,7 @@ use Rattle.std.proofs.lemmas.List.{take_all}
 use Rattle.formula_pool.specs.Items.{TermSort, formula_in}
 use Rattle.formula_pool.proofs.GrowthLemmas.{extends_itself, extends_then}
 use Rattle.equation_chains.specs.Chains.{IsAt}
-use Rattle.derived_equations.specs.Routes.{number_at}
+use Rattle.branch_classes.specs.Numbers.{number_at}
 use Rattle.derived_equations.specs.Replacing.{after_all}
 use Rattle.derived_equations.proofs.GrowthLemmas.{keeps_then, begin_grown}
 use Rattle.derived_equations.proofs.RouteLemmas.{at_index}

@@ -1,6 +1,7 @@
 use Rattle.std.proofs.Common.{length, refl, subst}
 use Rattle.formula_pool.specs.Items.{TermSort}
-use Rattle.derived_equations.specs.Routes.{number_at, IsEquation}
+use Rattle.branch_classes.specs.Numbers.{number_at}
+use Rattle.derived_equations.specs.Routes.{IsEquation}
 use Rattle.derived_equations.proofs.GrowthLemmas.{begin_grown}
 use Rattle.derived_equations.proofs.DeriveLemmas.{whole_linked, first_marks, first_needed, places_read, way_goes, way_ends}
 use Rattle.derived_equations.proofs.derive.derive.Goals as goal
@@ -21,4 +22,4 @@ pub returns-in-Some-clause-at : goal.returns-in-Some-clause-at
 returns-in-Some-clause-at c = subst (λ i. IsEquation c.along.new.pool c.along.new.chain c.in_ok-place-in-Some.place (number_at c.args.graph.numbers.now c.args.one) (number_at c.args.graph.numbers.now i)) (way_ends c.args.graph.links.now (length c.args.graph.links.now) c.args.one c.args.other c.in_ok-route.route.items c.as_slice-way.result.now c.as_slice-way.ensures.value c.in_ok-route.ensures) c.in_ok-place-in-Some.ensures.at
 
 pub returns-in-Some-clause-chain : goal.returns-in-Some-clause-chain
-returns-in-Some-clause-chain c = λ b h can. c.in_ok-place-in-Some.ensures.chain b (c.in_ok-table-in-Some.ensures.chain b h can) (begin_grown c.args.pool.now c.equations.new.pool c.equations.ensures.extends b c.args.chain.now c.equations.new.chain c.in_ok-table-in-Some.ensures.keeps (number_at c.args.graph.numbers.now c.args.one) TermSort c.requires.one.term (can.each c.args.one c.requires.one))
+returns-in-Some-clause-chain c = λ b h can. c.in_ok-place-in-Some.ensures.chain b (c.in_ok-table-in-Some.ensures.chain b h can) (begin_grown c.args.pool.now c.equations.new.pool c.equations.ensures.extends b c.args.chain.now c.equations.new.chain c.in_ok-table-in-Some.ensures.keeps (number_at c.args.graph.numbers.now c.args.one) TermSort c.requires.one.term (can.each c.args.one c.requires.within c.requires.one))

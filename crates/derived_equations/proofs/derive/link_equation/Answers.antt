@@ -1,6 +1,6 @@
 use Rattle.std.proofs.Common.{sym, subst}
 use Rattle.equation_chains.proofs.ChainLemmas.{chain_stays}
-use Rattle.derived_equations.specs.Routes.{number_at}
+use Rattle.branch_classes.specs.Numbers.{number_at}
 use Rattle.derived_equations.specs.Replacing.{CanReplaceAll, CanBeginAll}
 use Rattle.derived_equations.proofs.RouteLemmas.{term_of}
 use Rattle.derived_equations.proofs.DeriveLemmas.{has_read, is_read, became}

@@ -1,6 +1,6 @@
 use Rattle.std.proofs.Common.{◌∙◌, refl, subst, arith}
 use Rattle.equation_chains.specs.declared.frame.Frame.TheVariants.{Only, FirstOfTwo, SecondOfTwo, FirstOfThree, SecondOfThree, ThirdOfThree}
-use Rattle.derived_equations.specs.Routes.{number_at}
+use Rattle.branch_classes.specs.Numbers.{number_at}
 use Rattle.derived_equations.specs.Places.{one_at, other_at, IsStepTo, AreFound, IsTurn}
 use Rattle.derived_equations.proofs.LinkedLemmas.{linked_in_all}
 use Rattle.derived_equations.proofs.PlaceLemmas.{found_then, step_read, one_next, two_first, two_linked, two_less, two_next, three_first, three_second, three_linked, three_second_linked, three_less, three_second_less, three_next}

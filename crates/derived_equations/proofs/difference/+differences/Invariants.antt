@@ -1,6 +1,6 @@
 use Rattle.std.proofs.Common.{◌≡◌, ◌≤◌, ◌+◌, ◌*◌, take}
 use Rattle.classes.specs.Links.{Linked}
-use Rattle.derived_equations.specs.Routes.{number_at}
+use Rattle.branch_classes.specs.Numbers.{number_at}
 use Rattle.derived_equations.specs.Places.{one_at, other_at, IsPlace, AreFound}
 use Rattle.derived_equations.proofs.difference.+differences.Given as goal
 

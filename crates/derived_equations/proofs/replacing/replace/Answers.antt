@@ -1,7 +1,8 @@
 use Rattle.std.proofs.Common.{sym, ap, ◌∙◌, subst}
 use Rattle.formula_pool.specs.Items.{TermSort}
 use Rattle.equation_chains.specs.Frames.{IsWay}
-use Rattle.derived_equations.specs.Routes.{number_at, CanGo, end_of}
+use Rattle.branch_classes.specs.Numbers.{number_at}
+use Rattle.derived_equations.specs.Routes.{CanGo, end_of}
 use Rattle.derived_equations.proofs.RouteLemmas.{term_of}
 use Rattle.derived_equations.proofs.ReplacingLemmas.{replacement_grown, before_stands, can_swap, ends_either, swap_read, replaced_at}
 use Rattle.derived_equations.proofs.replacing.replace.Goals as goal

@@ -1,49 +1,19 @@
-use Rattle.std.proofs.Common.{sym, subst, arith}
-use Rattle.std.proofs.lemmas.List.{take_all}
-use Rattle.formula_pool.specs.Items.{TermSort, formula_in}
 use Rattle.formula_pool.proofs.GrowthLemmas.{extends_then}
-use Rattle.equation_chains.specs.Chains.{IsAt}
-use Rattle.derived_equations.specs.Routes.{number_at}
-use Rattle.derived_equations.specs.Replacing.{itself_item, after_all}
-use Rattle.derived_equations.proofs.GrowthLemmas.{keeps_then, begin_grown}
-use Rattle.derived_equations.proofs.RouteLemmas.{at_index}
-use Rattle.derived_equations.proofs.ReplacingLemmas.{after_none, replace_grown, found_at, left_at}
+use Rattle.derived_equations.proofs.GrowthLemmas.{keeps_then}
+use Rattle.derived_equations.proofs.ReplacingLemmas.{itself_replaced, itself_became, begun_each}
 use Rattle.derived_equations.proofs.replacing.replace_all.Goals as goal
 
-pub loop-difference-init : goal.loop-difference-init
-loop-difference-init c = record {
-  extends = c.itself.ensures.extends;
-  places = c.in_ok-place.ensures.places;
-  keeps = c.in_ok-place.ensures.keeps;
-  at = subst (λ x. IsAt c.itself.new.pool c.itself.new.self c.in_ok-place.place (formula_in x)) (sym (after_none c.args.pool.now c.args.numbers.now (itself_item c.args.pool.now c.args.left) c.args.differences.now)) c.in_ok-place.ensures.at;
-  chain = λ b h can. c.in_ok-place.ensures.chain b h can.itself;
-}
+pub replace_each-requires-clause-replaced : goal.replace_each-requires-clause-replaced
+replace_each-requires-clause-replaced c = itself_replaced c.args.pool.now c.itself.new.pool c.itself.ensures.extends c.args.chain.now c.itself.new.self c.in_ok-itself.ensures.keeps c.args.numbers.now c.args.equations.now c.args.left c.in_ok-itself.itself c.args.differences.now c.in_ok-itself.ensures.at c.requires.replaced
 
-pub replace-requires-clause-source : goal.replace-requires-clause-source
-replace-requires-clause-source c =
-    let found = at_index c.args.differences.now c.loop-difference.difference-index c.difference-item.result c.difference-item.result c.loop-difference-test.true c.difference-item.is in
-    found_at c.args.pool.now c.loop-difference.pool c.loop-difference.invariant.extends c.args.chain.now c.loop-difference.chain c.args.numbers.now (itself_item c.args.pool.now c.args.left) c.args.differences.now c.requires.replaced.in_turn c.loop-difference.difference-index c.difference-item.result (c.requires.replaced.each c.loop-difference.difference-index c.difference-item.result found).is found c.loop-difference.place c.loop-difference.invariant.at
+pub returns-clause-extends : goal.returns-clause-extends
+returns-clause-extends c = extends_then c.itself.ensures.extends c.replace_each.ensures.extends
 
-pub replace-requires-clause-replaced : goal.replace-requires-clause-replaced
-replace-requires-clause-replaced c =
-    let found = at_index c.args.differences.now c.loop-difference.difference-index c.difference-item.result c.difference-item.result c.loop-difference-test.true c.difference-item.is in
-    replace_grown c.args.pool.now c.loop-difference.pool c.loop-difference.invariant.extends c.args.chain.now c.loop-difference.chain c.loop-difference.invariant.keeps c.args.numbers.now c.args.equations.now c.difference-item.result (c.requires.replaced.each c.loop-difference.difference-index c.difference-item.result found)
-
-pub replace-requires-clause-places : goal.replace-requires-clause-places
-replace-requires-clause-places c = c.loop-difference.invariant.places
-
-pub loop-difference-preserved : goal.loop-difference-preserved
-loop-difference-preserved c =
-    let found = at_index c.args.differences.now c.loop-difference.difference-index c.difference-item.result c.difference-item.result c.loop-difference-test.true c.difference-item.is in
-    let can = c.requires.replaced.each c.loop-difference.difference-index c.difference-item.result found in
-    record {
-      extends = extends_then c.loop-difference.invariant.extends c.replace.ensures.extends;
-      places = c.in_ok-next.ensures.places;
-      keeps = keeps_then c.args.chain.now c.loop-difference.chain c.replace.new.chain c.loop-difference.invariant.keeps c.in_ok-next.ensures.keeps;
-      at = left_at c.args.pool.now c.loop-difference.pool c.replace.new.pool c.loop-difference.invariant.extends c.replace.new.chain c.args.numbers.now (itself_item c.args.pool.now c.args.left) c.args.differences.now c.loop-difference.difference-index _ c.difference-item.result can.is found (omega arith) c.in_ok-next.next c.in_ok-next.ensures.at;
-      chain = λ b h begin. c.in_ok-next.ensures.chain b (c.loop-difference.invariant.chain b h begin) (begin_grown c.args.pool.now c.loop-difference.pool c.loop-difference.invariant.extends b c.args.chain.now c.loop-difference.chain c.loop-difference.invariant.keeps (number_at c.args.numbers.now c.difference-item.result.from) TermSort can.is.from_term (begin.each c.loop-difference.difference-index c.difference-item.result found));
-    }
+pub returns-clause-keeps : goal.returns-clause-keeps
+returns-clause-keeps c = keeps_then c.args.chain.now c.itself.new.self c.replace_each.new.chain c.in_ok-itself.ensures.keeps c.in_ok-place.ensures.keeps
 
 pub returns-clause-at : goal.returns-clause-at
-returns-clause-at c =
-    subst (λ ds. IsAt c.loop-difference.pool c.loop-difference.chain c.loop-difference.place (formula_in (after_all c.args.pool.now c.args.numbers.now (itself_item c.args.pool.now c.args.left) ds))) (take_all c.loop-difference.difference-index c.args.differences.now c.loop-difference-test.false) c.loop-difference.invariant.at
+returns-clause-at c = itself_became c.args.pool.now c.itself.new.pool c.itself.ensures.extends c.args.chain.now c.itself.new.self c.args.numbers.now c.args.equations.now c.args.left c.in_ok-itself.itself c.args.differences.now c.in_ok-itself.ensures.at c.requires.replaced c.replace_each.new.pool c.replace_each.new.chain c.in_ok-place.place c.in_ok-place.ensures.at
+
+pub returns-clause-chain : goal.returns-clause-chain
+returns-clause-chain c = λ b h can. c.in_ok-place.ensures.chain b (c.in_ok-itself.ensures.chain b h can.itself) (begun_each c.args.pool.now c.itself.new.pool c.itself.ensures.extends b c.args.chain.now c.itself.new.self c.in_ok-itself.ensures.keeps c.args.numbers.now c.args.equations.now c.args.left c.args.differences.now c.requires.replaced can)

@@ -2,7 +2,8 @@ use Rattle.std.proofs.Common.{sym, subst, refl, arith}
 use Rattle.std.proofs.lemmas.List.{take_all}
 use Rattle.formula_pool.proofs.GrowthLemmas.{extends_then}
 use Rattle.equation_chains.specs.Chains.{term_at, CanBegin}
-use Rattle.derived_equations.specs.Routes.{number_at, IsEquation, end_of}
+use Rattle.branch_classes.specs.Numbers.{number_at}
+use Rattle.derived_equations.specs.Routes.{IsEquation, end_of}
 use Rattle.derived_equations.proofs.GrowthLemmas.{keeps_then}
 use Rattle.derived_equations.proofs.RouteLemmas.{at_index, term_of, begun_at, source_at, passed_at, pass_at}
 use Rattle.derived_equations.proofs.route.along.Goals as goal

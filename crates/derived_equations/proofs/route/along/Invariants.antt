@@ -2,7 +2,8 @@ use Rattle.std.proofs.Common.{take}
 use Rattle.formula_pool.specs.Pools.{Extends}
 use Rattle.branches.specs.Branch.{Branch}
 use Rattle.equation_chains.specs.Chains.{term_at, HasPlaces, Keeps, IsChain, CanBegin}
-use Rattle.derived_equations.specs.Routes.{number_at, IsEquation, end_of}
+use Rattle.branch_classes.specs.Numbers.{number_at}
+use Rattle.derived_equations.specs.Routes.{IsEquation, end_of}
 use Rattle.derived_equations.proofs.route.along.Given as goal
 
 abbrev pub invariant-loop-join : goal.invariant-loop-join

@@ -1,4 +1,4 @@
-use Rattle.derived_equations.specs.Routes.{number_at}
+use Rattle.branch_classes.specs.Numbers.{number_at}
 use Rattle.derived_equations.proofs.GrowthLemmas.{far_term}
 use Rattle.derived_equations.proofs.RouteLemmas.{put_at}
 use Rattle.derived_equations.proofs.route.pass.Goals as goal
