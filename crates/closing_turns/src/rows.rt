@@ -1,11 +1,10 @@
 //! Rows that have no solution close a branch by a chain on which their entries stand with one term for each class.
 
-ghost use Rattle.std.specs.Prelude.{◌≡◌, ℕ, ℤ, List, length, map, All, IfOk, MatchOption};
+ghost use Rattle.std.specs.Prelude.{◌≡◌, ◌≤ℤ◌, ℕ, ℤ, pos, List, length, map, All, IfOk, MatchOption};
 ghost use Rattle.std.specs.List.{AllZip};
 ghost use Rattle.fol.specs.FormulaData.{TermData};
 ghost use Rattle.fol.specs.declared.shapes.Shape.{Shape};
 ghost use Rattle.linear_rows.specs.Combination.{IsContradiction};
-ghost use Rattle.linear_rows.specs.Fits.{Fits};
 ghost use Rattle.linear_rows.specs.Inequality.{Inequality};
 ghost use Rattle.formula_pool.specs.declared.node.Node.{Node};
 ghost use Rattle.branches.specs.Branch.{Branch, formulas};
@@ -39,7 +38,7 @@ pub fn rows_closing(
     places: &[Option<usize>],
 ) -> Result<Option<Closing>, NoMemory>
     requires one_each { length multipliers.now ≡ length origins.now }
-    requires fit { All Fits multipliers.now }
+    requires positive { All (λ m. pos 0 ≤ℤ m) multipliers.now }
     requires below { AreBelow (length chain.now.formulas) places.now }
     ensures { (shapes : List Shape) (ns : List Node) (b : Branch) (class : TermData → ℕ) (classes : List ℕ) (chosen : ℕ → TermData) (rows : List Inequality) → IsChain ns b chain.now → AreChosen class classes chosen → AllZip (IsRowFrom class (formulas b) classes) rows origins.now → IsContradiction rows multipliers.now → ArePlaced class chosen (formulas b) (map (formula_at ns) chain.now.formulas) origins.now multipliers.now places.now → IfOk result (λ found. MatchOption found (IsFull shapes b) (IsClosingDue shapes ns b)) }
 {

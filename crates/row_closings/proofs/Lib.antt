@@ -6,3 +6,4 @@ pub mod SumLemmas
 pub mod CloseLemmas
 pub mod ChosenLemmas
 pub mod CitedLemmas
+pub mod AllLemmas

@@ -1,5 +1,6 @@
 -- Numbers of 128 bits, as they are compared and kept.
 use Rattle.std.proofs.Common.{◌≡◌, ℤ, pos, sym, ap, ◌∙◌, arith, FitsSigned, to_z, of_z}
+use Rattle.std.specs.Prelude.{◌≤ℤ◌}
 use Rattle.std.specs.Int.{w128}
 use Rattle.std.proofs.lemmas.Int.{ints, to_z-of_z}
 use Rattle.linear_rows.specs.Fits.{Fits}
@@ -15,3 +16,6 @@ zero_word z f e = sym (word_is z f) ∙ ap (to_z w128) e
 
 pub zero_is : (z : ℤ) → z ≡ pos 0 → of_z w128 z ≡ 0
 zero_is z e = ap (of_z w128) e
+
+pub fits_positive : (z : ℤ) → pos 0 ≤ℤ z → FitsSigned w128 z → Fits z
+fits_positive z p f = (omega (arith, ints, p, f), omega (arith, ints, p, f))

@@ -1,6 +1,6 @@
 //! Multiples of rows as multiples of formulas.
 
-ghost use Rattle.std.specs.Prelude.{◌≡◌, ℕ, List, length, All, IfOk};
+ghost use Rattle.std.specs.Prelude.{◌≡◌, ℕ, pos, ◌≤ℤ◌, List, length, All, IfOk};
 ghost use Rattle.fol.specs.FormulaData.{TermData, FormulaData};
 ghost use Rattle.linear_rows.specs.Fits.{Fits};
 ghost use Rattle.branch_rows.specs.Sums.{signed};
@@ -37,7 +37,7 @@ pub fn multiples(
     places: &[Option<usize>],
 ) -> Result<Vec<Multiple>, NoMemory>
     requires one_each { length multipliers.now ≡ length origins.now }
-    requires fit { All Fits multipliers.now }
+    requires positive { All (λ m. pos 0 ≤ℤ m) multipliers.now }
     requires within { ArePlacesWithin places.now }
     ensures { (class : TermData → ℕ) (chosen : ℕ → TermData) (ps qs : List FormulaData) → ArePlaced class chosen ps qs origins.now multipliers.now places.now → IfOk result (λ cited. AreCited class chosen ps qs origins.now multipliers.now cited.items) }
 {
