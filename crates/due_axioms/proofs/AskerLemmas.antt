@@ -7,6 +7,7 @@ use Rattle.axioms.specs.declared.axiom.Axiom.{Axiom}
 use Rattle.formula_pool.specs.Pools.{Extends}
 use Rattle.formula_pool.specs.declared.node.Node.{Node}
 use Rattle.branches.specs.Branch.{Branch}
+use Rattle.branches.specs.Due.{ByTable}
 use Rattle.branches.specs.Table.{Asks}
 use Rattle.pool_branch.specs.PoolBranches.{BranchData, branch_in, IsOver}
 use Rattle.entry_steps.proofs.EntryLemmas.{still_says}
@@ -23,7 +24,7 @@ use Rattle.due_axioms.specs.declared.askers.Asker.{Asker}
 use Rattle.due_axioms.specs.declared.askers.Asker.TheVariants.{Always, Term, Typing, TypeAlone, Beside, Read, Item, Vectors}
 use Rattle.due_axioms.specs.declared.due.WantedAxioms.{WantedAxioms}
 use Rattle.due_axioms.specs.declared.due.AxiomStep.{AxiomStep}
-use Rattle.due_axioms.specs.Due.{Asking, NoneDue, IsDueStep, AsksOfSome}
+use Rattle.due_axioms.specs.Due.{Asking, NoneDue, IsDueStep, AsksOfSome, IsAxiomStep}
 use Rattle.due_axioms.specs.Instances.{IsListed}
 use Rattle.due_axioms.specs.Askers.{AreTypeAndTerm, AreTwoTerms, AreTypeAndTerms, IsAsker, AreAskers, asks_of, asks_at, IsStanding}
 use Rattle.due_axioms.proofs.DueLemmas.{answer_listed}
@@ -107,4 +108,13 @@ one_asks shapes ns xs x (k, w, e) {name} {ts} {p} h = record {
   place = k;
   before = w;
   asked = subst (λ (y : Asker). asks_of shapes ns y name ts p) (sym (place_of xs x k w e)) h;
+}
+
+-- what is due of the table is due
+pub axiom_step : {shapes : List Shape} {b : Branch} {wanted : WantedAxioms} {ks : List Node} {step : AxiomStep} → IsDueStep ks b wanted (Asks shapes b) step → IsAxiomStep ks shapes b wanted step
+axiom_step {step = step} h = record {
+  formula = h.formula;
+  number = h.number;
+  is_wanted = h.is_wanted;
+  due = record { terms = h.due.terms; asked = ByTable step.name h.due.terms h.formula h.due.asked; generations = h.due.generations; is_new = h.due.is_new; shallow = h.due.shallow };
 }

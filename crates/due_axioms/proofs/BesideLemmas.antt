@@ -1,9 +1,8 @@
 -- Types of vectors beside vectors that are made of others.
-use Rattle.std.proofs.Common.{◌≡◌, ◌⊎◌, inl, inr, ℕ, ◌+◌, ◌<◌, Bool, true, false, not, true≢false, List, [], ◌∷◌, ◌++◌, length, take, get_or, cond, if◌then◌else◌, append-nil, refl, sym, ap, ◌∙◌, subst, arith}
+use Rattle.std.proofs.Common.{◌≡◌, inl, inr, ℕ, ◌+◌, ◌<◌, Bool, true, false, not, true≢false, List, [], ◌∷◌, ◌++◌, length, take, get_or, cond, if◌then◌else◌, append-nil, refl, sym, ap, ◌∙◌, subst, arith}
 use Rattle.std.specs.Prelude.{Contains, filter, nat_eq}
 use Rattle.std.specs.List.{list_any}
 use Rattle.std.proofs.lemmas.Bool.{eqb-true}
-use Rattle.std.proofs.lemmas.List.{take_more}
 use Rattle.std.proofs.lemmas.List.Elements.{Contains-append_left, Contains-append_right, Contains-push_cases, filter_more}
 use Rattle.indexmap.specs.IndexSet.{insert_key}
 use Rattle.indexmap.proofs.CallerLemmas.{Contains-list_any}
@@ -21,6 +20,7 @@ use Rattle.asked_axioms.specs.Numbers.{HasForm, IsOtherTerm, IsVariable, IsField
 use Rattle.asked_axioms.specs.PairRows.{IsNoVector}
 use Rattle.due_axioms.specs.declared.typings.Typing.{Typing}
 use Rattle.due_axioms.specs.Beside.{is_vector_type, is_made_vector, is_made_form, HaveNumber, AreIn, AreVectorTypes}
+use Rattle.due_axioms.proofs.TakenLemmas.{taken_kept, taken_last, taken_cases}
 
 -- ---- types of vectors
 
@@ -102,25 +102,16 @@ module _ (ns : List Node) (typings : List Typing) (i : ℕ) (d : Typing) (w : i 
   abbrev one : Typing
   one = get_or typings i d
 
-  taken_kept : (x : Typing) → Contains (take i typings) x → Contains (take (i + 1) typings) x
-  taken_kept x h = subst (λ xs. Contains xs x) (sym (take_more typings i d w)) (Contains-append_left (take i typings) (one ∷ []) x h)
-
-  taken_last : Contains (take (i + 1) typings) one
-  taken_last = subst (λ xs. Contains xs one) (sym (take_more typings i d w)) (Contains-append_right (take i typings) (one ∷ []) one (0, omega arith, refl))
-
-  taken_cases : (x : Typing) → Contains (take (i + 1) typings) x → Contains (take i typings) x ⊎ (one ≡ x)
-  taken_cases x h = Contains-push_cases (take i typings) one x (subst (λ xs. Contains xs x) (take_more typings i d w) h)
-
   pub one_more_type : {types more : List ℕ} → AreVectorTypes ns (take i typings) types → is_vector_type (type_at ns one.of) ≡ true → HaveNumber types more one.of → AreVectorTypes ns (take (i + 1) typings) more
   one_more_type {types} {more} h e add = record {
-    each = λ n c. elim (add.only n c) [ inl old ↦ (let it = h.each n old in record { typing = it.typing; among = taken_kept it.typing it.among; is = it.is }) | inr same ↦ record { typing = one; among = taken_last; is = sym same } ];
-    all = λ x c v. elim (taken_cases x c) [ inl old ↦ add.kept x.of (h.all x old v) | inr same ↦ subst (Contains more) (ap (λ (y : Typing). y.of) same) add.has ];
+    each = λ n c. elim (add.only n c) [ inl old ↦ (let it = h.each n old in record { typing = it.typing; among = taken_kept typings i d w it.typing it.among; is = it.is }) | inr same ↦ record { typing = one; among = taken_last typings i d w; is = sym same } ];
+    all = λ x c v. elim (taken_cases typings i d w x c) [ inl old ↦ add.kept x.of (h.all x old v) | inr same ↦ subst (Contains more) (ap (λ (y : Typing). y.of) same) add.has ];
   }
 
   pub no_more_type : {types : List ℕ} → AreVectorTypes ns (take i typings) types → is_vector_type (type_at ns one.of) ≡ false → AreVectorTypes ns (take (i + 1) typings) types
   no_more_type {types} h e = record {
-    each = λ n c. (let it = h.each n c in record { typing = it.typing; among = taken_kept it.typing it.among; is = it.is });
-    all = λ x c v. elim (taken_cases x c) [ inl old ↦ h.all x old v | inr same ↦ absurd (true≢false (sym v ∙ ap (λ (y : Typing). is_vector_type (type_at ns y.of)) (sym same) ∙ e)) ];
+    each = λ n c. (let it = h.each n c in record { typing = it.typing; among = taken_kept typings i d w it.typing it.among; is = it.is });
+    all = λ x c v. elim (taken_cases typings i d w x c) [ inl old ↦ h.all x old v | inr same ↦ absurd (true≢false (sym v ∙ ap (λ (y : Typing). is_vector_type (type_at ns y.of)) (sym same) ∙ e)) ];
   }
 
 pub no_types : (ns : List Node) → AreVectorTypes ns [] []

@@ -3,18 +3,16 @@ use Rattle.std.proofs.Common.{◌≡◌, ℕ, zero, suc, Bool, true, false, true
 use Rattle.std.specs.Prelude.{slice_index_or, All, Contains, filter}
 use Rattle.std.specs.List.{flat_map}
 use Rattle.std.proofs.lemmas.List.Elements.{All-nil, All-cons, All-append, All-map, Contains-get_or, Contains-append_left, Contains-append_right}
-use Rattle.std.proofs.lemmas.Option.{slice_get_within, slice_get-get_or, get_or_from_slice_get}
 use Rattle.pv_base.specs.TypeData.{TypeData}
 use Rattle.fol.specs.declared.shapes.Shape.{Shape}
-use Rattle.fol.specs.FormulaData.{TermData, FormulaData, IsFormula, NotFormula}
+use Rattle.fol.specs.FormulaData.{TermData, FormulaData}
 use Rattle.axioms.specs.declared.axiom.Axiom.{Axiom}
 use Rattle.formula_pool.specs.Items.{term_in}
 use Rattle.formula_pool.specs.Pools.{item_at, IsOneNumber}
 use Rattle.formula_pool.specs.declared.node.Node.{Node}
 use Rattle.formula_pool.proofs.ShapeLemmas.{a_term}
-use Rattle.branches.specs.Branch.{Branch, IsTerm, IsTyped, Said, Denied}
+use Rattle.branches.specs.Branch.{Branch, IsTerm}
 use Rattle.pool_branch.specs.PoolBranches.{BranchData, branch_in, IsOver}
-use Rattle.entry_steps.proofs.EntryLemmas.{says_within}
 use Rattle.near_groups.specs.Terms.{IsBranchTerm, AreBranchTerms}
 use Rattle.near_groups.proofs.BranchLemmas.{term_number}
 use Rattle.asked_axioms.specs.Asks.{AsksOfTypeAlone, AsksOfTypeBeside, ByEmptyTyped, BySetTyped, ByPushTyped, ByPopTyped}
@@ -24,21 +22,17 @@ use Rattle.due_axioms.specs.declared.askers.Asker.TheVariants.{Always, TypeAlone
 use Rattle.due_axioms.specs.declared.typings.Typing.{Typing}
 use Rattle.due_axioms.specs.Due.{AsksOfSome}
 use Rattle.due_axioms.specs.Askers.{asks_at}
-use Rattle.due_axioms.specs.Typings.{Gives, Denies, IsGivenOrDenied, IsListedTyping, AreTypings}
+use Rattle.due_axioms.specs.Typings.{IsListedTyping, AreTypings}
 use Rattle.due_axioms.specs.Beside.{is_vector_type, is_made_vector, alone_asker, beside_asker, beside_askers, AreTypeAskers}
 use Rattle.due_axioms.specs.Families.{IsAskerOn, AskAll, AsksOfTypes, ByAlways, ByType, ByTypeBeside}
 use Rattle.due_axioms.proofs.AskerLemmas.{one_asks}
 use Rattle.due_axioms.proofs.RangeLemmas.{contains_map, typed_by}
+use Rattle.due_axioms.proofs.TakenLemmas.{here, later}
+use Rattle.due_axioms.proofs.TypedLemmas.{listed_typing, among, given_at}
 
 -- ---- lists
 
 module _ {X : Type 0} where
-  here : (xs : List X) (x : X) → Contains (x ∷ xs) x
-  here xs x = (0, omega arith, refl)
-
-  later : (xs : List X) (y x : X) → Contains xs x → Contains (y ∷ xs) x
-  later xs y x (k, w, e) = (suc k, omega (arith, w), e)
-
   earlier : (P : Type 0) (xs : List X) (y x : X) → Contains (y ∷ xs) x → (y ≡ x → P) → (Contains xs x → P) → P
   earlier P xs y x (zero, w, e) f g = f e
   earlier P xs y x (suc k, w, e) f g = g (k, omega (arith, w), e)
@@ -60,7 +54,7 @@ module _ {X : Type 0} where
       go false m again = later xs y x (again m)
 
 module _ {X Y : Type 0} where
-  in_flat_map : (f : Y → List X) (ys : List Y) (y : Y) (x : X) → Contains ys y → Contains (f y) x → Contains (flat_map f ys) x
+  pub in_flat_map : (f : Y → List X) (ys : List Y) (y : Y) (x : X) → Contains ys y → Contains (f y) x → Contains (flat_map f ys) x
   in_flat_map f [] y x (k, w, e) m = absurd (omega (arith, w))
   in_flat_map f (z ∷ ys) y x (zero, w, e) m = Contains-append_left (f z) (flat_map f ys) x (subst (λ v. Contains (f v) x) (sym e) m)
   in_flat_map f (z ∷ ys) y x (suc k, w, e) m = Contains-append_right (f z) (flat_map f ys) x (in_flat_map f ys y x (k, omega (arith, w), e) m)
@@ -76,9 +70,6 @@ beside_needs (ByEmptyTyped a) = (refl, refl)
 beside_needs (BySetTyped a v i x) = (refl, refl)
 beside_needs (ByPushTyped a v x) = (refl, refl)
 beside_needs (ByPopTyped a v) = (refl, refl)
-
-given_at : (ns : List Node) (b : Branch) (count : ℕ) (typings : List Typing) (x : Typing) → AreTypings ns b count typings → Contains typings x → IsGivenOrDenied ns b x
-given_at ns b count typings x h (k, w, e) = subst (IsGivenOrDenied ns b) e (h.each k (slice_index_or typings k x) (slice_get-get_or typings k x w))
 
 module _ (ns : List Node) (one : IsOneNumber ns) (d : BranchData) (over : IsOver ns d) (terms : List ℕ) (are : AreBranchTerms ns (branch_in ns d) terms) (typings : List Typing) (typed : AreTypings ns (branch_in ns d) (length d.entries) typings) (askers : List Asker) (h : AreTypeAskers ns terms typings askers) where
   abbrev b : Branch
@@ -96,16 +87,9 @@ module _ (ns : List Node) (one : IsOneNumber ns) (d : BranchData) (over : IsOver
   abbrev listed : List Asker
   listed = (Always ∷ []) ++ (alone ++ besides)
 
-  listed_typing : {a : TypeData} {t : TermData} → IsTyped b a t → IsListedTyping ns typings a t
-  listed_typing {a} {t} (Said s) = typed.all s.place (IsFormula a t) a t (says_within ns d s.place (IsFormula a t) s.says) s.says (Gives a t)
-  listed_typing {a} {t} (Denied s) = typed.all s.place (NotFormula (IsFormula a t)) a t (says_within ns d s.place (NotFormula (IsFormula a t)) s.says) s.says (Denies a t)
-
-  among : {a : TypeData} {t : TermData} (l : IsListedTyping ns typings a t) → Contains typings l.typing
-  among l = (l.place, slice_get_within typings l.place l.typing l.found, get_or_from_slice_get typings l.place l.typing l.typing l.found)
-
   type_on : (x : Typing) → Contains typings x → IsAskerOn ns b (TypeAlone x.of)
   type_on x m =
-      let g = given_at ns b (length d.entries) typings x typed m in
+      let g = given_at ns d typings typed x m in
       record { numbers = g.entry.is.of; stands = record { term = term_at ns x.term; typed = typed_by ns b x g } }
 
   term_on : (n : ℕ) → Contains made n → IsBranchTerm ns b n
@@ -114,7 +98,7 @@ module _ (ns : List Node) (one : IsOneNumber ns) (d : BranchData) (over : IsOver
   beside_on : (a n : ℕ) → Contains h.types a → Contains made n → IsAskerOn ns b (Beside a n)
   beside_on a n m k =
       let it = h.are.each a m in
-      let g = given_at ns b (length d.entries) typings it.typing typed it.among in
+      let g = given_at ns d typings typed it.typing it.among in
       let t = term_on n k in
       subst (λ c. IsAskerOn ns b (Beside c n)) it.is (record {
         numbers = record { of = g.entry.is.of; term = record { within = t.number.within; is = sym (a_term (item_at ns n) t.number.sort) } };
@@ -141,22 +125,22 @@ module _ (ns : List Node) (one : IsOneNumber ns) (d : BranchData) (over : IsOver
 
   module _ (shapes : List Shape) where
     by_type : {a : TypeData} {t : TermData} {name : Axiom} {ts : List TermData} {p : FormulaData} → IsListedTyping ns typings a t → AsksOfTypeAlone a name ts p → AsksOfSome (length listed) (asks_at shapes ns listed) name ts p
-    by_type {name = name} {ts = ts} {p = p} l k = one_asks shapes ns listed (TypeAlone l.typing.of) (in_alone l.typing (among l)) (subst (λ c. AsksOfTypeAlone c name ts p) (sym l.type_is) k)
+    by_type {name = name} {ts = ts} {p = p} l k = one_asks shapes ns listed (TypeAlone l.typing.of) (in_alone l.typing (among ns d typings typed l)) (subst (λ c. AsksOfTypeAlone c name ts p) (sym l.type_is) k)
 
     by_beside : {a : TypeData} {u : TermData} (t : TermData) {name : Axiom} {ts : List TermData} {p : FormulaData} → IsListedTyping ns typings a u → IsTerm b t → AsksOfTypeBeside a t name ts p → AsksOfSome (length listed) (asks_at shapes ns listed) name ts p
     by_beside {a} t {name} {ts} {p} l s k =
         let needs = beside_needs k in
         let numbered = term_number ns one d over t s in
         let is : term_at ns numbered.number ≡ t = ap term_in numbered.is in
-        let type_in_list = h.are.all l.typing (among l) (ap is_vector_type l.type_is ∙ needs.0) in
+        let type_in_list = h.are.all l.typing (among ns d typings typed l) (ap is_vector_type l.type_is ∙ needs.0) in
         let term_in_list = in_filter (λ n. is_made_vector (term_at ns n)) terms numbered.number ((are.each numbered.number).1 numbered.term) (ap is_made_vector is ∙ needs.1) in
         one_asks shapes ns listed (Beside l.typing.of numbered.number) (in_besides l.typing.of numbered.number type_in_list term_in_list)
         (subst (λ c. AsksOfTypeBeside c (term_at ns numbered.number) name ts p) (sym l.type_is) (subst (λ v. AsksOfTypeBeside a v name ts p) (sym is) k))
 
     all_asked : (name : Axiom) (ts : List TermData) (p : FormulaData) → AsksOfTypes b name ts p → AsksOfSome (length listed) (asks_at shapes ns listed) name ts p
     all_asked name ts p (ByAlways k) = one_asks shapes ns listed Always (here (alone ++ besides) Always) k
-    all_asked name ts p (ByType a t k) = by_type (listed_typing t.typed) k
-    all_asked name ts p (ByTypeBeside a u t s k) = by_beside u (listed_typing t.typed) s k
+    all_asked name ts p (ByType a t k) = by_type (listed_typing ns d typings typed t.typed) k
+    all_asked name ts p (ByTypeBeside a u t s k) = by_beside u (listed_typing ns d typings typed t.typed) s k
 
   pub types_ask : AskAll ns b askers (AsksOfTypes b)
   types_ask = subst (λ xs. AskAll ns b xs (AsksOfTypes b)) (sym h.is) (record { on = listed_on; all = all_asked })

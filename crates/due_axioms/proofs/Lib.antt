@@ -2,5 +2,9 @@ pub mod DueLemmas
 pub mod AskerLemmas
 pub mod TypingLemmas
 pub mod RangeLemmas
+pub mod TakenLemmas
+pub mod TypedLemmas
 pub mod BesideLemmas
 pub mod FamilyLemmas
+pub mod KeyedLemmas
+pub mod VectorLemmas

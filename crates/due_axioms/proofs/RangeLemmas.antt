@@ -36,7 +36,7 @@ use Rattle.due_axioms.specs.Due.{Asking, IsWanted, NoneDue, IsDueStep, AsksOfSom
 use Rattle.due_axioms.specs.Askers.{IsAsker, AreAskers, asks_at, IsStanding, term_asker, typing_asker, range_askers}
 use Rattle.due_axioms.specs.Typings.{IsTyping, Gives, Denies, IsGivenOrDenied, IsListedTyping, AreTypings}
 use Rattle.due_axioms.proofs.DueLemmas.{step_as}
-use Rattle.due_axioms.proofs.AskerLemmas.{askers_ask, one_asks}
+use Rattle.due_axioms.proofs.AskerLemmas.{askers_ask, one_asks, axiom_step}
 
 -- ---- what asks for other axioms only
 
@@ -93,10 +93,11 @@ module _ (ns : List Node) (b : Branch) (terms : List ℕ) (are : AreBranchTerms 
   both : (P : Asker → Type 0) → ((n : ℕ) → IsBranchTerm ns b n → P (term_asker n)) → ((x : TypingPair) → IsGivenOrDenied ns b x → P (typing_asker x)) → All P (range_askers terms typings)
   both P f g = All-append P (map term_asker terms) (map typing_asker typings) (of_terms P f) (of_typings P g)
 
+  pub askers_numbered : All (IsAsker ns) (range_askers terms typings)
+  askers_numbered = both (IsAsker ns) (λ n h. record { within = h.number.within; is = sym (a_term (item_at ns n) h.number.sort) }) (λ x h. record { of = h.entry.is.of; term = h.entry.is.term })
+
   pub askers_are : AreAskers ns (range_askers terms typings)
-  askers_are = record {
-    each = λ k w. (both (IsAsker ns) (λ n h. record { within = h.number.within; is = sym (a_term (item_at ns n) h.number.sort) }) (λ x h. record { of = h.entry.is.of; term = h.entry.is.term })) k Always w;
-  }
+  askers_are = record { each = λ k w. askers_numbered k Always w }
 
   pub askers_stand : All (IsStanding ns b) (range_askers terms typings)
   askers_stand = both (IsStanding ns b) (λ n h. h.stands) (λ x h. typed_by ns b x h)
@@ -111,7 +112,7 @@ module _ (shapes : List Shape) (ns : List Node) (one : IsOneNumber ns) (d : Bran
   abbrev AsksHere : Asking
   AsksHere = AsksOfSome (length askers) (asks_at shapes ns askers)
 
-  of_term : (t : TermData) → IsTerm b t → {name : Axiom} {ts : List TermData} {p : FormulaData} → AsksOfTerm shapes t name ts p → AsksHere name ts p
+  pub of_term : (t : TermData) → IsTerm b t → {name : Axiom} {ts : List TermData} {p : FormulaData} → AsksOfTerm shapes t name ts p → AsksHere name ts p
   of_term t h {name} {ts} {p} a =
       let numbered = term_number ns one d over t h in
       let among = Contains-append_left (map term_asker terms) (map typing_asker typings) (term_asker numbered.number) (contains_map term_asker terms numbered.number ((are.each numbered.number).1 numbered.term)) in
@@ -124,7 +125,7 @@ module _ (shapes : List Shape) (ns : List Node) (one : IsOneNumber ns) (d : Bran
       let among = Contains-append_right (map term_asker terms) (map typing_asker typings) (typing_asker l.typing) (contains_map typing_asker typings l.typing here) in
       one_asks shapes ns askers (typing_asker l.typing) among (subst (λ c. AsksOfType shapes c (term_at ns l.typing.term) name ts p) (sym l.type_is) (subst (λ u. AsksOfType shapes a u name ts p) (sym l.term_is) h))
 
-  of_type : {a : TypeData} {t : TermData} {name : Axiom} {ts : List TermData} {p : FormulaData} → IsTyped b a t → AsksOfType shapes a t name ts p → AsksHere name ts p
+  pub of_type : {a : TypeData} {t : TermData} {name : Axiom} {ts : List TermData} {p : FormulaData} → IsTyped b a t → AsksOfType shapes a t name ts p → AsksHere name ts p
   of_type {a} {t} (Said s) h = of_listed (typed.all s.place (IsFormula a t) a t (says_within ns d s.place (IsFormula a t) s.says) s.says (Gives a t)) h
   of_type {a} {t} (Denied s) h = of_listed (typed.all s.place (NotFormula (IsFormula a t)) a t (says_within ns d s.place (NotFormula (IsFormula a t)) s.says) s.says (Denies a t)) h
 
@@ -141,14 +142,6 @@ module _ (shapes : List Shape) (ns : List Node) (one : IsOneNumber ns) (d : Bran
   no_ranges : NoneDue b Ranges AsksHere → NoAxiom shapes b Ranges
   no_ranges h = record {
     none = λ name p g w due. h.none name p g w (record { terms = due.terms; asked = of_ranges w (stands shapes b due.asked); generations = due.generations; is_new = due.is_new; shallow = due.shallow });
-  }
-
-  axiom_step : {ks : List Node} {step : AxiomStep} → IsDueStep ks b Ranges (Asks shapes b) step → IsAxiomStep ks shapes b Ranges step
-  axiom_step {step = step} h = record {
-    formula = h.formula;
-    number = h.number;
-    is_wanted = h.is_wanted;
-    due = record { terms = h.due.terms; asked = ByTable step.name h.due.terms h.formula h.due.asked; generations = h.due.generations; is_new = h.due.is_new; shallow = h.due.shallow };
   }
 
   pub ranges_answer : {ks : List Node} → Extends ns ks → (o : Option AxiomStep) → MatchOption o (NoneDue b Ranges AsksHere) (IsDueStep ks b Ranges AsksHere) → MatchOption o (NoAxiom shapes (branch_in ks d) Ranges) (IsAxiomStep ks shapes (branch_in ks d) Ranges)

@@ -4,3 +4,5 @@ pub mod Askers
 pub mod Typings
 pub mod Beside
 pub mod Families
+pub mod Keyed
+pub mod Vectors

@@ -4,6 +4,8 @@
 pub mod askers;
 pub mod beside;
 pub mod due;
+mod keyed;
 pub mod laws;
 pub mod ranges;
 pub mod typings;
+pub mod vectors;

@@ -38,7 +38,11 @@ fn add_typings(askers: &mut Vec<Asker>, typings: &[Typing]) -> Result<(), NoMemo
 }
 
 // The terms, and the types with terms.
-fn range_askers(alloc: Global, terms: &[usize], typings: &[Typing]) -> Result<Vec<Asker>, NoMemory>
+fn range_askers(
+    alloc: Global,
+    terms: &[usize],
+    typings: &[Typing],
+) -> Result<Vec<Asker>, NoMemory>
     ensures { IfOk result (λ askers. askers.items ≡ range_askers terms.now typings.now) }
 {
     let mut askers = Vec::new(alloc);

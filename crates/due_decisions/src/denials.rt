@@ -54,7 +54,7 @@ fn sides_denied(pool: &Pool, formula: usize) -> Option<(usize, usize)>
 }
 
 /// The sides of the equation that the entry with this number denies.
-pub(crate) fn sides_at(pool: &Pool, branch: &PoolBranch, i: usize) -> Option<(usize, usize)>
+pub fn sides_at(pool: &Pool, branch: &PoolBranch, i: usize) -> Option<(usize, usize)>
     requires { IsOver pool.now branch.now }
     ensures { MatchOption result (DeniesNone (branch_in pool.now branch.now) i) (DeniesSides pool.now (branch_in pool.now branch.now) i) }
 {

@@ -3,7 +3,7 @@
 #![tactic(auto)]
 
 pub mod cuts;
-mod denials;
+pub mod denials;
 mod numbers;
 pub mod orders;
 mod places;
