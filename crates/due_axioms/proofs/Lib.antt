@@ -8,3 +8,6 @@ pub mod BesideLemmas
 pub mod FamilyLemmas
 pub mod KeyedLemmas
 pub mod VectorLemmas
+pub mod ReadLemmas
+pub mod ReadClassLemmas
+pub mod ReadAskLemmas

@@ -6,3 +6,4 @@ pub mod Beside
 pub mod Families
 pub mod Keyed
 pub mod Vectors
+pub mod Reads

@@ -7,5 +7,6 @@ pub mod due;
 mod keyed;
 pub mod laws;
 pub mod ranges;
+pub mod reads;
 pub mod typings;
 pub mod vectors;

@@ -38,7 +38,7 @@ fn add_typings(askers: &mut Vec<Asker>, typings: &[Typing]) -> Result<(), NoMemo
 }
 
 // The terms, and the types with terms.
-fn range_askers(
+pub(crate) fn range_askers(
     alloc: Global,
     terms: &[usize],
     typings: &[Typing],
