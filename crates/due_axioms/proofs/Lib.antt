@@ -11,3 +11,4 @@ pub mod VectorLemmas
 pub mod ReadLemmas
 pub mod ReadClassLemmas
 pub mod ReadAskLemmas
+pub mod NextLemmas

@@ -7,3 +7,4 @@ pub mod Families
 pub mod Keyed
 pub mod Vectors
 pub mod Reads
+pub mod Next

@@ -1,0 +1,172 @@
+//! The instances of all axioms of the table.
+
+ghost use Rattle.std.specs.Prelude.{length, IfOk, OnOk, MatchOption};
+ghost use Rattle.formula_pool.specs.Pools.{Extends};
+ghost use Rattle.pool_branch.specs.PoolBranches.{branch_in, IsOver};
+ghost use Rattle.near_groups.specs.Terms.{AreBranchTerms, AreClassesOf};
+ghost use Rattle.asked_axioms.specs.StructRows.{HasFewFields};
+ghost use Rattle.due_axioms.specs.Due.{NoAxiom, IsAxiomStep};
+ghost use Rattle.due_axioms.specs.Typings.{AreTypings};
+ghost use Rattle.due_axioms.specs.Beside.{AreTypeAskers};
+ghost use Rattle.due_axioms.specs.Families.{AskAll, AsksOfReads, AsksOfItems, AsksOfPairs, HasVariable, AskEverything};
+ghost use Rattle.due_axioms.specs.Reads.{IsReadIndex};
+ghost use Rattle.due_axioms.specs.Next.{AddsList, AddsLists};
+
+use crate::askers::{Asker, next_asked};
+use crate::beside::type_askers;
+use crate::due::{AxiomStep, WantedAxioms};
+use crate::ranges::range_askers;
+use crate::reads::{ReadIndex, item_askers, read_askers, read_index};
+use crate::typings::{Typing, typings};
+use crate::vectors::vector_askers;
+use branch_classes::branch_classes::BranchClasses;
+use fol::shapes::Shapes;
+use formula_pool::pool::Pool;
+use pool_branch::branch::PoolBranch;
+use pv_base::memory::NoMemory;
+use std::alloc::Global;
+
+// Puts what asks at all times and by types behind what asks already.
+fn add_by_types(
+    alloc: Global,
+    askers: &mut Vec<Asker>,
+    pool: &Pool,
+    terms: &[usize],
+    typings: &[Typing],
+) -> Result<(), NoMemory>
+    ensures { OnOk result (AddsList askers.old.items askers.new.items (AreTypeAskers pool.now terms.now typings.now)) }
+{
+    let found = type_askers(alloc, pool, terms, typings)?;
+    askers.extend_from_slice(found.as_slice())?;
+    Ok(())
+}
+
+// The same of what asks by reads of what is made of another one.
+fn add_by_reads(
+    alloc: Global,
+    askers: &mut Vec<Asker>,
+    pool: &Pool,
+    branch: &PoolBranch,
+    classes: &BranchClasses,
+    index: &ReadIndex,
+    terms: &[usize],
+) -> Result<(), NoMemory>
+    requires over { IsOver pool.now branch.now }
+    requires classes { AreClassesOf pool.now branch.now classes.now }
+    requires index { IsReadIndex pool.now (branch_in pool.now branch.now) classes.now index.now }
+    requires terms { AreBranchTerms pool.now (branch_in pool.now branch.now) terms.now }
+    ensures { OnOk result (AddsList askers.old.items askers.new.items (λ more. AskAll pool.now (branch_in pool.now branch.now) more (AsksOfReads (branch_in pool.now branch.now)))) }
+{
+    let found = read_askers(alloc, pool, branch, classes, index, terms)?;
+    askers.extend_from_slice(found.as_slice())?;
+    Ok(())
+}
+
+// The same of what asks by vectors that are read.
+fn add_by_items(
+    alloc: Global,
+    askers: &mut Vec<Asker>,
+    pool: &Pool,
+    branch: &PoolBranch,
+    classes: &BranchClasses,
+    index: &ReadIndex,
+    typings: &[Typing],
+) -> Result<(), NoMemory>
+    requires over { IsOver pool.now branch.now }
+    requires classes { AreClassesOf pool.now branch.now classes.now }
+    requires index { IsReadIndex pool.now (branch_in pool.now branch.now) classes.now index.now }
+    requires typings { AreTypings pool.now (branch_in pool.now branch.now) (length branch.now.entries) typings.now }
+    ensures { OnOk result (AddsList askers.old.items askers.new.items (λ more. AskAll pool.now (branch_in pool.now branch.now) more (AsksOfItems (branch_in pool.now branch.now)))) }
+{
+    let found = item_askers(alloc, pool, branch, classes, index, typings)?;
+    askers.extend_from_slice(found.as_slice())?;
+    Ok(())
+}
+
+// The same of what asks by vectors that are said to differ.
+fn add_by_vectors(
+    alloc: Global,
+    askers: &mut Vec<Asker>,
+    pool: &Pool,
+    branch: &PoolBranch,
+    typings: &[Typing],
+) -> Result<(), NoMemory>
+    requires over { IsOver pool.now branch.now }
+    requires typings { AreTypings pool.now (branch_in pool.now branch.now) (length branch.now.entries) typings.now }
+    ensures { OnOk result (AddsList askers.old.items askers.new.items (λ more. AskAll pool.now (branch_in pool.now branch.now) more (AsksOfPairs (branch_in pool.now branch.now)))) }
+{
+    let found = vector_askers(alloc, pool, branch, typings)?;
+    askers.extend_from_slice(found.as_slice())?;
+    Ok(())
+}
+
+// The same of what asks by all reads.
+fn add_by_index(
+    alloc: Global,
+    askers: &mut Vec<Asker>,
+    pool: &Pool,
+    branch: &PoolBranch,
+    classes: &BranchClasses,
+    terms: &[usize],
+    typings: &[Typing],
+) -> Result<(), NoMemory>
+    requires over { IsOver pool.now branch.now }
+    requires classes { AreClassesOf pool.now branch.now classes.now }
+    requires terms { AreBranchTerms pool.now (branch_in pool.now branch.now) terms.now }
+    requires typings { AreTypings pool.now (branch_in pool.now branch.now) (length branch.now.entries) typings.now }
+    ensures { OnOk result (AddsLists askers.old.items askers.new.items (λ more. AskAll pool.now (branch_in pool.now branch.now) more (AsksOfReads (branch_in pool.now branch.now))) (λ more. AskAll pool.now (branch_in pool.now branch.now) more (AsksOfItems (branch_in pool.now branch.now)))) }
+{
+    let index = read_index(alloc, pool, branch, classes, terms)?;
+    add_by_reads(alloc, askers, pool, branch, classes, &index, terms)?;
+    add_by_items(alloc, askers, pool, branch, classes, &index, typings)?;
+    Ok(())
+}
+
+// All that asks on a branch for instances of axioms.
+fn all_askers(
+    alloc: Global,
+    pool: &Pool,
+    branch: &PoolBranch,
+    classes: &BranchClasses,
+    terms: &[usize],
+    typings: &[Typing],
+) -> Result<Vec<Asker>, NoMemory>
+    requires over { IsOver pool.now branch.now }
+    requires classes { AreClassesOf pool.now branch.now classes.now }
+    requires terms { AreBranchTerms pool.now (branch_in pool.now branch.now) terms.now }
+    requires typings { AreTypings pool.now (branch_in pool.now branch.now) (length branch.now.entries) typings.now }
+    requires room { HasVariable (branch_in pool.now branch.now) }
+    ensures { IfOk result (λ askers. AskEverything pool.now (branch_in pool.now branch.now) askers.items) }
+{
+    pool.one_number();
+    let mut askers = range_askers(alloc, terms, typings)?;
+    add_by_types(alloc, &mut askers, pool, terms, typings)?;
+    add_by_index(alloc, &mut askers, pool, branch, classes, terms, typings)?;
+    add_by_vectors(alloc, &mut askers, pool, branch, typings)?;
+    Ok(askers)
+}
+
+/// An instance that is due of an axiom of the table; none where none is due. The classes are those of the branch, these are
+/// the numbers of its terms, some variable is free in none of its entries, and the shapes of structs have fewer than 2^32
+/// fields each.
+pub fn next_axiom(
+    alloc: Global,
+    pool: &mut Pool,
+    shapes: &Shapes,
+    branch: &PoolBranch,
+    classes: &BranchClasses,
+    terms: &[usize],
+) -> Result<Option<AxiomStep>, NoMemory>
+    requires few { HasFewFields shapes.now }
+    requires over { IsOver pool.old branch.now }
+    requires classes { AreClassesOf pool.old branch.now classes.now }
+    requires terms { AreBranchTerms pool.old (branch_in pool.old branch.now) terms.now }
+    requires room { HasVariable (branch_in pool.old branch.now) }
+    ensures extends { Extends pool.old pool.new }
+    ensures due { IfOk result (λ found. MatchOption found (NoAxiom shapes.now (branch_in pool.new branch.now) WantedAxioms.All) (IsAxiomStep pool.new shapes.now (branch_in pool.new branch.now) WantedAxioms.All)) }
+{
+    let found = typings(alloc, pool, branch)?;
+    let askers = all_askers(alloc, pool, branch, classes, terms, found.as_slice())?;
+    let wanted = WantedAxioms::All;
+    next_asked(alloc, pool, shapes, branch, wanted, askers.as_slice(), 0)
+}
