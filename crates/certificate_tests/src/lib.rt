@@ -1,4 +1,5 @@
-//! Tests of substitution, of steps of certificates, of their lengths, and of long ones.
+//! Tests of substitution, of steps of certificates, of their lengths, over a pool too, of long ones, and of numerals that
+//! are too great.
 #![tactic(auto)]
 
 #[cfg(test)]
@@ -7,6 +8,10 @@ mod form_tests;
 mod length_tests;
 #[cfg(test)]
 mod long_tests;
+#[cfg(test)]
+mod numeral_tests;
+#[cfg(test)]
+mod pool_length_tests;
 #[cfg(test)]
 mod substitute_tests;
 #[cfg(test)]
