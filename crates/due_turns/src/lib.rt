@@ -3,3 +3,5 @@
 
 pub mod growths;
 pub mod late;
+pub mod laws;
+pub mod plain;
