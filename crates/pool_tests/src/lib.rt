@@ -2,6 +2,8 @@
 #![tactic(auto)]
 
 #[cfg(test)]
+mod class_tests;
+#[cfg(test)]
 mod history_tests;
 #[cfg(test)]
 mod number_tests;
