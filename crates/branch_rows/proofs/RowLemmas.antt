@@ -12,7 +12,7 @@ use Rattle.linear_rows.specs.Inequality.{Inequality, coefficient}
 use Rattle.fol.specs.declared.operators.Binary.TheVariants.{Add, Mul, Sub}
 use Rattle.fol.specs.declared.operators.Constant.TheVariants.{Num}
 use Rattle.fol.specs.FormulaData.{TermData, VarTerm, MulTerm, BinaryTerm, ConstantTerm, FormulaData}
-use Rattle.cert.specs.Linear.{kept, kept_of, same_term, numeral_of, Part, unknown_weight, product_weight, weight, Row, row_of, gap_weight, row_weight}
+use Rattle.cert.specs.Linear.{kept, kept_of, same_term, numeral_of, Part, unknown_weight, product_weight, weight, Row, gap_weight, row_weight}
 use Rattle.cert.specs.Unknowns.{EachUnknown, EachOfProduct}
 use Rattle.cert.proofs.Sums.{same_term-equal, EachUnknown-map, kept_of_exact}
 use Rattle.cert.proofs.KeptLemmas.{row_fits}
@@ -134,16 +134,14 @@ module _ (ks ls : List ℕ) (longer : IsLonger ks ls) (different : AreDifferent 
     begins_entry None rows h = rest rows h
     begins_entry (Some row) rows h = begins row row.is_equation rows h
 
-  pub rows_more : (c : FormulaData) (more : List Inequality) → BeginsWithEntry ls (row_of c) more (λ rows. rows ≡ []) → (cs : List FormulaData) (rows : List Inequality) → AreRowsOf ks cs rows → AreRowsOf ls (cs ++ c ∷ []) (rows ++ more)
-  rows_more c more last [] rows h = subst (λ (rs : List Inequality). AreRowsOf ls (c ∷ []) (rs ++ more)) (sym h) last
-  rows_more c more last (p ∷ ps) rows h = begins_entry more (AreRowsOf ks ps) (AreRowsOf ls (ps ++ c ∷ [])) (λ rs g. rows_more c more last ps rs g) (row_of p) rows h
+  pub rows_more : (o : Option Row) (more : List Inequality) → BeginsWithEntry ls o more (λ rows. rows ≡ []) → (os : List (Option Row)) (rows : List Inequality) → AreRowsOf ks os rows → AreRowsOf ls (os ++ o ∷ []) (rows ++ more)
+  rows_more o more last [] rows h = subst (λ (rs : List Inequality). AreRowsOf ls (o ∷ []) (rs ++ more)) (sym h) last
+  rows_more o more last (p ∷ ps) rows h = begins_entry more (AreRowsOf ks ps) (AreRowsOf ls (ps ++ o ∷ [])) (λ rs g. rows_more o more last ps rs g) p rows h
 
   pub origin_longer : (class : TermData → ℕ) (ps : List FormulaData) (p : FormulaData) (row : Inequality) (origin : RowOrigin) → IsRowFrom class ps ks row origin → IsRowFrom class (ps ++ p ∷ []) ls row origin
   origin_longer class ps p row origin h = record {
     formula = h.formula;
     found = push_kept ps p origin.entry h.formula h.found;
-    comparison = h.comparison;
-    is_over = h.is_over;
     stated = h.stated;
     stated_is = h.stated_is;
     is_row = row_longer (turned_if origin.is_turned h.stated) row h.is_row;

@@ -1,12 +1,12 @@
 -- The rows so far, with one more entry.
-use Rattle.std.proofs.Common.{◌≡◌, ℕ, true, false, not, List, [], ◌∷◌, ◌++◌, length, None, refl, sym, ap, ◌∙◌, subst, append_assoc, append-nil, arith}
+use Rattle.std.proofs.Common.{◌≡◌, ℕ, true, false, not, List, [], ◌∷◌, ◌++◌, length, Option, Some, None, refl, sym, ap, ◌∙◌, subst, append_assoc, append-nil, arith}
 use Rattle.std.specs.Prelude.{slice_get}
 use Rattle.std.specs.List.{AllZip}
 use Rattle.fol.specs.FormulaData.{TermData, FormulaData}
-use Rattle.cert.specs.Linear.{row_of}
+use Rattle.cert.specs.Linear.{Row}
 use Rattle.linear_rows.specs.Inequality.{Inequality}
 use Rattle.branches.specs.Branch.{Branch, formulas}
-use Rattle.branches.specs.Rows.{IsClassing, IsOver, IsRowOf, turned, BeginsWith, BeginsWithEntry, AreRowsOf, AreBranchRows}
+use Rattle.branches.specs.Rows.{IsClassing, IsEntryRow, IsRowOf, turned, BeginsWith, BeginsWithEntry, AreRowsOf, AreBranchRows}
 use Rattle.pool_branch.proofs.ListLemmas.{push_new}
 use Rattle.branch_rows.specs.Entries.{IsEntrySum}
 use Rattle.branch_rows.specs.Rows.{turned_if, IsRowFrom, IsLonger, AreDifferent, IsPushed, AreRowsSoFar}
@@ -15,7 +15,6 @@ use Rattle.branch_rows.specs.declared.sum.LinearSum.{LinearSum}
 use Rattle.branch_rows.specs.declared.rows.RowOrigin.{RowOrigin}
 use Rattle.branch_rows.specs.declared.rows.BranchRows.{BranchRows}
 use Rattle.branch_rows.proofs.JoiningLemmas.{IsMadeOf}
-use Rattle.branch_rows.proofs.EntryLemmas.{no_comparison}
 use Rattle.branch_rows.proofs.PutLemmas.{longer_itself, longer_twice}
 use Rattle.branch_rows.proofs.RowLemmas.{row_written, row_longer, rows_more, origin_longer, zip_more, turned_sum}
 
@@ -23,40 +22,36 @@ use Rattle.branch_rows.proofs.RowLemmas.{row_written, row_longer, rows_more, ori
 
 pub none_so_far : (class : TermData → ℕ) (made : BranchRows) → made.classes.keys ≡ [] → made.rows ≡ [] → made.origins.items ≡ [] → AreRowsSoFar class [] made
 none_so_far class made classes rows origins = record {
-  comparisons = [];
-  are_over = tt;
+  stated = [];
+  are_stated = tt;
   different = subst AreDifferent (sym classes) (λ i j d l m e. absurd (omega (arith, m)));
   are_rows = rows;
   origins = subst (λ rs. AllZip (IsRowFrom class [] made.classes.keys) rs made.origins.items) (sym rows) (subst (λ os. AllZip (IsRowFrom class [] made.classes.keys) [] os) (sym origins) tt);
 }
 
--- ---- one more comparison with its rows
+-- ---- one more entry with its rows
 
-module _ (class : TermData → ℕ) (ps : List FormulaData) (p c : FormulaData) (old new : BranchRows) (before : AreRowsSoFar class ps old) (is_over : IsOver class p c) (longer : IsLonger old.classes.keys new.classes.keys) (different : AreDifferent new.classes.keys) (more : List Inequality) (origins : List RowOrigin) (rows_are : new.rows ≡ old.rows ++ more) (origins_are : new.origins.items ≡ old.origins.items ++ origins) where
-  rows_behind : BeginsWithEntry new.classes.keys (row_of c) more (λ rows. rows ≡ []) → AllZip (IsRowFrom class (ps ++ p ∷ []) new.classes.keys) more origins → AreRowsSoFar class (ps ++ p ∷ []) new
+module _ (class : TermData → ℕ) (ps : List FormulaData) (p : FormulaData) (o : Option Row) (old new : BranchRows) (before : AreRowsSoFar class ps old) (stated : IsEntryRow class p o) (longer : IsLonger old.classes.keys new.classes.keys) (different : AreDifferent new.classes.keys) (more : List Inequality) (origins : List RowOrigin) (rows_are : new.rows ≡ old.rows ++ more) (origins_are : new.origins.items ≡ old.origins.items ++ origins) where
+  rows_behind : BeginsWithEntry new.classes.keys o more (λ rows. rows ≡ []) → AllZip (IsRowFrom class (ps ++ p ∷ []) new.classes.keys) more origins → AreRowsSoFar class (ps ++ p ∷ []) new
   rows_behind begins from = record {
-    comparisons = before.comparisons ++ c ∷ [];
-    are_over = zip_more (IsOver class) (IsOver class) (λ a b h. h) (p ∷ []) (c ∷ []) (is_over, tt) ps before.comparisons before.are_over;
+    stated = before.stated ++ o ∷ [];
+    are_stated = zip_more (IsEntryRow class) (IsEntryRow class) (λ a b h. h) (p ∷ []) (o ∷ []) (stated, tt) ps before.stated before.are_stated;
     different = different;
-    are_rows = subst (λ rs. AreRowsOf new.classes.keys (before.comparisons ++ c ∷ []) rs) (sym rows_are) (rows_more old.classes.keys new.classes.keys longer different c more begins before.comparisons old.rows before.are_rows);
+    are_rows = subst (λ rs. AreRowsOf new.classes.keys (before.stated ++ o ∷ []) rs) (sym rows_are) (rows_more old.classes.keys new.classes.keys longer different o more begins before.stated old.rows before.are_rows);
     origins = subst (λ rs. AllZip (IsRowFrom class (ps ++ p ∷ []) new.classes.keys) rs new.origins.items) (sym rows_are)
         (subst (λ os. AllZip (IsRowFrom class (ps ++ p ∷ []) new.classes.keys) (old.rows ++ more) os) (sym origins_are)
         (zip_more (IsRowFrom class ps old.classes.keys) (IsRowFrom class (ps ++ p ∷ []) new.classes.keys) (λ r o h. origin_longer old.classes.keys new.classes.keys longer different class ps p r o h) more origins from old.rows old.origins.items before.origins));
   }
 
--- an entry that is no comparison
-pub no_rows : (class : TermData → ℕ) (ps : List FormulaData) (p : FormulaData) (made : BranchRows) → AreRowsSoFar class ps made → row_of p ≡ None → AreRowsSoFar class (ps ++ p ∷ []) made
+-- an entry that has no row
+pub no_rows : (class : TermData → ℕ) (ps : List FormulaData) (p : FormulaData) (made : BranchRows) → AreRowsSoFar class ps made → IsEntryRow class p None → AreRowsSoFar class (ps ++ p ∷ []) made
 no_rows class ps p made before none =
-    let is = no_comparison class p none in
-    rows_behind class ps p is.0 made made before is.1 (longer_itself made.classes.keys made.classes.keys refl) before.different [] [] (sym (append-nil made.rows)) (sym (append-nil made.origins.items))
-    (subst (λ o. BeginsWithEntry made.classes.keys o [] (λ rows. rows ≡ [])) (sym is.2) refl) tt
+    rows_behind class ps p None made made before none (longer_itself made.classes.keys made.classes.keys refl) before.different [] [] (sym (append-nil made.rows)) (sym (append-nil made.origins.items)) refl tt
 
 from_entry : (class : TermData → ℕ) (ps : List FormulaData) (p : FormulaData) (e : EntrySum) (h : IsEntrySum class p e) (classes : List ℕ) (row : Inequality) (origin : RowOrigin) → origin.entry ≡ length ps → IsRowOf classes (turned_if origin.is_turned h.row) row → (origin.is_turned ≡ true → e.is_equation ≡ true) → IsRowFrom class (ps ++ p ∷ []) classes row origin
 from_entry class ps p e h classes row origin entry is equation = record {
   formula = p;
   found = ap (slice_get (ps ++ p ∷ [])) entry ∙ push_new ps p;
-  comparison = h.comparison;
-  is_over = h.is_over;
   stated = h.row;
   stated_is = h.row_is;
   is_row = is;
@@ -74,8 +69,8 @@ module _ (class : TermData → ℕ) (ps : List FormulaData) (p : FormulaData) (e
   pub one_row : e.is_equation ≡ false → AreRowsSoFar class (ps ++ p ∷ []) mid
   one_row unequal =
       let is_no : h.row.is_equation ≡ false = h.equation ∙ unequal in
-      rows_behind class ps p h.comparison old mid before h.is_over pushed.written.longer pushed.written.different (pushed.row ∷ []) (first ∷ []) pushed.rows pushed.origins
-      (subst (λ o. BeginsWithEntry mid.classes.keys o (pushed.row ∷ []) (λ rows. rows ≡ [])) (sym h.row_is) (subst (λ b. BeginsWith mid.classes.keys h.row b (pushed.row ∷ []) (λ rows. rows ≡ [])) (sym is_no) (first_row, refl)))
+      rows_behind class ps p (Some h.row) old mid before h.row_is pushed.written.longer pushed.written.different (pushed.row ∷ []) (first ∷ []) pushed.rows pushed.origins
+      (subst (λ b. BeginsWith mid.classes.keys h.row b (pushed.row ∷ []) (λ rows. rows ≡ [])) (sym is_no) (first_row, refl))
       (first_from mid.classes.keys first_row, tt)
 
   -- an equation
@@ -84,10 +79,10 @@ module _ (class : TermData → ℕ) (ps : List FormulaData) (p : FormulaData) (e
       let is_yes : h.row.is_equation ≡ true = h.equation ∙ equal in
       let kept : IsRowOf new.classes.keys h.row pushed.row = row_longer mid.classes.keys new.classes.keys pushed_2.written.longer pushed_2.written.different h.row pushed.row first_row in
       let turned_row : IsRowOf new.classes.keys (turned h.row) pushed_2.row = row_written mid.classes.keys new.classes.keys n (turned h.row) pushed_2.row (turned_sum h.row e.sum n made (h.no_gap equal) h.sum) pushed_2.written in
-      rows_behind class ps p h.comparison old new before h.is_over (longer_twice old.classes.keys mid.classes.keys new.classes.keys pushed.written.longer pushed_2.written.longer) pushed_2.written.different (pushed.row ∷ pushed_2.row ∷ []) (first ∷ second ∷ [])
+      rows_behind class ps p (Some h.row) old new before h.row_is (longer_twice old.classes.keys mid.classes.keys new.classes.keys pushed.written.longer pushed_2.written.longer) pushed_2.written.different (pushed.row ∷ pushed_2.row ∷ []) (first ∷ second ∷ [])
       (pushed_2.rows ∙ ap (λ rs. rs ++ pushed_2.row ∷ []) pushed.rows ∙ append_assoc old.rows (pushed.row ∷ []) (pushed_2.row ∷ []))
       (pushed_2.origins ∙ ap (λ os. os ++ second ∷ []) pushed.origins ∙ append_assoc old.origins.items (first ∷ []) (second ∷ []))
-      (subst (λ o. BeginsWithEntry new.classes.keys o (pushed.row ∷ pushed_2.row ∷ []) (λ rows. rows ≡ [])) (sym h.row_is) (subst (λ b. BeginsWith new.classes.keys h.row b (pushed.row ∷ pushed_2.row ∷ []) (λ rows. rows ≡ [])) (sym is_yes) (kept, turned_row, refl)))
+      (subst (λ b. BeginsWith new.classes.keys h.row b (pushed.row ∷ pushed_2.row ∷ []) (λ rows. rows ≡ [])) (sym is_yes) (kept, turned_row, refl))
       (first_from new.classes.keys kept, (from_entry class ps p e h new.classes.keys pushed_2.row second entry_2 (subst (λ b. IsRowOf new.classes.keys (turned_if b h.row) pushed_2.row) (sym is_turned) turned_row) (λ t. equal), tt))
 
 -- ---- all rows
@@ -95,8 +90,8 @@ module _ (class : TermData → ℕ) (ps : List FormulaData) (p : FormulaData) (e
 pub branch_rows_made : (b : Branch) (class : TermData → ℕ) (made : BranchRows) → IsClassing b class → AreRowsSoFar class (formulas b) made → AreBranchRows b class made.classes.keys made.rows
 branch_rows_made b class made classing h = record {
   classing = classing;
-  comparisons = h.comparisons;
-  are_over = h.are_over;
+  stated = h.stated;
+  are_stated = h.are_stated;
   different = h.different;
   are_rows = h.are_rows;
 }

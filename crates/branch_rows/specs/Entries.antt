@@ -2,10 +2,10 @@
 use Rattle.std.specs.Prelude.{◌≡◌, ℕ, ℤ, pos, Bool, true, false, List, Option, Some, None}
 use Rattle.fol.specs.declared.operators.Comparison.{Comparison}
 use Rattle.fol.specs.declared.operators.Comparison.TheVariants.{Eq, Le}
-use Rattle.fol.specs.FormulaData.{TermData, VarTerm, FormulaData}
-use Rattle.cert.specs.Linear.{Part, Row, row_of, row_weight}
+use Rattle.fol.specs.FormulaData.{TermData, FormulaData}
+use Rattle.cert.specs.Linear.{Part, Row, row_weight}
 use Rattle.cert.specs.Unknowns.{EachUnknown}
-use Rattle.branches.specs.Rows.{over, IsOver}
+use Rattle.branches.specs.Rows.{over, IsEntryRow}
 use Rattle.formula_pool.specs.Items.{formula_in}
 use Rattle.formula_pool.specs.Pools.{item_at}
 use Rattle.formula_pool.specs.declared.node.Node.{Node}
@@ -71,21 +71,10 @@ pub record LeavesRow (row : Row) : Type 0 where
 abbrev pub row_over : List Node → (TermData → ℕ) → Sides → Row
 row_over ns class s = row_with (over class (term_at ns s.lesser)) (over class (term_at ns s.greater)) s.is_strict s.is_equation
 
--- the row with its sides as unknowns
-abbrev pub row_unknown : List Node → (TermData → ℕ) → Sides → Row
-row_unknown ns class s = row_with (VarTerm (class (term_at ns s.lesser))) (VarTerm (class (term_at ns s.greater))) s.is_strict s.is_equation
-
--- the sum is that of the row over classes, or of the one with unknowns where the former leaves 128 bits
-pub data IsSumOfSides (ns : List Node) (class : TermData → ℕ) (s : Sides) (sum : LinearSum) : Type 0 where
-  OfSums : IsRowSum (row_over ns class s) sum → IsSumOfSides ns class s sum
-  OfUnknowns : LeavesRow (row_over ns class s) → IsRowSum (row_unknown ns class s) sum → IsSumOfSides ns class s sum
-
 -- the entry's row over classes has the numbers of the sum
 pub record IsEntrySum (class : TermData → ℕ) (p : FormulaData) (e : EntrySum) : Type 0 where
-  pub comparison : FormulaData
-  pub is_over : IsOver class p comparison
   pub row : Row
-  pub row_is : row_of comparison ≡ Some row
+  pub row_is : IsEntryRow class p (Some row)
   pub sum : IsRowSum row e.sum
   pub equation : row.is_equation ≡ e.is_equation
   pub no_gap : e.is_equation ≡ true → row.gap ≡ pos 0

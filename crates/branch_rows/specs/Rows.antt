@@ -1,11 +1,11 @@
 -- The rows of a branch, while they are made.
-use Rattle.std.specs.Prelude.{◌≡◌, ◌≢◌, ℕ, ◌≤◌, ℤ, pos, ◌-ℤ◌, Bool, true, false, List, [], ◌∷◌, ◌++◌, length, get_or, slice_get, slice_index, Some, None}
+use Rattle.std.specs.Prelude.{◌≡◌, ◌≢◌, ℕ, ◌≤◌, ℤ, pos, ◌-ℤ◌, Bool, true, false, List, [], ◌∷◌, ◌++◌, length, get_or, slice_get, slice_index, Option, Some, None}
 use Rattle.std.specs.List.{AllPairs, AllZip}
 use Rattle.fol.specs.FormulaData.{TermData, VarTerm, FormulaData}
-use Rattle.cert.specs.Linear.{Row, row_of}
+use Rattle.cert.specs.Linear.{Row}
 use Rattle.linear_rows.specs.Inequality.{Inequality, coefficient}
 use Rattle.branches.specs.Branch.{Branch, IsTerm}
-use Rattle.branches.specs.Rows.{IsOver, IsRowOf, turned, AreRowsOf}
+use Rattle.branches.specs.Rows.{IsEntryRow, IsRowOf, turned, AreRowsOf}
 use Rattle.formula_pool.specs.declared.node.Node.{Node}
 use Rattle.pool_branch.specs.PoolBranches.{IsTermNumber}
 use Rattle.branch_rows.specs.Sums.{Has, amount}
@@ -30,10 +30,8 @@ turned_if true row = turned row
 pub record IsRowFrom (class : TermData → ℕ) (ps : List FormulaData) (classes : List ℕ) (row : Inequality) (origin : RowOrigin) : Type 0 where
   pub formula : FormulaData
   pub found : slice_get ps origin.entry ≡ Some formula
-  pub comparison : FormulaData
-  pub is_over : IsOver class formula comparison
   pub stated : Row
-  pub stated_is : row_of comparison ≡ Some stated
+  pub stated_is : IsEntryRow class formula (Some stated)
   pub is_row : IsRowOf classes (turned_if origin.is_turned stated) row
   pub equation : origin.is_turned ≡ true → stated.is_equation ≡ true
 
@@ -79,8 +77,8 @@ pub record IsPushed (old new : BranchRows) (s : LinearSum) (origin : RowOrigin) 
 
 -- the rows of these entries
 pub record AreRowsSoFar (class : TermData → ℕ) (ps : List FormulaData) (made : BranchRows) : Type 0 where
-  pub comparisons : List FormulaData
-  pub are_over : AllZip (IsOver class) ps comparisons
+  pub stated : List (Option Row)
+  pub are_stated : AllZip (IsEntryRow class) ps stated
   pub different : AreDifferent made.classes.keys
-  pub are_rows : AreRowsOf made.classes.keys comparisons made.rows
+  pub are_rows : AreRowsOf made.classes.keys stated made.rows
   pub origins : AllZip (IsRowFrom class ps made.classes.keys) made.rows made.origins.items

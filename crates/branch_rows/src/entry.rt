@@ -1,16 +1,16 @@
 //! Entries as sums.
 
-ghost use Rattle.std.specs.Prelude.{◌≡◌, ◌<◌, ◌≤◌, ℕ, Bool, None, length, slice_index, IfOk, IfSome, MatchOption};
-ghost use Rattle.fol.specs.FormulaData.{TermData, VarTerm};
-ghost use Rattle.cert.specs.Linear.{row_of};
+ghost use Rattle.std.specs.Prelude.{◌≡◌, ◌<◌, ◌≤◌, ℕ, Bool, None, length, IfOk, IfSome, MatchOption};
+ghost use Rattle.fol.specs.FormulaData.{TermData};
+ghost use Rattle.branches.specs.Rows.{IsEntryRow};
 ghost use Rattle.pool_branch.specs.PoolBranches.{IsTermNumber};
 ghost use Rattle.branch_rows.specs.Sums.{IsKept, IsSumOf};
 ghost use Rattle.branch_rows.specs.Shapes.{IsNamedUnder};
-ghost use Rattle.branch_rows.specs.Entries.{formula_at, gap_of, row_with, row_over, IsRowSum, LeavesRow, IsSumOfSides, IsEntrySum};
+ghost use Rattle.branch_rows.specs.Entries.{formula_at, gap_of, row_with, row_over, IsRowSum, LeavesRow, IsEntrySum};
 
 use crate::comparison::{Sides, sides_of};
 use crate::memo::nothing_met;
-use crate::sum::{LinearSum, constant, joined, single};
+use crate::sum::{LinearSum, constant, joined};
 use crate::walk::sum_of;
 use formula_pool::pool::Pool;
 use pv_base::memory::NoMemory;
@@ -71,49 +71,8 @@ fn as_sums(
     row_sum(alloc, lesser, greater, sides.is_strict)
 }
 
-// The sides as unknowns of these classes.
-fn as_unknowns(
-    alloc: Global,
-    lesser: usize,
-    greater: usize,
-    is_strict: bool,
-) -> Result<LinearSum, NoMemory>
-    ensures is { (is_equation : Bool) → IfOk result (IsRowSum (row_with (VarTerm lesser) (VarTerm greater) is_strict is_equation)) }
-    ensures fits { IfOk result IsKept }
-{
-    let lesser = single(alloc, lesser)?;
-    let greater = single(alloc, greater)?;
-    let Some(sum) = row_sum(alloc, lesser, greater, is_strict)? else {
-        unreachable!();
-    };
-    Ok(sum)
-}
-
-// The sum of a comparison: over classes, or with the sides as unknowns where that leaves 128 bits.
-fn sum_of_sides(
-    alloc: Global,
-    pool: &Pool,
-    names: &[usize],
-    sides: Sides,
-) -> Result<LinearSum, NoMemory>
-    requires lesser { IsTermNumber pool.now sides.lesser }
-    requires greater { IsTermNumber pool.now sides.greater }
-    requires named { length pool.now ≤ length names.now }
-    ensures is { (class : TermData → ℕ) → IsNamedUnder pool.now sides.lesser class names.now → IsNamedUnder pool.now sides.greater class names.now → IfOk result (IsSumOfSides pool.now class sides) }
-    ensures fits { IfOk result IsKept }
-{
-    match as_sums(alloc, pool, names, sides)? {
-        Some(sum) => Ok(sum),
-        None => as_unknowns(
-            alloc,
-            names[sides.lesser],
-            names[sides.greater],
-            sides.is_strict,
-        ),
-    }
-}
-
-/// The sum of the entry whose formula has this number, if it says a comparison.
+/// The sum of the entry whose formula has this number. None where it says no comparison, or one of which a number leaves
+/// 128 bits.
 pub(crate) fn entry_sum(
     alloc: Global,
     pool: &Pool,
@@ -121,13 +80,15 @@ pub(crate) fn entry_sum(
     formula: usize,
 ) -> Result<Option<EntrySum>, NoMemory>
     requires { length pool.now ≤ length names.now }
-    ensures is { (class : TermData → ℕ) → IsNamedUnder pool.now formula class names.now → IfOk result (λ made. MatchOption made (row_of (formula_at pool.now formula) ≡ None) (IsEntrySum class (formula_at pool.now formula))) }
+    ensures is { (class : TermData → ℕ) → IsNamedUnder pool.now formula class names.now → IfOk result (λ made. MatchOption made (IsEntryRow class (formula_at pool.now formula) None) (IsEntrySum class (formula_at pool.now formula))) }
     ensures fits { IfOk result (λ made. IfSome made (λ e. IsKept e.sum)) }
 {
     let Some(sides) = sides_of(pool, formula) else {
         return Ok(None);
     };
-    let sum = sum_of_sides(alloc, pool, names, sides)?;
+    let Some(sum) = as_sums(alloc, pool, names, sides)? else {
+        return Ok(None);
+    };
     Ok(Some(EntrySum {
         sum,
         is_equation: sides.is_equation,

@@ -6,10 +6,10 @@ use Rattle.std.proofs.lemmas.Int.{ints}
 use Rattle.std.proofs.lemmas.List.{get_or_past}
 use Rattle.std.proofs.lemmas.List.Elements.{All-nil, All-cons}
 use Rattle.std.proofs.lemmas.Option.{slice_get-get_or}
-use Rattle.fol.specs.FormulaData.{VarTerm, FormulaData}
+use Rattle.fol.specs.FormulaData.{VarTerm}
 use Rattle.linear_rows.specs.Fits.{Fits, IsFitting}
 use Rattle.linear_rows.specs.Inequality.{Inequality, coefficient}
-use Rattle.cert.specs.Linear.{Row, row_of}
+use Rattle.cert.specs.Linear.{Row}
 use Rattle.cert.proofs.KeptLemmas.{row_fits}
 use Rattle.branches.specs.Rows.{IsRowOf, turned, BeginsWith, BeginsWithEntry, AreRowsOf}
 
@@ -39,6 +39,6 @@ entry_fits : (classes : List ℕ) (row : Option Row) (rows : List Inequality) (R
 entry_fits classes None rows Rest more h = more rows h
 entry_fits classes (Some row) rows Rest more h = begun_fits classes row row.is_equation rows Rest more h
 
-pub rows_of_fit : (classes : List ℕ) (ps : List FormulaData) (rows : List Inequality) → AreRowsOf classes ps rows → All IsFitting rows
+pub rows_of_fit : (classes : List ℕ) (stated : List (Option Row)) (rows : List Inequality) → AreRowsOf classes stated rows → All IsFitting rows
 rows_of_fit classes [] rows h = subst (All IsFitting) (sym h) (All-nil IsFitting)
-rows_of_fit classes (p ∷ ps) rows h = entry_fits classes (row_of p) rows (AreRowsOf classes ps) (rows_of_fit classes ps) h
+rows_of_fit classes (row ∷ more) rows h = entry_fits classes row rows (AreRowsOf classes more) (rows_of_fit classes more) h

@@ -1,5 +1,6 @@
 -- The rows of a branch: its comparisons as inequalities over whole numbers, with one unknown for each class of terms. An
--- inequality gives one row and an equation two, in the order of the entries.
+-- inequality gives one row and an equation two, in the order of the entries. A comparison of which a number leaves 128
+-- bits gives none, as no linear step reads it.
 use Rattle.std.specs.Prelude.{◌≡◌, ◌≢◌, ℕ, ◌≤◌, ℤ, pos, ◌-ℤ◌, ◌*ℤ◌, Bool, true, false, List, [], ◌∷◌, length, slice_get, Option, Some, None, All}
 use Rattle.std.specs.List.{AllPairs, AllZip}
 use Rattle.pv_base.specs.TypeData.{NumType}
@@ -46,10 +47,10 @@ comparison_with side p = p
 pub record FitsRow (p : FormulaData) : Type 0 where
   pub fits : (part : Option TermData) → row_weight part (row_of p) ≢ None
 
--- an entry as a comparison over classes. Where its own row leaves 128 bits, its two sides are unknowns
-pub data IsOver (class : TermData → ℕ) : FormulaData → FormulaData → Type 0 where
-  AsSums : (p : FormulaData) → FitsRow (comparison_with (over class) p) → IsOver class p (comparison_with (over class) p)
-  AsUnknowns : (p : FormulaData) → (FitsRow (comparison_with (over class) p) → ⊥) → IsOver class p (comparison_with (λ t. VarTerm (class t)) p)
+-- the row of an entry over classes, if it has one
+pub data IsEntryRow (class : TermData → ℕ) (p : FormulaData) (row : Option Row) : Type 0 where
+  Fits : FitsRow (comparison_with (over class) p) → row_of (comparison_with (over class) p) ≡ row → IsEntryRow class p row
+  Leaves : (FitsRow (comparison_with (over class) p) → ⊥) → row ≡ None → IsEntryRow class p row
 
 -- ---- rows
 
@@ -80,18 +81,18 @@ abbrev pub BeginsWithEntry : List ℕ → Option Row → List Inequality → (Li
 BeginsWithEntry classes None rows Rest = Rest rows
 BeginsWithEntry classes (Some row) rows Rest = BeginsWith classes row row.is_equation rows Rest
 
--- the rows are those of the comparisons, in their order
-abbrev pub AreRowsOf : List ℕ → List FormulaData → List Inequality → Type 0
+-- the inequalities are those of the rows of all entries, in their order
+abbrev pub AreRowsOf : List ℕ → List (Option Row) → List Inequality → Type 0
 AreRowsOf classes [] rows = rows ≡ []
-AreRowsOf classes (p ∷ ps) rows = BeginsWithEntry classes (row_of p) rows (AreRowsOf classes ps)
+AreRowsOf classes (row ∷ more) rows = BeginsWithEntry classes row rows (AreRowsOf classes more)
 
 -- the rows of the branch, over the classes of its unknowns
 pub record AreBranchRows (b : Branch) (class : TermData → ℕ) (classes : List ℕ) (rows : List Inequality) : Type 0 where
   pub classing : IsClassing b class
-  pub comparisons : List FormulaData
-  pub are_over : AllZip (IsOver class) (formulas b) comparisons
+  pub stated : List (Option Row)
+  pub are_stated : AllZip (IsEntryRow class) (formulas b) stated
   pub different : AllPairs (λ m n. m ≢ n) classes
-  pub are_rows : AreRowsOf classes comparisons rows
+  pub are_rows : AreRowsOf classes stated rows
 
 -- ---- values
 

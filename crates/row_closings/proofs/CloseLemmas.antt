@@ -1,5 +1,5 @@
 -- A contradiction of rows over classes is one of their entries with a term for each class.
-use Rattle.std.proofs.Common.{◌≡◌, ◌⊎◌, inl, inr, ℕ, zero, suc, ℤ, pos, negsuc, ◌+ℤ◌, ◌-ℤ◌, ◌<ℤ◌, Bool, true, false, List, [], ◌∷◌, Some, None, refl, sym, ap, ◌∙◌, subst, arith}
+use Rattle.std.proofs.Common.{◌≡◌, ◌⊎◌, inl, inr, ℕ, zero, suc, ℤ, pos, negsuc, ◌+ℤ◌, ◌-ℤ◌, ◌<ℤ◌, Bool, true, false, List, [], ◌∷◌, Some, None, refl, sym, ap, ◌∙◌, arith}
 use Rattle.std.specs.Prelude.{slice_get}
 use Rattle.std.specs.List.{AllZip}
 use Rattle.std.proofs.lemmas.Int.{ints}
@@ -7,16 +7,16 @@ use Rattle.fol.specs.FormulaData.{TermData, VarTerm, NumTerm, FormulaData}
 use Rattle.linear_rows.specs.Inequality.{Inequality, coefficient}
 use Rattle.linear_rows.specs.Combination.{weighted_sum, bound_of, IsContradiction}
 use Rattle.cert.specs.declared.certificate.Multiple.{Multiple}
-use Rattle.cert.specs.Linear.{same_term, Part, numeral_weight, unknown_weight, row_of_entry, gap_weight, row_weight, total, IsContradiction as IsCombination}
+use Rattle.cert.specs.Linear.{same_term, Part, numeral_weight, unknown_weight, row_of, row_of_entry, gap_weight, row_weight, total, IsContradiction as IsCombination}
 use Rattle.cert.proofs.Sums.{same_term-equal, same_term_itself}
-use Rattle.branches.specs.Rows.{IsOver, IsRowOf}
+use Rattle.branches.specs.Rows.{over, comparison_with, IsRowOf}
 use Rattle.branch_rows.specs.Rows.{turned_if, IsRowFrom}
 use Rattle.branch_rows.specs.Sums.{signed}
 use Rattle.branch_rows.specs.declared.rows.RowOrigin.{RowOrigin}
 use Rattle.row_closings.specs.Chosen.{AreChosen, with_chosen}
 use Rattle.row_closings.specs.Cited.{StandsChosen, AreCited}
 use Rattle.row_closings.proofs.WeightLemmas.{counts_alike, nothing}
-use Rattle.row_closings.proofs.RowLemmas.{with_sides, row_with, equation_gap, AreKnownSides, same_row, nothing_row, stated_weight}
+use Rattle.row_closings.proofs.RowLemmas.{with_sides, row_with, entry_row, equation_gap, AreKnownSides, same_row, nothing_row, stated_weight}
 use Rattle.row_closings.proofs.SumLemmas.{IsReadAs, combined_is, MayCite, all_count, no_numbers, nothing_stays, opposites, opposite_stays}
 
 -- ---- the chosen term that an unknown is
@@ -60,14 +60,14 @@ module _ (class : TermData → ℕ) (classes : List ℕ) (chosen : ℕ → TermD
     known = sides origin.is_turned h.is_row
 
     gap : origin.is_turned ≡ true → h.stated.gap ≡ pos 0
-    gap e = equation_gap h.comparison h.stated h.stated_is (h.equation e)
+    gap e = equation_gap (comparison_with (over class) h.formula) h.stated (entry_row class h.formula h.stated h.stated_is) (h.equation e)
 
     -- the formula that stands for the entry has this row
     stands_row : (place : ℕ) → StandsChosen class chosen ps qs origin place → row_of_entry (slice_get qs place) ≡ Some (with_sides (with_chosen chosen) h.stated)
     stands_row place s =
         let both : Some h.formula ≡ Some s.formula = sym h.found ∙ s.found in
         let same : h.formula ≡ s.formula = cc in
-        ap row_of_entry (s.stands h.comparison (subst (λ p. IsOver class p h.comparison) same h.is_over)) ∙ row_with (with_chosen chosen) h.comparison h.stated h.stated_is
+        ap row_of_entry s.stands ∙ row_with (with_chosen chosen) (comparison_with (over class) s.formula) h.stated (ap (λ p. row_of (comparison_with (over class) p)) (sym same) ∙ entry_row class h.formula h.stated h.stated_is)
 
     reads : (p q : Part) (number : Inequality → ℤ) → ((i : ℤ) → numeral_weight q i ≡ numeral_weight p i) → ((i : ℤ) → gap_weight q i ≡ gap_weight p i) → ((k n : ℕ) → slice_get classes k ≡ Some n → unknown_weight q (chosen n) ≡ unknown_weight p (VarTerm n)) → row_weight p (Some h.stated) ≡ Some (signed origin.is_turned (number row)) → IsReadAs class chosen ps qs q number row origin
     reads p q number numerals gaps unknowns e = record { read = λ place s. ap (row_weight q) (stands_row place s) ∙ same_row classes chosen are.no_sum p q numerals gaps unknowns h.stated known ∙ e }

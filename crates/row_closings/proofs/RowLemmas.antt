@@ -9,7 +9,7 @@ use Rattle.cert.specs.Linear.{kept, kept_of, Part, numeral_weight, unknown_weigh
 use Rattle.cert.specs.Unknowns.{EachUnknown}
 use Rattle.cert.proofs.Sums.{Kept, kept_of_exact}
 use Rattle.cert.proofs.KeptLemmas.{row_fits}
-use Rattle.branches.specs.Rows.{comparison_with, IsKnown, turned}
+use Rattle.branches.specs.Rows.{over, comparison_with, IsEntryRow, Fits, Leaves, IsKnown, turned}
 use Rattle.branch_rows.specs.Rows.{turned_if}
 use Rattle.branch_rows.specs.Sums.{signed}
 use Rattle.branch_rows.proofs.KeptLemmas.{kept_itself, signed_fits, zero_fits}
@@ -28,6 +28,11 @@ row_with side (NotFormula (CompareFormula Le t u)) row e = let same : record { l
 row_with side (NotFormula (CompareFormula Eq t u)) row e = absurd (cc)
 row_with side (NotFormula _) row e = absurd (cc)
 row_with side _ row e = absurd (cc)
+
+-- the row of an entry that has one is that of its comparison over classes
+pub entry_row : (class : TermData → ℕ) (p : FormulaData) (row : Row) → IsEntryRow class p (Some row) → row_of (comparison_with (over class) p) ≡ Some row
+entry_row class p row (Fits f e) = e
+entry_row class p row (Leaves f e) = absurd (cc)
 
 -- an equation has no gap
 pub equation_gap : (p : FormulaData) (row : Row) → row_of p ≡ Some row → row.is_equation ≡ true → row.gap ≡ pos 0

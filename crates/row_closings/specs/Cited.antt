@@ -3,7 +3,7 @@
 use Rattle.std.specs.Prelude.{◌≡◌, ℕ, ◌<◌, ◌^◌, ℤ, pos, List, [], ◌∷◌, slice_get, slice_index_or, Option, Some, None}
 use Rattle.fol.specs.FormulaData.{TermData, FormulaData}
 use Rattle.cert.specs.declared.certificate.Multiple.{Multiple}
-use Rattle.branches.specs.Rows.{comparison_with, IsOver}
+use Rattle.branches.specs.Rows.{over, comparison_with}
 use Rattle.branch_rows.specs.Sums.{signed}
 use Rattle.branch_rows.specs.declared.rows.RowOrigin.{RowOrigin}
 use Rattle.row_closings.specs.Chosen.{with_chosen}
@@ -12,7 +12,7 @@ use Rattle.row_closings.specs.Chosen.{with_chosen}
 pub record StandsChosen (class : TermData → ℕ) (chosen : ℕ → TermData) (ps qs : List FormulaData) (origin : RowOrigin) (place : ℕ) : Type 0 where
   pub formula : FormulaData
   pub found : slice_get ps origin.entry ≡ Some formula
-  pub stands : (comparison : FormulaData) → IsOver class formula comparison → slice_get qs place ≡ Some (comparison_with (with_chosen chosen) comparison)
+  pub stands : slice_get qs place ≡ Some (comparison_with (with_chosen chosen) (comparison_with (over class) formula))
 
 -- the multiples of the formulas are those of the rows: the second row of an equation is the equation with the sign turned.
 -- A row with the multiplier 0 needs no formula
