@@ -4,7 +4,6 @@ use Rattle.std.specs.Prelude.{◌≡◌, ℕ, suc, ◌+◌, ◌≤◌, ◌^◌, 
 use Rattle.std.proofs.Common.{◌<ℤ◌}
 use Rattle.pv_base.specs.TypeData.{NumType}
 use Rattle.fol.specs.declared.shapes.Shape.{Shape}
-use Rattle.fol.specs.Depth.{formula_depth}
 use Rattle.fol.specs.FormulaData.{TermData, NumTerm, FormulaData, EqFormula, LeFormula, IsFormula, NotFormula}
 use Rattle.axioms.specs.declared.axiom.Axiom.{Axiom}
 use Rattle.axioms.specs.declared.axiom.Axiom.TheVariants.{Equal, Exactly, Plain}
@@ -13,7 +12,7 @@ use Rattle.axioms.specs.declared.axiom.Equivalence.TheVariants.{Range}
 use Rattle.axioms.specs.declared.axiom.Fact.TheVariants.{Whole}
 use Rattle.axioms.specs.Forms.{DifferFormula}
 use Rattle.cert.specs.CertData.{StepData, AxiomStep, RewriteStep, CloseData}
-use Rattle.cert.specs.Closes.{most_entries, most_deep, IsStep, IsClose, added}
+use Rattle.cert.specs.Closes.{most_entries, IsStep, IsClose, added}
 use Rattle.linear_rows.specs.Inequality.{Inequality}
 use Rattle.linear_rows.specs.Elimination.{ReachesLimit}
 use Rattle.linear_rows.specs.declared.rows.Fraction.{Fraction}
@@ -245,11 +244,11 @@ pub record EndsInChain (shapes : List Shape) (p : FormulaData) (turns : List Tur
   pub steps : steps_in turns + length done ≡ count
 
 -- a branch that no certificate can go on with: it has as many entries as a branch may have, a turn that is due or the
--- links of what would close it bring it past them, it has a formula deeper than a step and its denial may be, or no
--- number of a variable is left above those of its own
+-- links of what would close it bring it past them, it has an entry deeper than a step may add, of which what it becomes
+-- need not fit either, or no number of a variable is left above those of its own
 pub data IsFull (shapes : List Shape) (b : Branch) : Type 0 where
   Now : length b ≡ most_entries → IsFull shapes b
   Next : (turn : Turn) → IsDueTurn shapes b turn → (All IsShortBranch (left_of b turn) → ⊥) → IsFull shapes b
   Chain : (chain : List StepData) (by : CloseData) → AreLinks shapes b (formulas b) chain → IsClose (after_links (formulas b) chain) by → (length (after_links (formulas b) chain) ≤ most_entries → ⊥) → IsFull shapes b
-  Deep : (i : ℕ) (p : FormulaData) → Says b i p → (formula_depth p ≤ most_deep + 1 → ⊥) → IsFull shapes b
+  Deep : (i : ℕ) (p : FormulaData) → Says b i p → (IsShallow p → ⊥) → IsFull shapes b
   Crowded : 2 ^ 32 ≤ above_all (formulas b) → IsFull shapes b

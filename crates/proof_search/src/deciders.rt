@@ -107,6 +107,7 @@ pub trait Deciders {
         requires knows { knows self.old pool.old }
         requires over { IsOver pool.old branch.now }
         requires room { HasRoom (branch_in pool.old branch.now) }
+        requires level { IsLevel (branch_in pool.old branch.now) }
         ensures extends { Extends pool.old pool.new }
         ensures knows { OnOk result (knows self.new pool.new) }
         ensures shapes { OnOk result (shapes self.new ≡ shapes self.old) }
@@ -137,6 +138,7 @@ pub trait Deciders {
         requires knows { knows self.old pool.old }
         requires over { IsOver pool.old branch.now }
         requires room { HasRoom (branch_in pool.old branch.now) }
+        requires level { IsLevel (branch_in pool.old branch.now) }
         ensures extends { Extends pool.old pool.new }
         ensures knows { OnOk result (knows self.new pool.new) }
         ensures shapes { OnOk result (shapes self.new ≡ shapes self.old) }
