@@ -1,0 +1,4 @@
+//! Whether a branch is saturated.
+#![tactic(auto)]
+
+pub mod saturation;
