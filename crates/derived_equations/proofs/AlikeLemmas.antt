@@ -1,5 +1,5 @@
 -- The two ends of a link of like nodes.
-use Rattle.std.proofs.Common.{◌≡◌, ◌≢◌, ℕ, ◌+◌, ◌<◌, ◌≤◌, max, Bool, true, false, MatchBool, List, [], ◌∷◌, ◌++◌, length, take, Some, refl, sym, ap, ◌∙◌, subst, arith}
+use Rattle.std.proofs.Common.{◌≡◌, ◌≢◌, ℕ, ◌+◌, ◌<◌, ◌≤◌, max, List, [], ◌∷◌, ◌++◌, length, take, Some, refl, sym, ap, ◌∙◌, subst, arith}
 use Rattle.std.specs.Prelude.{slice_get}
 use Rattle.std.proofs.lemmas.Option.{slice_get_within}
 use Rattle.fol.specs.Depth.{term_depth}
@@ -7,7 +7,7 @@ use Rattle.fol.specs.declared.operators.Comparison.TheVariants.{Eq}
 use Rattle.cert.specs.Closes.{most_deep}
 use Rattle.formula_pool.specs.declared.node.Two.TheVariants.{Compare}
 use Rattle.formula_pool.specs.declared.node.Node.{Node}
-use Rattle.classes.specs.Links.{Linked, ByLink, AreAlikeAt, IsReason}
+use Rattle.classes.specs.Links.{Linked, AreAlikeAt, IsReason}
 use Rattle.classes.specs.declared.link.Why.TheVariants.{Given, Alike}
 use Rattle.classes.specs.declared.link.Link.{Link}
 use Rattle.equation_chains.specs.Chains.{term_at}
@@ -36,7 +36,8 @@ module _ (pool ns : List Node) (ls : List Link) (numbers : List ℕ) (g : IsGrap
     other = term_stands j u v;
     leads = (refl, t.term, sym t.term.sort);
     same_sort = u.term.sort ∙ sym t.term.sort;
-    unbound = refl;
+    one_fits = g.fits i w;
+    other_fits = g.fits j v;
     one_low = both_low (term_depth (term_at pool (number_at numbers i))) (term_depth (term_at pool (number_at numbers i))) (g.low i w t.term.sort) (g.low i w t.term.sort);
     other_low = both_low (term_depth (term_at pool (number_at numbers i))) (term_depth (term_at pool (number_at numbers j))) (g.low i w t.term.sort) (g.low j v u.term.sort);
   }
@@ -73,19 +74,9 @@ module _ (pool ns : List Node) (ls : List Link) (numbers : List ℕ) (g : IsGrap
   pub same_found : (before : ℕ) (i j : ℕ) (old new : List Difference) → number_at numbers i ≡ number_at numbers j → new ≡ old → AreFound pool ns ls numbers before (itself_item pool (number_at numbers i)) (equation_item pool (number_at numbers i) (number_at numbers j)) old new
   same_found before i j old new e f = found_none pool ns ls numbers before (itself_item pool (number_at numbers i)) (equation_item pool (number_at numbers i) (number_at numbers j)) old new (ap (equation_item pool (number_at numbers i)) e) f
 
-pub map_true : (A B C : Type 0) (b : Bool) → (A → B) → MatchBool b A C → MatchBool b B C
-map_true A B C true f m = f m
-map_true A B C false f m = m
-
--- a link joins its ends, and is alike by the links before it
-pub link_joined : (ls : List Link) (k : ℕ) (l : Link) → slice_get ls k ≡ Some l → Linked ls l.left l.right
-link_joined ls k l f = ByLink k l f
-
+-- the ends of a link are alike by the links before it
 pub link_alike : (pool ns : List Node) (ls : List Link) (numbers : List ℕ) (g : IsGraph pool ns ls numbers) (k : ℕ) (l : Link) → slice_get ls k ≡ Some l → l.why ≡ Alike → AreAlikeAt ns (Linked (take k ls)) l.left l.right
 link_alike pool ns ls numbers g k l f w = subst (IsReason ns g.equations (Linked (take k ls)) l.left l.right) w (g.shown.each k l f)
-
-pub joined_read : (ls : List Link) (k : ℕ) (l m : Link) → slice_get ls k ≡ Some l → m ≡ l → Linked ls m.left m.right
-joined_read ls k l m f e = subst (λ (o : Link). Linked ls o.left o.right) (sym e) (ByLink k l f)
 
 pub plan_given : (pool ns : List Node) (ls : List Link) (numbers : List ℕ) (k : ℕ) (h : HasTermEnds pool ns ls numbers k) (m : Link) (q : ℕ) (ds : List Difference) → m ≡ h.link → m.why ≡ Given q → ds ≡ [] → IsPlan pool ns ls numbers k ds
 plan_given pool ns ls numbers k h m q ds same e none = record {

@@ -29,9 +29,11 @@ use Rattle.branch_classes.proofs.OverLemmas.{to_branch}
 use Rattle.equation_chains.specs.Chains.{term_at, formula_at, ChainData, IsChain, CanBegin}
 use Rattle.equation_chains.proofs.AboveLemmas.{above_item}
 use Rattle.derived_equations.specs.Routes.{IsEquation}
+use Rattle.derived_equations.specs.BoundNodes.{IsClosed}
 use Rattle.derived_equations.specs.Graphs.{IsTermNode, IsGraph}
 use Rattle.derived_equations.specs.Derivations.{HasEquation, AreSaid}
 use Rattle.derived_equations.specs.BranchGraphs.{IsLow, AreLow, HasEntries}
+use Rattle.derived_equations.proofs.FittingLemmas.{some_fits, term_closed}
 use Rattle.derived_equations.proofs.StandLemmas.{levels, levels_of, some_levels, IsInItem, stands_above, stands_deep, stands_inside}
 
 -- ---- how deep the terms are
@@ -86,6 +88,12 @@ module _ (pool : List Node) (d : BranchClassesData) (over : IsOver pool d) where
   right_term : (k : ℕ) (e : Equation) → slice_get d.classes.equations k ≡ Some e → IsTermNode pool d.classes.nodes d.numbers e.right
   right_term k e f = let s = (over.sides k e f).sides in side_number s.right e.right s.right_made (of_number (over.sides k e f).number s.left s.right s.made).1
 
+  left_closed : (k : ℕ) (e : Equation) → slice_get d.classes.equations k ≡ Some e → IsClosed d.classes.nodes e.left
+  left_closed k e f = let s = over.equations.given k e f in term_closed d.classes.nodes e.left s.one s.sides.left
+
+  right_closed : (k : ℕ) (e : Equation) → slice_get d.classes.equations k ≡ Some e → IsClosed d.classes.nodes e.right
+  right_closed k e f = let s = over.equations.given k e f in term_closed d.classes.nodes e.right s.other s.sides.right
+
   -- the equation that a link is stands where the entry does
   said_by : (c : ChainData) → HasEntries c d.entries → (e : Equation) → IsOfEntry pool d e → HasEquation pool c (number_at d.numbers e.left) (number_at d.numbers e.right)
   said_by c has e h =
@@ -112,10 +120,13 @@ module _ (pool : List Node) (d : BranchClassesData) (over : IsOver pool d) where
       numbered = over.numbered.numbered;
       parts = over.numbered.parts;
       among = λ k l f. among k l l.why (classes.shown.each k l f);
+      fits = λ i w. some_fits d.classes.nodes i (over.nodes.each i w);
       low = λ i w term. (let s = inside.each i w in stand_low pool (number_at d.numbers i) s.entry term (low.formula s.place s.entry s.found) s.stands (low.low s.place s.entry s.found));
       equations = d.classes.equations;
       left = left_term;
       right = right_term;
+      left_closed = left_closed;
+      right_closed = right_closed;
       shown = classes.shown;
     }
 

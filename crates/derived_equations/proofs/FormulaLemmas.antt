@@ -1,6 +1,6 @@
 -- Formulas that are alike, and the differences that make the one the other.
-use Rattle.std.proofs.Common.{◌≡◌, inl, inr, ℕ, ◌<◌, Bool, true, false, Option, Some, None, List, [], ◌++◌, length, refl, sym, ap, ◌∙◌, subst}
-use Rattle.std.specs.Prelude.{slice_get, MatchOption}
+use Rattle.std.proofs.Common.{◌≡◌, inl, inr, ℕ, ◌<◌, Bool, true, false, Option, Some, List, [], ◌++◌, length, sym, ap, ◌∙◌, subst}
+use Rattle.std.specs.Prelude.{slice_get}
 use Rattle.formula_pool.specs.Items.{TermSort, formula_in}
 use Rattle.formula_pool.specs.Pools.{item_at, Extends}
 use Rattle.formula_pool.specs.declared.node.Node.{Node}
@@ -11,7 +11,7 @@ use Rattle.equation_chains.specs.Chains.{formula_at, ChainData, Keeps, IsAt}
 use Rattle.equation_chains.specs.declared.frame.Frame.{Frame}
 use Rattle.branch_classes.specs.Numbers.{number_at}
 use Rattle.derived_equations.specs.Replacing.{after_all, AreInTurn, CanReplaceAt, IsReplacedAt, CanBeginEach}
-use Rattle.derived_equations.specs.Graphs.{IsGraph, IsBarred}
+use Rattle.derived_equations.specs.Graphs.{IsGraph}
 use Rattle.derived_equations.specs.Places.{whole, CanStand, IsPlaceOf, IsDifference, AreFound}
 use Rattle.derived_equations.specs.Plans.{is_needed, IsOnAny, CanMark, AreMarked, HasTermEnds, AreNeeded}
 use Rattle.derived_equations.specs.Derivations.{HasPlace, ArePlaced, CanBeginAny, IsUnmarked}
@@ -67,13 +67,14 @@ module _ (pool ns : List Node) (numbers : List ℕ) where
   stand : (i : ℕ) → IsFormulaNode pool ns numbers i → CanStand pool ns numbers i
   stand i h = record { node = h.within; number = h.formula.earlier; real = record { made = λ n f. absurd (h.no_parameter n f) } }
 
-  pub formula_place : (one other : ℕ) → IsFormulaNode pool ns numbers one → IsFormulaNode pool ns numbers other → (way : List Frame) → way ≡ [] → IsPlaceOf pool ns numbers way one other
-  formula_place one other h k way none = subst (λ w. IsPlaceOf pool ns numbers w one other) (sym none) (record {
+  pub formula_place : (ls : List Link) → IsGraph pool ns ls numbers → (one other : ℕ) → IsFormulaNode pool ns numbers one → IsFormulaNode pool ns numbers other → (way : List Frame) → way ≡ [] → IsPlaceOf pool ns numbers way one other
+  formula_place ls g one other h k way none = subst (λ w. IsPlaceOf pool ns numbers w one other) (sym none) (record {
     one = stand one h;
     other = stand other k;
     leads = sym h.formula.sort;
     same_sort = k.formula.sort ∙ sym h.formula.sort;
-    unbound = refl;
+    one_fits = g.fits one h.within;
+    other_fits = g.fits other k.within;
     one_low = h.low;
     other_low = k.low;
   })
@@ -95,7 +96,3 @@ module _ (pool ns : List Node) (numbers : List ℕ) where
       let all : read ≡ found.found = same ∙ found.more ∙ ap (λ cs. cs ++ found.found) empty in
       let ends : after_all pool numbers (item_at pool (number_at numbers one)) read ≡ item_at pool (number_at numbers other) = ap (after_all pool numbers (item_at pool (number_at numbers one))) all ∙ subst (λ w. after_all pool numbers (whole pool numbers w one) found.found ≡ whole pool numbers w other) none found.ends in
       subst (λ y. IsAt ms e place (formula_in y)) ends (r.at (number_at numbers one) f)
-
-  pub found_match : (ls : List Link) (d : ChainData) (one other source before : ℕ) (way : List Frame) (old new read : List Difference) (ms : List Node) (e : ChainData) (r : Option ℕ) → slice_get d.formulas source ≡ Some (number_at numbers one) → way ≡ [] → old ≡ [] → read ≡ new → AreFound pool ns ls numbers before (whole pool numbers way one) (whole pool numbers way other) old new → MatchOption r (IsBarred ns ls numbers) (IsReplacedAt pool d numbers source read ms e) → MatchOption r (IsBarred ns ls numbers) (λ place. IsAt ms e place (formula_at pool (number_at numbers other)))
-  found_match ls d one other source before way old new read ms e (Some place) f none empty same found m = found_end ls d one other source before way old new read ms e place f none empty same found m
-  found_match ls d one other source before way old new read ms e None f none empty same found m = m

@@ -3,7 +3,10 @@ pub mod DepthLemmas
 pub mod RouteLemmas
 pub mod ReplacingLemmas
 pub mod LinkedLemmas
+pub mod BoundLemmas
+pub mod FittingLemmas
 pub mod PlaceLemmas
+pub mod CapturedLemmas
 pub mod TurnLemmas
 pub mod PlanLemmas
 pub mod AlikeLemmas

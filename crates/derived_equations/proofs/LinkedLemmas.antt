@@ -80,7 +80,7 @@ leaf_one R h (OneNode o x) (LeafNode k) a e = absurd a
 leaf_one R h (TwoNode o x y) (LeafNode k) a e = absurd a
 leaf_one R h (ThreeNode o x y z) (LeafNode k) a e = absurd a
 
-alike_turned : (R : ℕ → ℕ → Type 0) → ((i j : ℕ) → R i j → R j i) → (one other : Node) → AreAlike R one other → AreAlike R other one
+pub alike_turned : (R : ℕ → ℕ → Type 0) → ((i j : ℕ) → R i j → R j i) → (one other : Node) → AreAlike R one other → AreAlike R other one
 alike_turned R t (LeafNode h) (LeafNode k) a = sym a
 alike_turned R t (OneNode h x) (OneNode k y) a = (sym a.0, t x y a.1)
 alike_turned R t (TwoNode h x y) (TwoNode k u v) a = (sym a.0, t x u a.1, t y v a.2)
@@ -106,7 +106,7 @@ alike_then R t (ThreeNode h h1 h2 h3) (ThreeNode k k1 k2 k3) (OneNode m m1) a b 
 alike_then R t (ThreeNode h h1 h2 h3) (ThreeNode k k1 k2 k3) (TwoNode m m1 m2) a b = absurd b
 alike_then R t _ _ _ a b = absurd a
 
-alike_more : (R S : ℕ → ℕ → Type 0) → ((i j : ℕ) → R i j → S i j) → (one other : Node) → AreAlike R one other → AreAlike S one other
+pub alike_more : (R S : ℕ → ℕ → Type 0) → ((i j : ℕ) → R i j → S i j) → (one other : Node) → AreAlike R one other → AreAlike S one other
 alike_more R S t (LeafNode h) (LeafNode k) a = a
 alike_more R S t (OneNode h x) (OneNode k y) a = (a.0, t x y a.1)
 alike_more R S t (TwoNode h x y) (TwoNode k u v) a = (a.0, t x u a.1, t y v a.2)
@@ -308,11 +308,11 @@ module _ (pool ns : List Node) (ls : List Link) (numbers : List ℕ) (g : IsGrap
       unbound a n (OneNode h x) (ThreeNode o y z w) alike same e f = absurd alike
 
   -- what is linked with a plain node is plain, and is the same node or alike
-  linked_turned : (k i j : ℕ) → IsOneOrAlike ns ls k i j → IsOneOrAlike ns ls k j i
+  pub linked_turned : (k i j : ℕ) → IsOneOrAlike ns ls k i j → IsOneOrAlike ns ls k j i
   linked_turned k i j (inl e) = inl (sym e)
   linked_turned k i j (inr r) = inr (record { one = r.other; other = r.one; is_one = r.is_other; is_other = r.is_one; alike = alike_turned (Linked (take k ls)) (λ a b l. Turned a b l) r.one r.other r.alike })
 
-  linked_then : (k i j m : ℕ) → IsOneOrAlike ns ls k i j → IsOneOrAlike ns ls k j m → IsOneOrAlike ns ls k i m
+  pub linked_then : (k i j m : ℕ) → IsOneOrAlike ns ls k i j → IsOneOrAlike ns ls k j m → IsOneOrAlike ns ls k i m
   linked_then k i j m (inl e) h = subst (λ x. IsOneOrAlike ns ls k x m) (sym e) h
   linked_then k i j m (inr r) (inl e) = subst (λ x. IsOneOrAlike ns ls k i x) e (inr r)
   linked_then k i j m (inr r) (inr q) =

@@ -15,12 +15,15 @@ use Rattle.formula_pool.specs.declared.node.Node.TheVariants.{Leaf as LeafNode}
 use Rattle.cert.specs.Closes.{most_deep}
 use Rattle.classes.specs.Links.{Linked}
 use Rattle.classes.specs.declared.link.Link.{Link}
+use Rattle.branches.specs.Joined.{IsFreeOf}
+use Rattle.equation_chains.specs.Chains.{term_at}
 use Rattle.equation_chains.specs.Frames.{frame_item, filled, open_sort, made_sort, HasOthers, Leads, bound_below, bound_after, bound_on}
 use Rattle.equation_chains.specs.declared.frame.Frame.{Frame}
 use Rattle.equation_chains.specs.declared.frame.Frame.TheVariants.{Only, FirstOfTwo, SecondOfTwo, FirstOfThree, SecondOfThree, ThirdOfThree}
 use Rattle.equation_chains.proofs.FrameLemmas.{filled_sorted}
 use Rattle.branch_classes.specs.Numbers.{number_at}
 use Rattle.derived_equations.specs.Replacing.{before_it, after_it, after_all, AreInTurn}
+use Rattle.derived_equations.specs.BoundNodes.{FitsUnder}
 use Rattle.derived_equations.specs.Graphs.{IsTermNode}
 use Rattle.derived_equations.specs.Places.{whole, one_at, other_at, IsPlaceOf, IsPlace, IsDifference, AreFound, IsNextOf, AreLinked, AreOne, AreTwo, AreThree, IsStepTo, IsPushed}
 use Rattle.derived_equations.specs.declared.replacing.Difference.{Difference}
@@ -37,12 +40,9 @@ leads_push : (ns : List Node) (top : Sort) (way : List Frame) (f : Frame) → Le
 leads_push ns top [] f l o = (sym l, o, refl)
 leads_push ns top (g ∷ way) f l o = (l.0, l.1, leads_push ns (open_sort g) way f l.2 o)
 
-bound_push : (ks : List ℕ) (way : List Frame) (f : Frame) → bound_after ks (way ++ f ∷ []) ≡ bound_below f (bound_after ks way)
+pub bound_push : (ks : List ℕ) (way : List Frame) (f : Frame) → bound_after ks (way ++ f ∷ []) ≡ bound_below f (bound_after ks way)
 bound_push ks [] f = refl
 bound_push ks (g ∷ way) f = bound_push (bound_below g ks) way f
-
-unbound_push : (way : List Frame) (f : Frame) → bound_on way ≡ [] → bound_below f [] ≡ [] → bound_on (way ++ f ∷ []) ≡ []
-unbound_push way f e u = bound_push [] way f ∙ ap (bound_below f) e ∙ u
 
 frame_sort : (ns : List Node) (f : Frame) → HasOthers ns f → (x : Item) → sort_of x ≡ open_sort f → sort_of (frame_item ns f x) ≡ made_sort f
 frame_sort ns f o x e = filled_sorted ns (made_sort f) (open_sort f) (f ∷ []) (refl, o, refl) x e
@@ -146,14 +146,12 @@ module _ (pool ns : List Node) (ls : List Link) (numbers : List ℕ) (before : �
   -- a head whose open part may be either of two linked nodes
   record IsHead (way : List Frame) (f : Frame) (i j : ℕ) : Type 0 where
     others : HasOthers pool f
-    unbound : bound_below f [] ≡ []
     leads : Leads pool FormulaSort way (made_sort f)
-    way_unbound : bound_on way ≡ []
     one_sort : sort_of (item_at pool (number_at numbers i)) ≡ open_sort f
     other_sort : sort_of (item_at pool (number_at numbers j)) ≡ open_sort f
     one_low : item_depth (filled pool way (frame_item pool f (item_at pool (number_at numbers i)))) ≤ most_deep
     other_low : item_depth (filled pool way (frame_item pool f (item_at pool (number_at numbers j)))) ≤ most_deep
-    linked : AreLinked pool ns ls numbers before i j
+    linked : AreLinked pool ns ls numbers before (bound_below f (bound_on way)) i j
 
   place_behind : (way : List Frame) (f : Frame) (i j : ℕ) → IsHead way f i j → IsPlaceOf pool ns numbers (way ++ f ∷ []) i j
   place_behind way f i j h = record {
@@ -161,7 +159,8 @@ module _ (pool ns : List Node) (ls : List Link) (numbers : List ℕ) (before : �
     other = h.linked.other;
     leads = subst (Leads pool FormulaSort (way ++ f ∷ [])) (sym h.one_sort) (leads_push pool FormulaSort way f h.leads h.others);
     same_sort = h.other_sort ∙ sym h.one_sort;
-    unbound = unbound_push way f h.way_unbound h.unbound;
+    one_fits = subst (λ bound. FitsUnder ns bound i) (sym (bound_push [] way f)) h.linked.one_fits;
+    other_fits = subst (λ bound. FitsUnder ns bound j) (sym (bound_push [] way f)) h.linked.other_fits;
     one_low = subst (λ x. item_depth x ≤ most_deep) (sym (filled_push pool way f (item i))) h.one_low;
     other_low = subst (λ x. item_depth x ≤ most_deep) (sym (filled_push pool way f (item j))) h.other_low;
   }
@@ -178,9 +177,7 @@ module _ (pool ns : List Node) (ls : List Link) (numbers : List ℕ) (before : �
   one_next p next h a x old new r s same = behind (IsNextOf pool ns ls numbers before p old new) p.way.items (Only h) a x next s (record {
     at = place_behind p.way.items (Only h) a x (record {
       others = tt;
-      unbound = refl;
       leads = made_leads p (Only h) (item a) r.at tt r.one.parts.sort r.one.item;
-      way_unbound = r.at.unbound;
       one_sort = r.one.parts.sort;
       other_sort = r.other.parts.sort;
       one_low = subst (λ y. item_depth (filled pool p.way.items y) ≤ most_deep) r.one.item r.at.one_low;
@@ -213,9 +210,7 @@ module _ (pool ns : List Node) (ls : List Link) (numbers : List ℕ) (before : �
         let others : HasOthers pool (FirstOfTwo h (number_at numbers ps.1)) = part_in (number_at numbers p.one) (number_at numbers ps.1) (second_of_two h) r.at.one.number r.one.parts.1 in
         record {
           others = others;
-          unbound = r.plain;
           leads = made_leads p (FirstOfTwo h (number_at numbers ps.1)) (item ps.0) r.at others r.one.parts.0.sort r.one.item;
-          way_unbound = r.at.unbound;
           one_sort = r.one.parts.0.sort;
           other_sort = r.other.parts.0.sort;
           one_low = subst (λ y. item_depth (filled pool p.way.items y) ≤ most_deep) r.one.item r.at.one_low;
@@ -228,9 +223,7 @@ module _ (pool ns : List Node) (ls : List Link) (numbers : List ℕ) (before : �
         let others : HasOthers pool (SecondOfTwo h (number_at numbers xs.0)) = part_in (number_at numbers p.other) (number_at numbers xs.0) (first_of_two h) r.at.other.number r.other.parts.0 in
         record {
           others = others;
-          unbound = r.plain;
           leads = subst (Leads pool FormulaSort p.way.items) (sym r.at.same_sort ∙ ap sort_of r.other.item ∙ frame_sort pool (SecondOfTwo h (number_at numbers xs.0)) others (item xs.1) r.other.parts.1.sort) r.at.leads;
-          way_unbound = r.at.unbound;
           one_sort = r.one.parts.1.sort;
           other_sort = r.other.parts.1.sort;
           one_low = two_low;
@@ -326,9 +319,7 @@ module _ (pool ns : List Node) (ls : List Link) (numbers : List ℕ) (before : �
     one_head : IsHead p.way.items one_frame ps.0 xs.0
     one_head = record {
       others = (of_one (number_at numbers ps.1) (second_of_three h) r.one.parts.1, of_one (number_at numbers ps.2) (third_of_three h) r.one.parts.2);
-      unbound = refl;
       leads = leads_through one_frame refl;
-      way_unbound = r.at.unbound;
       one_sort = r.one.parts.0.sort;
       other_sort = r.other.parts.0.sort;
       one_low = subst (λ w. item_depth (filled pool p.way.items w) ≤ most_deep) r.one.item r.at.one_low;
@@ -339,9 +330,7 @@ module _ (pool ns : List Node) (ls : List Link) (numbers : List ℕ) (before : �
     two_head : IsHead p.way.items two_frame ps.1 xs.1
     two_head = record {
       others = (of_other (number_at numbers xs.0) (first_of_three h) r.other.parts.0, of_one (number_at numbers ps.2) (third_of_three h) r.one.parts.2);
-      unbound = refl;
       leads = leads_through two_frame refl;
-      way_unbound = r.at.unbound;
       one_sort = r.one.parts.1.sort;
       other_sort = r.other.parts.1.sort;
       one_low = first_low;
@@ -352,9 +341,7 @@ module _ (pool ns : List Node) (ls : List Link) (numbers : List ℕ) (before : �
     three_head : IsHead p.way.items three_frame ps.2 xs.2
     three_head = record {
       others = (of_other (number_at numbers xs.0) (first_of_three h) r.other.parts.0, of_other (number_at numbers xs.1) (second_of_three h) r.other.parts.1);
-      unbound = refl;
       leads = leads_through three_frame refl;
-      way_unbound = r.at.unbound;
       one_sort = r.one.parts.2.sort;
       other_sort = r.other.parts.2.sort;
       one_low = second_low;
@@ -399,13 +386,14 @@ module _ (pool ns : List Node) (ls : List Link) (numbers : List ℕ) (before : �
 
 -- ---- a place where two terms stand
 
-pub term_found : (pool ns : List Node) (ls : List Link) (numbers : List ℕ) (before : ℕ) (p : Place) (old new : List Difference) → IsPlaceOf pool ns numbers p.way.items p.one p.other → sort_of (item_at pool (number_at numbers p.one)) ≡ TermSort → IsPushed ls before p old new → AreFound pool ns ls numbers before (one_at pool numbers p) (other_at pool numbers p) old new
-term_found pool ns ls numbers before p old new at sort pushed =
+pub term_found : (pool ns : List Node) (ls : List Link) (numbers : List ℕ) (before : ℕ) (p : Place) (old new : List Difference) → IsPlaceOf pool ns numbers p.way.items p.one p.other → sort_of (item_at pool (number_at numbers p.one)) ≡ TermSort → IsFreeOf (bound_on p.way.items) (term_at pool (number_at numbers p.one)) → IsFreeOf (bound_on p.way.items) (term_at pool (number_at numbers p.other)) → IsPushed ls before p old new → AreFound pool ns ls numbers before (one_at pool numbers p) (other_at pool numbers p) old new
+term_found pool ns ls numbers before p old new at sort free other_free pushed =
     let d : Difference = pushed.difference in
     found_one pool ns ls numbers before (one_at pool numbers p) (other_at pool numbers p) old new pushed.difference (record {
       is = record {
         leads = record { leads = subst (λ w. Leads pool FormulaSort w TermSort) (sym pushed.way) (subst (Leads pool FormulaSort p.way.items) sort at.leads) };
-        unbound = ap bound_on pushed.way ∙ at.unbound;
+        free = subst (λ w. IsFreeOf (bound_on w) (term_at pool (number_at numbers pushed.difference.from))) (sym pushed.way) (subst (λ i. IsFreeOf (bound_on p.way.items) (term_at pool (number_at numbers i))) (sym pushed.from) free);
+        other_free = subst (λ w. IsFreeOf (bound_on w) (term_at pool (number_at numbers pushed.difference.to))) (sym pushed.way) (subst (λ i. IsFreeOf (bound_on p.way.items) (term_at pool (number_at numbers i))) (sym pushed.to) other_free);
         from_term = subst (λ i. HasPart pool (length pool) (number_at numbers i) TermSort) (sym pushed.from) (record { earlier = at.one.number; sort = sort });
         to_term = subst (λ i. HasPart pool (length pool) (number_at numbers i) TermSort) (sym pushed.to) (record { earlier = at.other.number; sort = at.same_sort ∙ sort });
         low = subst (λ x. item_depth x ≤ most_deep) (λ k. sym (ends pushed.way pushed.to) k) at.other_low;

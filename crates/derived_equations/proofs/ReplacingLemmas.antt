@@ -29,7 +29,7 @@ use Rattle.branch_classes.specs.Numbers.{number_at}
 use Rattle.derived_equations.specs.Routes.{IsEither}
 use Rattle.derived_equations.specs.Replacing.{before_it, after_it, IsReplacement, CanReplace, after_all, AreInTurn, CanReplaceAt, IsReplacedAt, CanBeginEach, itself_item, CanReplaceAll, CanBeginAll}
 use Rattle.derived_equations.specs.declared.replacing.Difference.{Difference}
-use Rattle.derived_equations.proofs.GrowthLemmas.{part_grown, at_grown, begin_grown, go_grown}
+use Rattle.derived_equations.proofs.GrowthLemmas.{part_grown, term_grown, at_grown, begin_grown, go_grown}
 use Rattle.derived_equations.proofs.DepthLemmas.{filled_deeper, some_depth}
 
 -- ---- in the order of the list
@@ -56,6 +56,9 @@ module _ (ns ms : List Node) (x : Extends ns ms) (numbers : List ℕ) (d : Diffe
   way_filled : (k : ℕ) → HasPart ns (length ns) k TermSort → filled ms d.way.items (item_at ms k) ≡ filled ns d.way.items (item_at ns k)
   way_filled k p = filled_kept ns ms x FormulaSort TermSort d.way.items is.leads.leads (item_at ms k) ∙ ap (filled ns d.way.items) (item_kept ns ms x k p.earlier)
 
+  term_kept : (k : ℕ) → HasPart ns (length ns) k TermSort → term_at ms k ≡ term_at ns k
+  term_kept k p = term_grown ns ms x k TermSort p
+
   pub before_grown : before_it ms numbers d ≡ before_it ns numbers d
   before_grown = way_filled (number_at numbers d.from) is.from_term
 
@@ -65,7 +68,8 @@ module _ (ns ms : List Node) (x : Extends ns ms) (numbers : List ℕ) (d : Diffe
   pub replacement_grown : IsReplacement ms numbers d
   replacement_grown = record {
     leads = record { leads = leads_stay ns ms x FormulaSort TermSort d.way.items is.leads.leads };
-    unbound = is.unbound;
+    free = subst (IsFreeOf (bound_on d.way.items)) (sym (term_kept (number_at numbers d.from) is.from_term)) is.free;
+    other_free = subst (IsFreeOf (bound_on d.way.items)) (sym (term_kept (number_at numbers d.to) is.to_term)) is.other_free;
     from_term = part_grown ns ms x (number_at numbers d.from) TermSort is.from_term;
     to_term = part_grown ns ms x (number_at numbers d.to) TermSort is.to_term;
     low = subst (λ y. item_depth y ≤ most_deep) (sym after_grown) is.low;
@@ -132,6 +136,10 @@ after_stands ns ms x d e k numbers difference is place h = filled_stands ns ms x
 
 -- ---- when a term may be put in
 
+-- where the way binds nothing, each term is free of what it binds
+pub unbound_free : (way : List Frame) → bound_on way ≡ [] → (t : TermData) → IsFreeOf (bound_on way) t
+unbound_free way none t = subst (λ bound. IsFreeOf bound t) (sym none) (All-nil (λ n. free_in_term n t ≡ false))
+
 shallow_of : (x : Item) → sort_of x ≡ FormulaSort → item_depth x ≤ most_deep → IsShallow (formula_in x)
 shallow_of x e h = let same : item_depth (FormulaItem (formula_in x)) ≡ item_depth x = ap item_depth (a_formula x e) in omega arith
 
@@ -150,8 +158,8 @@ can_swap ns d numbers difference equation source is either h = record {
   is_equation = stands either;
   equates = equates either;
   is_source = h;
-  free = free (term_at ns (number_at numbers difference.from));
-  other_free = free (term_at ns (number_at numbers difference.to));
+  free = is.free;
+  other_free = is.other_free;
   shallow = filled_shallow ns difference.way.items is.leads (item_at ns (number_at numbers difference.to)) is.to_term.sort is.low;
   pattern_shallow = variable_shallow ns difference.way.items is.leads (number_at numbers difference.to) d.variable is.to_term is.low;
 }
@@ -173,9 +181,6 @@ can_swap ns d numbers difference equation source is either h = record {
     equates : (e : IsEither ns d equation from to) → Equates (said e) (term_at ns from) (term_at ns to)
     equates (inl e) = inl refl
     equates (inr e) = inr refl
-
-    free : (t : TermData) → IsFreeOf (bound_on difference.way.items) t
-    free t = subst (λ bound. IsFreeOf bound t) (sym is.unbound) (All-nil (λ n. free_in_term n t ≡ false))
 
 -- ---- for the calls
 

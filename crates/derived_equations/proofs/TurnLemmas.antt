@@ -1,8 +1,9 @@
 -- What two nodes at a place are.
-use Rattle.std.proofs.Common.{◌≡◌, ◌≢◌, ◌⊎◌, inl, inr, ℕ, ◌<◌, ◌≤◌, Bool, true, false, MatchBool, get_or, List, [], length, take, Some, refl, sym, ap, ◌∙◌, subst, arith}
+use Rattle.std.proofs.Common.{◌≡◌, ◌≢◌, ◌⊎◌, inl, inr, ℕ, ◌<◌, ◌≤◌, Bool, true, false, MatchBool, get_or, List, length, take, Some, refl, sym, ap, ◌∙◌, subst, arith}
 use Rattle.std.specs.Prelude.{slice_get}
 use Rattle.std.proofs.lemmas.Option.{slice_get-get_or}
-use Rattle.formula_pool.specs.Items.{TermSort, sort_of}
+use Rattle.substitution.specs.Free.{free_in_term}
+use Rattle.formula_pool.specs.Items.{Item, TermSort, sort_of, term_in}
 use Rattle.formula_pool.specs.Pools.{item_at, IsMade, IsOneNumber}
 use Rattle.formula_pool.specs.declared.node.Leaf.{Leaf}
 use Rattle.formula_pool.specs.declared.node.Leaf.TheVariants.{Var, TypeParam}
@@ -12,14 +13,25 @@ use Rattle.formula_pool.specs.declared.node.Two.{Two}
 use Rattle.formula_pool.specs.declared.node.Three.{Three}
 use Rattle.formula_pool.specs.declared.node.Node.{Node}
 use Rattle.formula_pool.specs.declared.node.Node.TheVariants.{Leaf as LeafNode, One as OneNode, Two as TwoNode, Three as ThreeNode}
+use Rattle.formula_pool.proofs.ShapeLemmas.{a_term}
+use Rattle.pool_variables.specs.Free.{free_in_item}
+use Rattle.branches.specs.Joined.{IsFreeOf}
 use Rattle.classes.specs.States.{IsPart}
 use Rattle.classes.specs.Links.{Linked, AreAlike, AreAlikeAt}
 use Rattle.classes.specs.declared.link.Link.{Link}
-use Rattle.equation_chains.specs.Frames.{bound_in}
+use Rattle.equation_chains.specs.Frames.{bound_in, bound_on}
+use Rattle.equation_chains.specs.declared.frame.Frame.{Frame}
+use Rattle.branch_classes.specs.Trees.{among}
 use Rattle.branch_classes.specs.Numbers.{number_at, renumbered, IsReal, IsNumbered, ByParts, Bound, Parameter}
-use Rattle.derived_equations.specs.Graphs.{IsTermNode, IsGraph, IsBarred, is_term_node, is_quantified}
-use Rattle.derived_equations.specs.Places.{CanStand, IsPlace, AreOne, AreTwo, AreThree, arity, HasOne, HasTwo, HasThree}
+use Rattle.branch_classes.proofs.TreeLemmas.{clash}
+use Rattle.branch_classes.proofs.AlikeLemmas.{all_from}
+use Rattle.derived_equations.specs.BoundNodes.{HasBound, FitsUnder, IsCaptured, IsUncaptured, IsLoose, IsTied}
+use Rattle.derived_equations.specs.Graphs.{IsTermNode, IsGraph, is_term_node}
+use Rattle.derived_equations.specs.Places.{one_at, other_at, CanStand, IsPlace, AreFound, IsPushed, AreOne, AreTwo, AreThree, arity, HasOne, HasTwo, HasThree}
 use Rattle.derived_equations.specs.declared.difference.Place.{Place}
+use Rattle.derived_equations.specs.declared.replacing.Difference.{Difference}
+use Rattle.derived_equations.proofs.BoundLemmas.{fits_only, fits_two, fits_three, leaf_made, bound_of_free, free_of_bound, bound_linked, open_linked}
+use Rattle.derived_equations.proofs.PlaceLemmas.{term_found}
 use Rattle.derived_equations.proofs.LinkedLemmas.{same_node, true_false, made_term, term_made, IsPlain, IsOneOrAlike, parameter_linked, no_denied_parameter, term_or_plain, plain_linked}
 
 pub term_test : (pool : List Node) (k : ℕ) (n : Node) (b : Bool) → IsMade pool k n → b ≡ is_term_node n → MatchBool b (sort_of (item_at pool k) ≡ TermSort) (sort_of (item_at pool k) ≢ TermSort)
@@ -40,16 +52,6 @@ module _ (pool ns : List Node) (ls : List Link) (numbers : List ℕ) (g : IsGrap
 
   same_items : (i j : ℕ) (n : Node) → IsOneNumber pool → CanStand pool ns numbers i → CanStand pool ns numbers j → IsMade pool (number_at numbers i) n → IsMade pool (number_at numbers j) n → number_at numbers i ≡ number_at numbers j
   same_items i j n one c d m k = one.one (number_at numbers i) (number_at numbers j) c.number d.number (m.item ∙ sym k.item)
-
-  leaf_made : (i : ℕ) (h : Leaf) → CanStand pool ns numbers i → slice_get ns i ≡ Some (LeafNode h) → IsMade pool (number_at numbers i) (LeafNode h)
-  leaf_made i h c f = go (g.numbered i c.node)
-    where
-      go : IsNumbered pool ns numbers i → IsMade pool (number_at numbers i) (LeafNode h)
-      go (ByParts n e made real) = subst (λ m. IsMade pool (number_at numbers i) (renumbered numbers m)) (same_node (slice_get ns i) (slice_get ns i) n (LeafNode h) refl e f) made
-      go (Bound a n e param made) = absurd (let both : OneNode Not a ≡ LeafNode h = same_node (slice_get ns i) (slice_get ns i) (OneNode Not a) (LeafNode h) refl e f in (cc))
-      go (Parameter n e) =
-          let both : LeafNode (TypeParam n) ≡ LeafNode h = same_node (slice_get ns i) (slice_get ns i) (LeafNode (TypeParam n)) (LeafNode h) refl e f in
-          subst (IsMade pool (number_at numbers i)) both (c.real.made n e)
 
   -- a node of two or three parts has the number that they make
   record IsByParts (i : ℕ) (n : Node) : Type 0 where
@@ -73,7 +75,7 @@ module _ (pool ns : List Node) (ls : List Link) (numbers : List ℕ) (g : IsGrap
     pub no_leaves : (h k : Leaf) → slice_get ns p.one ≡ Some (LeafNode h) → slice_get ns p.other ≡ Some (LeafNode k) → ⊥
     no_leaves h k f e =
         let same : h ≡ k = are_alike (LeafNode h) (LeafNode k) f e in
-        differ (same_items p.one p.other (LeafNode h) one_number at.one at.other (leaf_made p.one h at.one f) (subst (λ o. IsMade pool (number_at numbers p.other) (LeafNode o)) (sym same) (leaf_made p.other k at.other e)))
+        differ (same_items p.one p.other (LeafNode h) one_number at.one at.other (leaf_made pool ns ls numbers g p.one h at.one.node at.one.real f) (subst (λ o. IsMade pool (number_at numbers p.other) (LeafNode o)) (sym same) (leaf_made pool ns ls numbers g p.other k at.other.node at.other.real e)))
 
     pub made_one : (h k : One) (a x : ℕ) → slice_get ns p.one ≡ Some (OneNode h a) → slice_get ns p.other ≡ Some (OneNode k x) → AreOne pool ns ls numbers before p h a x
     made_one h k a x f e = go (g.numbered p.one at.one.node) (g.numbered p.other at.other.node)
@@ -109,6 +111,8 @@ module _ (pool ns : List Node) (ls : List Link) (numbers : List ℕ) (g : IsGrap
               part = record {
                 one = stand p.one a (OneNode h a) at.one f (g.parts p.one (OneNode h a) f) one.parts.earlier one_real;
                 other = stand p.other x (OneNode k x) at.other e (g.parts p.other (OneNode k x) e) other.parts.earlier is_real;
+                one_fits = fits_only ns (bound_on p.way.items) p.one h a at.one_fits f;
+                other_fits = fits_only ns (bound_on p.way.items) p.other k x at.other_fits e;
                 linked = both.1;
               };
             }
@@ -130,26 +134,31 @@ module _ (pool ns : List Node) (ls : List Link) (numbers : List ℕ) (g : IsGrap
         go (Parameter n q) other = absurd (let no : LeafNode (TypeParam n) ≡ OneNode h a = one_is (LeafNode (TypeParam n)) q in (cc))
         go one (Parameter n q) = absurd (let no : LeafNode (TypeParam n) ≡ OneNode k x = other_is (LeafNode (TypeParam n)) q in (cc))
 
-    pub made_two : (h k : Two) (ps xs : ℕ × ℕ) → bound_in h [] ≡ [] → slice_get ns p.one ≡ Some (TwoNode h ps.0 ps.1) → slice_get ns p.other ≡ Some (TwoNode k xs.0 xs.1) → AreTwo pool ns ls numbers before p h ps xs
-    made_two h k ps xs plain f e =
+    pub made_two : (h k : Two) (ps xs : ℕ × ℕ) → slice_get ns p.one ≡ Some (TwoNode h ps.0 ps.1) → slice_get ns p.other ≡ Some (TwoNode k xs.0 xs.1) → AreTwo pool ns ls numbers before p h ps xs
+    made_two h k ps xs f e =
         let both : (h ≡ k) × Linked (take before ls) ps.0 xs.0 × Linked (take before ls) ps.1 xs.1 = are_alike (TwoNode h ps.0 ps.1) (TwoNode k xs.0 xs.1) f e in
         let one : IsByParts p.one (TwoNode h ps.0 ps.1) = by_parts p.one (TwoNode h ps.0 ps.1) at.one.node f (omega arith) in
         let other : IsByParts p.other (TwoNode k xs.0 xs.1) = by_parts p.other (TwoNode k xs.0 xs.1) at.other.node e (omega arith) in
         let one_within = g.parts p.one (TwoNode h ps.0 ps.1) f in
         let other_within = g.parts p.other (TwoNode k xs.0 xs.1) e in
+        let one_fit = fits_two ns (bound_on p.way.items) p.one h ps.0 ps.1 at.one_fits f in
+        let other_fit = subst (λ o. FitsUnder ns (bound_in o (bound_on p.way.items)) xs.0 × FitsUnder ns (bound_in o (bound_on p.way.items)) xs.1) (sym both.0) (fits_two ns (bound_on p.way.items) p.other k xs.0 xs.1 at.other_fits e) in
         record {
           at = at;
-          plain = plain;
           one = one.made;
           other = subst (λ o. IsMade pool (number_at numbers p.other) (TwoNode o (number_at numbers xs.0) (number_at numbers xs.1))) (sym both.0) other.made;
           first = record {
             one = stand p.one ps.0 (TwoNode h ps.0 ps.1) at.one f one_within.0 one.made.parts.0.earlier (one.real ps.0 (inl refl));
             other = stand p.other xs.0 (TwoNode k xs.0 xs.1) at.other e other_within.0 other.made.parts.0.earlier (other.real xs.0 (inl refl));
+            one_fits = one_fit.0;
+            other_fits = other_fit.0;
             linked = both.1;
           };
           second = record {
             one = stand p.one ps.1 (TwoNode h ps.0 ps.1) at.one f one_within.1 one.made.parts.1.earlier (one.real ps.1 (inr refl));
             other = stand p.other xs.1 (TwoNode k xs.0 xs.1) at.other e other_within.1 other.made.parts.1.earlier (other.real xs.1 (inr refl));
+            one_fits = one_fit.1;
+            other_fits = other_fit.1;
             linked = both.2;
           };
         }
@@ -161,6 +170,8 @@ module _ (pool ns : List Node) (ls : List Link) (numbers : List ℕ) (g : IsGrap
         let other : IsByParts p.other (ThreeNode k xs.0 xs.1 xs.2) = by_parts p.other (ThreeNode k xs.0 xs.1 xs.2) at.other.node e (omega arith) in
         let one_within = g.parts p.one (ThreeNode h ps.0 ps.1 ps.2) f in
         let other_within = g.parts p.other (ThreeNode k xs.0 xs.1 xs.2) e in
+        let one_fit = fits_three ns (bound_on p.way.items) p.one h ps.0 ps.1 ps.2 at.one_fits f in
+        let other_fit = fits_three ns (bound_on p.way.items) p.other k xs.0 xs.1 xs.2 at.other_fits e in
         record {
           at = at;
           one = one.made;
@@ -168,16 +179,22 @@ module _ (pool ns : List Node) (ls : List Link) (numbers : List ℕ) (g : IsGrap
           first = record {
             one = stand p.one ps.0 (ThreeNode h ps.0 ps.1 ps.2) at.one f one_within.0 one.made.parts.0.earlier (one.real ps.0 (inl refl));
             other = stand p.other xs.0 (ThreeNode k xs.0 xs.1 xs.2) at.other e other_within.0 other.made.parts.0.earlier (other.real xs.0 (inl refl));
+            one_fits = one_fit.0;
+            other_fits = other_fit.0;
             linked = both.1;
           };
           second = record {
             one = stand p.one ps.1 (ThreeNode h ps.0 ps.1 ps.2) at.one f one_within.1 one.made.parts.1.earlier (one.real ps.1 (inr (inl refl)));
             other = stand p.other xs.1 (ThreeNode k xs.0 xs.1 xs.2) at.other e other_within.1 other.made.parts.1.earlier (other.real xs.1 (inr (inl refl)));
+            one_fits = one_fit.1;
+            other_fits = other_fit.1;
             linked = both.2;
           };
           third = record {
             one = stand p.one ps.2 (ThreeNode h ps.0 ps.1 ps.2) at.one f one_within.2 one.made.parts.2.earlier (one.real ps.2 (inr (inr refl)));
             other = stand p.other xs.2 (ThreeNode k xs.0 xs.1 xs.2) at.other e other_within.2 other.made.parts.2.earlier (other.real xs.2 (inr (inr refl)));
+            one_fits = one_fit.2;
+            other_fits = other_fit.2;
             linked = both.3;
           };
         }
@@ -197,8 +214,8 @@ module _ (pool ns : List Node) (ls : List Link) (numbers : List ℕ) (g : IsGrap
     pub pair_one : (d n m : Node) (h : One) (a x : ℕ) → n ≡ get_or ns p.one d → m ≡ get_or ns p.other d → (n ≡ OneNode h a) × HasOne m x → AreOne pool ns ls numbers before p h a x
     pair_one d n m h a x e f pair = made_one h pair.1.head a x (read_node p.one d n (OneNode h a) at.one.node e pair.0) (read_node p.other d m (OneNode pair.1.head x) at.other.node f pair.1.is)
 
-    pub pair_two : (d n m : Node) (h : Two) (ps xs : ℕ × ℕ) → bound_in h [] ≡ [] → n ≡ get_or ns p.one d → m ≡ get_or ns p.other d → (n ≡ TwoNode h ps.0 ps.1) × HasTwo m xs → AreTwo pool ns ls numbers before p h ps xs
-    pair_two d n m h ps xs plain e f pair = made_two h pair.1.head ps xs plain (read_node p.one d n (TwoNode h ps.0 ps.1) at.one.node e pair.0) (read_node p.other d m (TwoNode pair.1.head xs.0 xs.1) at.other.node f pair.1.is)
+    pub pair_two : (d n m : Node) (h : Two) (ps xs : ℕ × ℕ) → n ≡ get_or ns p.one d → m ≡ get_or ns p.other d → (n ≡ TwoNode h ps.0 ps.1) × HasTwo m xs → AreTwo pool ns ls numbers before p h ps xs
+    pair_two d n m h ps xs e f pair = made_two h pair.1.head ps xs (read_node p.one d n (TwoNode h ps.0 ps.1) at.one.node e pair.0) (read_node p.other d m (TwoNode pair.1.head xs.0 xs.1) at.other.node f pair.1.is)
 
     pub pair_three : (d n m : Node) (h : Three) (ps xs : ℕ × ℕ × ℕ) → n ≡ get_or ns p.one d → m ≡ get_or ns p.other d → (n ≡ ThreeNode h ps.0 ps.1 ps.2) × HasThree m xs → AreThree pool ns ls numbers before p h ps xs
     pair_three d n m h ps xs e f pair = made_three h pair.1.head ps xs (read_node p.one d n (ThreeNode h ps.0 ps.1 ps.2) at.one.node e pair.0) (read_node p.other d m (ThreeNode pair.1.head xs.0 xs.1 xs.2) at.other.node f pair.1.is)
@@ -206,29 +223,52 @@ module _ (pool ns : List Node) (ls : List Link) (numbers : List ℕ) (g : IsGrap
     pub pair_unlike : (d n m : Node) → n ≡ get_or ns p.one d → m ≡ get_or ns p.other d → (arity n ≡ arity m → arity n ≡ 0) → ⊥
     pair_unlike d n m e f u = not_unlike n m (read_node p.one d n n at.one.node e refl) (read_node p.other d m m at.other.node f refl) u
 
-    pub pair_quantified : (d n m : Node) (h : Two) (ps xs : ℕ × ℕ) → Linked ls p.one p.other → ((a b : ℕ) → is_quantified (TwoNode h a b) ≡ true) → n ≡ get_or ns p.one d → (n ≡ TwoNode h ps.0 ps.1) × HasTwo m xs → IsBarred ns ls numbers
-    pair_quantified d n m h ps xs linked q e pair = record {
-      one = p.one;
-      other = p.other;
-      linked = linked;
-      differ = differ;
-      node = TwoNode h ps.0 ps.1;
-      found = read_node p.one d n (TwoNode h ps.0 ps.1) at.one.node e pair.0;
-      quantified = q ps.0 ps.1;
-    }
+  plainly : (before : ℕ) (p : Place) → number_at numbers p.one ≢ number_at numbers p.other → IsOneOrAlike ns ls before p.one p.other → AreAlikeAt ns (Linked (take before ls)) p.one p.other
+  plainly before p differ (inl e) = absurd (differ (ap (number_at numbers) e))
+  plainly before p differ (inr r) = r
 
   -- where no terms stand, the nodes are alike
-  pub alike_at : (before : ℕ) (p : Place) → IsPlace pool ns numbers p → Linked (take before ls) p.one p.other → number_at numbers p.one ≢ number_at numbers p.other → sort_of (item_at pool (number_at numbers p.one)) ≢ TermSort → AreAlikeAt ns (Linked (take before ls)) p.one p.other
+  alike_at : (before : ℕ) (p : Place) → IsPlace pool ns numbers p → Linked (take before ls) p.one p.other → number_at numbers p.one ≢ number_at numbers p.other → sort_of (item_at pool (number_at numbers p.one)) ≢ TermSort → AreAlikeAt ns (Linked (take before ls)) p.one p.other
   alike_at before p at linked differ none = go (term_or_plain pool ns ls numbers g p.one at.one.node)
     where
-      plainly : IsOneOrAlike ns ls before p.one p.other → AreAlikeAt ns (Linked (take before ls)) p.one p.other
-      plainly (inl e) = absurd (differ (ap (number_at numbers) e))
-      plainly (inr r) = r
-
       go : IsTermNode pool ns numbers p.one ⊎ IsPlain ns p.one → AreAlikeAt ns (Linked (take before ls)) p.one p.other
       go (inl t) = absurd (none t.term.sort)
-      go (inr q) = plainly ((plain_linked pool ns ls numbers g before p.one p.other linked).0 q).1
+      go (inr q) = plainly before p differ ((plain_linked pool ns ls numbers g before p.one p.other linked).0 q).1
 
-  -- as the number was read
-  pub alike_read : (before : ℕ) (p : Place) (k : ℕ) → IsPlace pool ns numbers p → Linked (take before ls) p.one p.other → number_at numbers p.one ≢ number_at numbers p.other → k ≡ number_at numbers p.one → sort_of (item_at pool k) ≢ TermSort → AreAlikeAt ns (Linked (take before ls)) p.one p.other
-  alike_read before p k at linked differ e none = alike_at before p at linked differ (subst (λ i. sort_of (item_at pool i) ≢ TermSort) e none)
+  -- and so they are where a variable is free that is bound on the way
+  captured_alike : (before : ℕ) (p : Place) → IsPlace pool ns numbers p → Linked (take before ls) p.one p.other → number_at numbers p.one ≢ number_at numbers p.other → IsCaptured (bound_on p.way.items) (item_at pool (number_at numbers p.one)) → AreAlikeAt ns (Linked (take before ls)) p.one p.other
+  captured_alike before p at linked differ c =
+      let has : HasBound ns c.variable p.one = bound_of_free pool ns ls numbers g c.variable (bound_on p.way.items) p.one at.one_fits c.bound_there at.one.node at.one.real c.free in
+      plainly before p differ (open_linked pool ns ls numbers g before c.variable p.one p.other linked has)
+
+  -- as the number and the way were read
+  pub tied_alike : (before : ℕ) (p : Place) (way : List Frame) (k : ℕ) → IsPlace pool ns numbers p → Linked (take before ls) p.one p.other → number_at numbers p.one ≢ number_at numbers p.other → way ≡ p.way.items → k ≡ number_at numbers p.one → IsTied (bound_on way) (item_at pool k) → AreAlikeAt ns (Linked (take before ls)) p.one p.other
+  tied_alike before p way k at linked differ w e tied = go (subst (λ v. IsTied (bound_on v) (item_at pool (number_at numbers p.one))) w (subst (λ i. IsTied (bound_on way) (item_at pool i)) e tied))
+    where
+      go : IsTied (bound_on p.way.items) (item_at pool (number_at numbers p.one)) → AreAlikeAt ns (Linked (take before ls)) p.one p.other
+      go (inl none) = alike_at before p at linked differ none
+      go (inr c) = captured_alike before p at linked differ c
+
+  -- ---- a term in which nothing is free that is bound on the way
+
+  free_term : (bound : List ℕ) (x : Item) → sort_of x ≡ TermSort → IsUncaptured bound x → IsFreeOf bound (term_in x)
+  free_term bound x e u = all_from (λ n. free_in_term n (term_in x) ≡ false) bound (λ n m. ap (free_in_item n) (a_term x e) ∙ u.each n m)
+
+  -- in what is linked with it nothing is either
+  other_uncaptured : (before : ℕ) (p : Place) → IsPlace pool ns numbers p → Linked (take before ls) p.one p.other → IsUncaptured (bound_on p.way.items) (item_at pool (number_at numbers p.one)) → IsUncaptured (bound_on p.way.items) (item_at pool (number_at numbers p.other))
+  other_uncaptured before p at linked u = record { each = λ n m. go n m (free_in_item n (item_at pool (number_at numbers p.other))) refl }
+    where
+      go : (n : ℕ) → among n (bound_on p.way.items) ≡ true → (b : Bool) → free_in_item n (item_at pool (number_at numbers p.other)) ≡ b → free_in_item n (item_at pool (number_at numbers p.other)) ≡ false
+      go n m false e = e
+      go n m true e =
+          let there : HasBound ns n p.other = bound_of_free pool ns ls numbers g n (bound_on p.way.items) p.other at.other_fits m at.other.node at.other.real e in
+          let here : HasBound ns n p.one = (bound_linked pool ns ls numbers g before n p.one p.other linked).1 there in
+          clash (free_of_bound pool ns ls numbers g n p.one here at.one.node) (u.each n m)
+
+  pub loose_found : (before : ℕ) (p : Place) (way : List Frame) (k : ℕ) (old new : List Difference) → IsPlace pool ns numbers p → Linked (take before ls) p.one p.other → way ≡ p.way.items → k ≡ number_at numbers p.one → IsLoose (bound_on way) (item_at pool k) → IsPushed ls before p old new → AreFound pool ns ls numbers before (one_at pool numbers p) (other_at pool numbers p) old new
+  loose_found before p way k old new at linked w e loose pushed =
+      let here : IsLoose (bound_on p.way.items) (item_at pool (number_at numbers p.one)) = subst (λ v. IsLoose (bound_on v) (item_at pool (number_at numbers p.one))) w (subst (λ i. IsLoose (bound_on way) (item_at pool i)) e loose) in
+      let there : IsUncaptured (bound_on p.way.items) (item_at pool (number_at numbers p.other)) = other_uncaptured before p at linked here.uncaptured in
+      term_found pool ns ls numbers before p old new at here.term
+      (free_term (bound_on p.way.items) (item_at pool (number_at numbers p.one)) here.term here.uncaptured)
+      (free_term (bound_on p.way.items) (item_at pool (number_at numbers p.other)) (at.same_sort ∙ here.term) there) pushed

@@ -1,39 +1,43 @@
 -- Nodes of classes with the links between them, and the number that each has in a pool.
-use Rattle.std.specs.Prelude.{◌≡◌, ◌≢◌, ℕ, ◌+◌, ◌<◌, ◌≤◌, Bool, true, false, List, length, slice_get, Some}
+use Rattle.std.specs.Prelude.{◌≡◌, ℕ, ◌+◌, ◌<◌, ◌≤◌, Bool, true, false, List, [], length, slice_get, Some}
 use Rattle.fol.specs.Depth.{term_depth}
 use Rattle.cert.specs.Closes.{most_deep}
 use Rattle.formula_pool.specs.Items.{TermSort, sort_of}
 use Rattle.formula_pool.specs.Pools.{item_at, HasPart}
 use Rattle.formula_pool.specs.declared.node.Leaf.TheVariants.{Var, Constant, TypeParam}
 use Rattle.formula_pool.specs.declared.node.One.TheVariants.{Unary}
-use Rattle.formula_pool.specs.declared.node.Two.TheVariants.{Binary, Pack, Field, Quantify}
+use Rattle.formula_pool.specs.declared.node.Two.TheVariants.{Binary, Pack, Field}
 use Rattle.formula_pool.specs.declared.node.Three.TheVariants.{Ternary, SetField, If}
 use Rattle.formula_pool.specs.declared.node.Node.{Node}
 use Rattle.formula_pool.specs.declared.node.Node.TheVariants.{Leaf as LeafNode, One as OneNode, Two as TwoNode, Three as ThreeNode}
 use Rattle.classes.specs.Congruence.{IsWithin}
-use Rattle.classes.specs.Links.{Linked, AreShown}
+use Rattle.classes.specs.Links.{AreShown}
 use Rattle.classes.specs.declared.link.Equation.{Equation}
 use Rattle.classes.specs.declared.link.Link.{Link}
 use Rattle.equation_chains.specs.Chains.{term_at}
 use Rattle.branch_classes.specs.Numbers.{number_at, IsNumbered}
+use Rattle.derived_equations.specs.BoundNodes.{IsClosed, FitsUnder}
 
 -- the node is a term
 pub record IsTermNode (pool ns : List Node) (numbers : List ℕ) (i : ℕ) : Type 0 where
   pub term : HasPart pool (length pool) (number_at numbers i) TermSort
   pub no_parameter : (n : ℕ) → slice_get ns i ≡ Some (LeafNode (TypeParam n)) → ⊥
 
--- each node has a number, the links are shown by equations of terms and by parts, and the equation of a term with another
--- one is no deeper than it may be
+-- each node has a number, and bound variables where quantifiers bind; the links are shown by parts, and by equations of terms
+-- in which no bound variable is free; and the equation of a term with another one is no deeper than it may be
 pub record IsGraph (pool ns : List Node) (ls : List Link) (numbers : List ℕ) : Type 0 where
   pub long : length numbers ≡ length ns
   pub inside : (i : ℕ) → i < length ns → number_at numbers i < length pool
   pub numbered : (i : ℕ) → i < length ns → IsNumbered pool ns numbers i
   pub parts : (i : ℕ) (n : Node) → slice_get ns i ≡ Some n → IsWithin (length ns) n
   pub among : (k : ℕ) (l : Link) → slice_get ls k ≡ Some l → (l.left < length ns) × (l.right < length ns)
+  pub fits : (i : ℕ) → i < length ns → FitsUnder ns [] i
   pub low : (i : ℕ) → i < length ns → sort_of (item_at pool (number_at numbers i)) ≡ TermSort → 1 + term_depth (term_at pool (number_at numbers i)) ≤ most_deep
   pub equations : List Equation
   pub left : (k : ℕ) (e : Equation) → slice_get equations k ≡ Some e → IsTermNode pool ns numbers e.left
   pub right : (k : ℕ) (e : Equation) → slice_get equations k ≡ Some e → IsTermNode pool ns numbers e.right
+  pub left_closed : (k : ℕ) (e : Equation) → slice_get equations k ≡ Some e → IsClosed ns e.left
+  pub right_closed : (k : ℕ) (e : Equation) → slice_get equations k ≡ Some e → IsClosed ns e.right
   pub shown : AreShown ns equations ls
 
 -- whether the node is that of a term, unless it is a bound variable
@@ -48,18 +52,3 @@ is_term_node (ThreeNode (Ternary o) a b c) = true
 is_term_node (ThreeNode (SetField k) a b c) = true
 is_term_node (ThreeNode If a b c) = true
 is_term_node _ = false
-
--- whether the node is one of a quantifier
-abbrev pub is_quantified : Node → Bool
-is_quantified (TwoNode (Quantify o n) a b) = true
-is_quantified _ = false
-
--- two linked nodes of different formulas that are quantified: what stands below is not gone through
-pub record IsBarred (ns : List Node) (ls : List Link) (numbers : List ℕ) : Type 0 where
-  pub one : ℕ
-  pub other : ℕ
-  pub linked : Linked ls one other
-  pub differ : number_at numbers one ≢ number_at numbers other
-  pub node : Node
-  pub found : slice_get ns one ≡ Some node
-  pub quantified : is_quantified node ≡ true

@@ -1,5 +1,6 @@
 pub mod Routes
 pub mod Replacing
+pub mod BoundNodes
 pub mod Graphs
 pub mod Places
 pub mod Plans

@@ -1,5 +1,5 @@
 -- Places in two items, and the differences that are found on the way down.
-use Rattle.std.specs.Prelude.{◌≡◌, ℕ, ◌<◌, ◌≤◌, List, [], ◌∷◌, ◌++◌, length, take, slice_get, Some}
+use Rattle.std.specs.Prelude.{◌≡◌, ℕ, ◌<◌, ◌≤◌, List, [], ◌∷◌, ◌++◌, length, take, slice_get, Option, Some, None}
 use Rattle.formula_pool.specs.Items.{Item, FormulaSort, sort_of}
 use Rattle.formula_pool.specs.Pools.{item_at, IsMade}
 use Rattle.formula_pool.specs.declared.node.One.{One}
@@ -16,13 +16,12 @@ use Rattle.equation_chains.specs.Frames.{filled, Leads, bound_in, bound_on}
 use Rattle.equation_chains.specs.declared.frame.Frame.{Frame}
 use Rattle.branch_classes.specs.Numbers.{number_at, IsReal}
 use Rattle.derived_equations.specs.Replacing.{IsReplacement, after_all, AreInTurn}
-use Rattle.derived_equations.specs.Graphs.{IsTermNode, IsBarred}
+use Rattle.derived_equations.specs.BoundNodes.{FitsUnder}
+use Rattle.derived_equations.specs.Graphs.{IsTermNode}
 use Rattle.derived_equations.specs.declared.replacing.Difference.{Difference}
 use Rattle.derived_equations.specs.declared.difference.Place.{Place}
 use Rattle.derived_equations.specs.declared.difference.Pair.{Pair}
 use Rattle.derived_equations.specs.declared.difference.Pair.TheVariants.{One as PairOne, Two as PairTwo, Three as PairThree, Unlike}
-use Rattle.derived_equations.specs.declared.difference.Turn.{Turn}
-use Rattle.derived_equations.specs.declared.difference.Turn.TheVariants.{Done, Barred, Next}
 
 -- the whole with what a node stands for at the end of the way
 abbrev pub whole : List Node → List ℕ → List Frame → ℕ → Item
@@ -40,13 +39,14 @@ pub record CanStand (pool ns : List Node) (numbers : List ℕ) (i : ℕ) : Type 
   pub number : number_at numbers i < length pool
   pub real : IsReal pool ns numbers i
 
--- the way leads to both, past no quantifier
+-- the way leads to both, and they stand under the quantifiers on it
 pub record IsPlaceOf (pool ns : List Node) (numbers : List ℕ) (way : List Frame) (i j : ℕ) : Type 0 where
   pub one : CanStand pool ns numbers i
   pub other : CanStand pool ns numbers j
   pub leads : Leads pool FormulaSort way (sort_of (item_at pool (number_at numbers i)))
   pub same_sort : sort_of (item_at pool (number_at numbers j)) ≡ sort_of (item_at pool (number_at numbers i))
-  pub unbound : bound_on way ≡ []
+  pub one_fits : FitsUnder ns (bound_on way) i
+  pub other_fits : FitsUnder ns (bound_on way) j
   pub one_low : item_depth (whole pool numbers way i) ≤ most_deep
   pub other_low : item_depth (whole pool numbers way j) ≤ most_deep
 
@@ -79,40 +79,41 @@ pub record IsNextOf (pool ns : List Node) (ls : List Link) (numbers : List ℕ) 
 abbrev pub IsNext : List Node → List Node → List Link → List ℕ → ℕ → Place → List Difference → List Difference → Place → Type 0
 IsNext pool ns ls numbers before p old new next = IsNextOf pool ns ls numbers before p old new next.way.items next.one next.other
 
-abbrev pub IsTurn : List Node → List Node → List Link → List ℕ → ℕ → Place → List Difference → List Difference → Turn → Type 0
-IsTurn pool ns ls numbers before p old new Done = AreFound pool ns ls numbers before (one_at pool numbers p) (other_at pool numbers p) old new
-IsTurn pool ns ls numbers before p old new Barred = IsBarred ns ls numbers
-IsTurn pool ns ls numbers before p old new (Next next) = IsNext pool ns ls numbers before p old new next
+-- all is done at the place, or the next one is left
+abbrev pub IsTurn : List Node → List Node → List Link → List ℕ → ℕ → Place → List Difference → List Difference → Option Place → Type 0
+IsTurn pool ns ls numbers before p old new None = AreFound pool ns ls numbers before (one_at pool numbers p) (other_at pool numbers p) old new
+IsTurn pool ns ls numbers before p old new (Some next) = IsNext pool ns ls numbers before p old new next
 
 -- ---- the parts of two nodes with one head
 
--- two nodes may stand at a place, linked by links before this one
-pub record AreLinked (pool ns : List Node) (ls : List Link) (numbers : List ℕ) (before i j : ℕ) : Type 0 where
+-- two nodes may stand at a place under quantifiers of these variables, linked by links before this one
+pub record AreLinked (pool ns : List Node) (ls : List Link) (numbers : List ℕ) (before : ℕ) (bound : List ℕ) (i j : ℕ) : Type 0 where
   pub one : CanStand pool ns numbers i
   pub other : CanStand pool ns numbers j
+  pub one_fits : FitsUnder ns bound i
+  pub other_fits : FitsUnder ns bound j
   pub linked : Linked (take before ls) i j
 
 pub record AreOne (pool ns : List Node) (ls : List Link) (numbers : List ℕ) (before : ℕ) (p : Place) (head : One) (a x : ℕ) : Type 0 where
   pub at : IsPlace pool ns numbers p
   pub one : IsMade pool (number_at numbers p.one) (OneNode head (number_at numbers a))
   pub other : IsMade pool (number_at numbers p.other) (OneNode head (number_at numbers x))
-  pub part : AreLinked pool ns ls numbers before a x
+  pub part : AreLinked pool ns ls numbers before (bound_on p.way.items) a x
 
 pub record AreTwo (pool ns : List Node) (ls : List Link) (numbers : List ℕ) (before : ℕ) (p : Place) (head : Two) (ps xs : ℕ × ℕ) : Type 0 where
   pub at : IsPlace pool ns numbers p
-  pub plain : bound_in head [] ≡ []
   pub one : IsMade pool (number_at numbers p.one) (TwoNode head (number_at numbers ps.0) (number_at numbers ps.1))
   pub other : IsMade pool (number_at numbers p.other) (TwoNode head (number_at numbers xs.0) (number_at numbers xs.1))
-  pub first : AreLinked pool ns ls numbers before ps.0 xs.0
-  pub second : AreLinked pool ns ls numbers before ps.1 xs.1
+  pub first : AreLinked pool ns ls numbers before (bound_in head (bound_on p.way.items)) ps.0 xs.0
+  pub second : AreLinked pool ns ls numbers before (bound_in head (bound_on p.way.items)) ps.1 xs.1
 
 pub record AreThree (pool ns : List Node) (ls : List Link) (numbers : List ℕ) (before : ℕ) (p : Place) (head : Three) (ps xs : ℕ × ℕ × ℕ) : Type 0 where
   pub at : IsPlace pool ns numbers p
   pub one : IsMade pool (number_at numbers p.one) (ThreeNode head (number_at numbers ps.0) (number_at numbers ps.1) (number_at numbers ps.2))
   pub other : IsMade pool (number_at numbers p.other) (ThreeNode head (number_at numbers xs.0) (number_at numbers xs.1) (number_at numbers xs.2))
-  pub first : AreLinked pool ns ls numbers before ps.0 xs.0
-  pub second : AreLinked pool ns ls numbers before ps.1 xs.1
-  pub third : AreLinked pool ns ls numbers before ps.2 xs.2
+  pub first : AreLinked pool ns ls numbers before (bound_on p.way.items) ps.0 xs.0
+  pub second : AreLinked pool ns ls numbers before (bound_on p.way.items) ps.1 xs.1
+  pub third : AreLinked pool ns ls numbers before (bound_on p.way.items) ps.2 xs.2
 
 -- the place behind one more head
 pub record IsStepTo (way : List Frame) (f : Frame) (one other : ℕ) (p : Place) : Type 0 where

@@ -7,6 +7,7 @@ use Rattle.formula_pool.specs.Pools.{item_at, HasPart}
 use Rattle.formula_pool.specs.declared.node.Node.{Node}
 use Rattle.formula_pool.specs.declared.node.Two.TheVariants.{Compare}
 use Rattle.branches.specs.Branch.{Branch}
+use Rattle.branches.specs.Joined.{IsFreeOf}
 use Rattle.cert.specs.Closes.{most_deep}
 use Rattle.equation_chains.specs.Chains.{term_at, ChainData, IsAt, CanBegin}
 use Rattle.equation_chains.specs.Frames.{filled, IsWay, bound_on}
@@ -21,10 +22,12 @@ before_it ns numbers d = filled ns d.way.items (item_at ns (number_at numbers d.
 abbrev pub after_it : List Node → List ℕ → Difference → Item
 after_it ns numbers d = filled ns d.way.items (item_at ns (number_at numbers d.to))
 
--- the way leads down to a term, past no quantifier, and what comes of it is no deeper than it may be
+-- the way leads down to a term, no variable that is free in the two terms is bound on it, and what comes of it is no deeper
+-- than it may be
 pub record IsReplacement (ns : List Node) (numbers : List ℕ) (d : Difference) : Type 0 where
   pub leads : IsWay ns d.way.items TermSort
-  pub unbound : bound_on d.way.items ≡ []
+  pub free : IsFreeOf (bound_on d.way.items) (term_at ns (number_at numbers d.from))
+  pub other_free : IsFreeOf (bound_on d.way.items) (term_at ns (number_at numbers d.to))
   pub from_term : HasPart ns (length ns) (number_at numbers d.from) TermSort
   pub to_term : HasPart ns (length ns) (number_at numbers d.to) TermSort
   pub low : item_depth (after_it ns numbers d) ≤ most_deep

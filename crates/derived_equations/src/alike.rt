@@ -1,6 +1,6 @@
 //! Formulas that are alike: the one becomes the other by terms that are put for equal ones.
 
-ghost use Rattle.std.specs.Prelude.{◌≡◌, length, slice_get, Some, MatchOption, OnOk, IfOk};
+ghost use Rattle.std.specs.Prelude.{◌≡◌, length, slice_get, Some, OnOk, IfOk};
 ghost use Rattle.class_history.specs.Histories.{IsHistory};
 ghost use Rattle.classes.specs.Links.{Linked};
 ghost use Rattle.formula_pool.specs.Pools.{Extends};
@@ -8,7 +8,7 @@ ghost use Rattle.branches.specs.Branch.{Branch};
 ghost use Rattle.branch_classes.specs.Numbers.{number_at};
 ghost use Rattle.equation_chains.specs.Chains.{formula_at, HasPlaces, Keeps, IsAt, IsChain};
 ghost use Rattle.derived_equations.specs.Replacing.{IsReplacedAt};
-ghost use Rattle.derived_equations.specs.Graphs.{IsGraph, IsBarred};
+ghost use Rattle.derived_equations.specs.Graphs.{IsGraph};
 ghost use Rattle.derived_equations.specs.Derivations.{AreSaid, CanBeginAny};
 ghost use Rattle.derived_equations.specs.Formulas.{IsFormulaNode, AreInSource};
 
@@ -21,16 +21,15 @@ use formula_pool::pool::Pool;
 use pv_base::memory::NoMemory;
 use std::alloc::Global;
 
-// A place at which what the formula at the source becomes by these differences stands, with the equations that they take;
-// none where formulas differ on the way that are quantified.
-fn replaced(
+/// A place at which what the formula at the source becomes by these differences stands, with the equations that they take.
+pub fn replaced(
     alloc: Global,
     pool: &mut Pool,
     chain: &mut Chain,
     graph: Graph<'_>,
     source: usize,
     found: &[Difference],
-) -> Result<Option<usize>, NoMemory>
+) -> Result<usize, NoMemory>
     requires graph { IsGraph pool.old graph.nodes.now graph.links.now graph.numbers.now }
     requires history { IsHistory graph.links.now (length graph.links.now) graph.history.now }
     requires said { AreSaid pool.old chain.old graph.links.now graph.numbers.now }
@@ -39,25 +38,20 @@ fn replaced(
     ensures extends { Extends pool.old pool.new }
     ensures places { OnOk result (HasPlaces chain.new) }
     ensures keeps { OnOk result (Keeps chain.old chain.new) }
-    ensures at { IfOk result (λ place. MatchOption place (IsBarred graph.entry.nodes.now graph.entry.links.now graph.entry.numbers.now) (IsReplacedAt pool.old chain.old graph.entry.numbers.now source found.now pool.new chain.new)) }
+    ensures at { IfOk result (IsReplacedAt pool.old chain.old graph.entry.numbers.now source found.now pool.new chain.new) }
     ensures chain { OnOk result ((b : Branch) → IsChain pool.old b chain.old → CanBeginAny pool.old graph.entry.nodes.now b chain.old graph.entry.numbers.now → IsChain pool.new b chain.new) }
 {
     let mut needed = unmarked(alloc, graph.links.len())?;
     mark_all(&mut needed, found);
-    match plans(alloc, pool, graph, &mut needed)? {
-        Some(taken) => {
-            let marks = needed.as_slice();
-            let table = equations(alloc, pool, chain, graph, marks, taken)?;
-            let places = table.as_slice();
-            let place = replace_each(pool, chain, graph.numbers, places, source, found)?;
-            Ok(Some(place))
-        }
-        None => Ok(None),
-    }
+    let taken = plans(alloc, pool, graph, &mut needed)?;
+    let marks = needed.as_slice();
+    let table = equations(alloc, pool, chain, graph, marks, taken)?;
+    let places = table.as_slice();
+    let place = replace_each(pool, chain, graph.numbers, places, source, found)?;
+    Ok(place)
 }
 
-/// A place of the formula of a node, where a formula that is alike stands at the source, given by its node; none where
-/// formulas differ on the way that are quantified.
+/// A place of the formula of a node, where a formula that is alike stands at the source, given by its node.
 pub fn derive_alike(
     alloc: Global,
     pool: &mut Pool,
@@ -66,7 +60,7 @@ pub fn derive_alike(
     one: usize,
     other: usize,
     source: usize,
-) -> Result<Option<usize>, NoMemory>
+) -> Result<usize, NoMemory>
     requires graph { IsGraph pool.old graph.nodes.now graph.links.now graph.numbers.now }
     requires history { IsHistory graph.links.now (length graph.links.now) graph.history.now }
     requires said { AreSaid pool.old chain.old graph.links.now graph.numbers.now }
@@ -78,19 +72,15 @@ pub fn derive_alike(
     ensures extends { Extends pool.old pool.new }
     ensures places { OnOk result (HasPlaces chain.new) }
     ensures keeps { OnOk result (Keeps chain.old chain.new) }
-    ensures at { IfOk result (λ place. MatchOption place (IsBarred graph.entry.nodes.now graph.entry.links.now graph.entry.numbers.now) (λ place. IsAt pool.new chain.new place (formula_at pool.old (number_at graph.entry.numbers.now other)))) }
+    ensures at { IfOk result (λ place. IsAt pool.new chain.new place (formula_at pool.old (number_at graph.entry.numbers.now other))) }
     ensures chain { OnOk result ((b : Branch) → IsChain pool.old b chain.old → CanBeginAny pool.old graph.entry.nodes.now b chain.old graph.entry.numbers.now → IsChain pool.new b chain.new) }
 {
     let mut found = Vec::new(alloc);
     let way = Vec::new(alloc);
     let place = Place { way, one, other };
     let before = graph.links.len();
-    let done = differences(alloc, pool, graph, before, place, &mut found)?;
-    if done {
-        let all = found.as_slice();
-        let end = replaced(alloc, pool, chain, graph, source, all)?;
-        Ok(end)
-    } else {
-        Ok(None)
-    }
+    differences(alloc, pool, graph, before, place, &mut found)?;
+    let all = found.as_slice();
+    let end = replaced(alloc, pool, chain, graph, source, all)?;
+    Ok(end)
 }

@@ -1,6 +1,6 @@
 //! The equations of the links that are needed, from the first to the last, and that of two nodes.
 
-ghost use Rattle.std.specs.Prelude.{◌≡◌, ℕ, ◌+◌, ◌<◌, length, slice_get, MatchOption, OnOk, IfOk};
+ghost use Rattle.std.specs.Prelude.{◌≡◌, ℕ, ◌+◌, ◌<◌, length, slice_get, OnOk, IfOk};
 ghost use Rattle.class_history.specs.Histories.{IsHistory};
 ghost use Rattle.classes.specs.Links.{Linked};
 ghost use Rattle.formula_pool.specs.Items.{TermSort};
@@ -10,7 +10,7 @@ ghost use Rattle.equation_chains.specs.Chains.{HasPlaces, Keeps, IsChain};
 ghost use Rattle.branch_classes.specs.Numbers.{number_at};
 ghost use Rattle.derived_equations.specs.Routes.{IsEquation};
 ghost use Rattle.derived_equations.specs.Replacing.{CanBeginAll};
-ghost use Rattle.derived_equations.specs.Graphs.{IsTermNode, IsGraph, IsBarred};
+ghost use Rattle.derived_equations.specs.Graphs.{IsTermNode, IsGraph};
 ghost use Rattle.derived_equations.specs.Plans.{ArePlans};
 ghost use Rattle.derived_equations.specs.Derivations.{HasEquation, AreSaid, IsReady, IsNextReady, ArePlaced, CanBeginAny, CanBeginNext, IsUnmarked};
 
@@ -158,8 +158,7 @@ pub(crate) fn unmarked(alloc: Global, count: usize) -> Result<Vec<bool>, NoMemor
     Ok(needed)
 }
 
-/// A place of the equation of two terms, given by their nodes, which links lead from one to the other; none where formulas
-/// differ on the way that are quantified.
+/// A place of the equation of two terms, given by their nodes, which links lead from one to the other.
 pub fn derive(
     alloc: Global,
     pool: &mut Pool,
@@ -167,7 +166,7 @@ pub fn derive(
     graph: Graph<'_>,
     one: usize,
     other: usize,
-) -> Result<Option<usize>, NoMemory>
+) -> Result<usize, NoMemory>
     requires graph { IsGraph pool.old graph.nodes.now graph.links.now graph.numbers.now }
     requires history { IsHistory graph.links.now (length graph.links.now) graph.history.now }
     requires said { AreSaid pool.old chain.old graph.links.now graph.numbers.now }
@@ -178,7 +177,7 @@ pub fn derive(
     ensures extends { Extends pool.old pool.new }
     ensures places { OnOk result (HasPlaces chain.new) }
     ensures keeps { OnOk result (Keeps chain.old chain.new) }
-    ensures at { IfOk result (λ found. MatchOption found (IsBarred graph.entry.nodes.now graph.entry.links.now graph.entry.numbers.now) (λ place. IsEquation pool.new chain.new place (number_at graph.entry.numbers.now one) (number_at graph.entry.numbers.now other))) }
+    ensures at { IfOk result (λ place. IsEquation pool.new chain.new place (number_at graph.entry.numbers.now one) (number_at graph.entry.numbers.now other)) }
     ensures chain { OnOk result ((b : Branch) → IsChain pool.old b chain.old → CanBeginAny pool.old graph.entry.nodes.now b chain.old graph.entry.numbers.now → IsChain pool.new b chain.new) }
 {
     let count = graph.links.len();
@@ -191,14 +190,10 @@ pub fn derive(
     let mut needed = unmarked(alloc, count)?;
     let way = route.as_slice();
     mark(&mut needed, way);
-    match plans(alloc, pool, graph, &mut needed)? {
-        Some(found) => {
-            let marks = needed.as_slice();
-            let table = equations(alloc, pool, chain, graph, marks, found)?;
-            let places = table.as_slice();
-            let place = along(pool, chain, graph.numbers, places, one, way)?;
-            Ok(Some(place))
-        }
-        None => Ok(None),
-    }
+    let found = plans(alloc, pool, graph, &mut needed)?;
+    let marks = needed.as_slice();
+    let table = equations(alloc, pool, chain, graph, marks, found)?;
+    let places = table.as_slice();
+    let place = along(pool, chain, graph.numbers, places, one, way)?;
+    Ok(place)
 }

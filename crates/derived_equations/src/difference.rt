@@ -1,17 +1,19 @@
 //! Where the terms of two nodes differ: the places at which different terms stand that are linked.
 
-ghost use Rattle.std.specs.Prelude.{◌≡◌, ◌≢◌, ℕ, ◌<◌, ◌++◌, [], ◌∷◌, true, length, take, slice_index_or, MatchBool, MatchOption, OnOk, IfOk};
+ghost use Rattle.std.specs.Prelude.{◌≡◌, ◌≢◌, ◌<◌, length, take, slice_index_or, MatchBool, OnOk, IfOk};
 ghost use Rattle.class_history.specs.Histories.{IsHistory};
 ghost use Rattle.classes.specs.Links.{Linked, AreAlikeAt};
 ghost use Rattle.formula_pool.specs.Items.{TermSort, sort_of};
-ghost use Rattle.formula_pool.specs.Pools.{item_at, IsMade};
+ghost use Rattle.formula_pool.specs.Pools.{item_at};
 ghost use Rattle.formula_pool.specs.declared.node.Leaf.TheVariants.{NilTerms};
-ghost use Rattle.formula_pool.specs.declared.node.Node.TheVariants.{Leaf as LeafNode, Two as TwoNode};
-ghost use Rattle.equation_chains.specs.Frames.{bound_in};
+ghost use Rattle.formula_pool.specs.declared.node.Node.TheVariants.{Leaf as LeafNode};
+ghost use Rattle.equation_chains.specs.Frames.{bound_on};
 ghost use Rattle.branch_classes.specs.Numbers.{number_at};
-ghost use Rattle.derived_equations.specs.Graphs.{IsGraph, IsBarred, is_term_node, is_quantified};
+ghost use Rattle.derived_equations.specs.BoundNodes.{IsLoose, IsTied};
+ghost use Rattle.derived_equations.specs.Graphs.{IsGraph, is_term_node};
 ghost use Rattle.derived_equations.specs.Places.{one_at, other_at, IsPlace, AreTwo, AreThree, IsPair, IsStepTo, IsPushed, AreFound, IsNext, IsTurn};
 
+use crate::bound::is_uncaptured;
 use crate::replacing::Difference;
 use crate::route::number_of;
 use class_history::history::History;
@@ -38,16 +40,6 @@ pub(crate) struct Place {
     pub way: Vec<Frame>,
     pub one: usize,
     pub other: usize,
-}
-
-/// What is done at a place.
-#[derive(Drop)]
-pub(crate) enum Turn {
-    Done,
-    // Formulas that are quantified differ there.
-    Barred,
-    // This place is left.
-    Next(Place),
 }
 
 /// The parts of two nodes with one number of parts, by the head of the first one.
@@ -114,12 +106,16 @@ fn is_term(pool: &Pool, number: usize) -> bool
     }
 }
 
-fn is_quantifier(head: Two) -> bool
-    ensures { MatchBool result ((a b : ℕ) → is_quantified (TwoNode head a b) ≡ true) (bound_in head [] ≡ []) }
+// Whether a term stands at the end of the way in which no variable that is bound on the way is free.
+fn is_loose(alloc: Global, pool: &Pool, way: &[Frame], number: usize) -> Result<bool, NoMemory>
+    requires { number < length pool.now }
+    ensures { IfOk result (λ loose. MatchBool loose (IsLoose (bound_on way.now) (item_at pool.now number)) (IsTied (bound_on way.now) (item_at pool.now number))) }
 {
-    match head {
-        Two::Quantify(_, _) => true,
-        _ => false,
+    if is_term(pool, number) {
+        let uncaptured = is_uncaptured(alloc, pool, way, number)?;
+        Ok(uncaptured)
+    } else {
+        Ok(false)
     }
 }
 
@@ -191,23 +187,19 @@ fn two(
     one: (usize, usize),
     other: (usize, usize),
     found: &mut Vec<Difference>,
-) -> Result<Option<Place>, NoMemory>
+) -> Result<Place, NoMemory>
     requires graph { IsGraph pool.now graph.nodes.now graph.links.now graph.numbers.now }
     requires history { IsHistory graph.links.now (length graph.links.now) graph.history.now }
     requires two { AreTwo pool.now graph.nodes.now graph.links.now graph.numbers.now before place head one other }
-    ensures { IfOk result (λ next. MatchOption next (IsBarred graph.entry.nodes.now graph.entry.links.now graph.entry.numbers.now) (IsNext pool.now graph.entry.nodes.now graph.entry.links.now graph.entry.numbers.now before place found.old.items found.new.items)) }
+    ensures { IfOk result (IsNext pool.now graph.entry.nodes.now graph.entry.links.now graph.entry.numbers.now before place found.old.items found.new.items) }
 {
     let way = place.way.as_slice();
     let rest = number_of(graph.numbers, one.1);
     let first = step(alloc, way, Frame::FirstOfTwo(head, rest), one.0, other.0)?;
-    let done = differences(alloc, pool, graph, before, first, found)?;
-    if done {
-        let left = number_of(graph.numbers, other.0);
-        let second = step(alloc, way, Frame::SecondOfTwo(head, left), one.1, other.1)?;
-        Ok(Some(second))
-    } else {
-        Ok(None)
-    }
+    differences(alloc, pool, graph, before, first, found)?;
+    let left = number_of(graph.numbers, other.0);
+    let second = step(alloc, way, Frame::SecondOfTwo(head, left), one.1, other.1)?;
+    Ok(second)
 }
 
 // Goes through the first parts of two nodes with one head, up to the third ones.
@@ -222,31 +214,23 @@ fn three(
     one: (usize, usize, usize),
     other: (usize, usize, usize),
     found: &mut Vec<Difference>,
-) -> Result<Option<Place>, NoMemory>
+) -> Result<Place, NoMemory>
     requires graph { IsGraph pool.now graph.nodes.now graph.links.now graph.numbers.now }
     requires history { IsHistory graph.links.now (length graph.links.now) graph.history.now }
     requires three { AreThree pool.now graph.nodes.now graph.links.now graph.numbers.now before place head one other }
-    ensures { IfOk result (λ next. MatchOption next (IsBarred graph.entry.nodes.now graph.entry.links.now graph.entry.numbers.now) (IsNext pool.now graph.entry.nodes.now graph.entry.links.now graph.entry.numbers.now before place found.old.items found.new.items)) }
+    ensures { IfOk result (IsNext pool.now graph.entry.nodes.now graph.entry.links.now graph.entry.numbers.now before place found.old.items found.new.items) }
 {
     let way = place.way.as_slice();
     let b = number_of(graph.numbers, one.1);
     let c = number_of(graph.numbers, one.2);
     let first = step(alloc, way, Frame::FirstOfThree(head, b, c), one.0, other.0)?;
-    let done = differences(alloc, pool, graph, before, first, found)?;
-    if done {
-        let x = number_of(graph.numbers, other.0);
-        let second = step(alloc, way, Frame::SecondOfThree(head, x, c), one.1, other.1)?;
-        let both = differences(alloc, pool, graph, before, second, found)?;
-        if both {
-            let y = number_of(graph.numbers, other.1);
-            let third = step(alloc, way, Frame::ThirdOfThree(head, x, y), one.2, other.2)?;
-            Ok(Some(third))
-        } else {
-            Ok(None)
-        }
-    } else {
-        Ok(None)
-    }
+    differences(alloc, pool, graph, before, first, found)?;
+    let x = number_of(graph.numbers, other.0);
+    let second = step(alloc, way, Frame::SecondOfThree(head, x, c), one.1, other.1)?;
+    differences(alloc, pool, graph, before, second, found)?;
+    let y = number_of(graph.numbers, other.1);
+    let third = step(alloc, way, Frame::ThirdOfThree(head, x, y), one.2, other.2)?;
+    Ok(third)
 }
 
 // Goes through the parts of two nodes with one head, up to the last ones.
@@ -258,14 +242,13 @@ pub(crate) fn parts(
     before: usize,
     place: Place,
     found: &mut Vec<Difference>,
-) -> Result<Option<Place>, NoMemory>
+) -> Result<Place, NoMemory>
     requires graph { IsGraph pool.now graph.nodes.now graph.links.now graph.numbers.now }
     requires history { IsHistory graph.links.now (length graph.links.now) graph.history.now }
     requires place { IsPlace pool.now graph.nodes.now graph.numbers.now place }
     requires differ { number_at graph.numbers.now place.one ≢ number_at graph.numbers.now place.other }
     requires alike { AreAlikeAt graph.nodes.now (Linked (take before graph.links.now)) place.one place.other }
-    requires joined { Linked graph.links.now place.one place.other }
-    ensures { IfOk result (λ next. MatchOption next (IsBarred graph.entry.nodes.now graph.entry.links.now graph.entry.numbers.now) (IsNext pool.now graph.entry.nodes.now graph.entry.links.now graph.entry.numbers.now before place found.old.items found.new.items)) }
+    ensures { IfOk result (IsNext pool.now graph.entry.nodes.now graph.entry.links.now graph.entry.numbers.now before place found.old.items found.new.items) }
 {
     pool.one_number();
     let one = node_of(graph.nodes, place.one);
@@ -273,23 +256,20 @@ pub(crate) fn parts(
     match pair_of(one, other) {
         Pair::One(head, a, x) => {
             let next = step(alloc, place.way.as_slice(), Frame::Only(head), a, x)?;
-            Ok(Some(next))
+            Ok(next)
         }
         Pair::Two(head, one, other) => {
-            if is_quantifier(head) {
-                Ok(None)
-            } else {
-                two(alloc, pool, graph, before, place, head, one, other, found)
-            }
+            two(alloc, pool, graph, before, place, head, one, other, found)
         }
         Pair::Three(head, one, other) => {
             three(alloc, pool, graph, before, place, head, one, other, found)
         }
-        Pair::Unlike => Ok(None),
+        Pair::Unlike => Ok(place),
     }
 }
 
-// What is done at a place where different items stand.
+// What is done at a place where different items stand: terms are noted, or parts gone through up to the last ones, whose place
+// is left.
 #[cycle(differences)]
 fn take_turn(
     alloc: Global,
@@ -298,7 +278,7 @@ fn take_turn(
     before: usize,
     place: Place,
     found: &mut Vec<Difference>,
-) -> Result<Turn, NoMemory>
+) -> Result<Option<Place>, NoMemory>
     requires graph { IsGraph pool.now graph.nodes.now graph.links.now graph.numbers.now }
     requires history { IsHistory graph.links.now (length graph.links.now) graph.history.now }
     requires place { IsPlace pool.now graph.nodes.now graph.numbers.now place }
@@ -306,17 +286,18 @@ fn take_turn(
     requires differ { number_at graph.numbers.now place.one ≢ number_at graph.numbers.now place.other }
     ensures { IfOk result (IsTurn pool.now graph.entry.nodes.now graph.entry.links.now graph.entry.numbers.now before place found.old.items found.new.items) }
 {
-    if is_term(pool, number_of(graph.numbers, place.one)) {
+    let number = number_of(graph.numbers, place.one);
+    let loose = is_loose(alloc, pool, place.way.as_slice(), number)?;
+    if loose {
         push_term(alloc, graph, before, place, found)?;
-        return Ok(Turn::Done);
-    }
-    match parts(alloc, pool, graph, before, place, found)? {
-        Some(next) => Ok(Turn::Next(next)),
-        None => Ok(Turn::Barred),
+        Ok(None)
+    } else {
+        let next = parts(alloc, pool, graph, before, place, found)?;
+        Ok(Some(next))
     }
 }
 
-// Puts the differences at a place behind the others; false where formulas differ that are quantified.
+// Puts the differences at a place behind the others.
 #[cycle(differences)]
 pub(crate) fn differences(
     alloc: Global,
@@ -325,20 +306,19 @@ pub(crate) fn differences(
     before: usize,
     place: Place,
     found: &mut Vec<Difference>,
-) -> Result<bool, NoMemory>
+) -> Result<(), NoMemory>
     requires graph { IsGraph pool.now graph.nodes.now graph.links.now graph.numbers.now }
     requires history { IsHistory graph.links.now (length graph.links.now) graph.history.now }
     requires place { IsPlace pool.now graph.nodes.now graph.numbers.now place }
     requires linked { Linked (take before graph.links.now) place.one place.other }
-    ensures { IfOk result (λ done. MatchBool done (AreFound pool.now graph.entry.nodes.now graph.entry.links.now graph.entry.numbers.now before (one_at pool.now graph.entry.numbers.now place) (other_at pool.now graph.entry.numbers.now place) found.old.items found.new.items) (IsBarred graph.entry.nodes.now graph.entry.links.now graph.entry.numbers.now)) }
+    ensures { OnOk result (AreFound pool.now graph.entry.nodes.now graph.entry.links.now graph.entry.numbers.now before (one_at pool.now graph.entry.numbers.now place) (other_at pool.now graph.entry.numbers.now place) found.old.items found.new.items) }
 {
     let mut place = place;
     while are_apart(graph.numbers, place.one, place.other) {
         match take_turn(alloc, pool, graph, before, place, found)? {
-            Turn::Done => return Ok(true),
-            Turn::Barred => return Ok(false),
-            Turn::Next(next) => place = next,
+            Some(next) => place = next,
+            None => return Ok(()),
         }
     }
-    Ok(true)
+    Ok(())
 }

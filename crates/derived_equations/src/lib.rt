@@ -2,6 +2,7 @@
 #![tactic(auto)]
 
 pub mod alike;
+pub mod bound;
 pub mod derive;
 pub mod difference;
 pub mod laws;

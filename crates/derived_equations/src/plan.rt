@@ -1,11 +1,11 @@
 //! Which links the equation of two nodes takes, and what each of these takes in turn.
 
-ghost use Rattle.std.specs.Prelude.{◌≡◌, ℕ, ◌+◌, ◌<◌, [], true, length, take, slice_get, MatchBool, MatchOption, OnOk, IfOk};
+ghost use Rattle.std.specs.Prelude.{◌≡◌, ℕ, ◌+◌, ◌<◌, true, length, take, OnOk, IfOk};
 ghost use Rattle.class_history.specs.Histories.{IsHistory};
 ghost use Rattle.classes.specs.Links.{Linked, AreAlikeAt};
 ghost use Rattle.branch_classes.specs.Numbers.{number_at};
 ghost use Rattle.derived_equations.specs.Replacing.{itself_item};
-ghost use Rattle.derived_equations.specs.Graphs.{IsTermNode, IsGraph, IsBarred};
+ghost use Rattle.derived_equations.specs.Graphs.{IsTermNode, IsGraph};
 ghost use Rattle.derived_equations.specs.Places.{AreFound};
 ghost use Rattle.derived_equations.specs.Plans.{is_needed, IsOn, IsOnAny, IsThis, CanMark, AreMarked, equation_item, IsPlan, HasTermEnds, AreNeeded, IsNextPlan, ArePlans};
 
@@ -65,7 +65,7 @@ pub fn mark_all(needed: &mut Vec<bool>, found: &[Difference])
     }
 }
 
-// Puts the differences of two nodes that are alike behind the others; false where formulas differ that are quantified.
+// Puts the differences of two nodes that are alike behind the others.
 fn alike(
     alloc: Global,
     pool: &Pool,
@@ -73,50 +73,43 @@ fn alike(
     before: usize,
     link: Link,
     found: &mut Vec<Difference>,
-) -> Result<bool, NoMemory>
+) -> Result<(), NoMemory>
     requires graph { IsGraph pool.now graph.nodes.now graph.links.now graph.numbers.now }
     requires history { IsHistory graph.links.now (length graph.links.now) graph.history.now }
     requires left { IsTermNode pool.now graph.nodes.now graph.numbers.now link.left }
     requires right { IsTermNode pool.now graph.nodes.now graph.numbers.now link.right }
     requires alike { AreAlikeAt graph.nodes.now (Linked (take before graph.links.now)) link.left link.right }
-    requires joined { Linked graph.links.now link.left link.right }
-    ensures { IfOk result (λ done. MatchBool done (AreFound pool.now graph.entry.nodes.now graph.entry.links.now graph.entry.numbers.now before (itself_item pool.now (number_at graph.entry.numbers.now link.left)) (equation_item pool.now (number_at graph.entry.numbers.now link.left) (number_at graph.entry.numbers.now link.right)) found.old.items found.new.items) (IsBarred graph.entry.nodes.now graph.entry.links.now graph.entry.numbers.now)) }
+    ensures { OnOk result (AreFound pool.now graph.entry.nodes.now graph.entry.links.now graph.entry.numbers.now before (itself_item pool.now (number_at graph.entry.numbers.now link.left)) (equation_item pool.now (number_at graph.entry.numbers.now link.left) (number_at graph.entry.numbers.now link.right)) found.old.items found.new.items) }
 {
     if are_apart(graph.numbers, link.left, link.right) {
         let left = number_of(graph.numbers, link.left);
         let right_side = Frame::SecondOfTwo(Two::Compare(Comparison::Eq), left);
         let place = step(alloc, &[], right_side, link.left, link.right)?;
-        match parts(alloc, pool, graph, before, place, found)? {
-            Some(next) => {
-                let done = differences(alloc, pool, graph, before, next, found)?;
-                Ok(done)
-            }
-            None => Ok(false),
-        }
-    } else {
-        Ok(true)
+        let next = parts(alloc, pool, graph, before, place, found)?;
+        differences(alloc, pool, graph, before, next, found)?;
     }
+    Ok(())
 }
 
-/// The differences that make the one end of a link the other; none where formulas differ that are quantified.
+/// The differences that make the one end of a link the other.
 pub fn plan_of(
     alloc: Global,
     pool: &Pool,
     graph: Graph<'_>,
     number: usize,
-) -> Result<Option<Vec<Difference>>, NoMemory>
+) -> Result<Vec<Difference>, NoMemory>
     requires graph { IsGraph pool.now graph.nodes.now graph.links.now graph.numbers.now }
     requires history { IsHistory graph.links.now (length graph.links.now) graph.history.now }
     requires ends { HasTermEnds pool.now graph.nodes.now graph.links.now graph.numbers.now number }
-    ensures { IfOk result (λ found. MatchOption found (IsBarred graph.entry.nodes.now graph.entry.links.now graph.entry.numbers.now) (λ found. IsPlan pool.now graph.entry.nodes.now graph.entry.links.now graph.entry.numbers.now number found.items)) }
+    ensures { IfOk result (λ found. IsPlan pool.now graph.entry.nodes.now graph.entry.links.now graph.entry.numbers.now number found.items) }
 {
     let link = graph.links[number];
     let mut found = Vec::new(alloc);
     match link.why {
-        Why::Given(_) => Ok(Some(found)),
+        Why::Given(_) => Ok(found),
         Why::Alike => {
-            let done = alike(alloc, pool, graph, number, link, &mut found)?;
-            if done { Ok(Some(found)) } else { Ok(None) }
+            alike(alloc, pool, graph, number, link, &mut found)?;
+            Ok(found)
         }
     }
 }
@@ -128,50 +121,44 @@ fn next_plan(
     graph: Graph<'_>,
     needed: &mut Vec<bool>,
     number: usize,
-) -> Result<Option<Plan>, NoMemory>
+) -> Result<Plan, NoMemory>
     requires graph { IsGraph pool.now graph.nodes.now graph.links.now graph.numbers.now }
     requires history { IsHistory graph.links.now (length graph.links.now) graph.history.now }
     requires needed { AreNeeded pool.now graph.nodes.now graph.links.now graph.numbers.now needed.old.items }
     ensures stays { OnOk result ((k : ℕ) → is_needed needed.old.items k ≡ true → is_needed needed.new.items k ≡ true) }
     ensures needed { OnOk result (AreNeeded pool.now graph.entry.nodes.now graph.entry.links.now graph.entry.numbers.now needed.new.items) }
-    ensures plan { IfOk result (λ found. MatchOption found (IsBarred graph.entry.nodes.now graph.entry.links.now graph.entry.numbers.now) (IsNextPlan pool.now graph.entry.nodes.now graph.entry.links.now graph.entry.numbers.now number needed.old.items needed.new.items)) }
+    ensures plan { IfOk result (IsNextPlan pool.now graph.entry.nodes.now graph.entry.links.now graph.entry.numbers.now number needed.old.items needed.new.items) }
 {
     if is_needed(needed.as_slice(), number) {
-        match plan_of(alloc, pool, graph, number)? {
-            Some(found) => {
-                mark_all(needed, found.as_slice());
-                Ok(Some(Plan { found }))
-            }
-            None => Ok(None),
-        }
+        let found = plan_of(alloc, pool, graph, number)?;
+        mark_all(needed, found.as_slice());
+        Ok(Plan { found })
     } else {
-        Ok(Some(Plan {
+        Ok(Plan {
             found: Vec::new(alloc),
-        }))
+        })
     }
 }
 
-/// What each link that is needed takes, the last link first; none where formulas differ that are quantified.
+/// What each link that is needed takes, the last link first.
 pub fn plans(
     alloc: Global,
     pool: &Pool,
     graph: Graph<'_>,
     needed: &mut Vec<bool>,
-) -> Result<Option<Vec<Plan>>, NoMemory>
+) -> Result<Vec<Plan>, NoMemory>
     requires graph { IsGraph pool.now graph.nodes.now graph.links.now graph.numbers.now }
     requires history { IsHistory graph.links.now (length graph.links.now) graph.history.now }
     requires needed { AreNeeded pool.now graph.nodes.now graph.links.now graph.numbers.now needed.old.items }
     ensures stays { OnOk result ((k : ℕ) → is_needed needed.old.items k ≡ true → is_needed needed.new.items k ≡ true) }
-    ensures plans { IfOk result (λ found. MatchOption found (IsBarred graph.entry.nodes.now graph.entry.links.now graph.entry.numbers.now) (λ plans. ArePlans pool.now graph.entry.nodes.now graph.entry.links.now graph.entry.numbers.now needed.new.items plans.items 0)) }
+    ensures plans { IfOk result (λ plans. ArePlans pool.now graph.entry.nodes.now graph.entry.links.now graph.entry.numbers.now needed.new.items plans.items 0) }
 {
     let mut plans = Vec::new(alloc);
     let mut rest = graph.links.len();
     while rest > 0 {
         rest -= 1;
-        match next_plan(alloc, pool, graph, needed, rest)? {
-            Some(plan) => plans.push(plan)?,
-            None => return Ok(None),
-        }
+        let plan = next_plan(alloc, pool, graph, needed, rest)?;
+        plans.push(plan)?;
     }
-    Ok(Some(plans))
+    Ok(plans)
 }

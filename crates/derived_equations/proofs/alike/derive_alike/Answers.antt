@@ -1,17 +1,16 @@
 use Rattle.std.proofs.Common.{length, refl}
-use Rattle.derived_equations.proofs.TurnLemmas.{when_true}
 use Rattle.derived_equations.proofs.DeriveLemmas.{whole_linked}
-use Rattle.derived_equations.proofs.FormulaLemmas.{formula_place, found_in_source, found_match}
+use Rattle.derived_equations.proofs.FormulaLemmas.{formula_place, found_in_source, found_end}
 use Rattle.derived_equations.proofs.alike.derive_alike.Goals as goal
 
 pub differences-requires-clause-place : goal.differences-requires-clause-place
-differences-requires-clause-place c = formula_place c.args.pool.now c.args.graph.nodes.now c.args.graph.numbers.now c.args.one c.args.other c.requires.one c.requires.other c.new-way.result.items c.new-way.ensures.items
+differences-requires-clause-place c = formula_place c.args.pool.now c.args.graph.nodes.now c.args.graph.numbers.now c.args.graph.links.now c.requires.graph c.args.one c.args.other c.requires.one c.requires.other c.new-way.result.items c.new-way.ensures.items
 
 pub differences-requires-clause-linked : goal.differences-requires-clause-linked
 differences-requires-clause-linked c = whole_linked c.args.graph.links.now (length c.args.graph.links.now) c.args.one c.args.other refl c.requires.linked
 
 pub replaced-requires-clause-found : goal.replaced-requires-clause-found
-replaced-requires-clause-found c = found_in_source c.args.pool.now c.args.graph.nodes.now c.args.graph.numbers.now c.args.graph.links.now c.args.chain.now c.args.one c.args.other c.args.source (length c.args.graph.links.now) c.new-way.result.items c.new-found.result.items c.differences.new.found.items c.as_slice-all.result.now c.requires.one c.requires.source c.new-way.ensures.items c.new-found.ensures.items c.as_slice-all.ensures.value refl (when_true _ _ c.in_ok-done.done c.if-done.true c.in_ok-done.ensures)
+replaced-requires-clause-found c = found_in_source c.args.pool.now c.args.graph.nodes.now c.args.graph.numbers.now c.args.graph.links.now c.args.chain.now c.args.one c.args.other c.args.source (length c.args.graph.links.now) c.new-way.result.items c.new-found.result.items c.differences.new.found.items c.as_slice-all.result.now c.requires.one c.requires.source c.new-way.ensures.items c.new-found.ensures.items c.as_slice-all.ensures.value refl c.in_ok-differences.ensures
 
-pub returns-then-done-clause-at : goal.returns-then-done-clause-at
-returns-then-done-clause-at c = found_match c.args.pool.now c.args.graph.nodes.now c.args.graph.numbers.now c.args.graph.links.now c.args.chain.now c.args.one c.args.other c.args.source (length c.args.graph.links.now) c.new-way.result.items c.new-found.result.items c.differences.new.found.items c.as_slice-all.result.now c.replaced.new.pool c.replaced.new.chain c.in_ok-end.end c.requires.source c.new-way.ensures.items c.new-found.ensures.items c.as_slice-all.ensures.value (when_true _ _ c.in_ok-done.done c.if-done.true c.in_ok-done.ensures) c.in_ok-end.ensures.at
+pub returns-clause-at : goal.returns-clause-at
+returns-clause-at c = found_end c.args.pool.now c.args.graph.nodes.now c.args.graph.numbers.now c.args.graph.links.now c.args.chain.now c.args.one c.args.other c.args.source (length c.args.graph.links.now) c.new-way.result.items c.new-found.result.items c.differences.new.found.items c.as_slice-all.result.now c.replaced.new.pool c.replaced.new.chain c.in_ok-end.end c.requires.source c.new-way.ensures.items c.new-found.ensures.items c.as_slice-all.ensures.value c.in_ok-differences.ensures c.in_ok-end.ensures.at

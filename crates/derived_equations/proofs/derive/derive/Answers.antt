@@ -16,10 +16,10 @@ pub plans-requires-clause-needed : goal.plans-requires-clause-needed
 plans-requires-clause-needed c = first_needed c.args.pool.now c.args.graph.nodes.now c.args.graph.links.now c.args.graph.numbers.now c.requires.graph (length c.args.graph.links.now) c.args.one c.args.other (length c.args.graph.links.now) c.in_ok-route.route.items c.in_ok-needed.needed.items c.mark.new.needed.items c.as_slice-way.result.now c.as_slice-way.ensures.value c.requires.one c.in_ok-route.ensures refl c.in_ok-needed.ensures c.mark.ensures
 
 pub along-requires-clause-route : goal.along-requires-clause-route
-along-requires-clause-route c = way_goes c.args.pool.now c.equations.new.pool c.args.graph.nodes.now c.args.graph.links.now c.args.graph.numbers.now c.requires.graph c.equations.ensures.extends c.equations.new.chain c.as_slice-places.result.now (length c.args.graph.links.now) c.args.one c.args.other c.in_ok-route.route.items c.as_slice-way.result.now c.in_ok-needed.needed.items c.mark.new.needed.items c.plans.new.needed.items c.as_slice-marks.result.now c.as_slice-way.ensures.value c.requires.one c.requires.within c.in_ok-route.ensures c.mark.ensures c.in_ok-found.ensures.stays c.as_slice-marks.ensures.value (places_read c.equations.new.pool c.equations.new.chain c.args.graph.links.now c.args.graph.numbers.now c.as_slice-marks.result.now c.in_ok-table-in-Some.table.items c.as_slice-places.result.now (length c.args.graph.links.now) c.as_slice-places.ensures.value c.in_ok-table-in-Some.ensures.placed)
+along-requires-clause-route c = way_goes c.args.pool.now c.equations.new.pool c.args.graph.nodes.now c.args.graph.links.now c.args.graph.numbers.now c.requires.graph c.equations.ensures.extends c.equations.new.chain c.as_slice-places.result.now (length c.args.graph.links.now) c.args.one c.args.other c.in_ok-route.route.items c.as_slice-way.result.now c.in_ok-needed.needed.items c.mark.new.needed.items c.plans.new.needed.items c.as_slice-marks.result.now c.as_slice-way.ensures.value c.requires.one c.requires.within c.in_ok-route.ensures c.mark.ensures c.in_ok-found.ensures.stays c.as_slice-marks.ensures.value (places_read c.equations.new.pool c.equations.new.chain c.args.graph.links.now c.args.graph.numbers.now c.as_slice-marks.result.now c.in_ok-table.table.items c.as_slice-places.result.now (length c.args.graph.links.now) c.as_slice-places.ensures.value c.in_ok-table.ensures.placed)
 
-pub returns-in-Some-clause-at : goal.returns-in-Some-clause-at
-returns-in-Some-clause-at c = subst (λ i. IsEquation c.along.new.pool c.along.new.chain c.in_ok-place-in-Some.place (number_at c.args.graph.numbers.now c.args.one) (number_at c.args.graph.numbers.now i)) (way_ends c.args.graph.links.now (length c.args.graph.links.now) c.args.one c.args.other c.in_ok-route.route.items c.as_slice-way.result.now c.as_slice-way.ensures.value c.in_ok-route.ensures) c.in_ok-place-in-Some.ensures.at
+pub returns-clause-at : goal.returns-clause-at
+returns-clause-at c = subst (λ i. IsEquation c.along.new.pool c.along.new.chain c.in_ok-place.place (number_at c.args.graph.numbers.now c.args.one) (number_at c.args.graph.numbers.now i)) (way_ends c.args.graph.links.now (length c.args.graph.links.now) c.args.one c.args.other c.in_ok-route.route.items c.as_slice-way.result.now c.as_slice-way.ensures.value c.in_ok-route.ensures) c.in_ok-place.ensures.at
 
-pub returns-in-Some-clause-chain : goal.returns-in-Some-clause-chain
-returns-in-Some-clause-chain c = λ b h can. c.in_ok-place-in-Some.ensures.chain b (c.in_ok-table-in-Some.ensures.chain b h can) (begin_grown c.args.pool.now c.equations.new.pool c.equations.ensures.extends b c.args.chain.now c.equations.new.chain c.in_ok-table-in-Some.ensures.keeps (number_at c.args.graph.numbers.now c.args.one) TermSort c.requires.one.term (can.each c.args.one c.requires.within c.requires.one))
+pub returns-clause-chain : goal.returns-clause-chain
+returns-clause-chain c = λ b h can. c.in_ok-place.ensures.chain b (c.in_ok-table.ensures.chain b h can) (begin_grown c.args.pool.now c.equations.new.pool c.equations.ensures.extends b c.args.chain.now c.equations.new.chain c.in_ok-table.ensures.keeps (number_at c.args.graph.numbers.now c.args.one) TermSort c.requires.one.term (can.each c.args.one c.requires.within c.requires.one))

@@ -1,19 +1,13 @@
 use Rattle.std.proofs.lemmas.Option.{get_or_from_slice_get}
-use Rattle.derived_equations.proofs.TurnLemmas.{when_true}
-use Rattle.derived_equations.proofs.AlikeLemmas.{joined_read, plan_given, plan_alike}
+use Rattle.derived_equations.proofs.AlikeLemmas.{plan_given, plan_alike}
 use Rattle.derived_equations.proofs.plan.plan_of.Goals as goal
-
-pub alike-requires-clause-joined : goal.alike-requires-clause-joined
-alike-requires-clause-joined c =
-    let ends = c.requires.ends in
-    joined_read c.args.graph.links.now c.args.number ends.link _ ends.is_link (get_or_from_slice_get c.args.graph.links.now c.args.number ends.link _ ends.is_link)
 
 pub returns-in-Given : goal.returns-in-Given
 returns-in-Given c =
     let ends = c.requires.ends in
     plan_given c.args.pool.now c.args.graph.nodes.now c.args.graph.links.now c.args.graph.numbers.now c.args.number ends _ c.in-Given.field-0 c.new-found.result.items (get_or_from_slice_get c.args.graph.links.now c.args.number ends.link _ ends.is_link) c.in-Given.is c.new-found.ensures.items
 
-pub returns-then-done : goal.returns-then-done
-returns-then-done c =
+pub returns-in_ok-alike-in-Alike : goal.returns-in_ok-alike-in-Alike
+returns-in_ok-alike-in-Alike c =
     let ends = c.requires.ends in
-    plan_alike c.args.pool.now c.args.graph.nodes.now c.args.graph.links.now c.args.graph.numbers.now c.args.number ends _ c.new-found.result.items c.alike.new.found.items (get_or_from_slice_get c.args.graph.links.now c.args.number ends.link _ ends.is_link) c.in-Alike.is c.new-found.ensures.items (when_true _ _ c.in_ok-done-in-Alike.done c.if-done.true c.in_ok-done-in-Alike.ensures)
+    plan_alike c.args.pool.now c.args.graph.nodes.now c.args.graph.links.now c.args.graph.numbers.now c.args.number ends _ c.new-found.result.items c.alike.new.found.items (get_or_from_slice_get c.args.graph.links.now c.args.number ends.link _ ends.is_link) c.in-Alike.is c.new-found.ensures.items c.in_ok-alike-in-Alike.ensures
