@@ -18,7 +18,7 @@ use Rattle.equation_chains.specs.declared.frame.Frame.TheVariants.{FirstOfTwo, S
 
 -- ---- nodes
 
--- the node is this bound variable, or has it in a part, and binds it not
+-- the node is this bound variable, or does not bind it and has it in a part
 pub data HasBound (ns : List Node) (n : ℕ) : ℕ → Type 0 where
   ItIs : (i a : ℕ) → slice_get ns i ≡ Some (OneNode Not a) → slice_get ns a ≡ Some (LeafNode (TypeParam n)) → HasBound ns n i
   InOnly : (i : ℕ) (h : One) (a : ℕ) → slice_get ns i ≡ Some (OneNode h a) → HasBound ns n a → HasBound ns n i
@@ -32,7 +32,8 @@ pub data HasBound (ns : List Node) (n : ℕ) : ℕ → Type 0 where
 pub record IsClosed (ns : List Node) (i : ℕ) : Type 0 where
   pub none : (n : ℕ) → HasBound ns n i → ⊥
 
--- under quantifiers of these variables, where one of theirs or of a quantifier in the node stands, it is a bound variable
+-- under quantifiers of these variables: where one of them stands in the node, or one that a quantifier in it binds there, it
+-- is a bound variable
 pub data FitsUnder (ns : List Node) : List ℕ → ℕ → Type 0 where
   BoundFits : (bound : List ℕ) (i a n : ℕ) → slice_get ns i ≡ Some (OneNode Not a) → slice_get ns a ≡ Some (LeafNode (TypeParam n)) → FitsUnder ns bound i
   LeafFits : (bound : List ℕ) (i : ℕ) (h : Leaf) → slice_get ns i ≡ Some (LeafNode h) → ((k : ℕ) → h ≡ Var k → among k bound ≡ false) → FitsUnder ns bound i

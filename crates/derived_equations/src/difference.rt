@@ -264,6 +264,7 @@ pub(crate) fn parts(
         Pair::Three(head, one, other) => {
             three(alloc, pool, graph, before, place, head, one, other, found)
         }
+        // Nodes that are alike and have no parts have one number.
         Pair::Unlike => Ok(place),
     }
 }
