@@ -14,8 +14,8 @@ use Rattle.entry_steps.proofs.NumberLemmas.{number_stays, formula_stays}
 use Rattle.entry_names.specs.Variables.{AreAbove, AreEntriesAbove}
 use Rattle.entry_names.proofs.ListLemmas.{take_found, past_end}
 use Rattle.entry_names.proofs.VariablesLemmas.{nodes_grown, above_longer}
-use Rattle.branch_classes.specs.Known.{IsOver}
-use Rattle.branch_classes.proofs.OverLemmas.{still_over}
+use Rattle.branch_classes.specs.Known.{IsOver, AreInEntries}
+use Rattle.branch_classes.proofs.OverLemmas.{still_over, inside_more}
 use Rattle.near_groups.specs.Terms.{formula_number, AreClassesOf}
 use Rattle.branch_state.specs.States.{HaveNumbers, IsState, Follows, AreMarks, AreAllMarks, no_marks, last_of}
 use Rattle.branch_state.specs.declared.marks.Marks.{Marks}
@@ -98,31 +98,34 @@ module _ (ns : List Node) where
   -- ---- what is kept
 
   -- before any entry
-  pub state_begun : (s : BranchState) → s.entries.items ≡ [] → s.marks.items ≡ [] → AreAbove ns [] s.variables → IsOver ns s.classes → s.classes.entries ≡ [] → IsState ns s
-  state_begun s entries marks variables classes none = record {
+  pub state_begun : (s : BranchState) → s.entries.items ≡ [] → s.marks.items ≡ [] → AreAbove ns [] s.variables → IsOver ns s.classes → AreInEntries ns s.classes → s.classes.entries ≡ [] → IsState ns s
+  state_begun s entries marks variables classes inside none = record {
     numbers = subst (HaveNumbers ns) (sym entries) (no_numbers ns);
     variables = subst (λ es. AreAbove ns es s.variables) (sym entries) variables;
     classes = classes;
+    inside = inside;
     entries = none ∙ ap (map formula_number) (sym entries);
     marks = subst (λ es. AreAllMarks ns es s.marks.items) (sym entries) (subst (AreAllMarks ns []) (sym marks) (all_of_none ns));
   }
 
   -- after entries are left
-  pub state_cut : (s t : BranchState) (count : ℕ) → IsState ns s → t.entries.items ≡ take count s.entries.items → AreAbove ns (take count s.entries.items) t.variables → IsOver ns t.classes → t.classes.entries ≡ map formula_number t.entries.items → t.marks.items ≡ take count s.marks.items → IsState ns t
-  state_cut s t count h entries variables classes same marks = record {
+  pub state_cut : (s t : BranchState) (count : ℕ) → IsState ns s → t.entries.items ≡ take count s.entries.items → AreAbove ns (take count s.entries.items) t.variables → IsOver ns t.classes → AreInEntries ns t.classes → t.classes.entries ≡ map formula_number t.entries.items → t.marks.items ≡ take count s.marks.items → IsState ns t
+  state_cut s t count h entries variables classes inside same marks = record {
     numbers = subst (HaveNumbers ns) (sym entries) (numbers_cut count s.entries.items h.numbers);
     variables = subst (λ es. AreAbove ns es t.variables) (sym entries) variables;
     classes = classes;
+    inside = inside;
     entries = same;
     marks = subst (λ es. AreAllMarks ns es t.marks.items) (sym entries) (subst (AreAllMarks ns (take count s.entries.items)) (sym marks) (all_cut ns s.entries.items s.marks.items count h.marks));
   }
 
   -- after one more is put in
-  pub state_more : (s t : BranchState) (e : PoolEntry) → IsState ns s → IsFormulaNumber ns e.formula → t.entries.items ≡ s.entries.items ++ e ∷ [] → t.variables ≡ s.variables → IsOver ns t.classes → t.classes.entries ≡ s.classes.entries ++ e.formula ∷ [] → t.marks.items ≡ s.marks.items ++ last_of s.marks.items ∷ [] → IsState ns t
-  state_more s t e h number entries variables classes same marks = record {
+  pub state_more : (s t : BranchState) (e : PoolEntry) → IsState ns s → IsFormulaNumber ns e.formula → t.entries.items ≡ s.entries.items ++ e ∷ [] → t.variables ≡ s.variables → IsOver ns t.classes → AreInEntries ns t.classes → t.classes.entries ≡ s.classes.entries ++ e.formula ∷ [] → t.marks.items ≡ s.marks.items ++ last_of s.marks.items ∷ [] → IsState ns t
+  state_more s t e h number entries variables classes inside same marks = record {
     numbers = subst (HaveNumbers ns) (sym entries) (numbers_more s.entries.items e h.numbers number);
     variables = subst (λ v. AreAbove ns t.entries.items v) (sym variables) (subst (λ es. AreAbove ns es s.variables) (sym entries) (above_longer ns s.entries.items (e ∷ []) s.variables h.variables));
     classes = classes;
+    inside = inside;
     entries = same ∙ (λ i. h.entries i ++ e.formula ∷ []) ∙ sym (map_push formula_number s.entries.items e) ∙ ap (map formula_number) (sym entries);
     marks = subst (λ es. AreAllMarks ns es t.marks.items) (sym entries) (subst (AreAllMarks ns (s.entries.items ++ e ∷ [])) (sym marks) (all_push ns s.entries.items s.marks.items e h.marks));
   }
@@ -139,6 +142,7 @@ module _ (ns : List Node) where
         numbers = subst (HaveNumbers ns) (sym es) h.numbers;
         variables = subst (λ v. AreAbove ns t.entries.items v) (sym variables) (subst (λ xs. AreAbove ns xs s.variables) (sym es) h.variables);
         classes = subst (IsOver ns) (sym classes) h.classes;
+        inside = subst (AreInEntries ns) (sym classes) h.inside;
         entries = ap (λ x. x.entries) classes ∙ h.entries ∙ ap (map formula_number) (sym es);
         marks = subst (λ xs. AreAllMarks ns xs t.marks.items) (sym es) (subst (AreAllMarks ns s.entries.items) (sym marks) (all_set ns s.entries.items s.marks.items last m e h.marks (subst (λ xs. AreMarks (map (entry_in ns) xs) m) (sym follows.entries) are)));
       }
@@ -173,6 +177,7 @@ module _ (ns ms : List Node) (grown : Extends ns ms) where
       names = h.variables.names;
     };
     classes = still_over ns ms s.classes grown h.classes;
+    inside = inside_more ns ms s.classes grown h.inside;
     entries = h.entries;
     marks = record {
       one_each = h.marks.one_each;

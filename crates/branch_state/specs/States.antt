@@ -9,7 +9,7 @@ use Rattle.pool_branch.specs.declared.entry.PoolEntry.{PoolEntry}
 use Rattle.entry_steps.specs.Steps.{NoPartsBefore}
 use Rattle.entry_names.specs.Names.{NoNameBefore}
 use Rattle.entry_names.specs.Variables.{AreAbove}
-use Rattle.branch_classes.specs.Known.{IsOver}
+use Rattle.branch_classes.specs.Known.{IsOver, AreInEntries}
 use Rattle.near_groups.specs.Terms.{formula_number}
 use Rattle.branch_state.specs.declared.marks.Marks.{Marks}
 use Rattle.branch_state.specs.declared.state.BranchState.{BranchState}
@@ -56,11 +56,12 @@ pub record AreAllMarks (ns : List Node) (es : List PoolEntry) (ms : List Marks) 
   pub one_each : length ms ≡ length es
   pub each : (k : ℕ) → k < length ms → AreMarks (branch_to ns es k) (slice_index_or ms k no_marks)
 
--- the variables, the classes and the marks are those of the entries
+-- the variables, the classes and the marks are those of the entries, and the classes know nothing but what stands in them
 pub record IsState (ns : List Node) (s : BranchState) : Type 0 where
   pub numbers : HaveNumbers ns s.entries.items
   pub variables : AreAbove ns s.entries.items s.variables
   pub classes : IsOver ns s.classes
+  pub inside : AreInEntries ns s.classes
   pub entries : s.classes.entries ≡ map formula_number s.entries.items
   pub marks : AreAllMarks ns s.entries.items s.marks.items
 

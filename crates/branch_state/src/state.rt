@@ -3,7 +3,7 @@
 ghost use Rattle.std.specs.Prelude.{◌≡◌, ◌≤◌, ◌↔◌, ◌∷◌, [], ◌++◌, ℕ, List, length, map, take, slice_get, Some, IsTrue, IfOk, OnOk};
 ghost use Rattle.formula_pool.specs.declared.node.Node.{Node};
 ghost use Rattle.pool_branch.specs.PoolBranches.{BranchData, branch_in, IsFormulaNumber, IsOver};
-ghost use Rattle.branch_classes.specs.Known.{IsOver as ClassesOver};
+ghost use Rattle.branch_classes.specs.Known.{IsOver as ClassesOver, AreInEntries};
 ghost use Rattle.near_groups.specs.Terms.{formula_number, AreClassesOf};
 ghost use Rattle.branch_state.specs.States.{HaveNumbers, IsState, Follows, AreMarks};
 
@@ -56,6 +56,7 @@ fn shared(entries: &[PoolEntry], branch: &PoolBranch) -> usize
 fn classes_of(alloc: Global, pool: &Pool, entries: &[PoolEntry]) -> Result<BranchClasses, NoMemory>
     requires { HaveNumbers pool.now entries.now }
     ensures over { IfOk result (λ classes. ClassesOver pool.now classes) }
+    ensures inside { IfOk result (λ classes. AreInEntries pool.now classes) }
     ensures entries { IfOk result (λ classes. classes.entries ≡ map formula_number entries.now) }
 {
     let mut classes = BranchClasses::new(alloc);

@@ -10,7 +10,7 @@ use Rattle.entry_steps.proofs.EntryLemmas.{says_within}
 use Rattle.entry_names.specs.Names.{NoName, NoNameBefore, IsNameStep}
 use Rattle.entry_names.specs.Variables.{AreAbove}
 use Rattle.entry_names.specs.declared.names.NameStep.{NameStep}
-use Rattle.branch_classes.specs.Known.{IsOver as ClassesOver}
+use Rattle.branch_classes.specs.Known.{IsOver as ClassesOver, AreInEntries}
 use Rattle.near_groups.specs.Terms.{formula_number}
 use Rattle.branch_state.specs.States.{IsState, Follows, AreMarks, AreAllMarks, HaveNumbers, NoRangeSplitBefore}
 use Rattle.branch_state.specs.declared.marks.Marks.{Marks}
@@ -79,6 +79,7 @@ module _ (d : BranchData) (s t : BranchState) (entries : t.entries ≡ s.entries
         numbers = subst (HaveNumbers ms) (sym es) h.numbers;
         variables = subst (λ xs. AreAbove ms xs t.variables) (sym (es ∙ follows.entries)) above;
         classes = subst (ClassesOver ms) (sym classes) h.classes;
+        inside = subst (AreInEntries ms) (sym classes) h.inside;
         entries = ap (λ x. x.entries) classes ∙ h.entries ∙ ap (map formula_number) (sym es);
         marks = subst (λ xs. AreAllMarks ms xs t.marks.items) (sym es) (subst (AreAllMarks ms s.entries.items) (sym same) h.marks);
       }

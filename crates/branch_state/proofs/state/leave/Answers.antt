@@ -9,4 +9,4 @@ classes_of-requires c = subst (HaveNumbers c.args.pool.now) (sym (c.as_slice.ens
 
 pub returns-clause-state : goal.returns-clause-state
 returns-clause-state c =
-    state_cut c.args.pool.now c.args.state.now _ c.args.count c.requires c.truncate.ensures.items (c.truncate-2.ensures c.args.pool.now c.args.state.now.entries.items c.requires.variables) c.in_ok-state.ensures.over (c.in_ok-state.ensures.entries ∙ ap (map formula_number) c.as_slice.ensures.value) c.truncate-3.ensures.items
+    state_cut c.args.pool.now c.args.state.now _ c.args.count c.requires c.truncate.ensures.items (c.truncate-2.ensures c.args.pool.now c.args.state.now.entries.items c.requires.variables) c.in_ok-state.ensures.over c.in_ok-state.ensures.inside (c.in_ok-state.ensures.entries ∙ ap (map formula_number) c.as_slice.ensures.value) c.truncate-3.ensures.items
