@@ -86,7 +86,7 @@ fn is_no_first(node: Node) -> bool
 }
 
 /// The formula that a formula denies.
-pub(crate) fn denied(pool: &Pool, formula: usize) -> Option<usize>
+pub fn denied(pool: &Pool, formula: usize) -> Option<usize>
     requires { IsFormulaNumber pool.now formula }
     ensures { MatchOption result (IsNoDenial (formula_at pool.now formula)) (IsDenialOf pool.now formula) }
 {
@@ -97,7 +97,7 @@ pub(crate) fn denied(pool: &Pool, formula: usize) -> Option<usize>
 }
 
 /// The sides of an equation.
-pub(crate) fn sides(pool: &Pool, formula: usize) -> Option<(usize, usize)>
+pub fn sides(pool: &Pool, formula: usize) -> Option<(usize, usize)>
     requires { IsFormulaNumber pool.now formula }
     ensures { MatchOption result (IsNoEquation (formula_at pool.now formula)) (IsEquationOf pool.now formula) }
 {

@@ -2,7 +2,7 @@
 #![tactic(auto)]
 
 pub mod clash;
-mod forms;
+pub mod forms;
 mod index;
 pub mod literal;
 pub mod search;
