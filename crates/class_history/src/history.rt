@@ -61,8 +61,8 @@ impl History {
         History::of_links(alloc, classes.links(), classes.len())
     }
 
-    // The history of these links, between numbers below the count.
-    fn of_links(alloc: Global, links: &[Link], count: usize) -> Result<History, NoMemory>
+    /// The history of these links, between numbers below the count.
+    pub fn of_links(alloc: Global, links: &[Link], count: usize) -> Result<History, NoMemory>
         requires { AreAmong links.now count }
         ensures { IfOk result (IsHistory links.now (length links.now)) }
     {
