@@ -1,0 +1,4 @@
+pub mod DepthLemmas
+pub mod EntryLemmas
+pub mod GraphLemmas
+pub mod AnswerLemmas

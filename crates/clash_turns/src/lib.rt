@@ -1,0 +1,8 @@
+//! The turn that closes a branch up to its classes.
+#![tactic(auto)]
+
+pub mod closing;
+mod depth;
+mod entries;
+pub mod history;
+mod linked;
