@@ -1,6 +1,6 @@
 -- Bounds that are due.
 use Rattle.std.proofs.Common.{◌≡◌, inl, inr, ℕ, ◌<◌, ℤ, pos, ◌+ℤ◌, List, [], ◌∷◌, length, length-append, map, sym, ap, ◌∙◌, subst, arith}
-use Rattle.std.specs.Prelude.{All}
+use Rattle.std.specs.Prelude.{slice_index, All}
 use Rattle.std.proofs.lemmas.List.Elements.{All-nil, All-cons}
 use Rattle.pv_base.specs.TypeData.{NumType}
 use Rattle.fol.specs.declared.shapes.Shape.{Shape}
@@ -22,14 +22,15 @@ use Rattle.entry_steps.proofs.NumberLemmas.{number_stays, formula_stays}
 use Rattle.branch_values.specs.Numbers.{term_at}
 use Rattle.branch_values.specs.Bounds.{IsBound}
 use Rattle.branch_values.specs.declared.bounds.Bound.{Bound as BoundData}
-use Rattle.branches.specs.Rows.{IsWholeIfNumber, MeetsWhole}
+use Rattle.branches.specs.Rows.{AreBranchRows, IsWholeIfNumber}
 use Rattle.lin_arith.specs.Answer.{IsSolution}
 use Rattle.lin_arith.specs.Values.{AreAllChosen}
 use Rattle.branch_rows.specs.declared.rows.BranchRows.{BranchRows}
 use Rattle.linear_rows.specs.declared.rows.Fraction.{Fraction}
 use Rattle.search_trees.specs.Turns.{terms_of, entry_of, IsGenerationFrom, IsAddedFor, AsBound}
 use Rattle.search_trees.specs.declared.turn.Growth.{Growth}
-use Rattle.proof_search.specs.Decisions.{IsLevel, IsGrowthDue}
+use Rattle.proof_search.specs.Decisions.{IsLevel, IsGrowthDue, IsValued}
+use Rattle.proof_search.specs.declared.values.OpenValues.{OpenValues}
 use Rattle.branch_solving.specs.Eliminations.{AreNamedRows, AreValues}
 use Rattle.branch_solving.specs.Bounds.{IsNumeral, IsBoundTurn}
 
@@ -118,12 +119,12 @@ module _ (shapes : List Shape) (ns ms : List Node) (grown : Extends ns ms) (b : 
         });
       }
 
-  pub values_open : All (IsWholeIfNumber b named.class rows.classes.keys) values → MeetsWhole b values
-  values_open whole = record {
+  pub values_open : (v : OpenValues) → v.names.items ≡ names → v.classes.items ≡ rows.classes.keys → v.values ≡ values → All (IsWholeIfNumber b named.class rows.classes.keys) values → IsValued ns b v
+  values_open v same_names same_classes same_values whole = record {
     class = named.class;
-    classes = rows.classes.keys;
+    named = λ n number term. ap (λ xs. slice_index xs n) same_names ∙ named.named.named n number term;
     rows = rows.rows;
-    are_rows = named.are_rows;
-    solution = found.solution;
-    whole = whole;
+    are_rows = subst (λ ks. AreBranchRows b named.class ks rows.rows) (sym same_classes) named.are_rows;
+    solution = subst (IsSolution rows.rows) (sym same_values) found.solution;
+    whole = subst (λ ks. All (IsWholeIfNumber b named.class ks) v.values) (sym same_classes) (subst (All (IsWholeIfNumber b named.class rows.classes.keys)) (sym same_values) whole);
   }

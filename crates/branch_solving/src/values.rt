@@ -19,9 +19,11 @@ use branch_values::bounds::{Bound, next_bound};
 use fol::operators::{Comparison, Constant};
 use formula_pool::node::{Leaf, Node, Two};
 use formula_pool::pool::Pool;
+use indexmap::IndexSet;
 use linear_rows::rows::Fractions;
 use pool_branch::branch::PoolBranch;
 use proof_search::deciders::LeafAnswer;
+use proof_search::values::OpenValues;
 use pv_base::memory::NoMemory;
 use search_trees::turn::{Growth, Reason};
 use std::alloc::Global;
@@ -86,6 +88,24 @@ fn bound_turn(
     })
 }
 
+// The values, with the names by which they are found.
+fn open_values(
+    alloc: Global,
+    names: &[usize],
+    classes: &IndexSet<usize>,
+    values: Fractions,
+) -> Result<OpenValues, NoMemory>
+    ensures names { IfOk result (λ v. v.names.items ≡ names.now) }
+    ensures classes { IfOk result (λ v. v.classes.items ≡ classes.now.keys) }
+    ensures values { IfOk result (λ v. v.values ≡ values) }
+{
+    Ok(OpenValues {
+        names: Vec::from_slice(alloc, names)?,
+        classes: Vec::from_slice(alloc, classes.as_slice())?,
+        values,
+    })
+}
+
 /// What these values of the rows leave of a branch on which nothing else is due: it is open, or a bound is due.
 pub fn open_or_bound(
     alloc: Global,
@@ -104,6 +124,6 @@ pub fn open_or_bound(
 {
     match next_bound(alloc, pool, branch, names, &rows.classes, values.as_slice())? {
         Some(bound) => Ok(LeafAnswer::Bound(bound_turn(alloc, pool, branch, bound)?)),
-        None => Ok(LeafAnswer::Open(values)),
+        None => Ok(LeafAnswer::Open(open_values(alloc, names, &rows.classes, values)?)),
     }
 }

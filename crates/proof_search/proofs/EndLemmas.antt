@@ -1,16 +1,20 @@
 -- What the tree of a search shows at its end.
-use Rattle.std.proofs.Common.{◌≡◌, ℕ, ◌+◌, ◌-◌, ◌≤◌, List, ◌++◌, take, drop, reverse, sym, subst, arith}
+use Rattle.std.proofs.Common.{◌≡◌, ℕ, false, ◌+◌, ◌-◌, ◌≤◌, List, ◌++◌, take, drop, reverse, sym, subst, arith}
 use Rattle.std.proofs.lemmas.List.{length-map, length-take-le, take-append-drop}
 use Rattle.fol.specs.declared.shapes.Shape.{Shape}
 use Rattle.cert.specs.CertData.{StepData}
 use Rattle.cert.specs.CertView.{close_of_node}
 use Rattle.formula_pool.specs.declared.node.Node.{Node}
+use Rattle.branches.specs.Due.{IsShallow}
+use Rattle.branches.specs.Rows.{MeetsWhole}
 use Rattle.branches.specs.Turns.{Turn, IsReached, ClosesBranch}
 use Rattle.pool_branch.specs.PoolBranches.{branch_in}
 use Rattle.equation_chains.specs.Chains.{step_in}
 use Rattle.search_trees.specs.Trees.{waiting_in, IsTree}
 use Rattle.search_trees.specs.declared.tree.SearchTree.{SearchTree}
-use Rattle.proof_search.specs.Ends.{Claim, ShowsEnd, HasTurns, links_of, IsShown, IsOutcome}
+use Rattle.proof_search.specs.Decisions.{IsValued}
+use Rattle.proof_search.specs.Ends.{Claim, ShowsEnd, HasTurns, links_of, IsShown, is_full, IsOutcome}
+use Rattle.proof_search.specs.declared.values.OpenValues.{OpenValues}
 use Rattle.proof_search.specs.declared.search.Outcome.{Outcome}
 use Rattle.proof_search.specs.declared.end.End.{End}
 use Rattle.proof_search.specs.declared.end.End.TheVariants.{Proved, Open, Spent, SpentInChain, Wide, TooManyRows, Full}
@@ -19,6 +23,10 @@ module _ (shapes : List Shape) (claim : Claim) (ns : List Node) (t : SearchTree)
   -- the branch that is worked on is reached
   reached : (spent : ℕ) (tree : IsTree shapes claim.formula spent ns t) → IsReached shapes claim.formula tree.text.turns (branch_in ns t.branch)
   reached spent tree = record { others = waiting_in ns t.branch.entries (reverse t.waiting.items); due = tree.text.due; first = tree.text.branches }
+
+  -- the values meet the rows of the branch
+  met : (v : OpenValues) → IsValued ns (branch_in ns t.branch) v → MeetsWhole (branch_in ns t.branch) v.values
+  met v h = record { class = h.class; classes = v.classes.items; rows = h.rows; are_rows = h.are_rows; solution = h.solution; whole = h.whole }
 
   has_turns : (spent : ℕ) (tree : IsTree shapes claim.formula spent ns t) (taken : ℕ) → spent ≤ taken → (P : List Turn → Type 0) → P tree.text.turns → HasTurns ns t taken P
   has_turns spent tree taken few P shown = record {
@@ -36,7 +44,10 @@ module _ (shapes : List Shape) (claim : Claim) (ns : List Node) (t : SearchTree)
     shown = record { due = h.text.due; closed = h.text.branches };
   }
   shown_of left taken sum (Open values) h =
-      has_turns h.spent h.tree taken (let e = h.sum in omega (arith, e, sum)) _ (record { reached = reached h.spent h.tree; saturated = h.shown.0; met = h.shown.1 })
+      has_turns h.spent h.tree taken (let e = h.sum in omega (arith, e, sum)) _ (record {
+        open_branch = record { reached = reached h.spent h.tree; saturated = h.shown.0; met = met values h.shown.1 };
+        valued = h.shown.1;
+      })
   shown_of left taken sum Spent h =
       has_turns h.spent h.tree taken (let e = h.sum in let l = h.shown in omega (arith, e, l, sum)) _ (record { due = h.tree.text.due; steps = (let s = h.tree.text.steps in let e = h.sum in omega (arith, s, e)) })
   shown_of left taken sum (SpentInChain c done) h =
@@ -63,12 +74,13 @@ module _ (shapes : List Shape) (claim : Claim) (ns : List Node) (t : SearchTree)
       has_turns h.spent h.tree taken (let e = h.sum in omega (arith, e, sum)) _ (record { reached = reached h.spent h.tree; full = h.shown })
 
 -- the outcome of a search that ends with so much of the budget left
-pub outcome_of : (shapes : List Shape) (claim : Claim) (left before after : ℕ) (ns : List Node) (outcome : Outcome) → after + left ≡ before + claim.budget → left ≤ claim.budget → ShowsEnd shapes claim left ns outcome.tree outcome.end → IsOutcome shapes claim before after ns outcome
-outcome_of shapes claim left before after ns outcome sum within h = record {
+pub outcome_of : (shapes : List Shape) (claim : Claim) (left before after : ℕ) (ns : List Node) (outcome : Outcome) → after + left ≡ before + claim.budget → left ≤ claim.budget → ShowsEnd shapes claim left ns outcome.tree outcome.end → (is_full outcome.end ≡ false → IsShallow claim.formula) → IsOutcome shapes claim before after ns outcome
+outcome_of shapes claim left before after ns outcome sum within h shallow = record {
   taken = claim.budget - left;
   counted = omega (arith, sum, within);
   at_most = omega arith;
   shown = shown_of shapes claim ns outcome.tree left (claim.budget - left) (omega (arith, within)) outcome.end h;
+  shallow = shallow;
 }
 
 -- no more is left than the budget

@@ -1,3 +1,4 @@
+pub mod FirstLemmas
 pub mod LevelLemmas
 pub mod LengthLemmas
 pub mod EndLemmas

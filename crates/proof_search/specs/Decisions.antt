@@ -1,5 +1,5 @@
 -- What deciders tell of a branch.
-use Rattle.std.specs.Prelude.{◌≡◌, ◌⊎◌, ℕ, ◌+◌, ◌<◌, ◌≤◌, ◌^◌, Bool, true, false, List, length}
+use Rattle.std.specs.Prelude.{◌≡◌, ◌⊎◌, ℕ, ◌+◌, ◌<◌, ◌≤◌, ◌^◌, Bool, true, false, List, length, slice_index, All}
 use Rattle.fol.specs.declared.shapes.Shape.{Shape}
 use Rattle.fol.specs.FormulaData.{TermData, FormulaData, NotFormula}
 use Rattle.axioms.specs.declared.axiom.Axiom.{Axiom}
@@ -7,13 +7,17 @@ use Rattle.cert.specs.Closes.{most_entries}
 use Rattle.linear_rows.specs.Inequality.{Inequality}
 use Rattle.linear_rows.specs.Elimination.{ReachesLimit}
 use Rattle.linear_rows.specs.declared.rows.Fraction.{Fraction}
+use Rattle.lin_arith.specs.Answer.{IsSolution}
 use Rattle.lin_arith.specs.Wide.{IsWide}
+use Rattle.formula_pool.specs.Items.{term_in}
+use Rattle.formula_pool.specs.Pools.{item_at}
 use Rattle.formula_pool.specs.declared.node.Node.{Node}
-use Rattle.branches.specs.Branch.{Branch, formulas, Says}
+use Rattle.branches.specs.Branch.{Branch, formulas, Says, IsTerm}
 use Rattle.branches.specs.Names.{above_all}
 use Rattle.branches.specs.Due.{SplitDue, InstanceDue, AxiomDue, CutDue, IsNotClosed, IsSaturated, IsShallow}
-use Rattle.branches.specs.Rows.{AreBranchRows, Meets, MeetsWhole}
+use Rattle.branches.specs.Rows.{AreBranchRows, IsWholeIfNumber, Meets}
 use Rattle.branches.specs.Turns.{Turn, IsDueTurn, IsFull}
+use Rattle.pool_branch.specs.PoolBranches.{IsTermNumber}
 use Rattle.search_trees.specs.Turns.{entry_of, IsGenerationFrom, IsGrowthOf, IsClosingOf}
 use Rattle.search_trees.specs.declared.turn.Growth.{Growth}
 use Rattle.search_trees.specs.declared.turn.Closing.{Closing as ClosingTurn}
@@ -21,6 +25,7 @@ use Rattle.proof_search.specs.declared.deciders.ClosingAnswer.{ClosingAnswer}
 use Rattle.proof_search.specs.declared.deciders.ClosingAnswer.TheVariants.{Open as NotClosed, Closes, TooLong}
 use Rattle.proof_search.specs.declared.deciders.RowsAnswer.{RowsAnswer}
 use Rattle.proof_search.specs.declared.deciders.RowsAnswer.TheVariants.{Met, Closes as RowsClose, TooLong as RowsTooLong, Wide, TooMany}
+use Rattle.proof_search.specs.declared.values.OpenValues.{OpenValues}
 use Rattle.proof_search.specs.declared.decisions.Stop.{Stop}
 use Rattle.proof_search.specs.declared.decisions.Stop.TheVariants.{Open as StopOpen, Wide as StopWide, TooManyRows as StopRows, Full as StopFull}
 use Rattle.proof_search.specs.declared.decisions.Decision.{Decision}
@@ -105,8 +110,22 @@ ShowsRows shapes ns b RowsTooLong = IsFull shapes b
 ShowsRows shapes ns b (Wide first second) = IsWideAt b first second
 ShowsRows shapes ns b (TooMany rows) = IsLargeAt b rows
 
+-- the term with this number
+abbrev pub term_at : List Node → ℕ → TermData
+term_at ns n = term_in (item_at ns n)
+
+-- the values are those of the branch's rows over these classes, and whole at the classes that have numbers; each number of
+-- a term of the branch has the name of its class
+pub record IsValued (ns : List Node) (b : Branch) (v : OpenValues) : Type 0 where
+  pub class : TermData → ℕ
+  pub named : (n : ℕ) → IsTermNumber ns n → IsTerm b (term_at ns n) → slice_index v.names.items n ≡ class (term_at ns n)
+  pub rows : List Inequality
+  pub are_rows : AreBranchRows b class v.classes.items rows
+  pub solution : IsSolution rows v.values
+  pub whole : All (IsWholeIfNumber b class v.classes.items) v.values
+
 abbrev pub ShowsLeaf : List Shape → List Node → Branch → LeafAnswer → Type 0
-ShowsLeaf shapes ns b (LeafOpen values) = MeetsWhole b values
+ShowsLeaf shapes ns b (LeafOpen values) = IsValued ns b values
 ShowsLeaf shapes ns b (Bound g) = IsGrowthDue shapes ns b g
 ShowsLeaf shapes ns b (LeafCloses c) = IsClosingDue shapes ns b c
 ShowsLeaf shapes ns b LeafTooLong = IsFull shapes b
@@ -116,14 +135,14 @@ ShowsLeaf shapes ns b (LeafTooMany rows) = IsLargeAt b rows
 -- ---- decisions
 
 -- what an end shows of the branch
-abbrev pub ShowsStop : List Shape → Branch → Stop → Type 0
-ShowsStop shapes b (StopOpen values) = IsSaturated shapes b × MeetsWhole b values
-ShowsStop shapes b (StopWide first second) = IsWideAt b first second
-ShowsStop shapes b (StopRows rows) = IsLargeAt b rows
-ShowsStop shapes b StopFull = IsFull shapes b
+abbrev pub ShowsStop : List Shape → List Node → Branch → Stop → Type 0
+ShowsStop shapes ns b (StopOpen values) = IsSaturated shapes b × IsValued ns b values
+ShowsStop shapes ns b (StopWide first second) = IsWideAt b first second
+ShowsStop shapes ns b (StopRows rows) = IsLargeAt b rows
+ShowsStop shapes ns b StopFull = IsFull shapes b
 
 -- the turn is due, or the search ends here
 abbrev pub IsDecided : List Shape → List Node → Branch → Decision → Type 0
 IsDecided shapes ns b (Grows g) = IsGrowthDue shapes ns b g
 IsDecided shapes ns b (ClosesBy c) = IsClosingDue shapes ns b c
-IsDecided shapes ns b (Stops stop) = ShowsStop shapes b stop
+IsDecided shapes ns b (Stops stop) = ShowsStop shapes ns b stop

@@ -9,8 +9,9 @@ ghost use Rattle.branches.specs.Turns.{NothingEarly, IsLate};
 ghost use Rattle.pool_branch.specs.PoolBranches.{branch_in, IsOver};
 ghost use Rattle.proof_search.specs.Decisions.{IsCrowded, HasRoom, IsLevel, IsGrowthDue, NothingPlain, NothingLate, ShowsClosing, ShowsRows, ShowsLeaf};
 
+use crate::values::OpenValues;
 use formula_pool::pool::Pool;
-use linear_rows::rows::{Fractions, LinRow, Rows};
+use linear_rows::rows::{LinRow, Rows};
 use pool_branch::branch::PoolBranch;
 use pv_base::memory::NoMemory;
 use search_trees::turn::{Closing, Growth};
@@ -46,7 +47,7 @@ pub enum RowsAnswer {
 #[derive(Drop)]
 pub enum LeafAnswer {
     /// These values meet its rows, whole ones at numbers.
-    Open(Fractions),
+    Open(OpenValues),
     /// A bound is due.
     Bound(Growth),
     /// The elimination that gives the values ends without them: its rows have no solution, and this closes the branch.

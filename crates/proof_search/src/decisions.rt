@@ -8,9 +8,10 @@ ghost use Rattle.pool_branch.specs.PoolBranches.{branch_in, IsOver};
 ghost use Rattle.proof_search.specs.Decisions.{HasRoom, IsLevel, NothingPlain, IsDecided};
 
 use crate::deciders::{ClosingAnswer, Deciders, LeafAnswer, RowsAnswer};
+use crate::values::OpenValues;
 use cert::branch::MOST_ENTRIES;
 use formula_pool::pool::Pool;
-use linear_rows::rows::{Fractions, LinRow, Rows};
+use linear_rows::rows::{LinRow, Rows};
 use pool_branch::branch::PoolBranch;
 use pv_base::memory::NoMemory;
 use search_trees::turn::{Closing, Growth};
@@ -20,7 +21,7 @@ use std::alloc::Global;
 #[derive(Drop)]
 pub enum Stop {
     /// The branch is saturated, and these values meet its rows, whole ones at numbers.
-    Open(Fractions),
+    Open(OpenValues),
     /// An elimination of the rows of the branch meets two rows whose sum leaves 128 bits.
     Wide(LinRow, LinRow),
     /// It has these 5,000 rows.

@@ -1,6 +1,7 @@
 //! How a search ends.
 
-use linear_rows::rows::{Fractions, LinRow, Rows};
+use crate::values::OpenValues;
+use linear_rows::rows::{LinRow, Rows};
 use search_trees::turn::Closing;
 
 /// Why a search ends.
@@ -9,7 +10,7 @@ pub enum End {
     /// No branch is open.
     Proved,
     /// The branch that is worked on is saturated, and these values meet its rows, whole ones at numbers.
-    Open(Fractions),
+    Open(OpenValues),
     /// No step of the budget is left.
     Spent,
     /// The budget ends among the links of what would close the branch that is worked on, after this many of them.

@@ -7,3 +7,4 @@ pub mod decisions;
 pub mod end;
 pub mod search;
 mod turns;
+pub mod values;

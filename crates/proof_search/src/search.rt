@@ -1,15 +1,16 @@
 //! The search.
 
 ghost use Rattle.std.specs.Prelude.{◌≡◌, ◌+◌, ◌≤◌, IfOk};
-ghost use Rattle.fol.specs.FormulaData.{NotFormula};
+ghost use Rattle.fol.specs.FormulaData.{FormulaData, NotFormula};
 ghost use Rattle.formula_pool.specs.Pools.{Extends};
 ghost use Rattle.pool_branch.specs.PoolBranches.{IsFormulaNumber};
 ghost use Rattle.entry_steps.specs.Numbers.{formula_at};
-ghost use Rattle.proof_search.specs.Ends.{Claim, IsOutcome};
+ghost use Rattle.proof_search.specs.Ends.{Claim, IsOutcome, TellsDeep};
 
 use crate::deciders::Deciders;
 use crate::end::End;
 use crate::turns::move_on;
+use formula_pool::node::{Node, One};
 use formula_pool::pool::{MOST_DEPTH, Pool};
 use pv_base::memory::NoMemory;
 use pv_base::steps::Steps;
@@ -24,8 +25,20 @@ pub struct Outcome {
     pub tree: SearchTree,
 }
 
+// Whether the formula that is denied is deeper than a step may add.
+fn is_too_deep(pool: &Pool, denial: usize) -> bool
+    requires { IsFormulaNumber pool.now denial }
+    ensures { (p : FormulaData) → formula_at pool.now denial ≡ NotFormula p → TellsDeep p result }
+{
+    match pool.node(denial) {
+        Some(Node::One(One::Not, formula)) => pool.depth(formula) > MOST_DEPTH,
+        _ => pool.depth(denial) > MOST_DEPTH,
+    }
+}
+
 /// Searches for a proof of the formula whose denial has this number. It takes no more steps than the budget has, and counts
-/// as many as the tree of the outcome has. `NoMemory` comes where memory ran out.
+/// as many as the tree of the outcome has. A formula that is deeper than a step may add is not searched. `NoMemory` comes
+/// where memory ran out.
 pub fn search<D: Deciders, L: Ledger>(
     alloc: Global,
     deciders: &mut D,
@@ -44,7 +57,7 @@ pub fn search<D: Deciders, L: Ledger>(
     ensures most { steps.new ≤ steps.old + budget }
 {
     let mut tree = begin(alloc, pool, denial)?;
-    if pool.depth(denial) > MOST_DEPTH + 1 {
+    if is_too_deep(pool, denial) {
         return Ok(Outcome {
             end: End::Full,
             tree,

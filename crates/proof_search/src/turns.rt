@@ -92,7 +92,7 @@ fn close_branch<D: Deciders, L: Ledger>(
 
 // How the search ends where it stops at a branch.
 fn end_at(stop: Stop) -> End
-    ensures { (shapes : List Shape) (claim : Claim) (left : ℕ) (ns : List Node) (t : SearchTree) → IsGoing shapes claim left ns t → ShowsStop shapes (branch_in ns t.branch) stop → ShowsEnd shapes claim left ns t result }
+    ensures { (shapes : List Shape) (claim : Claim) (left : ℕ) (ns : List Node) (t : SearchTree) → IsGoing shapes claim left ns t → ShowsStop shapes ns (branch_in ns t.branch) stop → ShowsEnd shapes claim left ns t result }
 {
     match stop {
         Stop::Open(values) => End::Open(values),

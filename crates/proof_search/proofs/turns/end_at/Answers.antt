@@ -8,5 +8,5 @@ returns-in-Full c = λ shapes claim left ns t going shown. record {
   spent = going.spent;
   sum = going.sum;
   tree = going.tree;
-  shown = subst (ShowsStop shapes (branch_in ns t.branch)) c.in-Full.is shown;
+  shown = subst (ShowsStop shapes ns (branch_in ns t.branch)) c.in-Full.is shown;
 }

@@ -59,4 +59,4 @@ returns-in-Stops-clause-shown g c = (
     let before = g.D.Deciders.shapes c.args.deciders.now in
     let going = c.requires.1.1.1 in
     let shown = subst (IsDecided before ms (branch_in ns t.branch)) c.in-Stops.is c.in_ok-growth.ensures.decided in
-    c.end_at.ensures before g.sought c.args.left.now ms t (going_stays ns ms c.decide.ensures.extends before g.sought c.args.left.now t going) (fact_stays ns ms c.decide.ensures.extends (λ b. ShowsStop before b c.in-Stops.stop) t.branch going.tree.over shown))
+    c.end_at.ensures before g.sought c.args.left.now ms t (going_stays ns ms c.decide.ensures.extends before g.sought c.args.left.now t going) (fact_stays ns ms c.decide.ensures.extends (λ b. ShowsStop before ms b c.in-Stops.stop) t.branch going.tree.over shown))
