@@ -47,7 +47,7 @@ fn free(alloc: Global, returned: &Term, word: &[u8]) -> Result<Term, NoMemory>
 }
 
 /// The number of the first parameter that has this name.
-fn position_of(parameters: &[Name], word: &[u8]) -> Option<usize>
+pub fn position_of(parameters: &[Name], word: &[u8]) -> Option<usize>
     ensures { result ≡ position (same_name word.now) parameters.now }
 {
     parameters.iter().position(|name| word == name.as_slice())

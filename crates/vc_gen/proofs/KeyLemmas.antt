@@ -1,17 +1,17 @@
 -- The conditions of a function have its keys.
-use Rattle.std.proofs.Common.{◌≡◌, List, [], ◌∷◌, ◌++◌, map, Bool, true, false, if◌then◌else◌, refl, sym, ap, ◌∙◌}
+use Rattle.std.proofs.Common.{◌≡◌, List, [], ◌∷◌, ◌++◌, map, Bool, true, false, if◌then◌else◌, refl, ap, ◌∙◌}
 use Rattle.std.specs.Prelude.{Result, Ok, Err, IfOk}
 use Rattle.std.specs.List.{flat_map}
 use Rattle.std.proofs.lemmas.List.{map-append}
 use Rattle.answers.specs.declared.condition.ConditionKey.{ConditionKey}
 use Rattle.answers.specs.declared.condition.ConditionKind.{ConditionKind}
-use Rattle.answers.specs.declared.condition.ConditionKind.TheVariants.{Ensures as of_ensures, AbortsIf as of_aborts_if, Aborts as of_aborts}
+use Rattle.answers.specs.declared.condition.ConditionKind.TheVariants.{Ensures as of_ensures, AbortsIf as of_aborts_if}
 use Rattle.sum_formula.specs.Premises.{is_kind, at_return, returned_term}
 use Rattle.sum_tree.specs.declared.clause.SumClause.{SumClause}
 use Rattle.sum_tree.specs.declared.clause.ClauseKind.{ClauseKind}
 use Rattle.sum_tree.specs.declared.clause.ClauseKind.TheVariants.{Ensures, AbortsIf}
 use Rattle.sum_tree.specs.SumFunctionData.{SumFunctionData}
-use Rattle.vc_gen.specs.Conditions.{aborts_condition, at_each_return, at_no_return, condition_if, conditions_at_return, conditions_of}
+use Rattle.vc_gen.specs.Conditions.{aborts_condition, at_each_return, at_no_return, condition_if, conditions_of}
 use Rattle.vc_gen.specs.Keys.{has_kind, key_at, key_if, keys_of}
 use Rattle.vc_gen.specs.declared.condition.VerificationCondition.{VerificationCondition}
 

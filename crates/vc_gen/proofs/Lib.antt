@@ -4,3 +4,4 @@ pub mod RunTruth
 pub mod ClauseTruth
 pub mod DecideProof
 mod KeyLemmas
+mod SupposedLemmas

@@ -1,3 +1,4 @@
 pub mod Keys
 pub mod Decided
 pub mod Conditions
+pub mod Supposed

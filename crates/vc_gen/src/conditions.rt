@@ -1,12 +1,13 @@
 //! The verification conditions of a function.
 
-ghost use Rattle.std.specs.Prelude.{◌≡◌, ◌^◌, ◌≤◌, ◌++◌, IfOk, OnOk, length, map};
+ghost use Rattle.std.specs.Prelude.{◌≡◌, ◌^◌, ◌≤◌, ◌++◌, All, IfOk, OnOk, length, map};
 ghost use Rattle.std.specs.List.{flat_map};
 ghost use Rattle.fol.specs.FormulaData.{ImpliesFormula};
 ghost use Rattle.ref_sem.specs.Bodies.{HasU64Body};
 ghost use Rattle.sum_formula.specs.Premises.{returns_formula};
 ghost use Rattle.vc_gen.specs.Decided.{Decide};
 ghost use Rattle.vc_gen.specs.Keys.{has_kind, key_at, keys_of};
+ghost use Rattle.vc_gen.specs.Supposed.{SupposesTypes};
 ghost use Rattle.vc_gen.specs.declared.condition.VerificationCondition.{VerificationCondition};
 ghost use Rattle.vc_gen.specs.Conditions.{aborts_condition, at_each_return, at_no_return, condition_if, conditions_at_return, conditions_of, conditions_under};
 
@@ -209,7 +210,8 @@ fn generate(
 }
 
 /// The conditions of a function with the clauses of its spec, in the order of a report. All of them are valid
-/// exactly where the function keeps its contract. A function has at most 2^32 parameters.
+/// exactly where the function keeps its contract, and each supposes that the parameters have values of their types. A
+/// function has at most 2^32 parameters.
 pub fn conditions(
     alloc: Global,
     function: &SumFunction,
@@ -218,6 +220,7 @@ pub fn conditions(
     requires { length function.now.parameters ≤ 2 ^ 32 }
     ensures keys { IfOk result (λ made. map (λ (c : VerificationCondition). c.key) made.items ≡ keys_of function.now clauses.now) }
     ensures decide { HasU64Body function.now → IfOk result (λ made. Decide function.now clauses.now made.items) }
+    ensures typed { IfOk result (λ made. All (λ (c : VerificationCondition). SupposesTypes function.now.parameters c.formula) made.items) }
 {
     generate(alloc, function, clauses)
 }
