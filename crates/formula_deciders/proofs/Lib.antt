@@ -1,0 +1,2 @@
+pub mod StayLemmas
+pub mod StateLemmas

@@ -1,0 +1,20 @@
+-- What is kept of a branch, with numbers above its variables.
+use Rattle.std.proofs.Common.{◌≡◌, ℕ, ◌≤◌, ◌^◌, Bool, List, sym, subst}
+use Rattle.std.specs.Prelude.{◌↔◌, IsTrue}
+use Rattle.formula_pool.proofs.GrowthLemmas.{extends_itself}
+use Rattle.formula_pool.specs.declared.node.Node.{Node}
+use Rattle.branches.specs.Branch.{Branch, formulas}
+use Rattle.branches.specs.Names.{above_all}
+use Rattle.pool_branch.specs.PoolBranches.{BranchData}
+use Rattle.entry_names.specs.Variables.{AreAbove}
+use Rattle.branch_state.specs.States.{IsState, Follows}
+use Rattle.branch_state.specs.declared.state.BranchState.{BranchState}
+use Rattle.early_turns.proofs.MarkLemmas.{state_varied}
+use Rattle.proof_search.specs.Decisions.{IsCrowded}
+
+-- with other variables
+pub state_above : (ns : List Node) (d : BranchData) (s t : BranchState) → t.entries ≡ s.entries → t.classes ≡ s.classes → t.marks ≡ s.marks → IsState ns s → Follows d s → AreAbove ns d.entries t.variables → IsState ns t
+state_above ns d s t entries classes marks h follows above = state_varied d s t entries ns ns (extends_itself ns) classes marks h follows above
+
+pub crowded_test : (b : Branch) (r : Bool) (above : ℕ) → above ≡ above_all (formulas b) → IsTrue r ↔ (2 ^ 32 ≤ above) → IsTrue r ↔ IsCrowded b
+crowded_test b r above e test = (λ t. record { crowded = subst (λ n. 2 ^ 32 ≤ n) e (test.0 t) }, λ h. test.1 (subst (λ n. 2 ^ 32 ≤ n) (sym e) h.crowded))

@@ -1,0 +1,31 @@
+use Rattle.std.proofs.Common.{arith}
+use Rattle.branch_state.proofs.StateLemmas.{state_stays}
+use Rattle.due_instances.proofs.QuantifierLemmas.{free_grown}
+use Rattle.proof_search.proofs.TurnLemmas.{length_in}
+use Rattle.formula_deciders.specs.Known.{shapes_of}
+use Rattle.formula_deciders.proofs.StayLemmas.{index_stays}
+use Rattle.formula_deciders.proofs.deciders.FormulaDecidersDeciders.closing.Goals as goal
+
+pub follow_with_variable-requires-clause-state : goal.follow_with_variable-requires-clause-state
+follow_with_variable-requires-clause-state c = c.requires.knows.state
+
+pub closing-requires-clause-inside : goal.closing-requires-clause-inside
+closing-requires-clause-inside c = c.in_ok-variable.ensures.state.inside
+
+pub closing-requires-clause-short : goal.closing-requires-clause-short
+closing-requires-clause-short c = (let w = c.requires.room.entry in omega (arith, w, length_in c.args.pool.now c.args.branch.now))
+
+pub returns-clause-knows : goal.returns-clause-knows
+returns-clause-knows c =
+    let ns = c.args.pool.now in
+    let ms = c.closing.new.pool in
+    let grown = c.closing.ensures.extends in
+    record {
+      few = c.requires.knows.few;
+      state = state_stays ns ms grown c.follow_with_variable.new.state c.in_ok-variable.ensures.state;
+      heads = index_stays ns ms grown c.args.self.now.heads c.requires.knows.heads;
+      quantifiers = free_grown ns ms c.args.self.now.quantifiers grown c.requires.knows.quantifiers;
+    }
+
+pub returns-clause-shown : goal.returns-clause-shown
+returns-clause-shown c = c.in_ok-answer.ensures.shown (shapes_of c.args.self.now)

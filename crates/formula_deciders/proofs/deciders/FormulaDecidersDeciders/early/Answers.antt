@@ -1,0 +1,24 @@
+use Rattle.due_instances.proofs.QuantifierLemmas.{free_grown}
+use Rattle.formula_deciders.proofs.StayLemmas.{index_stays}
+use Rattle.formula_deciders.proofs.deciders.FormulaDecidersDeciders.early.Goals as goal
+
+pub follow-requires-clause-state : goal.follow-requires-clause-state
+follow-requires-clause-state c = c.requires.knows.state
+
+pub early_turn-requires-clause-few : goal.early_turn-requires-clause-few
+early_turn-requires-clause-few c = c.requires.knows.few
+
+pub returns-clause-knows : goal.returns-clause-knows
+returns-clause-knows c =
+    let ns = c.args.pool.now in
+    let ms = c.early_turn.new.pool in
+    let grown = c.early_turn.ensures.extends in
+    record {
+      few = c.requires.knows.few;
+      state = c.in_ok-found.ensures.state;
+      heads = index_stays ns ms grown c.args.self.now.heads c.requires.knows.heads;
+      quantifiers = free_grown ns ms c.args.self.now.quantifiers grown c.requires.knows.quantifiers;
+    }
+
+pub returns-clause-due : goal.returns-clause-due
+returns-clause-due c = c.in_ok-found.ensures.due

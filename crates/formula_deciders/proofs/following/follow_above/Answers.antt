@@ -1,0 +1,10 @@
+use Rattle.std.proofs.Common.{refl}
+use Rattle.early_turns.proofs.MarkLemmas.{variables_followed}
+use Rattle.formula_deciders.proofs.StateLemmas.{state_above}
+use Rattle.formula_deciders.proofs.following.follow_above.Goals as goal
+
+pub above_all-requires-clause-above : goal.above_all-requires-clause-above
+above_all-requires-clause-above c = variables_followed c.args.pool.now c.args.branch.now c.follow.new.self c.in_ok-follow.ensures.state c.in_ok-follow.ensures.follows
+
+pub returns-clause-state : goal.returns-clause-state
+returns-clause-state c = state_above c.args.pool.now c.args.branch.now c.follow.new.self _ refl refl refl c.in_ok-follow.ensures.state c.in_ok-follow.ensures.follows c.in_ok-above.ensures.above

@@ -1,0 +1,140 @@
+//! The deciders of a formula's search, with what they keep of the pool and of the branch that is worked on.
+
+ghost use Rattle.std.specs.Prelude.{◌≡◌, List};
+ghost use Rattle.fol.specs.declared.shapes.Shape.{Shape};
+ghost use Rattle.formula_pool.specs.declared.node.Node.{Node};
+ghost use Rattle.asked_axioms.specs.StructRows.{HasFewFields};
+ghost use Rattle.formula_deciders.specs.Known.{shapes_of, Knows};
+
+use crate::following::{follow_above, follow_with_variable, is_past};
+use crate::rows::{leaf_answer, rows_answer};
+use branch_state::state::BranchState;
+use clash_turns::closing::closing;
+use due_instances::quantifiers::QuantifierFree;
+use due_turns::late::late_turn;
+use due_turns::plain::plain_turn;
+use early_turns::early::early_turn;
+use entry_matches::heads::HeadIndex;
+use fol::shapes::Shapes;
+use formula_pool::pool::Pool;
+use pool_branch::branch::PoolBranch;
+use proof_search::deciders::{ClosingAnswer, Deciders, LeafAnswer, RowsAnswer};
+use pv_base::memory::NoMemory;
+use search_trees::turn::Growth;
+use std::alloc::Global;
+
+/// The deciders over the shapes of structs. They keep the state of the branch that is worked on, which follows it, and what
+/// they know of the nodes of the pool, which grows with it. After an `Err` they are good for nothing.
+#[derive(Drop)]
+pub struct FormulaDeciders<'a> {
+    shapes: &'a Shapes,
+    state: BranchState,
+    heads: HeadIndex,
+    quantifiers: QuantifierFree,
+}
+
+impl<'a> FormulaDeciders<'a> {
+    /// Nothing is known of any pool yet. The shapes of structs have fewer than 2^32 fields each.
+    pub fn new(alloc: Global, shapes: &'a Shapes) -> FormulaDeciders<'a>
+        requires { HasFewFields shapes.now }
+        ensures knows { (ns : List Node) → Knows result ns }
+        ensures shapes { shapes_of result ≡ shapes.now }
+    {
+        FormulaDeciders {
+            shapes,
+            state: BranchState::new(alloc),
+            heads: HeadIndex::new(alloc),
+            quantifiers: QuantifierFree::new(alloc),
+        }
+    }
+}
+
+impl<'a> Deciders for FormulaDeciders<'a> {
+    ghost shapes = { shapes_of };
+
+    ghost knows = { Knows };
+
+    fn is_crowded(
+        &mut self,
+        alloc: Global,
+        pool: &Pool,
+        branch: &PoolBranch,
+    ) -> Result<bool, NoMemory> {
+        let above = follow_above(alloc, pool, branch, &mut self.state)?;
+        Ok(is_past(above))
+    }
+
+    fn early(
+        &mut self,
+        alloc: Global,
+        pool: &mut Pool,
+        branch: &PoolBranch,
+    ) -> Result<Option<Growth>, NoMemory> {
+        self.state.follow(alloc, pool, branch)?;
+        let found = early_turn(alloc, pool, self.shapes, branch, &mut self.state)?;
+        Ok(found)
+    }
+
+    fn closing(
+        &mut self,
+        alloc: Global,
+        pool: &mut Pool,
+        branch: &PoolBranch,
+    ) -> Result<ClosingAnswer, NoMemory> {
+        let variable = follow_with_variable(alloc, pool, branch, &mut self.state)?;
+        let answer = closing(alloc, pool, branch, &self.state.classes, variable)?;
+        Ok(answer)
+    }
+
+    fn plain(
+        &mut self,
+        alloc: Global,
+        pool: &mut Pool,
+        branch: &PoolBranch,
+    ) -> Result<Option<Growth>, NoMemory> {
+        self.state.follow(alloc, pool, branch)?;
+        let found = plain_turn(
+            alloc,
+            pool,
+            self.shapes,
+            branch,
+            &self.state.classes,
+            &mut self.heads,
+            &mut self.quantifiers,
+        )?;
+        Ok(found)
+    }
+
+    fn rows(
+        &mut self,
+        alloc: Global,
+        pool: &mut Pool,
+        branch: &PoolBranch,
+    ) -> Result<RowsAnswer, NoMemory> {
+        let variable = follow_with_variable(alloc, pool, branch, &mut self.state)?;
+        let answer = rows_answer(alloc, pool, branch, &self.state.classes, variable)?;
+        Ok(answer)
+    }
+
+    fn late(
+        &mut self,
+        alloc: Global,
+        pool: &mut Pool,
+        branch: &PoolBranch,
+    ) -> Result<Option<Growth>, NoMemory> {
+        self.state.follow(alloc, pool, branch)?;
+        let found = late_turn(alloc, pool, branch, &self.state.classes)?;
+        Ok(found)
+    }
+
+    fn leaf(
+        &mut self,
+        alloc: Global,
+        pool: &mut Pool,
+        branch: &PoolBranch,
+    ) -> Result<LeafAnswer, NoMemory> {
+        let variable = follow_with_variable(alloc, pool, branch, &mut self.state)?;
+        let answer = leaf_answer(alloc, pool, branch, &self.state.classes, variable)?;
+        Ok(answer)
+    }
+}
