@@ -1,0 +1,9 @@
+//! Tests of the prover as a whole: formulas whose answers are known.
+#![tactic(auto)]
+
+#[cfg(test)]
+mod claims;
+#[cfg(test)]
+mod prover_tests;
+#[cfg(test)]
+mod searches;

@@ -1,0 +1,85 @@
+//! What the prover finds out.
+
+ghost use Rattle.std.specs.Prelude.{◌≡◌, ◌<◌};
+ghost use Rattle.asked_axioms.specs.StructRows.{HasFewFields};
+
+use fol::formula::Formula;
+use fol::shapes::Shapes;
+use formula_deciders::deciders::FormulaDeciders;
+use formula_prover::answer::Answer;
+use formula_prover::prover::prove;
+use linear_rows::rows::Fraction;
+use proof_search::end::End;
+use pv_base::memory::NoMemory;
+use pv_base::steps::Steps;
+use std::alloc::Global;
+use std::sync::ledger::{Blank, Ledger};
+
+// No struct has a shape.
+fn no_shapes(alloc: Global) -> Shapes
+    ensures { HasFewFields result }
+{
+    Shapes::new(alloc)
+}
+
+/// What the prover answers for a formula within a budget.
+pub(crate) fn found<L: Ledger>(
+    alloc: Global,
+    formula: &Formula,
+    budget: u64,
+    blank: Blank,
+) -> Result<Answer, NoMemory>
+    requires name { blank.name ≡ L.name }
+    requires parts { blank.parts ≡ L.parts }
+    requires some { 0 < L.parts }
+{
+    let mut steps = Steps::<L>::new(blank);
+    let shapes = no_shapes(alloc);
+    let mut deciders = FormulaDeciders::new(alloc, &shapes);
+    let answer = prove(alloc, &mut deciders, formula, budget, &mut steps)?;
+    Ok(answer)
+}
+
+fn word_of(end: &End) -> &'static str {
+    match end {
+        End::Proved => "proved",
+        End::Open(_) => "open",
+        End::Spent => "spent",
+        End::SpentInChain(_, _) => "spent in a chain",
+        End::Wide(_, _) => "wide",
+        End::TooManyRows(_) => "too many rows",
+        End::Full => "full",
+    }
+}
+
+/// The word for an answer.
+pub(crate) fn word(answer: &Answer) -> &'static str {
+    match answer {
+        Answer::Ended(search) => word_of(&search.outcome.end),
+        Answer::TooLong(_, _) => "too long",
+        Answer::WideNumeral(_) => "wide numeral",
+    }
+}
+
+/// How many turns the text of the search has.
+pub(crate) fn turns(answer: &Answer) -> usize {
+    match answer {
+        Answer::Ended(search) => search.outcome.tree.text.len(),
+        Answer::TooLong(search, _) => search.outcome.tree.text.len(),
+        Answer::WideNumeral(_) => 0,
+    }
+}
+
+/// The first of the values that leave a branch open.
+pub(crate) fn first_value(answer: &Answer) -> Option<Fraction> {
+    let Answer::Ended(search) = answer else {
+        return None;
+    };
+    let End::Open(values) = &search.outcome.end else {
+        return None;
+    };
+    match values.as_slice().first() {
+        Some(value) => Some(*value),
+        None => None,
+    }
+}
