@@ -1,5 +1,5 @@
 -- What a printed line tells is told by its bytes.
-use Rattle.std.proofs.Common.{◌≡◌, ℕ, zero, suc, ℤ, pos, negsuc, ◌+◌, ◌-◌, ◌*◌, ◌/◌, ◌%◌, ◌<◌, ◌≤◌, ◌^◌, Bool, true, false, not, cond, ◌==◌, ◌&&◌, List, [], ◌∷◌, ◌++◌, map, Some, None, Option, refl, sym, ap, subst, ◌∙◌, append_assoc, arith}
+use Rattle.std.proofs.Common.{◌≡◌, ℕ, zero, suc, ℤ, pos, negsuc, ◌+◌, ◌-◌, ◌*◌, ◌/◌, ◌%◌, ◌<◌, ◌≤◌, ◌^◌, Bool, true, not, cond, ◌==◌, ◌&&◌, List, [], ◌∷◌, ◌++◌, map, Some, None, Option, refl, sym, ap, subst, ◌∙◌, arith}
 use Rattle.std.specs.Prelude.{codes, nat_lt, slice_index_or, count_by, length}
 use Rattle.std.specs.List.{AllByRecursion, flat_map}
 use Rattle.std.specs.Fmt.{decimal}
@@ -9,7 +9,7 @@ use Rattle.std.proofs.lemmas.List.{map-append}
 use Rattle.answers.specs.declared.condition.ConditionKind.{ConditionKind}
 use Rattle.answers.specs.declared.condition.ConditionKind.TheVariants.{Ensures, AbortsIf, Aborts}
 use Rattle.report.specs.ReportData.{ConditionRecordData, FunctionRecordData, ParameterValueData, ReportData}
-use Rattle.report.specs.ReportText.{check_text, condition_line, condition_lines, condition_verdict_text, count_line, denominator_text, function_line, function_lines, function_verdict_text, hexadecimal, is_proved, kind_text, line_feed, lines_of_report, report_text, value_line, whole_text}
+use Rattle.report.specs.ReportText.{check_text, condition_line, condition_lines, condition_verdict_text, count_line, function_line, function_lines, function_verdict_text, hexadecimal, is_proved, kind_text, line_feed, lines_of_report, report_text, value_line, whole_text}
 use Rattle.report.specs.Told.{HoldsNoFeed, IsCounted, IsPrintedCondition, IsPrintedFunction, IsPrintedReport, LineVerdict, of_condition, of_function, of_none, told_of_condition, told_of_function, told_of_report}
 use Rattle.report.specs.declared.report.ConditionVerdict.{ConditionVerdict}
 use Rattle.report.specs.declared.report.ConditionVerdict.TheVariants.{Proved as condition_proved, Open, Wide, Rows, Budget, Size}
@@ -193,12 +193,6 @@ whole_holds_none : (z : ℤ) → HoldsNoFeed (whole_text z)
 whole_holds_none (pos n) = number_holds_none 10 n
 whole_holds_none (negsuc n) = none_in (codes "-") (decimal (suc n)) refl (number_holds_none 10 (suc n))
 
-denominator_holds_none : (z : ℤ) → HoldsNoFeed (denominator_text z)
-denominator_holds_none (pos zero) = none_in (codes "/") (whole_text (pos zero)) refl (whole_holds_none (pos zero))
-denominator_holds_none (pos (suc zero)) = refl
-denominator_holds_none (pos (suc (suc n))) = none_in (codes "/") (whole_text (pos (suc (suc n)))) refl (whole_holds_none (pos (suc (suc n))))
-denominator_holds_none (negsuc n) = none_in (codes "/") (whole_text (negsuc n)) refl (whole_holds_none (negsuc n))
-
 function_ends : (f : FunctionRecordData) → IsPrintedFunction f → EndsOnce (function_line f)
 function_ends f p =
     let address = codes "0x" ++ hexadecimal f.address in
@@ -224,10 +218,8 @@ condition_ends files c p =
 value_ends : (v : ParameterValueData) → HoldsNoFeed v.name → EndsOnce (value_line v)
 value_ends v p =
     let name = codes "    " ++ v.name in
-    let numerator = (name ++ codes " = ") ++ whole_text v.numerator in
     let of_name : HoldsNoFeed name = none_in (codes "    ") v.name refl p in
-    let of_numerator : HoldsNoFeed numerator = none_in (name ++ codes " = ") (whole_text v.numerator) (none_in name (codes " = ") of_name refl) (whole_holds_none v.numerator) in
-    ends_once (numerator ++ denominator_text v.denominator) (none_in numerator (denominator_text v.denominator) of_numerator (denominator_holds_none v.denominator))
+    ends_once ((name ++ codes " = ") ++ whole_text v.number) (none_in (name ++ codes " = ") (whole_text v.number) (none_in name (codes " = ") of_name refl) (whole_holds_none v.number))
 
 count_ends : (fs : List FunctionRecordData) → EndsOnce (count_line fs)
 count_ends fs =

@@ -1,22 +1,23 @@
 -- The records of verdicts as contracts see them.
 use Rattle.std.specs.Prelude.{ℕ, ℤ, List, Option}
 use Rattle.answers.specs.declared.condition.ConditionKind.{ConditionKind}
+use Rattle.formula_prover.specs.declared.answer.Answer.{Answer}
 use Rattle.report.specs.declared.report.ConditionVerdict.{ConditionVerdict}
 use Rattle.report.specs.declared.report.FunctionVerdict.{FunctionVerdict}
 
--- the value of a parameter on an open branch, as a fraction
+-- the value of a parameter on an open branch
 pub record ParameterValueData : Type 0 where
   pub name : List ℕ
-  pub numerator : ℤ
-  pub denominator : ℤ
+  pub number : ℤ
 
--- a condition by its kind and place, its verdict, and the values that are printed after it
+-- a condition by its kind and place, its verdict, what was answered for its formula, and the values that are printed after it
 pub record ConditionRecordData : Type 0 where
   pub kind : ConditionKind
   pub file : ℕ
   pub line : ℕ
   pub check_line : Option ℕ
   pub verdict : ConditionVerdict
+  pub answer : Answer
   pub values : List ParameterValueData
 
 -- a function's verdict, and those of its conditions in their order

@@ -1,5 +1,5 @@
 -- The text of a report, a function of its records. Each line ends with a line feed.
-use Rattle.std.specs.Prelude.{ℕ, zero, suc, ℤ, pos, negsuc, Bool, true, false, List, [], ◌∷◌, ◌++◌, length, count_by, Option, Some, None, codes, map, slice_index_or}
+use Rattle.std.specs.Prelude.{ℕ, suc, ℤ, pos, negsuc, Bool, true, false, List, [], ◌∷◌, ◌++◌, length, count_by, Option, Some, None, codes, map, slice_index_or}
 use Rattle.std.specs.List.{flat_map}
 use Rattle.std.specs.Fmt.{decimal, digits}
 use Rattle.report.specs.ReportData.{ParameterValueData, ConditionRecordData, FunctionRecordData, ReportData}
@@ -59,14 +59,9 @@ abbrev pub whole_text : ℤ → List ℕ
 whole_text (pos n) = decimal n
 whole_text (negsuc n) = codes "-" ++ decimal (suc n)
 
--- a fraction, and a whole number where the denominator is 1
-abbrev pub denominator_text : ℤ → List ℕ
-denominator_text (pos (suc zero)) = []
-denominator_text z = codes "/" ++ whole_text z
-
--- `    x = 1/2`
+-- `    x = -1`
 abbrev pub value_line : ParameterValueData → List ℕ
-value_line v = codes "    " ++ v.name ++ codes " = " ++ whole_text v.numerator ++ denominator_text v.denominator ++ line_feed
+value_line v = codes "    " ++ v.name ++ codes " = " ++ whole_text v.number ++ line_feed
 
 -- the line of a condition, and those of the values
 abbrev pub condition_lines : List (List ℕ) → ConditionRecordData → List (List ℕ)

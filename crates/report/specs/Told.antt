@@ -3,7 +3,7 @@ use Rattle.std.specs.Prelude.{◌≡◌, ℕ, ◌^◌, ◌<◌, true, not, ◌==
 use Rattle.std.specs.List.{AllByRecursion, flat_map, list_all}
 use Rattle.report.specs.ReportData.{ConditionRecordData, FunctionRecordData, ParameterValueData, ReportData}
 use Rattle.report.specs.declared.report.ConditionVerdict.{ConditionVerdict}
-use Rattle.report.specs.declared.report.ConditionVerdict.TheVariants.{Proved, Open, Wide, Rows, Budget, Size}
+use Rattle.report.specs.declared.report.ConditionVerdict.TheVariants.{Budget}
 use Rattle.report.specs.declared.report.FunctionVerdict.{FunctionVerdict}
 
 pub data LineVerdict : Type 0 where

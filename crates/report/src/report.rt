@@ -4,6 +4,7 @@ ghost use Rattle.std.specs.Prelude.{◌≡◌, IfOk};
 ghost use Rattle.report.specs.ReportText.{function_line, condition_line, count_line, lines_of_report};
 
 use answers::condition::ConditionKind;
+use formula_prover::answer::Answer;
 use pv_base::lists::Bytes;
 use pv_base::memory::NoMemory;
 use pv_base::name::Name;
@@ -13,18 +14,19 @@ use std::marker::Model;
 /// What was found out of a condition.
 #[derive(Clone, Copy, Debug, PartialEq, Eq)]
 pub enum ConditionVerdict {
-    /// A certificate for it was checked.
+    /// A search tree for it leaves no branch open, and its moves are a certificate that the checker accepts.
     Proved,
-    /// A branch of its tableau is open: nothing is left to do on it, nothing closes it, and values meet
-    /// its rows.
+    /// A search tree for it leaves a branch open on which nothing is due and which nothing closes, and values meet the
+    /// branch's rows, whole ones at numbers.
     Open,
-    /// An elimination of the rows of such a branch meets two rows whose sum leaves 128 bits.
+    /// An elimination of the rows of a branch of a search tree meets two rows whose sum leaves 128 bits; or the formula
+    /// has a numeral from 2^127 on other than 2^128 - 1.
     Wide,
-    /// An elimination of the rows of such a branch has 5,000 rows.
+    /// An elimination of the rows of a branch of a search tree has 5,000 rows.
     Rows,
-    /// The search took this many steps, its whole budget.
+    /// A search tree for it has this many steps, the whole budget.
     Budget(u64),
-    /// A branch of its tableau has 4,000 entries.
+    /// No certificate can go on with a branch of a search tree; or the one that was found has more than 4 MiB.
     Size,
 }
 
@@ -37,13 +39,11 @@ pub enum FunctionVerdict {
     Unknown,
 }
 
-/// The value of a parameter on an open branch, as a fraction.
+/// The value of a parameter on an open branch.
 #[derive(Drop)]
 pub struct ParameterValue {
     pub name: Name,
-    pub numerator: i128,
-    /// Above 0.
-    pub denominator: i128,
+    pub number: i128,
 }
 
 impl Model for ParameterValue {
@@ -51,7 +51,7 @@ impl Model for ParameterValue {
 
     ghost Value = { ParameterValueData };
 
-    ghost view = { λ v. record { name = v.name; numerator = v.numerator; denominator = v.denominator } };
+    ghost view = { λ v. record { name = v.name; number = v.number } };
 }
 
 /// A condition, by its kind and its place, and its verdict.
@@ -65,6 +65,9 @@ pub struct ConditionRecord {
     /// The line of the check, where it stands apart from the clause.
     pub check_line: Option<u32>,
     pub verdict: ConditionVerdict,
+    /// What the prover answered for the condition's formula: the text of a search tree, over the pool of its formulas,
+    /// that shows the verdict.
+    pub answer: Answer,
     /// Where the verdict is `Open`, the values of the function's parameters on the branch, in order.
     pub values: Vec<ParameterValue>,
 }
@@ -74,7 +77,7 @@ impl Model for ConditionRecord {
 
     ghost Value = { ConditionRecordData };
 
-    ghost view = { λ c. record { kind = c.kind; file = c.file; line = c.line; check_line = c.check_line; verdict = c.verdict; values = c.values.items } };
+    ghost view = { λ c. record { kind = c.kind; file = c.file; line = c.line; check_line = c.check_line; verdict = c.verdict; answer = c.answer; values = c.values.items } };
 }
 
 /// A function, its verdict, and the verdicts of its conditions in the report's order.

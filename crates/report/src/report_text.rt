@@ -1,7 +1,7 @@
 //! The lines of a report.
 
 ghost use Rattle.std.specs.Prelude.{◌≡◌, ◌++◌, [], slice_index_or, IfOk, OnOk};
-ghost use Rattle.report.specs.ReportText.{check_text, condition_line, condition_lines, condition_verdict_text, denominator_text, value_line, count_line, function_line, function_lines, function_verdict_text, kind_text, lines_of_report, report_text};
+ghost use Rattle.report.specs.ReportText.{check_text, condition_line, condition_lines, condition_verdict_text, value_line, count_line, function_line, function_lines, function_verdict_text, kind_text, lines_of_report, report_text};
 ghost use Rattle.report.specs.ReportData.{ReportData};
 ghost use Rattle.report.specs.Told.{IsPrintedReport, told_of_report};
 
@@ -115,17 +115,6 @@ fn condition_line(
     Ok(line)
 }
 
-/// Puts what stands under a fraction at the end, unless that is 1.
-fn push_denominator(alloc: Global, text: &mut Bytes, denominator: i128) -> Result<(), NoMemory>
-    ensures { OnOk result (text.new ≡ text.old ++ denominator_text denominator) }
-{
-    if denominator == 1 {
-        return Ok(());
-    }
-    text.extend_from_slice(b"/")?;
-    push_whole(alloc, text, denominator)
-}
-
 /// The line of a parameter's value.
 fn value_line(alloc: Global, value: &ParameterValue) -> Result<Bytes, NoMemory>
     ensures { IfOk result (λ line. line ≡ value_line value.now) }
@@ -134,8 +123,7 @@ fn value_line(alloc: Global, value: &ParameterValue) -> Result<Bytes, NoMemory>
     line.extend_from_slice(b"    ")?;
     line.extend_from_slice(value.name.as_slice())?;
     line.extend_from_slice(b" = ")?;
-    push_whole(alloc, &mut line, value.numerator)?;
-    push_denominator(alloc, &mut line, value.denominator)?;
+    push_whole(alloc, &mut line, value.number)?;
     line.extend_from_slice(b"\n")?;
     Ok(line)
 }
