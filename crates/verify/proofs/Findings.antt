@@ -1,33 +1,84 @@
--- The verdict on a condition is shown by what the search answered.
-use Rattle.std.proofs.Common.{◌≡◌, ℕ, List, [], sym, subst}
-use Rattle.fol.specs.FormulaData.{TermData, FormulaData}
-use Rattle.linear_rows.specs.Inequality.{Inequality}
-use Rattle.linear_rows.specs.declared.rows.Fraction.{Fraction}
-use Rattle.saturation.specs.Branch.{BranchData}
-use Rattle.search.specs.Answer.{IsOpenLeaf, IsWideLeaf, IsLargeLeaf, IsFullBranch}
-use Rattle.search.specs.declared.answer.Leaf.{Leaf}
-use Rattle.report.specs.declared.report.ConditionVerdict.{ConditionVerdict}
-use Rattle.report.specs.declared.report.ConditionVerdict.TheVariants.{Wide, Rows, Size}
-use Rattle.verify.specs.OpenValues.{AreValuesOf, IsOpenCondition}
+-- The answer of the prover shows the verdict on a condition, and its values are whole.
+use Rattle.std.proofs.Common.{◌≡◌, ℕ, ◌≤◌, true, false, List, [], refl, sym, subst}
+use Rattle.fol.specs.FormulaData.{FormulaData}
+use Rattle.cert.proofs.Sound.{certified_valid}
+use Rattle.formula_pool.specs.Pools.{IsOneNumber}
+use Rattle.branches.specs.Branch.{Branch}
+use Rattle.branches.specs.Due.{IsShallow}
+use Rattle.branches.specs.Moves.{all_moves}
+use Rattle.branches.specs.Turns.{Turn}
+use Rattle.branches.proofs.MoveLaws.{certified}
+use Rattle.pool_branch.specs.PoolBranches.{branch_in}
+use Rattle.proof_search.specs.Ends.{Claim, HasTurns, is_full, IsShown as IsShownEnd}
+use Rattle.proof_search.specs.declared.end.End.{End}
+use Rattle.proof_search.specs.declared.end.End.TheVariants.{Proved as EndProved, Open as EndOpen, Spent as EndSpent, SpentInChain as EndSpentInChain, Wide as EndWide, TooManyRows as EndTooManyRows, Full as EndFull}
+use Rattle.formula_prover.specs.Answers.{most_bytes, is_proved, IsProofOfLength, Shows}
+use Rattle.formula_prover.specs.declared.answer.Answer.{Answer}
+use Rattle.formula_prover.specs.declared.answer.Answer.TheVariants.{Ended, TooLong, WideNumeral}
+use Rattle.formula_prover.specs.declared.answer.Search.{Search}
+use Rattle.report.specs.declared.report.ConditionVerdict.TheVariants.{Proved, Wide, Rows, Budget, Size}
 use Rattle.report.specs.ReportData.{ParameterValueData}
-use Rattle.verify.specs.Verified.{IsShown}
+use Rattle.vc_gen.specs.Supposed.{SupposesTypes}
+use Rattle.verify.specs.Findings.{verdict_of_end, verdict_of, ValuesAfter, ValuesWith, WholeAfter, WholeWith, HasOneNumber}
+use Rattle.verify.specs.Verdicts.{most_steps, IsProvedBy, HasText, IsShownBy, ByProof, ByValues, BySteps, ByLinks, ByTwoRows, ByRows, ByBranch, IsShown, BySearch, ByBytes, ByNumeral}
+use Rattle.verify.proofs.SupposedLemmas.{parameter_stands}
+use Rattle.verify.proofs.ValueLemmas.{whole_at}
 
-pub open_condition : (p : FormulaData) (ps : List (List ℕ)) (leaf : Leaf) (fractions : List Fraction) (values : List ParameterValueData) (us : List TermData) (fs : List Fraction) → IsOpenLeaf [] p leaf fractions → AreValuesOf us fs ps values → us ≡ leaf.unknowns.items → fs ≡ fractions → IsOpenCondition p ps values
-open_condition p ps leaf fractions values us fs is are e f = record {
-  leaf = leaf;
-  fractions = fractions;
-  is_open = is;
-  are_values = subst (λ us. AreValuesOf us fractions ps values) e (subst (λ fs. AreValuesOf us fs ps values) f are);
-}
+-- what is sought for a condition
+abbrev pub claim_of : FormulaData → Claim
+claim_of p = record { formula = p; budget = most_steps }
 
-pub shown_wide : (p : FormulaData) (ps : List (List ℕ)) (leaf : Leaf) (first second : Inequality) (verdict : ConditionVerdict) (values : List ParameterValueData) → IsWideLeaf [] p leaf first second → verdict ≡ Wide → values ≡ [] → IsShown p ps verdict values
-shown_wide p ps leaf first second verdict values is e none =
-    subst (λ v. IsShown p ps v values) (sym e) (record { leaf = leaf; first = first; second = second; is_wide = is }, none)
+module _ (p : FormulaData) (parameters : List (List ℕ)) (s : Search) where
+  text_of : (taken : ℕ) (P : List Turn → Branch → Type 0) → HasTurns s.pool s.outcome.tree taken (λ turns. P turns (branch_in s.pool s.outcome.tree.branch)) → HasText s P
+  text_of taken P h = record { turns = h.turns; are_turns = h.are_turns; shown = h.shown }
 
-pub shown_rows : (p : FormulaData) (ps : List (List ℕ)) (leaf : Leaf) (found : List Inequality) (verdict : ConditionVerdict) (values : List ParameterValueData) → IsLargeLeaf [] p leaf found → verdict ≡ Rows → values ≡ [] → IsShown p ps verdict values
-shown_rows p ps leaf found verdict values is e none =
-    subst (λ v. IsShown p ps v values) (sym e) (record { leaf = leaf; found = found; is_large = is }, none)
+  proved_by : (len : ℕ) → IsProofOfLength [] p s.pool s.outcome.tree.text.items len → len ≤ most_bytes → IsProvedBy p s
+  proved_by len h short =
+      let certificate = certified [] p h.turns h.proof in
+      record {
+        turns = h.turns;
+        are_turns = h.are_turns;
+        proof = h.proof;
+        certifies = certificate;
+        len = len;
+        length_is = h.length;
+        short = short;
+        valid = certified_valid [] (all_moves h.turns) p certificate;
+      }
 
-pub shown_size : (p : FormulaData) (ps : List (List ℕ)) (branch : BranchData) (verdict : ConditionVerdict) (values : List ParameterValueData) → IsFullBranch [] p branch → verdict ≡ Size → values ≡ [] → IsShown p ps verdict values
-shown_size p ps branch verdict values is e none =
-    subst (λ v. IsShown p ps v values) (sym e) (record { branch = branch; is_full = is }, none)
+  shown_at : (taken : ℕ) → IsOneNumber s.pool → (e : End) → IsShownEnd [] p most_steps taken s.pool s.outcome.tree e → (is_proved e ≡ true → (len : ℕ) × IsProofOfLength [] p s.pool s.outcome.tree.text.items len × (len ≤ most_bytes)) → (values : List ParameterValueData) → ValuesAfter s.pool parameters e values → IsShownBy p parameters s e (verdict_of_end e) values
+  shown_at taken one EndProved h short values none = (let found = short refl in subst (IsShownBy p parameters s EndProved Proved) (sym none) (ByProof (proved_by found.0 found.1 found.2)))
+  shown_at taken one (EndOpen v) h short values are = ByValues v values (record { text = text_of taken _ h; one = one }) are
+  shown_at taken one EndSpent h short values none = subst (IsShownBy p parameters s EndSpent (Budget most_steps)) (sym none) (BySteps (text_of taken _ h))
+  shown_at taken one (EndSpentInChain c done) h short values none = subst (IsShownBy p parameters s (EndSpentInChain c done) (Budget most_steps)) (sym none) (ByLinks c done (text_of taken _ h))
+  shown_at taken one (EndWide first second) h short values none = subst (IsShownBy p parameters s (EndWide first second) Wide) (sym none) (ByTwoRows first second (text_of taken _ h))
+  shown_at taken one (EndTooManyRows rows) h short values none = subst (IsShownBy p parameters s (EndTooManyRows rows) Rows) (sym none) (ByRows rows (text_of taken _ h))
+  shown_at taken one EndFull h short values none = subst (IsShownBy p parameters s EndFull Size) (sym none) (ByBranch (text_of taken _ h))
+
+  whole_after : (taken : ℕ) → SupposesTypes parameters p → (e : End) → IsShownEnd [] p most_steps taken s.pool s.outcome.tree e → (is_full e ≡ false → IsShallow p) → WholeAfter s.pool parameters e
+  whole_after taken supposes EndProved h shallow = tt
+  whole_after taken supposes (EndOpen v) h shallow =
+      let b : Branch = branch_in s.pool s.outcome.tree.branch in
+      let is_open = h.shown.open_branch in
+      record { each = λ name k is. whole_at s.pool b v k h.shown.valued (parameter_stands [] p h.turns b parameters is_open.reached is_open.saturated (shallow refl) supposes name k is) }
+  whole_after taken supposes EndSpent h shallow = tt
+  whole_after taken supposes (EndSpentInChain c done) h shallow = tt
+  whole_after taken supposes (EndWide first second) h shallow = tt
+  whole_after taken supposes (EndTooManyRows rows) h shallow = tt
+  whole_after taken supposes EndFull h shallow = tt
+
+-- the answer shows the verdict that it gives, with its values
+pub shown_by : (p : FormulaData) (parameters : List (List ℕ)) (before after : ℕ) (a : Answer) → Shows [] (claim_of p) before after a → HasOneNumber a → (values : List ParameterValueData) → ValuesWith parameters a values → IsShown p parameters a (verdict_of a) values
+shown_by p parameters before after (Ended s) h one values are =
+    BySearch s (verdict_of_end s.outcome.end) values h.searched.numerals (shown_at p parameters s h.searched.outcome.taken one s.outcome.end h.searched.outcome.shown h.short.short values are)
+shown_by p parameters before after (TooLong s len) h one values none =
+    subst (IsShown p parameters (TooLong s len) Size) (sym none) (ByBytes s len h.searched.numerals (h.proof, h.long))
+shown_by p parameters before after (WideNumeral u) h one values none =
+    subst (IsShown p parameters (WideNumeral u) Wide) (sym none) (ByNumeral u h.numeral)
+
+-- the values of its parameters can't fail to be whole
+pub whole_with : (p : FormulaData) (parameters : List (List ℕ)) (before after : ℕ) (a : Answer) → Shows [] (claim_of p) before after a → SupposesTypes parameters p → WholeWith parameters a
+whole_with p parameters before after (Ended s) h supposes =
+    whole_after p parameters s h.searched.outcome.taken supposes s.outcome.end h.searched.outcome.shown h.searched.outcome.shallow
+whole_with p parameters before after (TooLong s len) h supposes = tt
+whole_with p parameters before after (WideNumeral u) h supposes = tt

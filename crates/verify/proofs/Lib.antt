@@ -1,5 +1,6 @@
+pub mod SupposedLemmas
+pub mod ValueLemmas
 pub mod Findings
 pub mod Records
-pub mod ValueLemmas
 pub mod PairLemmas
 pub mod ModuleLemmas

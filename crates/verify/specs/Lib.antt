@@ -1,3 +1,5 @@
 pub mod Pairs
-pub mod Verified
 pub mod OpenValues
+pub mod Verdicts
+pub mod Findings
+pub mod Verified

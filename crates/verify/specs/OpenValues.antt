@@ -1,48 +1,64 @@
--- Branches that show why a condition is not proved, and the values of a function's parameters on an open one.
-use Rattle.std.specs.Prelude.{◌≡◌, ℕ, pos, List, [], map, slice_get, Some, All}
-use Rattle.fol.specs.FormulaData.{TermData, VarTerm, FormulaData}
-use Rattle.linear_rows.specs.Inequality.{Inequality}
+-- The values of a function's parameters on an open branch: those that the classes of its variables have.
+use Rattle.std.specs.Prelude.{◌≡◌, ◌==◌, ℕ, ℤ, pos, ◌*ℤ◌, Bool, false, List, position, slice_get, slice_index, Option, Some, None, option_and_then}
 use Rattle.linear_rows.specs.declared.rows.Fraction.{Fraction}
-use Rattle.saturation.specs.Branch.{BranchData}
-use Rattle.search.specs.Answer.{IsOpenLeaf, IsWideLeaf, IsLargeLeaf, IsFullBranch}
-use Rattle.search.specs.declared.answer.Leaf.{Leaf}
+use Rattle.lin_arith.specs.Substitution.{ArePositive}
+use Rattle.branches.specs.Rows.{IsWholeValue}
+use Rattle.formula_pool.specs.Pools.{IsMade, IsNowhere}
+use Rattle.formula_pool.specs.declared.node.Leaf.TheVariants.{Var}
+use Rattle.formula_pool.specs.declared.node.Node.{Node}
+use Rattle.formula_pool.specs.declared.node.Node.TheVariants.{Leaf as LeafNode}
+use Rattle.proof_search.specs.declared.values.OpenValues.{OpenValues}
+use Rattle.pv_base.specs.Names.{same_name}
+use Rattle.pv_base.specs.Pairs.{Paired}
 use Rattle.report.specs.ReportData.{ParameterValueData}
 
--- the fraction is the value of the variable with this number
-abbrev pub IsOfVariable : List TermData → ℕ → Fraction → Type 0
-IsOfVariable unknowns number f = slice_get unknowns f.unknown ≡ Some (VarTerm number)
+abbrev pub is_name : Option ℕ → ℕ → Bool
+is_name None name = false
+is_name (Some n) name = n == name
 
--- the value of a variable: the one that is among the fractions, or 0 where none is
-pub data IsValueOf (unknowns : List TermData) (fractions : List Fraction) (number : ℕ) (value : ParameterValueData) : Type 0 where
-  chosen : (i : ℕ) (f : Fraction) → slice_get fractions i ≡ Some f → IsOfVariable unknowns number f → value.numerator ≡ f.numerator → value.denominator ≡ f.denominator → IsValueOf unknowns fractions number value
-  absent : All (λ f. IsOfVariable unknowns number f → ⊥) fractions → value.numerator ≡ pos 0 → value.denominator ≡ pos 1 → IsValueOf unknowns fractions number value
+-- whether the fraction is the value of the class with this name
+abbrev pub is_of : OpenValues → ℕ → Fraction → Bool
+is_of v name f = is_name (slice_get v.classes.items f.unknown) name
 
--- the values of the parameters, which are variables by their places
-pub record AreValuesOf (unknowns : List TermData) (fractions : List Fraction) (parameters : List (List ℕ)) (values : List ParameterValueData) : Type 0 where
-  pub names : map (λ (v : ParameterValueData). v.name) values ≡ parameters
-  pub each : (number : ℕ) (value : ParameterValueData) → slice_get values number ≡ Some value → IsValueOf unknowns fractions number value
+-- the value of the class
+abbrev pub fraction_of : OpenValues → ℕ → Option Fraction
+fraction_of v name = option_and_then (slice_get v.values) (position (is_of v name) v.values)
 
--- some branch of a tableau for the formula is open, with these values of the parameters
-pub record IsOpenCondition (p : FormulaData) (parameters : List (List ℕ)) (values : List ParameterValueData) : Type 0 where
-  pub leaf : Leaf
-  pub fractions : List Fraction
-  pub is_open : IsOpenLeaf [] p leaf fractions
-  pub are_values : AreValuesOf leaf.unknowns.items fractions parameters values
+-- the fraction is the whole number; where there is none, the number is 0
+abbrev pub IsNumber : Option Fraction → ℤ → Type 0
+IsNumber None z = z ≡ pos 0
+IsNumber (Some f) z = f.numerator ≡ z *ℤ f.denominator
 
--- on some branch an elimination meets two rows whose sum leaves 128 bits
-pub record IsWideCondition (p : FormulaData) : Type 0 where
-  pub leaf : Leaf
-  pub first : Inequality
-  pub second : Inequality
-  pub is_wide : IsWideLeaf [] p leaf first second
+-- the value of the variable: that of its class, and 0 where the class has none
+pub data IsValueOf (ns : List Node) (v : OpenValues) (k : ℕ) (z : ℤ) : Type 0 where
+  OfClass : (n : ℕ) → IsMade ns n (LeafNode (Var k)) → IsNumber (fraction_of v (slice_index v.names.items n)) z → IsValueOf ns v k z
+  OfNone : IsNowhere ns (LeafNode (Var k)) → z ≡ pos 0 → IsValueOf ns v k z
 
--- on some branch an elimination has 5,000 rows
-pub record IsLargeCondition (p : FormulaData) : Type 0 where
-  pub leaf : Leaf
-  pub found : List Inequality
-  pub is_large : IsLargeLeaf [] p leaf found
+abbrev pub IsValueAt : List Node → OpenValues → Option ℕ → ℤ → Type 0
+IsValueAt ns v None z = z ≡ pos 0
+IsValueAt ns v (Some k) z = IsValueOf ns v k z
 
--- some branch has as many entries as a branch may have
-pub record IsFullCondition (p : FormulaData) : Type 0 where
-  pub branch : BranchData
-  pub is_full : IsFullBranch [] p branch
+-- ---- values that are whole
+
+-- it can't fail
+abbrev pub Likely : Type 0 → Type 0
+Likely A = (A → ⊥) → ⊥
+
+-- the value of the variable can't fail to be a whole number
+pub record IsWholeAt (ns : List Node) (v : OpenValues) (k : ℕ) : Type 0 where
+  pub positive : ArePositive v.values
+  pub whole : (n : ℕ) (f : Fraction) → IsMade ns n (LeafNode (Var k)) → fraction_of v (slice_index v.names.items n) ≡ Some f → Likely (IsWholeValue f)
+
+pub record AreWholeAt (ns : List Node) (v : OpenValues) (parameters : List (List ℕ)) : Type 0 where
+  pub each : (name : List ℕ) (k : ℕ) → position (same_name name) parameters ≡ Some k → IsWholeAt ns v k
+
+-- ---- parameters
+
+-- the value of the parameter with this name: the parameters are variables by their places
+pub record IsParameterValue (ns : List Node) (v : OpenValues) (parameters : List (List ℕ)) (name : List ℕ) (value : ParameterValueData) : Type 0 where
+  pub name_is : value.name ≡ name
+  pub number : IsValueAt ns v (position (same_name name) parameters) value.number
+
+-- the values of the parameters, in order
+abbrev pub AreValuesOf : List Node → OpenValues → List (List ℕ) → List ParameterValueData → Type 0
+AreValuesOf ns v parameters values = Paired (IsParameterValue ns v parameters) parameters values

@@ -1,9 +1,7 @@
 -- What the records of a report say of the functions of a program.
 use Rattle.std.specs.Prelude.{◌≡◌, ℕ, ◌≤◌, Bool, true, false, List, [], length, map, slice_index_or, Option, All}
-use Rattle.fol.specs.FormulaData.{FormulaData}
 use Rattle.std.specs.List.{flat_map, list_all}
 use Rattle.std.specs.Option.{option_map}
-use Rattle.fol.specs.Validity.{Valid}
 use Rattle.sum_tree.specs.SumFunctionData.{SumFunctionData}
 use Rattle.ref_sem.specs.Semantics.{Keeps}
 use Rattle.ref_sem.specs.Bodies.{HasU64Body}
@@ -16,8 +14,8 @@ use Rattle.report.specs.Lines.{line_of}
 use Rattle.pv_base.specs.Pairs.{Paired}
 use Rattle.sum_tree.specs.SpecifiedData.{SpecifiedFunctionData}
 use Rattle.sum_tree.specs.SumModuleData.{SumModuleData}
-use Rattle.verify.specs.OpenValues.{IsOpenCondition, IsWideCondition, IsLargeCondition, IsFullCondition}
-use Rattle.report.specs.ReportData.{ParameterValueData, ConditionRecordData, FunctionRecordData, ReportData}
+use Rattle.verify.specs.Verdicts.{IsShown}
+use Rattle.report.specs.ReportData.{ConditionRecordData, FunctionRecordData, ReportData}
 use Rattle.report.specs.ReportText.{is_proved}
 
 abbrev pub is_condition_proved : ConditionVerdict → Bool
@@ -27,20 +25,6 @@ is_condition_proved Wide = false
 is_condition_proved Rows = false
 is_condition_proved (Budget steps) = false
 is_condition_proved Size = false
-
--- the greatest number of steps of a search
-abbrev pub most_steps : ℕ
-most_steps = 20000
-
--- what shows each verdict on a formula: that it is valid, there being no structs; or a branch of its tableau. Values of
--- the parameters come with an open branch alone.
-abbrev pub IsShown : FormulaData → List (List ℕ) → ConditionVerdict → List ParameterValueData → Type 0
-IsShown p parameters Proved values = Valid [] p × (values ≡ [])
-IsShown p parameters Open values = IsOpenCondition p parameters values
-IsShown p parameters Wide values = IsWideCondition p × (values ≡ [])
-IsShown p parameters Rows values = IsLargeCondition p × (values ≡ [])
-IsShown p parameters (Budget steps) values = (steps ≡ most_steps) × (values ≡ [])
-IsShown p parameters Size values = IsFullCondition p × (values ≡ [])
 
 -- the line of a check that stands apart from its clause
 abbrev pub check_line_of : List ℕ → Option ℕ → Option ℕ
@@ -53,7 +37,7 @@ pub record IsConditionRecord (bytes : List ℕ) (file : ℕ) (parameters : List 
   pub file_is : found.file ≡ file
   pub line : found.line ≡ line_of bytes condition.key.start
   pub check_line : found.check_line ≡ check_line_of bytes condition.key.check
-  pub shown : IsShown condition.formula parameters found.verdict found.values
+  pub shown : IsShown condition.formula parameters found.answer found.verdict found.values
 
 abbrev pub are_proved : List ConditionRecordData → Bool
 are_proved conditions = list_all (λ c. is_condition_proved c.verdict) conditions

@@ -1,86 +1,135 @@
 //! The values of a function's parameters on an open branch.
 
-ghost use Rattle.std.specs.Prelude.{◌≡◌, ◌↔◌, IsTrue, IfOk, MatchOption, Some, All, slice_get, ℕ, List};
-ghost use Rattle.fol.specs.FormulaData.{VarTerm};
+ghost use Rattle.std.specs.Prelude.{◌≡◌, ◌≤◌, ◌<ℤ◌, ◌*ℤ◌, ◌^◌, length, pos, position, slice_index, IfOk, IfSome};
+ghost use Rattle.pv_base.specs.Names.{same_name};
 ghost use Rattle.linear_rows.specs.declared.rows.Fraction.{Fraction};
-ghost use Rattle.verify.specs.OpenValues.{AreValuesOf, IsOfVariable, IsValueOf};
+ghost use Rattle.verify.specs.OpenValues.{AreValuesOf, AreWholeAt, IsNumber, IsParameterValue, IsValueAt, IsValueOf, IsWholeAt, Likely, fraction_of, is_of};
+ghost use Rattle.branches.specs.Rows.{IsWholeValue};
 
-use fol::formula::{Term, TermNode};
+use formula_pool::node::{Leaf, Node};
+use formula_pool::pool::Pool;
+use linear_rows::numbers::floor_quotient;
 use linear_rows::rows::Fraction;
+use proof_search::values::OpenValues;
 use pv_base::memory::NoMemory;
 use pv_base::name::Name;
 use report::report::ParameterValue;
 use std::alloc::Global;
+use sum_formula::translation::position_of;
 
-/// The values of the parameters, which are variables by their places.
-pub fn values_of(
+/// The values of the parameters, which are variables by their places, on a branch with these values of its classes.
+pub(crate) fn values_of(
     alloc: Global,
-    unknowns: &[Term],
-    fractions: &[Fraction],
+    pool: &Pool,
+    values: &OpenValues,
     parameters: &[Name],
 ) -> Result<Vec<ParameterValue>, NoMemory>
-    ensures { IfOk result (λ values. AreValuesOf unknowns.now fractions.now parameters.now values.items) }
+    requires few { length parameters.now ≤ 2 ^ 32 }
+    requires whole { AreWholeAt pool.now values.now parameters.now }
+    ensures { IfOk result (λ found. AreValuesOf pool.now values.now parameters.now found.items) }
 {
-    let mut values = Vec::new(alloc);
-    for number in 0..parameters.len() {
-        values.push(value_of(alloc, unknowns, fractions, number, &parameters[number])?)?;
+    let mut found = Vec::new(alloc);
+    for name in parameters {
+        found.push(parameter_value(alloc, pool, values, parameters, name)?)?;
     }
-    Ok(values)
+    Ok(found)
 }
 
-/// The value of the parameter with this number.
-fn value_of(
+// The value of the parameter with this name.
+fn parameter_value(
     alloc: Global,
-    unknowns: &[Term],
-    fractions: &[Fraction],
-    number: usize,
+    pool: &Pool,
+    values: &OpenValues,
+    parameters: &[Name],
     name: &Name,
 ) -> Result<ParameterValue, NoMemory>
-    ensures name { IfOk result (λ value. value.name ≡ name.now) }
-    ensures value { IfOk result (IsValueOf unknowns.now fractions.now number) }
+    requires few { length parameters.now ≤ 2 ^ 32 }
+    requires whole { AreWholeAt pool.now values.now parameters.now }
+    ensures { IfOk result (IsParameterValue pool.now values.now parameters.now name.now) }
 {
+    let number = number_of(pool, values, parameters, name.as_slice());
     let name = name.try_clone(alloc)?;
-    match chosen(unknowns, fractions, number) {
-        Some(value) => Ok(ParameterValue {
-            name,
-            numerator: value.numerator,
-            denominator: value.denominator,
-        }),
-        None => Ok(ParameterValue {
-            name,
-            numerator: 0,
-            denominator: 1,
-        }),
+    Ok(ParameterValue { name, number })
+}
+
+// The value of the variable that is the first parameter of this name.
+fn number_of(pool: &Pool, values: &OpenValues, parameters: &[Name], name: &[u8]) -> i128
+    requires few { length parameters.now ≤ 2 ^ 32 }
+    requires whole { AreWholeAt pool.now values.now parameters.now }
+    ensures { IsValueAt pool.now values.now (position (same_name name.now) parameters.now) result }
+{
+    match position_of(parameters, name) {
+        Some(place) => value_of(pool, values, place as u32),
+        None => 0,
     }
 }
 
-/// The fraction that is the value of a variable.
-fn chosen(unknowns: &[Term], fractions: &[Fraction], number: usize) -> Option<Fraction>
-    ensures { MatchOption result (All (λ f. IsOfVariable unknowns.now number f → ⊥) fractions.now) (λ f. ((i : ℕ) × (slice_get fractions.now i ≡ Some f)) × IsOfVariable unknowns.now number f) }
+// The value of a variable.
+fn value_of(pool: &Pool, values: &OpenValues, variable: u32) -> i128
+    requires { IsWholeAt pool.now values.now variable }
+    ensures { IsValueOf pool.now values.now variable result }
 {
-    for fraction in fractions {
-        if is_of_variable(unknowns, fraction.unknown, number) {
-            return Some(*fraction);
-        }
+    match pool.find(Node::Leaf(Leaf::Var(variable))) {
+        Some(number) => whole_number(fraction_of(values, class_of(values, number))),
+        None => 0,
     }
-    None
 }
 
-/// Whether the unknown is the variable with this number.
-fn is_of_variable(unknowns: &[Term], unknown: usize, number: usize) -> bool
-    ensures { IsTrue result ↔ (slice_get unknowns.now unknown ≡ Some (VarTerm number)) }
+// The name of the class of the term with this number.
+fn class_of(values: &OpenValues, number: usize) -> usize
+    ensures { result ≡ slice_index values.now.names.items number }
 {
-    match unknowns.get(unknown) {
-        Some(term) => is_variable(term, number),
+    values.names.get(number).copied().unwrap_or(0)
+}
+
+// The value of the class with this name.
+fn fraction_of(values: &OpenValues, name: usize) -> Option<Fraction>
+    ensures { result ≡ fraction_of values.now name }
+{
+    let fractions = values.values.as_slice();
+    match place_of(values, name) {
+        Some(place) => fractions.get(place).copied(),
+        None => None,
+    }
+}
+
+// The place of the first value of the class with this name.
+fn place_of(values: &OpenValues, name: usize) -> Option<usize>
+    ensures { result ≡ position (is_of values.now name) values.now.values }
+{
+    values
+        .values
+        .as_slice()
+        .iter()
+        .position(|fraction| is_of(values, name, *fraction))
+}
+
+// Whether the fraction is the value of the class with this name.
+fn is_of(values: &OpenValues, name: usize, fraction: Fraction) -> bool
+    ensures { result ≡ is_of values.now name fraction }
+{
+    match values.classes.get(fraction.unknown) {
+        Some(class) => *class == name,
         None => false,
     }
 }
 
-fn is_variable(term: &Term, number: usize) -> bool
-    ensures { IsTrue result ↔ (term.now ≡ VarTerm number) }
+// The number that a fraction is which is whole; 0 where there is none.
+fn whole_number(fraction: Option<Fraction>) -> i128
+    requires { IfSome fraction (λ f. (pos 0 <ℤ f.denominator) × Likely (IsWholeValue f)) }
+    ensures { IsNumber fraction result }
 {
-    match &term.node {
-        TermNode::Var(found) => *found as usize == number,
-        _ => false,
+    match fraction {
+        Some(value) => quotient(value),
+        None => 0,
     }
+}
+
+// The number that the fraction is.
+fn quotient(value: Fraction) -> i128
+    requires positive { pos 0 <ℤ value.denominator }
+    requires whole { Likely (IsWholeValue value) }
+    ensures { value.numerator ≡ result *ℤ value.denominator }
+{
+    floor_quotient(value.numerator, value.denominator.unsigned_abs())
 }

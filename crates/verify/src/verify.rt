@@ -1,21 +1,25 @@
 //! The verification of functions.
 
-ghost use Rattle.std.specs.Prelude.{◌≡◌, ◌<◌, ◌≤◌, ℕ, List, [], All, IfOk, OnOk, length, map};
-ghost use Rattle.cert.specs.Closes.{Certifies};
-ghost use Rattle.fol.specs.Validity.{Valid};
+ghost use Rattle.std.specs.Prelude.{◌≡◌, ◌<◌, ◌≤◌, ◌^◌, ℕ, List, [], All, IfOk, OnOk, length, map};
 ghost use Rattle.report.specs.Lines.{line_feeds};
 ghost use Rattle.report.specs.ReportText.{is_proved};
-ghost use Rattle.search.specs.Answer.{Shows};
+ghost use Rattle.formula_prover.specs.Answers.{Shows};
 ghost use Rattle.pv_base.specs.Pairs.{Paired};
+ghost use Rattle.vc_gen.specs.Supposed.{SupposesTypes};
+ghost use Rattle.vc_gen.specs.declared.condition.VerificationCondition.{VerificationCondition};
+ghost use Rattle.verify.specs.Findings.{HasOneNumber, ValuesAfter, ValuesWith, WholeAfter, WholeWith, verdict_of, verdict_of_end};
 ghost use Rattle.verify.specs.Pairs.{ArePutBehind};
-ghost use Rattle.verify.specs.Verified.{AreVerifiable, IsConditionRecord, IsFunctionRecord, IsReportOf, IsShown, IsVerifiable, are_proved, check_line_of, functions_of, functions_of_module};
+ghost use Rattle.verify.specs.Verdicts.{IsShown};
+ghost use Rattle.verify.specs.Verified.{AreVerifiable, IsConditionRecord, IsFunctionRecord, IsReportOf, IsVerifiable, are_proved, check_line_of, functions_of, functions_of_module};
 
 use crate::values::values_of;
-use cert::certificate::Cert;
-use cert::checker::check;
 use fol::formula::Formula;
 use fol::shapes::Shapes;
+use formula_deciders::deciders::FormulaDeciders;
+use formula_prover::answer::{Answer, Search};
+use formula_prover::prover::prove;
 use outside::outside::FILE_LIMIT;
+use proof_search::end::End;
 use pv_base::lists::Bytes;
 use pv_base::memory::NoMemory;
 use pv_base::name::Name;
@@ -24,8 +28,6 @@ use report::lines::LineFeeds;
 use report::report::{
     ConditionRecord, ConditionVerdict, FunctionRecord, FunctionVerdict, ParameterValue, Report,
 };
-use search::answer::Answer;
-use search::prover::prove;
 use std::alloc::Global;
 use std::sync::ledger::Ledger;
 use sum_tree::function::{SpecifiedFunction, SumModule};
@@ -35,78 +37,107 @@ use vc_gen::conditions::conditions;
 /// The greatest number of search steps for one condition.
 const BUDGET: u64 = 20_000;
 
-/// A verdict on a condition, with the values of the parameters where it is `Open`.
+// The verdict that the end of a search shows.
+fn verdict_of_end(end: &End) -> ConditionVerdict
+    ensures { result ≡ verdict_of_end end.now }
+{
+    match end {
+        End::Proved => ConditionVerdict::Proved,
+        End::Open(_) => ConditionVerdict::Open,
+        End::Spent | End::SpentInChain(_, _) => ConditionVerdict::Budget(BUDGET),
+        End::Wide(_, _) => ConditionVerdict::Wide,
+        End::TooManyRows(_) => ConditionVerdict::Rows,
+        End::Full => ConditionVerdict::Size,
+    }
+}
+
+// The verdict that an answer shows.
+fn verdict_of(answer: &Answer) -> ConditionVerdict
+    ensures { result ≡ verdict_of answer.now }
+{
+    match answer {
+        Answer::Ended(search) => verdict_of_end(&search.outcome.end),
+        Answer::TooLong(_, _) => ConditionVerdict::Size,
+        Answer::WideNumeral(_) => ConditionVerdict::Wide,
+    }
+}
+
+// The values of the parameters after the end of a search: those that an open branch gives them.
+fn values_after(
+    alloc: Global,
+    search: &Search,
+    parameters: &[Name],
+) -> Result<Vec<ParameterValue>, NoMemory>
+    requires few { length parameters.now ≤ 2 ^ 32 }
+    requires whole { WholeAfter search.now.pool parameters.now search.now.outcome.end }
+    ensures { IfOk result (λ values. ValuesAfter search.now.pool parameters.now search.now.outcome.end values.items) }
+{
+    match &search.outcome.end {
+        End::Open(values) => values_of(alloc, &search.pool, values, parameters),
+        _ => Ok(Vec::new(alloc)),
+    }
+}
+
+// The values of the parameters that come with an answer.
+fn values_with(
+    alloc: Global,
+    answer: &Answer,
+    parameters: &[Name],
+) -> Result<Vec<ParameterValue>, NoMemory>
+    requires few { length parameters.now ≤ 2 ^ 32 }
+    requires whole { WholeWith parameters.now answer.now }
+    ensures { IfOk result (λ values. ValuesWith parameters.now answer.now values.items) }
+{
+    match answer {
+        Answer::Ended(search) => values_after(alloc, search, parameters),
+        _ => Ok(Vec::new(alloc)),
+    }
+}
+
+// No two numbers of the pool of an answer are one item.
+fn have_one_number(answer: &Answer)
+    ensures { HasOneNumber answer.now }
+{
+    if let Answer::Ended(search) = answer {
+        search.pool.one_number();
+    }
+}
+
+// What the prover answers for a formula that speaks of no structs.
+fn answer_for<L: Ledger>(
+    alloc: Global,
+    formula: &Formula,
+    steps: &mut Steps<L>,
+) -> Result<Answer, NoMemory>
+    ensures { IfOk result (Shows [] (record { formula = formula.now; budget = 20000 }) steps.old steps.new) }
+{
+    let shapes = Shapes::new(alloc);
+    let mut deciders = FormulaDeciders::new(alloc, &shapes);
+    prove(alloc, &mut deciders, formula, BUDGET, steps)
+}
+
+/// What is found out of a condition's formula.
 #[derive(Drop)]
 struct Finding {
-    verdict: ConditionVerdict,
+    answer: Answer,
     values: Vec<ParameterValue>,
 }
 
-/// A verdict that comes with no values.
-fn bare(alloc: Global, verdict: ConditionVerdict) -> Finding
-    ensures verdict { result.verdict ≡ verdict }
-    ensures values { result.values.items ≡ [] }
-{
-    Finding {
-        verdict,
-        values: Vec::new(alloc),
-    }
-}
-
-/// A formula with a certificate is valid: the checker accepts the certificate once more.
-fn confirm(alloc: Global, formula: &Formula, certificate: &Cert)
-    requires { Certifies [] certificate.now formula.now }
-    ensures { Valid [] formula.now }
-{
-    let shapes = Shapes::new(alloc);
-    if !check(&shapes, formula, certificate) {
-        unreachable!();
-    }
-}
-
-/// The finding that goes with an answer of the search.
-fn finding_for(
-    alloc: Global,
-    formula: &Formula,
-    parameters: &[Name],
-    answer: &Answer,
-) -> Result<Finding, NoMemory>
-    requires { Shows [] formula.now answer.now }
-    ensures { IfOk result (λ found. IsShown formula.now parameters.now found.verdict found.values.items) }
-{
-    match answer {
-        Answer::Proved(certificate) => {
-            confirm(alloc, formula, certificate);
-            Ok(bare(alloc, ConditionVerdict::Proved))
-        }
-        Answer::Open(leaf, fractions) => Ok(Finding {
-            verdict: ConditionVerdict::Open,
-            values: values_of(
-                alloc,
-                leaf.unknowns.as_slice(),
-                fractions.as_slice(),
-                parameters,
-            )?,
-        }),
-        Answer::Wide(_, _, _) => Ok(bare(alloc, ConditionVerdict::Wide)),
-        Answer::Rows(_, _) => Ok(bare(alloc, ConditionVerdict::Rows)),
-        Answer::Budget => Ok(bare(alloc, ConditionVerdict::Budget(BUDGET))),
-        Answer::Size(_) => Ok(bare(alloc, ConditionVerdict::Size)),
-    }
-}
-
-/// What the search finds out of a formula that speaks of no structs.
+// What is found out of the formula of a condition of a function with these parameters.
 fn finding_of<L: Ledger>(
     alloc: Global,
     formula: &Formula,
     parameters: &[Name],
     steps: &mut Steps<L>,
 ) -> Result<Finding, NoMemory>
-    ensures { IfOk result (λ found. IsShown formula.now parameters.now found.verdict found.values.items) }
+    requires few { length parameters.now ≤ 2 ^ 32 }
+    requires typed { SupposesTypes parameters.now formula.now }
+    ensures { IfOk result (λ found. IsShown formula.now parameters.now found.answer (verdict_of found.answer) found.values.items) }
 {
-    let shapes = Shapes::new(alloc);
-    let answer = prove(alloc, &shapes, formula, BUDGET, steps)?;
-    finding_for(alloc, formula, parameters, &answer)
+    let answer = answer_for(alloc, formula, steps)?;
+    have_one_number(&answer);
+    let values = values_with(alloc, &answer, parameters)?;
+    Ok(Finding { answer, values })
 }
 
 /// The line of a check that stands apart from its clause.
@@ -128,15 +159,18 @@ fn verify_condition<L: Ledger>(
     condition: &VerificationCondition,
     steps: &mut Steps<L>,
 ) -> Result<ConditionRecord, NoMemory>
+    requires few { length parameters.now ≤ 2 ^ 32 }
+    requires typed { SupposesTypes parameters.now condition.now.formula }
     ensures { (bytes : List ℕ) → feeds.now ≡ line_feeds bytes → IfOk result (IsConditionRecord bytes file parameters.now condition.now) }
 {
-    let Finding { verdict, values } = finding_of(alloc, &condition.formula, parameters, steps)?;
+    let Finding { answer, values } = finding_of(alloc, &condition.formula, parameters, steps)?;
     Ok(ConditionRecord {
         kind: condition.key.kind,
         file,
         line: feeds.line(condition.key.start),
         check_line: check_line(feeds, condition.key.check),
-        verdict,
+        verdict: verdict_of(&answer),
+        answer,
         values,
     })
 }
@@ -150,6 +184,8 @@ fn verify_conditions<L: Ledger>(
     conditions: &[VerificationCondition],
     steps: &mut Steps<L>,
 ) -> Result<Vec<ConditionRecord>, NoMemory>
+    requires few { length parameters.now ≤ 2 ^ 32 }
+    requires typed { All (λ (c : VerificationCondition). SupposesTypes parameters.now c.formula) conditions.now }
     ensures { (bytes : List ℕ) → feeds.now ≡ line_feeds bytes → IfOk result (λ found. Paired (IsConditionRecord bytes file parameters.now) conditions.now found.items) }
 {
     let mut found = Vec::new(alloc);

@@ -1,8 +1,17 @@
-use Rattle.std.proofs.Common.{arith}
+use Rattle.std.proofs.Common.{rules, FitsSigned, sym, ap, ◌∙◌, subst}
+use Rattle.std.specs.Int.{w128}
 use Rattle.std.proofs.lemmas.Int.{to_z-of_z}
-use Rattle.verify.specs.OpenValues.IsValueOf.{chosen}
+use Rattle.verify.specs.OpenValues.{IsNumber, IsValueOf, OfClass, fraction_of}
+use Rattle.verify.proofs.ValueLemmas.{known_whole}
 use Rattle.verify.proofs.values.value_of.Goals as goal
 
-pub returns-in-Some-clause-value : goal.returns-in-Some-clause-value
-returns-in-Some-clause-value c =
-    chosen c.in-Some.ensures.0.0 c.in-Some.value c.in-Some.ensures.0.1 c.in-Some.ensures.1 (grind (arith, to_z-of_z)) (grind (arith, to_z-of_z))
+pub whole_number-requires : goal.whole_number-requires
+whole_number-requires c =
+    known_whole c.args.pool.now c.args.values.now c.args.variable c.requires c.in-Some.number c.in-Some.ensures c.fraction_of.result (c.fraction_of.ensures ∙ ap (fraction_of c.args.values.now) c.class_of.ensures)
+
+pub returns-in-Some : goal.returns-in-Some
+returns-in-Some c =
+    let z = c.whole_number.result in
+    let f : FitsSigned w128 z = search rules in
+    subst (IsValueOf c.args.pool.now c.args.values.now c.args.variable) (sym (to_z-of_z w128 z f))
+    (OfClass c.in-Some.number c.in-Some.ensures (subst (λ o. IsNumber o z) (c.fraction_of.ensures ∙ ap (fraction_of c.args.values.now) c.class_of.ensures) c.whole_number.ensures))

@@ -1,10 +1,14 @@
-use Rattle.verify.proofs.ValueLemmas.{first_more, first_end}
+use Rattle.std.proofs.Common.{◌+◌, take, sym, subst}
+use Rattle.pv_base.specs.Pairs.{Paired}
+use Rattle.verify.specs.OpenValues.{IsParameterValue}
+use Rattle.verify.proofs.PairLemmas.{paired_more}
 use Rattle.verify.proofs.values.values_of.Goals as goal
 
-pub loop-number-preserved : goal.loop-number-preserved
-loop-number-preserved c =
-    first_more c.args.unknowns.now c.args.fractions.now c.args.parameters.now c.loop-number.number c.loop-number.values.items _ c.in_ok-value_of.field-0 _ c.loop-number-test.true c.index-parameters-number.is c.in_ok-value_of.ensures.name c.in_ok-value_of.ensures.value c.in_ok-push.ensures.items c.loop-number.invariant
-
-pub returns : goal.returns
-returns c =
-    first_end c.args.unknowns.now c.args.fractions.now c.args.parameters.now _ _ c.loop-number-test.false c.loop-number.invariant
+pub loop-name-preserved : goal.loop-name-preserved
+loop-name-preserved c =
+    let i = c.loop-name.name-index in
+    let R = IsParameterValue c.args.pool.now c.args.values.now c.args.parameters.now in
+    let found = c.in_ok-parameter_value.field-0 in
+    subst (λ ys. Paired R (take (i + 1) c.args.parameters.now) ys) (sym c.in_ok-push.ensures.items)
+    (paired_more R c.args.parameters.now i c.name-item.result c.loop-name.found.items found c.loop-name-test.true c.loop-name.invariant
+    (subst (λ v. R v found) c.name-item.is c.in_ok-parameter_value.ensures))
