@@ -2,6 +2,7 @@
 
 use answers::condition::ConditionKind;
 use answers::rule::Rule;
+use formula_prover::answer::Answer;
 use outside::memory_sink::VecSink;
 use pv_base::lists::{Bytes, Calls};
 use pv_base::name::Name;
@@ -29,6 +30,7 @@ fn condition(
         line,
         check_line: None,
         verdict,
+        answer: Answer::WideNumeral(1 << 127),
         values,
     }
 }
@@ -37,26 +39,18 @@ fn name_of(rt: &impl Abort, alloc: Global, text: &[u8]) -> Name {
     Name::from_slice(alloc, text).expect(rt, "memory")
 }
 
-fn value(
-    rt: &impl Abort,
-    alloc: Global,
-    name: &[u8],
-    numerator: i128,
-    denominator: i128,
-) -> ParameterValue {
+fn value(rt: &impl Abort, alloc: Global, name: &[u8], number: i128) -> ParameterValue {
     ParameterValue {
         name: name_of(rt, alloc, name),
-        numerator,
-        denominator,
+        number,
     }
 }
 
-// Values of a parameter, one below 0 and one that is no whole number.
+// Values of parameters, one below 0 and the greatest one.
 fn values(rt: &impl Abort, alloc: Global) -> Vec<ParameterValue> {
     let mut made = Vec::new(alloc);
-    made.push(value(rt, alloc, b"x", -3, 1))
-        .expect(rt, "memory");
-    made.push(value(rt, alloc, b"y", i128::MAX, 2))
+    made.push(value(rt, alloc, b"x", -3)).expect(rt, "memory");
+    made.push(value(rt, alloc, b"y", i128::MAX))
         .expect(rt, "memory");
     made
 }
@@ -135,7 +129,7 @@ fn report(rt: &impl Abort, alloc: Global) -> Report {
 }
 
 const REPORT: &[u8] =
-    b"0x1::m::f: unknown\n  ensures a.move:5: proved\n  aborts_if a.move:4: open\n    x = -3\n    y = 170141183460469231731687303715884105727/2\n  aborts a.move:2 at 7: budget 20000\n0xcafe::m::g: proved\nproved 1 of 2\n";
+    b"0x1::m::f: unknown\n  ensures a.move:5: proved\n  aborts_if a.move:4: open\n    x = -3\n    y = 170141183460469231731687303715884105727\n  aborts a.move:2 at 7: budget 20000\n0xcafe::m::g: proved\nproved 1 of 2\n";
 
 // How many bytes of the report a sink of this room takes, whose writes with these numbers fail.
 fn writes(rt: &impl Abort, alloc: Global, lines: &Lines, fails: &[u64], room: usize, taken: usize) {
