@@ -1,5 +1,5 @@
 -- What an outcome shows where the formula is proved, and the denial that a search begins with.
-use Rattle.std.proofs.Common.{◌≡◌, ℕ, ◌<◌, ◌≤◌, true, false, List, length, ap, ◌∙◌}
+use Rattle.std.proofs.Common.{◌≡◌, ℕ, ◌<◌, ◌≤◌, true, false, List, length, sym, ap, ◌∙◌, subst}
 use Rattle.std.specs.List.{AllZip}
 use Rattle.std.proofs.lemmas.Option.{slice_get_within}
 use Rattle.fol.specs.declared.shapes.Shape.{Shape}
@@ -11,6 +11,7 @@ use Rattle.formula_pool.specs.declared.node.One.TheVariants.{Not}
 use Rattle.formula_pool.specs.declared.node.Node.{Node}
 use Rattle.formula_pool.specs.declared.node.Node.TheVariants.{One as OneNode}
 use Rattle.formula_pool.proofs.ItemLemmas.{item_kept}
+use Rattle.branches.specs.Due.{IsShallow}
 use Rattle.branches.specs.Moves.{all_moves}
 use Rattle.branches.specs.Turns.{Turn, IsProof}
 use Rattle.pool_branch.specs.PoolBranches.{IsFormulaNumber}
@@ -19,7 +20,7 @@ use Rattle.search_trees.specs.Turns.{IsTurnOf}
 use Rattle.search_trees.specs.declared.turn.PoolTurn.{PoolTurn}
 use Rattle.search_trees.specs.declared.tree.SearchTree.{SearchTree}
 use Rattle.tree_certificates.specs.Moves.{DueText, IsTextOf, FitTurns}
-use Rattle.proof_search.specs.Ends.{HasTurns, IsShown, Claim, IsOutcome}
+use Rattle.proof_search.specs.Ends.{HasTurns, IsShown, is_full, Claim, IsOutcome}
 use Rattle.proof_search.specs.declared.search.Outcome.{Outcome}
 use Rattle.proof_search.specs.declared.end.End.{End}
 use Rattle.proof_search.specs.declared.end.End.TheVariants.{Proved}
@@ -57,6 +58,34 @@ module _ (shapes : List Shape) (sought : Claim) (before after : ℕ) (s : Search
 
   pub ended_other : is_proved s.outcome.end ≡ false → Shows shapes sought before after (Ended s)
   ended_other other = record { searched = h; short = record { short = λ is. absurd (cc) } }
+
+-- ---- a search without its branches
+
+shown_proved : (shapes : List Shape) (p : FormulaData) (budget taken : ℕ) (ns : List Node) (tree : SearchTree) (e : End) → is_proved e ≡ true → HasTurns ns tree taken (IsProof shapes p) → IsShown shapes p budget taken ns tree e
+shown_proved shapes p budget taken ns tree Proved is h = h
+shown_proved shapes p budget taken ns tree _ is h = absurd (cc)
+
+module _ (s r : Search) (pool : r.pool ≡ s.pool) (end : r.outcome.end ≡ s.outcome.end) (text : r.outcome.tree.text ≡ s.outcome.tree.text) where
+  pub still_proved : is_proved s.outcome.end ≡ true → is_proved r.outcome.end ≡ true
+  still_proved is = ap is_proved end ∙ is
+
+  pub still_searched : is_proved s.outcome.end ≡ true → (shapes : List Shape) (sought : Claim) (before after : ℕ) → IsSearched shapes sought before after s → IsSearched shapes sought before after r
+  still_searched is shapes sought before after h =
+      let found = proved_turns shapes sought.formula sought.budget h.outcome.taken s.pool s.outcome.tree s.outcome.end is h.outcome.shown in
+      let all : AllZip (IsTurnOf r.pool) r.outcome.tree.text.items found.turns = subst (λ ns. AllZip (IsTurnOf ns) r.outcome.tree.text.items found.turns) (sym pool) (subst (λ t. AllZip (IsTurnOf s.pool) t found.turns) (sym (ap (λ t. t.items) text)) found.are_turns) in
+      record {
+        numerals = h.numerals;
+        outcome = record {
+          taken = h.outcome.taken;
+          counted = h.outcome.counted;
+          at_most = h.outcome.at_most;
+          shown = shown_proved shapes sought.formula sought.budget h.outcome.taken r.pool r.outcome.tree r.outcome.end (still_proved is) (record { turns = found.turns; are_turns = all; few = found.few; shown = found.shown });
+          shallow = subst (λ e. is_full e ≡ false → IsShallow sought.formula) (sym end) h.outcome.shallow;
+        };
+      }
+
+  pub still_readable : IsReadable s → IsReadable r
+  still_readable h = record { fits = λ is. subst (λ t. FitTurns t) (sym (ap (λ t. t.items) text)) (h.fits (sym (ap is_proved end) ∙ is)) }
 
 -- ---- the denial
 

@@ -13,7 +13,8 @@ pub struct Search {
 /// The answer for a formula.
 #[derive(Drop)]
 pub enum Answer {
-    /// The search has ended so. Where it has proved the formula, at most 4 MiB of bytes spell the certificate.
+    /// The search has ended so. Where it has proved the formula, at most 4 MiB of bytes spell the certificate, and the
+    /// tree holds its text alone.
     Ended(Search),
     /// The search has proved the formula, but this many bytes would spell the certificate, which are more than 4 MiB;
     /// 2^64 - 1 stands for all that are more.

@@ -1,6 +1,6 @@
 //! The search for a proof of a formula.
 
-ghost use Rattle.std.specs.Prelude.{◌≡◌, ℕ, ◌+◌, ◌≤◌, List, IfOk};
+ghost use Rattle.std.specs.Prelude.{◌≡◌, ℕ, ◌+◌, ◌≤◌, true, List, IfOk};
 ghost use Rattle.fol.specs.declared.shapes.Shape.{Shape};
 ghost use Rattle.proof_search.specs.Ends.{Claim};
 ghost use Rattle.formula_prover.specs.Answers.{AreAll, is_proved, IsReadable, IsSearched, Shows};
@@ -10,11 +10,13 @@ use fol::formula::Formula;
 use formula_pool::interning::intern_formula;
 use formula_pool::node::{Node, One};
 use formula_pool::pool::Pool;
+use pool_branch::branch::PoolBranch;
 use proof_search::deciders::Deciders;
 use proof_search::end::End;
-use proof_search::search::search;
+use proof_search::search::{Outcome, search};
 use pv_base::memory::NoMemory;
 use pv_base::steps::Steps;
+use search_trees::tree::SearchTree;
 use std::alloc::Global;
 use std::sync::ledger::Ledger;
 use text_lengths::certificate::certificate_len;
@@ -34,6 +36,30 @@ fn is_proved(end: &End) -> bool
     }
 }
 
+// The search without its branches, which nobody reads where it has proved the formula.
+fn without_branches(alloc: Global, search: Search) -> Search
+    ensures pool { result.pool ≡ search.pool }
+    ensures end { result.outcome.end ≡ search.outcome.end }
+    ensures text { result.outcome.tree.text ≡ search.outcome.tree.text }
+{
+    let Search { pool, outcome } = search;
+    let Outcome { end, tree } = outcome;
+    let SearchTree {
+        branch: _,
+        waiting: _,
+        text,
+    } = tree;
+    let tree = SearchTree {
+        branch: PoolBranch::new(alloc),
+        waiting: Vec::new(alloc),
+        text,
+    };
+    Search {
+        pool,
+        outcome: Outcome { end, tree },
+    }
+}
+
 // The answer of a search that has ended.
 fn answer_of(alloc: Global, search: Search) -> Result<Answer, NoMemory>
     requires { IsReadable search }
@@ -42,6 +68,15 @@ fn answer_of(alloc: Global, search: Search) -> Result<Answer, NoMemory>
     if !is_proved(&search.outcome.end) {
         return Ok(Answer::Ended(search));
     }
+    answer_of_proof(alloc, without_branches(alloc, search))
+}
+
+// The answer of a search that has proved its formula.
+fn answer_of_proof(alloc: Global, search: Search) -> Result<Answer, NoMemory>
+    requires readable { IsReadable search }
+    requires proved { is_proved search.outcome.end ≡ true }
+    ensures { (shapes : List Shape) (sought : Claim) (before after : ℕ) → IsSearched shapes sought before after search → IfOk result (Shows shapes sought before after) }
+{
     let lens = lengths(alloc, &search.pool)?;
     let text = search.outcome.tree.text.as_slice();
     let len = certificate_len(&search.pool, lens.as_slice(), text);
