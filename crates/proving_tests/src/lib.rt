@@ -1,4 +1,4 @@
-//! Tests of the search and of what it rests on.
+//! Tests of axioms, certificates and eliminations, of what a source and a sink owe, and of the texts of reports.
 #![tactic(auto)]
 
 #[cfg(test)]
@@ -13,10 +13,6 @@ mod lin_arith_tests;
 mod outside_tests;
 #[cfg(test)]
 mod report_tests;
-#[cfg(test)]
-mod saturation_tests;
-#[cfg(test)]
-mod search_tests;
 #[cfg(test)]
 mod step_tests;
 #[cfg(test)]

@@ -1,5 +1,0 @@
-use Rattle.proving_tests.proofs.search_tests.answers.Given as goal
-
--- the ledger that each blank opens
-abbrev pub ghosts-found : goal.ghosts-found
-ghosts-found g a = record { name = a.blank.name; parts = a.blank.parts }

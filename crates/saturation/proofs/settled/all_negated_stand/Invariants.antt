@@ -1,8 +1,0 @@
-use Rattle.fol.specs.FormulaData.{NotFormula}
-use Rattle.saturation.specs.Saturated.{Stands}
-use Rattle.std.proofs.Common.{take}
-use Rattle.std.specs.Prelude.{All}
-use Rattle.saturation.proofs.settled.all_negated_stand.Given as goal
-
-abbrev pub invariant-loop-formula : goal.invariant-loop-formula
-invariant-loop-formula l = All (λ p. Stands l.entries (NotFormula p)) (take l.formula-index l.formulas)
