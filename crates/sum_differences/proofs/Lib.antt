@@ -1,0 +1,4 @@
+pub mod StandInLemmas
+pub mod SumLemmas
+pub mod PlaceLemmas
+pub mod EntryLemmas

@@ -1,0 +1,4 @@
+pub mod StandIns
+pub mod Sums
+pub mod Places
+pub mod Entries

@@ -1,0 +1,56 @@
+//! Terms that were chosen for the classes of a branch.
+
+ghost use Rattle.std.specs.Prelude.{◌≡◌, ◌<◌, ℕ, Some, cond, length, nat_eq, slice_index, OnOk};
+ghost use Rattle.indexmap.specs.IndexMap.{get};
+ghost use Rattle.sum_differences.specs.StandIns.{HasChosen};
+
+use branch_classes::branch_classes::BranchClasses;
+use class_history::history::History;
+use indexmap::IndexMap;
+use pv_base::memory::NoMemory;
+
+/// One term for each class, with the classes that say why another term of the class is equal.
+#[derive(Clone, Copy)]
+pub struct Choice<'a> {
+    pub classes: &'a BranchClasses,
+    /// The history of these classes.
+    pub history: &'a History,
+    /// The name of the class of each term, by number.
+    pub names: &'a [usize],
+    /// The number of the term that was chosen for each class.
+    pub chosen: &'a IndexMap<usize, usize>,
+}
+
+/// The number that is kept for another one.
+pub(crate) fn look_up(kept: &IndexMap<usize, usize>, key: usize) -> Option<usize>
+    ensures { result ≡ get nat_eq kept.now key }
+{
+    match kept.get(&key) {
+        Some(number) => Some(*number),
+        None => None,
+    }
+}
+
+/// Keeps a number for another one.
+pub(crate) fn note(
+    kept: &mut IndexMap<usize, usize>,
+    key: usize,
+    number: usize,
+) -> Result<(), NoMemory>
+    ensures { OnOk result ((k : ℕ) → get nat_eq kept.new k ≡ cond (nat_eq key k) (Some number) (get nat_eq kept.old k)) }
+{
+    kept.insert(key, number)?;
+    Ok(())
+}
+
+/// The number of the term that was chosen for the class of this one.
+pub(crate) fn chosen_for(choice: Choice<'_>, term: usize) -> usize
+    requires named { term < length choice.names.now }
+    requires chosen { HasChosen (get nat_eq choice.chosen.now) (slice_index choice.names.now term) }
+    ensures { get nat_eq choice.entry.chosen.now (slice_index choice.entry.names.now term) ≡ Some result }
+{
+    match look_up(choice.chosen, choice.names[term]) {
+        Some(chosen) => chosen,
+        None => term,
+    }
+}
