@@ -122,7 +122,7 @@ fn next_equation(
 }
 
 /// The places of the equations of the links that are needed.
-pub(crate) fn equations(
+pub fn equations(
     alloc: Global,
     pool: &mut Pool,
     chain: &mut Chain,
@@ -150,7 +150,7 @@ pub(crate) fn equations(
 }
 
 /// No link is marked.
-pub(crate) fn unmarked(alloc: Global, count: usize) -> Result<Vec<bool>, NoMemory>
+pub fn unmarked(alloc: Global, count: usize) -> Result<Vec<bool>, NoMemory>
     ensures { IfOk result (λ needed. IsUnmarked count needed.items) }
 {
     let mut needed = Vec::new(alloc);

@@ -1,0 +1,3 @@
+pub mod Rewritings
+pub mod Settings
+pub mod Ends
