@@ -6,4 +6,3 @@ pub mod SumLemmas
 pub mod CloseLemmas
 pub mod ChosenLemmas
 pub mod CitedLemmas
-pub mod AllLemmas

@@ -1,5 +1,5 @@
 -- Of each class of terms one of the shallowest that is no sum.
-use Rattle.std.specs.Prelude.{◌≡◌, ℕ, ◌<◌, ◌≤◌, ℤ, Bool, true, false, List, length, slice_get, slice_index, unwrap_or, Contains, Option, Some, None, MatchOption}
+use Rattle.std.specs.Prelude.{◌≡◌, ℕ, ◌<◌, ◌≤◌, ℤ, Bool, true, false, List, length, slice_index, Contains, Option, Some, None, MatchOption}
 use Rattle.fol.specs.declared.operators.Constant.TheVariants.{Num}
 use Rattle.fol.specs.FormulaData.{TermData, BinaryTerm}
 use Rattle.cert.specs.Linear.{numeral_of}
@@ -9,8 +9,6 @@ use Rattle.formula_pool.specs.declared.node.Leaf.TheVariants.{Constant}
 use Rattle.formula_pool.specs.declared.node.Two.TheVariants.{Binary}
 use Rattle.formula_pool.specs.declared.node.Node.{Node}
 use Rattle.formula_pool.specs.declared.node.Node.TheVariants.{Leaf as LeafNode, Two as TwoNode}
-use Rattle.branches.specs.Branch.{Branch, IsTerm}
-use Rattle.pool_branch.specs.PoolBranches.{IsTermNumber}
 use Rattle.branch_rows.specs.Shapes.{term_at}
 use Rattle.row_closings.specs.Chosen.{IsNoSum}
 
@@ -67,25 +65,3 @@ pub record IsNoBetter (ns : List Node) (find : ℕ → Option ℕ) (class term :
   pub other : ℕ
   pub found : find class ≡ Some other
   pub deeper : depth_at ns other ≤ depth_at ns term
-
--- ---- choices for all classes
-
-pub record HasChosen (find : ℕ → Option ℕ) (class : ℕ) : Type 0 where
-  pub term : ℕ
-  pub found : find class ≡ Some term
-
-pub record AreAllChosen (find : ℕ → Option ℕ) (classes : List ℕ) : Type 0 where
-  pub each : (k n : ℕ) → slice_get classes k ≡ Some n → HasChosen find n
-
--- of the first classes
-pub record AreChosenBefore (find : ℕ → Option ℕ) (classes : List ℕ) (count : ℕ) : Type 0 where
-  pub each : (k n : ℕ) → k < count → slice_get classes k ≡ Some n → HasChosen find n
-
--- the term that was chosen
-abbrev pub chosen_in : List Node → (ℕ → Option ℕ) → ℕ → TermData
-chosen_in ns find class = term_at ns (unwrap_or (find class) 0)
-
--- the numbers of terms of the branch
-pub record AreTermsOf (ns : List Node) (b : Branch) (terms : List ℕ) : Type 0 where
-  pub number : (n : ℕ) → Contains terms n → IsTermNumber ns n
-  pub stands : (n : ℕ) → Contains terms n → IsTerm b (term_at ns n)

@@ -1,18 +1,18 @@
 //! One term for each class of unknowns, of those that are no sums one of the shallowest.
 
-ghost use Rattle.std.specs.Prelude.{◌≡◌, ◌↔◌, ℕ, ◌<◌, Some, None, cond, length, nat_eq, IsTrue, IfOk, OnOk, All, MatchBool, slice_get};
+ghost use Rattle.std.specs.Prelude.{◌≡◌, ◌↔◌, ℕ, ◌<◌, Some, None, cond, length, nat_eq, IsTrue, IfOk, OnOk, All, MatchBool};
 ghost use Rattle.indexmap.specs.IndexMap.{get};
 ghost use Rattle.fol.specs.FormulaData.{BinaryTerm, MulTerm};
 ghost use Rattle.cert.specs.Linear.{numeral_of};
 ghost use Rattle.pool_branch.specs.PoolBranches.{IsTermNumber};
 ghost use Rattle.branch_rows.specs.Shapes.{term_at};
 ghost use Rattle.row_closings.specs.Chosen.{IsNoSum};
-ghost use Rattle.row_closings.specs.Shallowest.{is_numeral_node, HasNumeral, IsNoSumNode, AreWithin, IsBetter, IsNoBetter, AreShallowest, HasChosen, AreAllChosen};
+ghost use Rattle.row_closings.specs.Shallowest.{is_numeral_node, HasNumeral, IsNoSumNode, AreWithin, IsBetter, IsNoBetter, AreShallowest};
 
 use fol::operators::{Binary, Constant};
 use formula_pool::node::{Leaf, Node, Two};
 use formula_pool::pool::Pool;
-use indexmap::{IndexMap, IndexSet};
+use indexmap::IndexMap;
 use pv_base::memory::NoMemory;
 use std::alloc::Global;
 
@@ -138,36 +138,4 @@ pub fn chosen_terms(
         }
     }
     Ok(chosen)
-}
-
-// The class with this place.
-fn class_at(classes: &IndexSet<usize>, place: usize) -> Option<usize>
-    ensures { result ≡ slice_get classes.now.keys place }
-{
-    match classes.get_index(place) {
-        Some(class) => Some(*class),
-        None => None,
-    }
-}
-
-// Whether a term was chosen for the class.
-fn is_chosen(chosen: &IndexMap<usize, usize>, class: usize) -> bool
-    ensures { IsTrue result ↔ HasChosen (get nat_eq chosen.now) class }
-{
-    look_up(chosen, class).is_some()
-}
-
-/// Whether a term was chosen for each of these classes.
-pub fn are_all_chosen(chosen: &IndexMap<usize, usize>, classes: &IndexSet<usize>) -> bool
-    ensures { IsTrue result ↔ AreAllChosen (get nat_eq chosen.now) classes.now.keys }
-{
-    for place in 0..classes.len() {
-        let Some(class) = class_at(classes, place) else {
-            continue;
-        };
-        if !is_chosen(chosen, class) {
-            return false;
-        }
-    }
-    true
 }
