@@ -7,3 +7,7 @@ mod claims;
 mod prover_tests;
 #[cfg(test)]
 mod searches;
+#[cfg(test)]
+mod word_tests;
+#[cfg(test)]
+mod words;

@@ -78,7 +78,7 @@ pub(crate) fn first_value(answer: &Answer) -> Option<Fraction> {
     let End::Open(values) = &search.outcome.end else {
         return None;
     };
-    match values.as_slice().first() {
+    match values.values.as_slice().first() {
         Some(value) => Some(*value),
         None => None,
     }

@@ -1,0 +1,119 @@
+//! Answers for formulas in words.
+
+ghost use Rattle.std.specs.Prelude.{◌≡◌, ◌<◌};
+
+use crate::searches::{found, word};
+use crate::words::{Fault, formula_of};
+use formula_prover::answer::Answer;
+use std::alloc::Global;
+use std::marker::Brand;
+use std::panic::Expect;
+use std::sync::ledger::{Blank, Ledger};
+use std::test::Fail;
+
+// What the prover answers for the formula that these words say.
+fn answer_to<L: Ledger>(alloc: Global, text: &str, blank: Blank) -> Result<Answer, Fault>
+    requires name { blank.name ≡ L.name }
+    requires parts { blank.parts ≡ L.parts }
+    requires some { 0 < L.parts }
+{
+    let formula = formula_of(alloc, text)?;
+    Ok(found::<L>(alloc, &formula, 20_000, blank)?)
+}
+
+#[test]
+fn vectors_memories_and_choices(rt: HostRuntime) -> Result<(), Fail> {
+    let alloc = rt.alloc();
+    for (text, wanted) in [
+        ("empty x:0 push x:1 push n:1 at x:1 =", "proved"),
+        ("empty x:0 push x:1 push n:0 at x:0 =", "proved"),
+        ("empty x:0 push x:1 push n:0 at x:1 =", "open"),
+        ("empty x:0 push x:1 push len n:2 =", "proved"),
+        ("empty x:0 push x:1 push pop n:0 at x:0 =", "proved"),
+        ("empty x:0 push n:0 x:2 set n:0 at x:2 =", "proved"),
+        ("x:0 n:1 x:1 store n:2 x:2 store n:1 select x:1 =", "proved"),
+        ("x:0 n:1 x:1 store n:2 x:2 store n:1 select x:2 =", "open"),
+        ("x:0 x:1 x:2 store x:3 select x:2 =", "open"),
+        ("x:0 holds x:1 x:2 if x:1 = x:0 holds not or:2", "proved"),
+        ("x:0 holds x:1 x:2 if x:1 =", "open"),
+    ] {
+        let answer = answer_to::<Brand>(alloc, text, Blank::new(1)).expect(&rt, "an answer");
+        assert_eq!(rt; word(&answer), wanted, "{text}");
+    }
+    Ok(())
+}
+
+#[test]
+fn whole_numbers(rt: HostRuntime) -> Result<(), Fail> {
+    let alloc = rt.alloc();
+    for (text, wanted) in [
+        // 2 x = 2 y + 1 of no whole numbers
+        ("x:0 is:num x:1 is:num and:2 n:2 x:0 * n:2 x:1 * n:1 + = not implies", "proved"),
+        ("n:2 x:0 * n:2 x:1 * n:1 + = not", "open"),
+        ("x:0 is:num x:0 n:7 x:0 n:7 / * x:0 n:7 % + = implies", "proved"),
+        ("x:0 is:num x:0 n:7 % n:6 <= implies", "proved"),
+        ("x:0 is:num x:0 n:7 % n:5 <= implies", "open"),
+        ("x:0 x:1 <= x:1 x:2 <= and:2 x:0 x:2 <= implies", "proved"),
+        ("x:0 x:1 <= x:1 x:2 <= and:2 x:2 x:0 <= implies", "open"),
+    ] {
+        let answer = answer_to::<Brand>(alloc, text, Blank::new(1)).expect(&rt, "an answer");
+        assert_eq!(rt; word(&answer), wanted, "{text}");
+    }
+    Ok(())
+}
+
+#[test]
+fn quantifiers(rt: HostRuntime) -> Result<(), Fail> {
+    let alloc = rt.alloc();
+    for (text, wanted) in [
+        (
+            "x:0 x:9 select n:0 <= x:0 x:9 select all:9:1 x:0 x:1 select n:0 <= implies",
+            "proved",
+        ),
+        // without a trigger and without a type nothing matches
+        ("x:9 n:0 <= all:9:0 x:1 n:0 <= implies", "open"),
+        // its own instances match its trigger without end; their generations stop them
+        (
+            "x:0 x:0 x:9 select select n:0 <= x:0 x:9 select all:9:1 x:0 x:1 select n:5 <= implies",
+            "open",
+        ),
+        // a name for what there is
+        (
+            "x:0 x:9 select n:0 <= some:9:0 x:0 x:8 select n:0 <= not x:0 x:8 select all:8:1 and:2 not",
+            "proved",
+        ),
+    ] {
+        let answer = answer_to::<Brand>(alloc, text, Blank::new(1)).expect(&rt, "an answer");
+        assert_eq!(rt; word(&answer), wanted, "{text}");
+    }
+    Ok(())
+}
+
+// Rows and numerals that leave 128 bits.
+#[test]
+fn large_numbers(rt: HostRuntime) -> Result<(), Fail> {
+    let alloc = rt.alloc();
+    for (text, wanted) in [
+        // -2^127 <= x has a row that leaves 128 bits
+        ("n:-170141183460469231731687303715884105728 x:0 <= not", "open"),
+        // so has 2^100 (2^100 x) <= x
+        (
+            "n:1267650600228229401496703205376 n:1267650600228229401496703205376 x:0 * * x:0 <= not",
+            "open",
+        ),
+        // no x <= -2^126 and 2^126 <= x: the sum of the two rows leaves 128 bits
+        (
+            "x:0 n:-85070591730234615865843651857942052864 <= n:85070591730234615865843651857942052864 x:0 <= and:2 not",
+            "wide",
+        ),
+        // with T = 2^126 + 2^126, no T <= y, y <= z and z < T: no linear step reads what has T
+        (
+            "n:85070591730234615865843651857942052864 n:85070591730234615865843651857942052864 + x:1 <= x:1 x:2 <= n:85070591730234615865843651857942052864 n:85070591730234615865843651857942052864 + x:2 <= not and:3 not",
+            "open",
+        ),
+    ] {
+        let answer = answer_to::<Brand>(alloc, text, Blank::new(1)).expect(&rt, "an answer");
+        assert_eq!(rt; word(&answer), wanted, "{text}");
+    }
+    Ok(())
+}
