@@ -8,6 +8,8 @@ mod prover_tests;
 #[cfg(test)]
 mod searches;
 #[cfg(test)]
+mod structs;
+#[cfg(test)]
 mod word_tests;
 #[cfg(test)]
 mod words;

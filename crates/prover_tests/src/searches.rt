@@ -1,10 +1,9 @@
 //! What the prover finds out.
 
 ghost use Rattle.std.specs.Prelude.{◌≡◌, ◌<◌};
-ghost use Rattle.asked_axioms.specs.StructRows.{HasFewFields};
 
+use crate::structs::shapes;
 use fol::formula::Formula;
-use fol::shapes::Shapes;
 use formula_deciders::deciders::FormulaDeciders;
 use formula_prover::answer::Answer;
 use formula_prover::prover::prove;
@@ -14,13 +13,6 @@ use pv_base::memory::NoMemory;
 use pv_base::steps::Steps;
 use std::alloc::Global;
 use std::sync::ledger::{Blank, Ledger};
-
-// No struct has a shape.
-fn no_shapes(alloc: Global) -> Shapes
-    ensures { HasFewFields result }
-{
-    Shapes::new(alloc)
-}
 
 /// What the prover answers for a formula within a budget.
 pub(crate) fn found<L: Ledger>(
@@ -34,7 +26,7 @@ pub(crate) fn found<L: Ledger>(
     requires some { 0 < L.parts }
 {
     let mut steps = Steps::<L>::new(blank);
-    let shapes = no_shapes(alloc);
+    let shapes = shapes(alloc)?;
     let mut deciders = FormulaDeciders::new(alloc, &shapes);
     let answer = prove(alloc, &mut deciders, formula, budget, &mut steps)?;
     Ok(answer)

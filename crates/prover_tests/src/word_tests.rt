@@ -44,6 +44,22 @@ fn vectors_memories_and_choices(rt: HostRuntime) -> Result<(), Fail> {
 }
 
 #[test]
+fn structs(rt: HostRuntime) -> Result<(), Fail> {
+    let alloc = rt.alloc();
+    for (text, wanted) in [
+        ("x:0 x:1 pack:2 field:2:1 x:1 =", "proved"),
+        ("x:0 x:1 pack:2 field:2:1 x:0 =", "open"),
+        ("x:0 x:1 pack:2 x:2 put:2:0 field:2:0 x:2 =", "proved"),
+        ("x:0 x:1 pack:2 x:2 put:2:0 field:2:1 x:1 =", "proved"),
+        ("x:0 is:2 x:0 x:2 put:2:0 field:2:1 x:0 field:2:1 = implies", "proved"),
+    ] {
+        let answer = answer_to::<Brand>(alloc, text, Blank::new(1)).expect(&rt, "an answer");
+        assert_eq!(rt; word(&answer), wanted, "{text}");
+    }
+    Ok(())
+}
+
+#[test]
 fn whole_numbers(rt: HostRuntime) -> Result<(), Fail> {
     let alloc = rt.alloc();
     for (text, wanted) in [

@@ -5,11 +5,11 @@
 //! `field:3:1` and `put:3:1`. Formulas: `=`, `<=`, `is:num`, `holds`, `not`, `and:2`, `or:2`, `implies`, `iff`, and `all:9:1`
 //! and `some:9:0`, which bind variable 9 with one trigger of so many terms, or none.
 
+use crate::structs::{struct_name, whole as num};
 use fol::formula::{Formula, FormulaNode, Term, TermNode, Trigger};
 use fol::operators::{Binary, Connective, Constant, Quantifier, Ternary, Unary};
 use pv_base::memory::NoMemory;
-use pv_base::name::Name;
-use pv_base::types::{StructId, TypeList, TypeNode, TypeTerm, Width};
+use pv_base::types::{TypeList, TypeNode, TypeTerm, Width};
 use std::alloc::{AllocError, AllocFailed, Global};
 
 /// Why no formula was read.
@@ -72,22 +72,6 @@ pub(crate) fn formula_of(alloc: Global, text: &str) -> Result<Box<Formula>, Faul
         take(alloc, &mut stacks, word_of(word))?;
     }
     boxed(alloc, &mut stacks)
-}
-
-fn struct_name(alloc: Global, arity: u8) -> Result<StructId, NoMemory> {
-    let module = Name::from_slice(alloc, b"m")?;
-    let name = Name::from_slice(alloc, &[b's', b'0'.saturating_add(arity)])?;
-    Ok(StructId {
-        address: 1,
-        module,
-        name,
-    })
-}
-
-fn num() -> TypeTerm {
-    TypeTerm {
-        node: TypeNode::Num,
-    }
 }
 
 // ---- what is left

@@ -1,0 +1,5 @@
+use Rattle.asked_axioms.specs.StructRows.{HasFewFields}
+use Rattle.prover_tests.proofs.structs.shapes.Given as goal
+
+abbrev pub invariant-loop-count : goal.invariant-loop-count
+invariant-loop-count l = HasFewFields l.shapes
