@@ -1,6 +1,6 @@
 //! The formulas.
 
-use fol::formula::{Formula, FormulaNode, Term, TermNode};
+use fol::formula::{Formula, FormulaNode, Term, TermNode, Trigger, Triggers};
 use fol::operators::{Binary, Connective, Ternary};
 use pv_base::types::{TypeNode, TypeTerm};
 use std::alloc::Global;
@@ -26,6 +26,12 @@ pub(crate) enum Claim {
     TrueThere,
     /// What is true of all values that a memory holds is true of those of an equal one.
     TrueOfAll,
+    /// What is true at each key is true at one.
+    TrueAtOne,
+    /// What is true at one key is true at each.
+    TrueAtEach,
+    /// Of two truths one is, whichever is named first.
+    EitherWay,
 }
 
 fn boxed(rt: &impl Abort, alloc: Global, term: Term) -> Box<Term> {
@@ -110,10 +116,69 @@ fn if_equal(rt: &impl Abort, alloc: Global, claim: Formula) -> Formula {
 }
 
 // What the memory holds is true at each key.
-fn all_true(rt: &impl Abort, alloc: Global, memory: u32) -> Formula {
+fn all_true(rt: &impl Abort, alloc: Global, memory: u32, triggers: Triggers) -> Formula {
     let body = Formula::holds(read(rt, alloc, memory, 2));
     let body = Box::new(alloc, body).expect(rt, "memory");
-    Formula::for_all(2, Vec::new(alloc), body)
+    Formula::for_all(2, triggers, body)
+}
+
+// A read of the first variable at the bound one.
+fn read_trigger(rt: &impl Abort, alloc: Global) -> Triggers {
+    let memory = variable(rt, alloc, 0);
+    let node = TermNode::Binary(Binary::Select, memory, variable(rt, alloc, 2));
+    let mut terms = Vec::new(alloc);
+    terms.push(Term { node }).expect(rt, "memory");
+    let mut triggers = Vec::new(alloc);
+    triggers.push(Trigger { terms }).expect(rt, "memory");
+    triggers
+}
+
+// That one of two variables is true.
+fn either(rt: &impl Abort, alloc: Global, first: u32, second: u32) -> Formula {
+    let mut some = Vec::new(alloc);
+    some.push(Formula::holds(variable(rt, alloc, first)))
+        .expect(rt, "memory");
+    some.push(Formula::holds(variable(rt, alloc, second)))
+        .expect(rt, "memory");
+    Formula::any_of(some)
+}
+
+fn same_read(rt: &impl Abort, alloc: Global) -> Formula {
+    let left = read(rt, alloc, 2, 0);
+    let right = read(rt, alloc, 2, 1);
+    if_equal(rt, alloc, Formula::equal(left, right))
+}
+
+fn true_there(rt: &impl Abort, alloc: Global) -> Formula {
+    let here = Formula::holds(read(rt, alloc, 2, 0));
+    let there = Formula::holds(read(rt, alloc, 2, 1));
+    let follows = implied(rt, alloc, here, there);
+    if_equal(rt, alloc, follows)
+}
+
+fn true_of_all(rt: &impl Abort, alloc: Global) -> Formula {
+    let here = all_true(rt, alloc, 0, Vec::new(alloc));
+    let there = all_true(rt, alloc, 1, Vec::new(alloc));
+    let follows = implied(rt, alloc, here, there);
+    if_equal(rt, alloc, follows)
+}
+
+fn true_at_one(rt: &impl Abort, alloc: Global) -> Formula {
+    let each = all_true(rt, alloc, 0, read_trigger(rt, alloc));
+    let one = Formula::holds(read(rt, alloc, 0, 1));
+    implied(rt, alloc, each, one)
+}
+
+fn true_at_each(rt: &impl Abort, alloc: Global) -> Formula {
+    let one = Formula::holds(read(rt, alloc, 0, 1));
+    let each = all_true(rt, alloc, 0, read_trigger(rt, alloc));
+    implied(rt, alloc, one, each)
+}
+
+fn either_way(rt: &impl Abort, alloc: Global) -> Formula {
+    let first = either(rt, alloc, 0, 1);
+    let second = either(rt, alloc, 1, 0);
+    implied(rt, alloc, first, second)
 }
 
 /// The formula that says so.
@@ -124,22 +189,11 @@ pub(crate) fn formula_of(rt: &impl Abort, alloc: Global, claim: Claim) -> Formul
         Claim::AtMostZero => at_most_zero(rt, alloc),
         Claim::NotHalf => not_half(rt, alloc),
         Claim::AtMostWide => at_most_wide(rt, alloc),
-        Claim::SameRead => {
-            let left = read(rt, alloc, 2, 0);
-            let right = read(rt, alloc, 2, 1);
-            if_equal(rt, alloc, Formula::equal(left, right))
-        }
-        Claim::TrueThere => {
-            let here = Formula::holds(read(rt, alloc, 2, 0));
-            let there = Formula::holds(read(rt, alloc, 2, 1));
-            let follows = implied(rt, alloc, here, there);
-            if_equal(rt, alloc, follows)
-        }
-        Claim::TrueOfAll => {
-            let here = all_true(rt, alloc, 0);
-            let there = all_true(rt, alloc, 1);
-            let follows = implied(rt, alloc, here, there);
-            if_equal(rt, alloc, follows)
-        }
+        Claim::SameRead => same_read(rt, alloc),
+        Claim::TrueThere => true_there(rt, alloc),
+        Claim::TrueOfAll => true_of_all(rt, alloc),
+        Claim::TrueAtOne => true_at_one(rt, alloc),
+        Claim::TrueAtEach => true_at_each(rt, alloc),
+        Claim::EitherWay => either_way(rt, alloc),
     }
 }

@@ -22,6 +22,9 @@ fn answers(rt: HostRuntime) -> Result<(), Fail> {
         (Claim::SameRead, 20_000, "proved"),
         (Claim::TrueThere, 20_000, "proved"),
         (Claim::TrueOfAll, 20_000, "proved"),
+        (Claim::TrueAtOne, 20_000, "proved"),
+        (Claim::TrueAtEach, 20_000, "open"),
+        (Claim::EitherWay, 20_000, "proved"),
     ] {
         let formula = formula_of(&rt, alloc, claim);
         let answer = found::<Brand>(alloc, &formula, budget, Blank::new(1)).expect(&rt, "memory");
