@@ -49,9 +49,15 @@ fn structs(rt: HostRuntime) -> Result<(), Fail> {
     for (text, wanted) in [
         ("x:0 x:1 pack:2 field:2:1 x:1 =", "proved"),
         ("x:0 x:1 pack:2 field:2:1 x:0 =", "open"),
-        ("x:0 x:1 pack:2 x:2 put:2:0 field:2:0 x:2 =", "proved"),
+        (
+            "x:0 is:num x:1 is:num x:2 is:num and:3 x:0 x:1 pack:2 x:2 put:2:0 field:2:0 x:2 = implies",
+            "proved",
+        ),
         ("x:0 x:1 pack:2 x:2 put:2:0 field:2:1 x:1 =", "proved"),
-        ("x:0 is:2 x:0 x:2 put:2:0 field:2:1 x:0 field:2:1 = implies", "proved"),
+        (
+            "x:0 is:2 x:0 x:2 put:2:0 field:2:1 x:0 field:2:1 = implies",
+            "proved",
+        ),
     ] {
         let answer = answer_to::<Brand>(alloc, text, Blank::new(1)).expect(&rt, "an answer");
         assert_eq!(rt; word(&answer), wanted, "{text}");
@@ -63,10 +69,17 @@ fn structs(rt: HostRuntime) -> Result<(), Fail> {
 fn whole_numbers(rt: HostRuntime) -> Result<(), Fail> {
     let alloc = rt.alloc();
     for (text, wanted) in [
-        // 2 x = 2 y + 1 of no whole numbers
-        ("x:0 is:num x:1 is:num and:2 n:2 x:0 * n:2 x:1 * n:1 + = not implies", "proved"),
+        // no multiple of 3 lies between 4 and 5
+        (
+            "x:0 is:num n:4 n:3 x:0 * <= n:3 x:0 * n:5 <= and:3 not",
+            "proved",
+        ),
+        ("n:4 n:3 x:0 * <= n:3 x:0 * n:5 <= and:2 not", "open"),
         ("n:2 x:0 * n:2 x:1 * n:1 + = not", "open"),
-        ("x:0 is:num x:0 n:7 x:0 n:7 / * x:0 n:7 % + = implies", "proved"),
+        (
+            "x:0 is:num x:0 n:7 x:0 n:7 / * x:0 n:7 % + = implies",
+            "proved",
+        ),
         ("x:0 is:num x:0 n:7 % n:6 <= implies", "proved"),
         ("x:0 is:num x:0 n:7 % n:5 <= implies", "open"),
         ("x:0 x:1 <= x:1 x:2 <= and:2 x:0 x:2 <= implies", "proved"),
@@ -111,7 +124,10 @@ fn large_numbers(rt: HostRuntime) -> Result<(), Fail> {
     let alloc = rt.alloc();
     for (text, wanted) in [
         // -2^127 <= x has a row that leaves 128 bits
-        ("n:-170141183460469231731687303715884105728 x:0 <= not", "open"),
+        (
+            "n:-170141183460469231731687303715884105728 x:0 <= not",
+            "open",
+        ),
         // so has 2^100 (2^100 x) <= x
         (
             "n:1267650600228229401496703205376 n:1267650600228229401496703205376 x:0 * * x:0 <= not",

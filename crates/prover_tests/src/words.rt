@@ -301,11 +301,7 @@ fn take_compound(alloc: Global, stacks: &mut Stacks, word: Word<'_>) -> Result<(
     }
 }
 
-fn take_connected(
-    alloc: Global,
-    stacks: &mut Stacks,
-    operator: Connective,
-) -> Result<(), Fault> {
+fn take_connected(alloc: Global, stacks: &mut Stacks, operator: Connective) -> Result<(), Fault> {
     let right = boxed(alloc, stacks)?;
     let left = boxed(alloc, stacks)?;
     say(stacks, FormulaNode::Connect(operator, left, right))
@@ -325,5 +321,8 @@ fn take_quantified(
         triggers.push(Trigger { terms })?;
     }
     let body = boxed(alloc, stacks)?;
-    say(stacks, FormulaNode::Quantify(operator, name, triggers, body))
+    say(
+        stacks,
+        FormulaNode::Quantify(operator, name, triggers, body),
+    )
 }
