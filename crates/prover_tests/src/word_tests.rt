@@ -3,23 +3,11 @@
 ghost use Rattle.std.specs.Prelude.{◌≡◌, ◌<◌};
 
 use crate::searches::{found, word};
-use crate::words::{Fault, formula_of};
-use formula_prover::answer::Answer;
-use std::alloc::Global;
+use crate::words::formula_of;
 use std::marker::Brand;
 use std::panic::Expect;
-use std::sync::ledger::{Blank, Ledger};
+use std::sync::ledger::Blank;
 use std::test::Fail;
-
-// What the prover answers for the formula that these words say.
-fn answer_to<L: Ledger>(alloc: Global, text: &str, blank: Blank) -> Result<Answer, Fault>
-    requires name { blank.name ≡ L.name }
-    requires parts { blank.parts ≡ L.parts }
-    requires some { 0 < L.parts }
-{
-    let formula = formula_of(alloc, text)?;
-    Ok(found::<L>(alloc, &formula, 20_000, blank)?)
-}
 
 #[test]
 fn vectors_memories_and_choices(rt: HostRuntime) -> Result<(), Fail> {
@@ -37,7 +25,8 @@ fn vectors_memories_and_choices(rt: HostRuntime) -> Result<(), Fail> {
         ("x:0 holds x:1 x:2 if x:1 = x:0 holds not or:2", "proved"),
         ("x:0 holds x:1 x:2 if x:1 =", "open"),
     ] {
-        let answer = answer_to::<Brand>(alloc, text, Blank::new(1)).expect(&rt, "an answer");
+        let formula = formula_of(alloc, text).expect(&rt, "a formula");
+        let answer = found::<Brand>(alloc, &formula, 20_000, Blank::new(1)).expect(&rt, "memory");
         assert_eq!(rt; word(&answer), wanted, "{text}");
     }
     Ok(())
@@ -59,7 +48,8 @@ fn structs(rt: HostRuntime) -> Result<(), Fail> {
             "proved",
         ),
     ] {
-        let answer = answer_to::<Brand>(alloc, text, Blank::new(1)).expect(&rt, "an answer");
+        let formula = formula_of(alloc, text).expect(&rt, "a formula");
+        let answer = found::<Brand>(alloc, &formula, 20_000, Blank::new(1)).expect(&rt, "memory");
         assert_eq!(rt; word(&answer), wanted, "{text}");
     }
     Ok(())
@@ -85,7 +75,8 @@ fn whole_numbers(rt: HostRuntime) -> Result<(), Fail> {
         ("x:0 x:1 <= x:1 x:2 <= and:2 x:0 x:2 <= implies", "proved"),
         ("x:0 x:1 <= x:1 x:2 <= and:2 x:2 x:0 <= implies", "open"),
     ] {
-        let answer = answer_to::<Brand>(alloc, text, Blank::new(1)).expect(&rt, "an answer");
+        let formula = formula_of(alloc, text).expect(&rt, "a formula");
+        let answer = found::<Brand>(alloc, &formula, 20_000, Blank::new(1)).expect(&rt, "memory");
         assert_eq!(rt; word(&answer), wanted, "{text}");
     }
     Ok(())
@@ -112,7 +103,8 @@ fn quantifiers(rt: HostRuntime) -> Result<(), Fail> {
             "proved",
         ),
     ] {
-        let answer = answer_to::<Brand>(alloc, text, Blank::new(1)).expect(&rt, "an answer");
+        let formula = formula_of(alloc, text).expect(&rt, "a formula");
+        let answer = found::<Brand>(alloc, &formula, 20_000, Blank::new(1)).expect(&rt, "memory");
         assert_eq!(rt; word(&answer), wanted, "{text}");
     }
     Ok(())
@@ -144,7 +136,8 @@ fn large_numbers(rt: HostRuntime) -> Result<(), Fail> {
             "open",
         ),
     ] {
-        let answer = answer_to::<Brand>(alloc, text, Blank::new(1)).expect(&rt, "an answer");
+        let formula = formula_of(alloc, text).expect(&rt, "a formula");
+        let answer = found::<Brand>(alloc, &formula, 20_000, Blank::new(1)).expect(&rt, "memory");
         assert_eq!(rt; word(&answer), wanted, "{text}");
     }
     Ok(())

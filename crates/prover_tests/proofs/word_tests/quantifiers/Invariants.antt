@@ -1,5 +1,5 @@
 use Rattle.prover_tests.proofs.word_tests.quantifiers.Given as goal
 
 -- the ledger that each blank opens
-abbrev pub ghosts-answer_to : goal.ghosts-answer_to
-ghosts-answer_to g a = record { name = a.blank.name; parts = a.blank.parts }
+abbrev pub ghosts-found : goal.ghosts-found
+ghosts-found g a = record { name = a.blank.name; parts = a.blank.parts }
