@@ -26,7 +26,7 @@ use Rattle.proof_search.specs.declared.end.End.{End}
 use Rattle.proof_search.specs.declared.end.End.TheVariants.{Proved}
 use Rattle.formula_prover.specs.declared.answer.Search.{Search}
 use Rattle.formula_prover.specs.declared.answer.Answer.TheVariants.{Ended, TooLong}
-use Rattle.formula_prover.specs.Answers.{most_bytes, is_proved, IsProofOfLength, IsReadable, IsSearched, Shows}
+use Rattle.formula_prover.specs.Answers.{most_bytes, is_proved, IsProofOfLength, HasSameTurns, IsReadable, IsSearched, Shows}
 
 proved_turns : (shapes : List Shape) (p : FormulaData) (budget taken : ℕ) (ns : List Node) (tree : SearchTree) (e : End) → is_proved e ≡ true → IsShown shapes p budget taken ns tree e → HasTurns ns tree taken (IsProof shapes p)
 proved_turns shapes p budget taken ns tree Proved is h = h
@@ -59,33 +59,32 @@ module _ (shapes : List Shape) (sought : Claim) (before after : ℕ) (s : Search
   pub ended_other : is_proved s.outcome.end ≡ false → Shows shapes sought before after (Ended s)
   ended_other other = record { searched = h; short = record { short = λ is. absurd (cc) } }
 
--- ---- a search without its branches
+-- ---- a search with the same turns
 
 shown_proved : (shapes : List Shape) (p : FormulaData) (budget taken : ℕ) (ns : List Node) (tree : SearchTree) (e : End) → is_proved e ≡ true → HasTurns ns tree taken (IsProof shapes p) → IsShown shapes p budget taken ns tree e
 shown_proved shapes p budget taken ns tree Proved is h = h
 shown_proved shapes p budget taken ns tree _ is h = absurd (cc)
 
-module _ (s r : Search) (pool : r.pool ≡ s.pool) (end : r.outcome.end ≡ s.outcome.end) (text : r.outcome.tree.text ≡ s.outcome.tree.text) where
+module _ (s r : Search) (same : HasSameTurns s r) where
   pub still_proved : is_proved s.outcome.end ≡ true → is_proved r.outcome.end ≡ true
-  still_proved is = ap is_proved end ∙ is
+  still_proved is = ap is_proved same.end ∙ is
 
   pub still_searched : is_proved s.outcome.end ≡ true → (shapes : List Shape) (sought : Claim) (before after : ℕ) → IsSearched shapes sought before after s → IsSearched shapes sought before after r
   still_searched is shapes sought before after h =
       let found = proved_turns shapes sought.formula sought.budget h.outcome.taken s.pool s.outcome.tree s.outcome.end is h.outcome.shown in
-      let all : AllZip (IsTurnOf r.pool) r.outcome.tree.text.items found.turns = subst (λ ns. AllZip (IsTurnOf ns) r.outcome.tree.text.items found.turns) (sym pool) (subst (λ t. AllZip (IsTurnOf s.pool) t found.turns) (sym (ap (λ t. t.items) text)) found.are_turns) in
       record {
         numerals = h.numerals;
         outcome = record {
           taken = h.outcome.taken;
           counted = h.outcome.counted;
           at_most = h.outcome.at_most;
-          shown = shown_proved shapes sought.formula sought.budget h.outcome.taken r.pool r.outcome.tree r.outcome.end (still_proved is) (record { turns = found.turns; are_turns = all; few = found.few; shown = found.shown });
-          shallow = subst (λ e. is_full e ≡ false → IsShallow sought.formula) (sym end) h.outcome.shallow;
+          shown = shown_proved shapes sought.formula sought.budget h.outcome.taken r.pool r.outcome.tree r.outcome.end (still_proved is) (record { turns = found.turns; are_turns = same.turns found.turns found.are_turns; few = found.few; shown = found.shown });
+          shallow = subst (λ e. is_full e ≡ false → IsShallow sought.formula) (sym same.end) h.outcome.shallow;
         };
       }
 
   pub still_readable : IsReadable s → IsReadable r
-  still_readable h = record { fits = λ is. subst (λ t. FitTurns t) (sym (ap (λ t. t.items) text)) (h.fits (sym (ap is_proved end) ∙ is)) }
+  still_readable h = record { fits = λ is. same.fit (h.fits (sym (ap is_proved same.end) ∙ is)) }
 
 -- ---- the denial
 

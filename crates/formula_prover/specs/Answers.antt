@@ -68,8 +68,14 @@ Shows shapes sought before after (Ended s) = IsEndedSo shapes sought before afte
 Shows shapes sought before after (TooLong s len) = IsTooLong shapes sought before after s len
 Shows shapes sought before after (WideNumeral u) = IsBarred sought before after u
 
--- ---- a search whose text can be read
+-- ---- searches whose texts can be read
 
 -- where it has proved the formula, a certificate can hold the numbers that the turns name
 pub record IsReadable (s : Search) : Type 0 where
   pub fits : is_proved s.outcome.end ≡ true → FitTurns s.outcome.tree.text.items
+
+-- the second search has ended as the first, and its text is that of each list of turns of which the first one's is
+pub record HasSameTurns (s r : Search) : Type 0 where
+  pub end : r.outcome.end ≡ s.outcome.end
+  pub turns : (turns : List Turn) → AllZip (IsTurnOf s.pool) s.outcome.tree.text.items turns → AllZip (IsTurnOf r.pool) r.outcome.tree.text.items turns
+  pub fit : FitTurns s.outcome.tree.text.items → FitTurns r.outcome.tree.text.items

@@ -14,7 +14,7 @@ pub struct Search {
 #[derive(Drop)]
 pub enum Answer {
     /// The search has ended so. Where it has proved the formula, at most 4 MiB of bytes spell the certificate, and the
-    /// tree holds its text alone.
+    /// tree holds its text alone, over a pool of what that needs.
     Ended(Search),
     /// The search has proved the formula, but this many bytes would spell the certificate, which are more than 4 MiB;
     /// 2^64 - 1 stands for all that are more.

@@ -3,7 +3,7 @@
 ghost use Rattle.std.specs.Prelude.{◌≡◌, ℕ, ◌+◌, ◌≤◌, true, List, IfOk};
 ghost use Rattle.fol.specs.declared.shapes.Shape.{Shape};
 ghost use Rattle.proof_search.specs.Ends.{Claim};
-ghost use Rattle.formula_prover.specs.Answers.{AreAll, is_proved, IsReadable, IsSearched, Shows};
+ghost use Rattle.formula_prover.specs.Answers.{AreAll, is_proved, HasSameTurns, IsReadable, IsSearched, Shows};
 
 use crate::answer::{Answer, Search};
 use fol::formula::Formula;
@@ -21,6 +21,7 @@ use std::alloc::Global;
 use std::sync::ledger::Ledger;
 use text_lengths::certificate::certificate_len;
 use text_lengths::items::lengths;
+use text_pools::compact::compact;
 use tree_certificates::laws::numbers_fit;
 use wide_numerals::numerals::wide_numeral;
 
@@ -36,28 +37,28 @@ fn is_proved(end: &End) -> bool
     }
 }
 
-// The search without its branches, which nobody reads where it has proved the formula.
-fn without_branches(alloc: Global, search: Search) -> Search
-    ensures pool { result.pool ≡ search.pool }
-    ensures end { result.outcome.end ≡ search.outcome.end }
-    ensures text { result.outcome.tree.text ≡ search.outcome.tree.text }
+// The search with a pool of what its text needs alone, and without its branches, which nobody reads where it has proved the
+// formula.
+fn compacted(alloc: Global, search: Search) -> Result<Search, NoMemory>
+    ensures { IfOk result (HasSameTurns search) }
 {
     let Search { pool, outcome } = search;
     let Outcome { end, tree } = outcome;
     let SearchTree {
         branch: _,
         waiting: _,
-        text,
+        mut text,
     } = tree;
+    let pool = compact(alloc, &pool, text.as_mut_slice())?;
     let tree = SearchTree {
         branch: PoolBranch::new(alloc),
         waiting: Vec::new(alloc),
         text,
     };
-    Search {
+    Ok(Search {
         pool,
         outcome: Outcome { end, tree },
-    }
+    })
 }
 
 // The answer of a search that has ended.
@@ -68,7 +69,8 @@ fn answer_of(alloc: Global, search: Search) -> Result<Answer, NoMemory>
     if !is_proved(&search.outcome.end) {
         return Ok(Answer::Ended(search));
     }
-    answer_of_proof(alloc, without_branches(alloc, search))
+    let compacted = compacted(alloc, search)?;
+    answer_of_proof(alloc, compacted)
 }
 
 // The answer of a search that has proved its formula.
