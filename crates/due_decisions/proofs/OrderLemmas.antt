@@ -1,6 +1,6 @@
 -- Decisions of two numbers, by number.
 use Rattle.std.proofs.Common.{◌≡◌, inl, inr, ℕ, ◌+◌, ◌<◌, ◌≤◌, max, Bool, true, false, List, [], ◌∷◌, ◌++◌, length, get_or, Option, Some, None, Result, Ok, Err, IfOk, refl, sym, ap, ◌∙◌, subst, arith}
-use Rattle.std.specs.Prelude.{Contains, MatchOption}
+use Rattle.std.specs.Prelude.{Contains, MatchOption, IfSome}
 use Rattle.std.proofs.lemmas.Bool.{cases_lt}
 use Rattle.std.proofs.lemmas.List.Elements.{Contains-push, Contains-push_cases, Contains-append_left, Contains-get_or}
 use Rattle.fol.specs.declared.shapes.Shape.{Shape}
@@ -339,15 +339,35 @@ module _ (b : Branch) where
   pub no_order : ((t u : TermData) → AsksDecision b t u → AreNumbers b t u → IsFresh b t u → ⊥) → NoOrder b
   no_order none = record { none = λ shapes p g h. of_decisions shapes (Cases Trichotomy) h.terms p h.asked refl h.is_new h.shallow none }
 
+-- of numbers at places
+
+module _ (ns : List Node) (d : BranchData) (over : IsOver ns d) (all : List Place) (lists : List (ℕ × List ℕ)) (places : AreNumberPlaces ns (branch_in ns d) all lists) where
+  abbrev at_places : Branch
+  at_places = branch_in ns d
+
+  pub groups_of_branch : AreOfBranch ns at_places (IsInGroup all lists)
+  groups_of_branch = record { each = λ t u p. (let h = (places.each t u).0 p in (h.left, h.right)) }
+
+  pub group_order : (ms : List Node) (step : OrderStep) → IsFreshPair ns ms at_places (IsInGroup all lists) step → IsOrder ms at_places step
+  group_order ms step h =
+      let k = (places.each h.left h.right).0 h.is_pair in
+      record {
+        formula = trichotomy_axiom (term_at ns h.left) (term_at ns h.right);
+        numbered = h.is_step.numbered;
+        due = order_due at_places (term_at ns h.left) (term_at ns h.right) step.generation (inl k.indexes) k.numbers h.is_step.fresh h.is_step.generations;
+      }
+
+  pub equal_answer : {E : Type 0} (ks : List Node) (grown : Extends ns ks) → (r : Result (Option OrderStep) E) → IfOk r (λ found. IfSome found (IsFreshPair ns ks at_places (IsInGroup all lists))) → IfOk r (λ found. IfSome found (IsOrder ks (branch_in ks d)))
+  equal_answer ks grown (Ok None) h = h
+  equal_answer ks grown (Ok (Some step)) h = subst (λ b. IsOrder ks b step) (sym (branch_grown ns ks grown d over)) (group_order ks step h)
+  equal_answer ks grown (Err e) h = h
+
 module _ (ns : List Node) (one : IsOneNumber ns) (d : BranchData) (over : IsOver ns d) (pairs : List (ℕ × ℕ)) (denied : AreDeniedPairs ns (branch_in ns d) pairs) (all : List Place) (lists : List (ℕ × List ℕ)) (places : AreNumberPlaces ns (branch_in ns d) all lists) where
   abbrev branch : Branch
   branch = branch_in ns d
 
   pub pairs_of_branch : AreOfBranch ns branch (IsListed pairs)
   pairs_of_branch = record { each = λ t u p. (let h = (denied.each (t, u)).0 p.among in (h.at.sides.left, h.at.sides.right)) }
-
-  pub groups_of_branch : AreOfBranch ns branch (IsInGroup all lists)
-  groups_of_branch = record { each = λ t u p. (let h = (places.each t u).0 p in (h.left, h.right)) }
 
   pub listed_order : (ms : List Node) (step : OrderStep) → IsFreshPair ns ms branch (IsListed pairs) step → IsOrder ms branch step
   listed_order ms step h =
@@ -357,15 +377,6 @@ module _ (ns : List Node) (one : IsOneNumber ns) (d : BranchData) (over : IsOver
         formula = trichotomy_axiom (term_at ns h.left) (term_at ns h.right);
         numbered = h.is_step.numbered;
         due = order_due branch (term_at ns h.left) (term_at ns h.right) step.generation (inr stands) k.at.numbers h.is_step.fresh h.is_step.generations;
-      }
-
-  pub group_order : (ms : List Node) (step : OrderStep) → IsFreshPair ns ms branch (IsInGroup all lists) step → IsOrder ms branch step
-  group_order ms step h =
-      let k = (places.each h.left h.right).0 h.is_pair in
-      record {
-        formula = trichotomy_axiom (term_at ns h.left) (term_at ns h.right);
-        numbered = h.is_step.numbered;
-        due = order_due branch (term_at ns h.left) (term_at ns h.right) step.generation (inl k.indexes) k.numbers h.is_step.fresh h.is_step.generations;
       }
 
   -- a pair of terms by their numbers
@@ -394,6 +405,6 @@ module _ (ns : List Node) (one : IsOneNumber ns) (d : BranchData) (over : IsOver
   first_answer ks grown step h = subst (λ b. IsOrder ks b step) (sym (branch_grown ns ks grown d over)) (listed_order ks step h)
 
   pub last_answer : {E : Type 0} (ms ks : List Node) (grown : Extends ns ms) (wider : Extends ms ks) → NoneFresh ns branch (IsListed pairs) → (r : Result (Option OrderStep) E) → IfOk r (λ found. MatchOption found (NoneFresh ms (branch_in ms d) (IsInGroup all lists)) (IsFreshPair ms ks (branch_in ms d) (IsInGroup all lists))) → IfOk r (λ found. MatchOption found (NoOrder (branch_in ks d)) (IsOrder ks (branch_in ks d)))
-  last_answer ms ks grown wider none (Ok None) h = subst NoOrder (sym (branch_grown ns ks (extends_then grown wider) d over)) (none_left none (none_before ns ms grown d over (IsInGroup all lists) groups_of_branch h))
-  last_answer ms ks grown wider none (Ok (Some step)) h = subst (λ b. IsOrder ks b step) (sym (branch_grown ns ks (extends_then grown wider) d over)) (group_order ks step (pair_before ns ms grown d over (IsInGroup all lists) ks step groups_of_branch h))
+  last_answer ms ks grown wider none (Ok None) h = subst NoOrder (sym (branch_grown ns ks (extends_then grown wider) d over)) (none_left none (none_before ns ms grown d over (IsInGroup all lists) (groups_of_branch ns d over all lists places) h))
+  last_answer ms ks grown wider none (Ok (Some step)) h = subst (λ b. IsOrder ks b step) (sym (branch_grown ns ks (extends_then grown wider) d over)) (group_order ns d over all lists places ks step (pair_before ns ms grown d over (IsInGroup all lists) ks step (groups_of_branch ns d over all lists places) h))
   last_answer ms ks grown wider none (Err e) h = h

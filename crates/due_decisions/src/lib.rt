@@ -4,6 +4,7 @@
 
 pub mod cuts;
 pub mod denials;
+pub mod equal_orders;
 mod numbers;
 pub mod orders;
 mod places;

@@ -121,7 +121,7 @@ fn is_addable(pool: &Pool, branch: &PoolBranch, formula: usize) -> bool
 }
 
 // The instance for two terms, with its generation, where it is fresh.
-fn fresh_order(
+pub(crate) fn fresh_order(
     alloc: Global,
     pool: &mut Pool,
     branch: &PoolBranch,
@@ -289,7 +289,7 @@ fn denied_pairs(
 }
 
 // Those of the numbers at which near memories and vectors are read, by groups.
-fn number_places(
+pub(crate) fn number_places(
     alloc: Global,
     pool: &Pool,
     branch: &PoolBranch,

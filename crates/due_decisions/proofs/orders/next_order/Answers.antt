@@ -27,7 +27,7 @@ order_in_groups-requires-clause-classes c = classes_grown c.args.pool.now c.orde
 pub order_in_groups-requires-clause-pairs : goal.order_in_groups-requires-clause-pairs
 order_in_groups-requires-clause-pairs c =
     rw c.as_slice-all.ensures.value (of_branch_after c.args.pool.now c.order_of_pairs.new.pool c.order_of_pairs.ensures.extends c.args.branch.now c.requires.over (IsInGroup c.in_ok-places.places.all.items c.in_ok-places.places.by_group)
-    (groups_of_branch c.args.pool.now c.one_number.ensures c.args.branch.now c.requires.over c.in_ok-pairs.pairs.items c.in_ok-pairs.ensures c.in_ok-places.places.all.items c.in_ok-places.places.by_group c.in_ok-places.ensures))
+    (groups_of_branch c.args.pool.now c.args.branch.now c.requires.over c.in_ok-places.places.all.items c.in_ok-places.places.by_group c.in_ok-places.ensures))
 
 pub returns-clause-extends : goal.returns-clause-extends
 returns-clause-extends c = extends_then c.order_of_pairs.ensures.extends c.order_in_groups.ensures.extends
