@@ -12,3 +12,4 @@ pub mod ReadLemmas
 pub mod ReadClassLemmas
 pub mod ReadAskLemmas
 pub mod NextLemmas
+pub mod NearLemmas

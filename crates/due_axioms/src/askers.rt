@@ -68,7 +68,7 @@ fn instances_of(
 }
 
 // An instance that it asks for, where one is wanted and due.
-fn next_of(
+pub(crate) fn next_of(
     alloc: Global,
     pool: &mut Pool,
     shapes: &Shapes,

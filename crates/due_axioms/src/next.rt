@@ -123,7 +123,7 @@ fn add_by_index(
 }
 
 // All that asks on a branch for instances of axioms.
-fn all_askers(
+pub(crate) fn all_askers(
     alloc: Global,
     pool: &Pool,
     branch: &PoolBranch,

@@ -1,0 +1,5 @@
+use Rattle.formula_pool.specs.Pools.{Extends}
+use Rattle.due_axioms.proofs.near.near_asked.Given as goal
+
+abbrev pub invariant-loop-i : goal.invariant-loop-i
+invariant-loop-i l = Extends l.fn.pool l.pool

@@ -1,0 +1,18 @@
+use Rattle.pool_branch.specs.PoolBranches.{branch_in}
+use Rattle.near_groups.proofs.GraphLemmas.{ok_map}
+use Rattle.due_axioms.proofs.NearLemmas.{near_answer}
+use Rattle.due_axioms.proofs.NextLemmas.{askers_of}
+use Rattle.due_axioms.proofs.near.near_axiom.Goals as goal
+
+pub all_askers-requires-clause-typings : goal.all_askers-requires-clause-typings
+all_askers-requires-clause-typings c = rw c.as_slice.ensures.value c.in_ok-found.ensures
+
+pub near_asked-requires-clause-askers : goal.near_asked-requires-clause-askers
+near_asked-requires-clause-askers c =
+    let ns = c.args.pool.now in
+    rw c.as_slice-2.ensures.value (askers_of ns (branch_in ns c.args.branch.now) c.in_ok-askers.askers.items c.in_ok-askers.ensures)
+
+pub returns-clause-due : goal.returns-clause-due
+returns-clause-due c =
+    let answer = rw c.as_slice-2.ensures.value at c.near_asked.ensures.due in
+    ok_map c.near_asked.result (λ o h. near_answer c.args.shapes.now c.args.pool.now c.args.branch.now c.requires.over c.in_ok-askers.askers.items c.in_ok-askers.ensures c.near_asked.ensures.extends o h) answer
