@@ -150,7 +150,7 @@ only_step {ns} x g instance w now = record {
 -- ---- what asks for more, or for less
 
 module _ {b : Branch} {asks more : Asking} where
-  due_as : ((name : Axiom) (ts : List TermData) (p : FormulaData) → asks name ts p → more name ts p) → {name : Axiom} {p : FormulaData} {g : ℕ} → IsDue b asks name p g → IsDue b more name p g
+  pub due_as : ((name : Axiom) (ts : List TermData) (p : FormulaData) → asks name ts p → more name ts p) → {name : Axiom} {p : FormulaData} {g : ℕ} → IsDue b asks name p g → IsDue b more name p g
   due_as f {name} {p} h = record { terms = h.terms; asked = f name h.terms p h.asked; generations = h.generations; is_new = h.is_new; shallow = h.shallow }
 
 module _ {b : Branch} {wanted : WantedAxioms} {asks more : Asking} where
@@ -208,10 +208,10 @@ module _ (asks : Asking) where
       subst (λ (z : AskedAxiom). asks z.name (terms_in ns z.terms) (formula_at ns z.formula)) (first_is e) here
   asked_at (MoreAsked x a xs as' h r) only (suc k) y e = asked_at r only.1 k y e
 
-  listed_asks : {ns : List Node} {xs : List AskedAxiom} → ListsAll ns xs asks → (name : Axiom) (ts : List TermData) (p : FormulaData) → IsListed ns xs name ts p → asks name ts p
+  pub listed_asks : {ns : List Node} {xs : List AskedAxiom} → ListsAll ns xs asks → (name : Axiom) (ts : List TermData) (p : FormulaData) → IsListed ns xs name ts p → asks name ts p
   listed_asks h name ts p l = subst (λ (c : Asked). asks c.name c.terms c.formula) l.is (asked_at h.are h.exactly.only l.place l.instance l.found)
 
-among_listed : {ns : List Node} {a : Asked} {xs : List AskedAxiom} {as' : List Asked} {name : Axiom} {ts : List TermData} {p : FormulaData} → IsAmong a as' → AreAsked ns xs as' → a ≡ record { name = name; terms = ts; formula = p } → IsListed ns xs name ts p
+pub among_listed : {ns : List Node} {a : Asked} {xs : List AskedAxiom} {as' : List Asked} {name : Axiom} {ts : List TermData} {p : FormulaData} → IsAmong a as' → AreAsked ns xs as' → a ≡ record { name = name; terms = ts; formula = p } → IsListed ns xs name ts p
 among_listed (IsHere _) (MoreAsked x a xs as' h r) e = record { place = 0; instance = x; found = refl; is = same_asked h ∙ ap spelled e }
 among_listed (IsLater _ _ m) (MoreAsked x a xs as' h r) e =
     let rest = among_listed m r e in record { place = suc rest.place; instance = rest.instance; found = rest.found; is = rest.is }

@@ -12,4 +12,5 @@ pub mod ReadLemmas
 pub mod ReadClassLemmas
 pub mod ReadAskLemmas
 pub mod NextLemmas
+pub mod ListingLemmas
 pub mod NearLemmas

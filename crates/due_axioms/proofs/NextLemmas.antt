@@ -1,6 +1,6 @@
 -- All that asks on a branch, and what is due of what it asks for.
 use Rattle.std.proofs.Common.{◌≡◌, ℕ, Bool, true, false, ◌||◌, true≢false, List, ◌++◌, length, map, Option, Some, None, refl, sym, ap, ◌∙◌, subst, arith}
-use Rattle.std.specs.Prelude.{slice_index_or, slice_get, MatchOption, All, Contains}
+use Rattle.std.specs.Prelude.{slice_index_or, MatchOption, All}
 use Rattle.std.proofs.lemmas.List.{length-map, get_or-map}
 use Rattle.std.proofs.lemmas.List.Elements.{All-append, Contains-get_or, Contains-append_left, Contains-append_right}
 use Rattle.std.proofs.lemmas.Option.{slice_get_within, get_or_from_slice_get}
@@ -11,8 +11,7 @@ use Rattle.axioms.specs.Forms.{DifferFormula}
 use Rattle.substitution.specs.Free.{free_in_term, free_in}
 use Rattle.formula_pool.specs.Pools.{IsOneNumber, Extends}
 use Rattle.formula_pool.specs.declared.node.Node.{Node}
-use Rattle.branches.specs.Branch.{Branch, Entry, formula_of, Says, Stands}
-use Rattle.branches.specs.Table.{Asks}
+use Rattle.branches.specs.Branch.{Branch, formula_of, Stands}
 use Rattle.pool_branch.specs.PoolBranches.{BranchData, branch_in, IsOver}
 use Rattle.entry_steps.proofs.EntryLemmas.{still_says}
 use Rattle.near_groups.specs.Terms.{AreBranchTerms}
@@ -127,7 +126,7 @@ module _ (ns : List Node) (one : IsOneNumber ns) (d : BranchData) (over : IsOver
 pub askers_of : (ns : List Node) (b : Branch) (askers : List Asker) → AskEverything ns b askers → AreAskers ns askers
 askers_of ns b askers h = record { each = λ k w. (h.on k Always w).numbers }
 
-standing : (ns : List Node) (b : Branch) (askers : List Asker) → AskEverything ns b askers → All (IsStanding ns b) askers
+pub standing : (ns : List Node) (b : Branch) (askers : List Asker) → AskEverything ns b askers → All (IsStanding ns b) askers
 standing ns b askers h = λ k x w. (h.on k x w).stands
 
 module _ (shapes : List Shape) (ns : List Node) (d : BranchData) (over : IsOver ns d) (askers : List Asker) (h : AskEverything ns (branch_in ns d) askers) where

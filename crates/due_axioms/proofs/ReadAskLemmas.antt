@@ -1,5 +1,5 @@
 -- What asks by reads of memories and of vectors.
-use Rattle.std.proofs.Common.{◌≡◌, ◌↔◌, ◌⊎◌, inl, inr, ℕ, ◌+◌, ◌<◌, List, [], ◌∷◌, ◌++◌, length, map, take, get_or, Option, Some, None, refl, sym, ap, ◌∙◌, subst, arith}
+use Rattle.std.proofs.Common.{◌≡◌, ◌↔◌, ◌⊎◌, inl, inr, ℕ, ◌+◌, ◌<◌, List, [], ◌++◌, length, map, take, get_or, Some, None, refl, sym, ap, ◌∙◌, subst}
 use Rattle.std.specs.Prelude.{slice_index_or, Contains}
 use Rattle.std.specs.List.{flat_map}
 use Rattle.std.proofs.lemmas.List.{take_more, flat_map_more}
@@ -41,7 +41,7 @@ use Rattle.due_axioms.proofs.RangeLemmas.{contains_map}
 use Rattle.due_axioms.proofs.ReadLemmas.{base_in, IsReadHere, made_is, base_term, read_cases, read_back}
 use Rattle.due_axioms.proofs.ReadClassLemmas.{to_key, from_key}
 use Rattle.due_axioms.proofs.TakenLemmas.{none_taken, taken_kept, taken_last, taken_cases, of_map, of_flat_map}
-use Rattle.due_axioms.proofs.TypedLemmas.{IsTypedNumber, typed_term, listed_typing, among, typed_number}
+use Rattle.due_axioms.proofs.TypedLemmas.{typed_term, listed_typing, among, typed_number}
 
 number_of : {ns : List Node} {b : Branch} {n : ℕ} → IsBranchTerm ns b n → IsTermNumber ns n
 number_of {ns} {n = n} h = record { within = h.number.within; is = sym (a_term (item_at ns n) h.number.sort) }

@@ -1,5 +1,5 @@
 -- Memories and vectors that are read, and what they are made of.
-use Rattle.std.proofs.Common.{◌≡◌, ◌⊎◌, inl, inr, ℕ, List, [], ◌∷◌, Option, Some, None, refl, sym, ap, ◌∙◌, subst, arith}
+use Rattle.std.proofs.Common.{◌≡◌, ◌⊎◌, ℕ, List, [], ◌∷◌, Option, Some, None, refl, sym, ap, ◌∙◌, subst, arith}
 use Rattle.std.specs.Prelude.{Contains}
 use Rattle.fol.specs.declared.operators.Unary.TheVariants.{Pop, Len}
 use Rattle.fol.specs.declared.operators.Binary.{Binary as BinaryOperator}

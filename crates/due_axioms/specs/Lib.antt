@@ -8,3 +8,4 @@ pub mod Keyed
 pub mod Vectors
 pub mod Reads
 pub mod Next
+pub mod Listing

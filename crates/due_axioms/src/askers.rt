@@ -43,8 +43,8 @@ pub enum Asker {
     Vectors(usize, usize, usize),
 }
 
-// The instances that it asks for.
-fn instances_of(
+/// The instances that it asks for.
+pub(crate) fn instances_of(
     alloc: Global,
     pool: &mut Pool,
     shapes: &Shapes,

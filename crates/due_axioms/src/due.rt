@@ -93,8 +93,8 @@ fn due_generation(pool: &Pool, branch: &PoolBranch, asked: AskedAxiom) -> Option
     generation(pool, branch, asked.terms)
 }
 
-// The step for an instance, where it is wanted and due.
-fn step_of(
+/// The step for an instance, where it is wanted and due.
+pub(crate) fn step_of(
     pool: &Pool,
     branch: &PoolBranch,
     wanted: WantedAxioms,

@@ -6,6 +6,7 @@ pub mod beside;
 pub mod due;
 mod keyed;
 pub mod laws;
+pub mod listing;
 pub mod near;
 pub mod next;
 pub mod ranges;

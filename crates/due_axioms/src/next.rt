@@ -122,7 +122,7 @@ fn add_by_index(
     Ok(())
 }
 
-// All that asks on a branch for instances of axioms.
+/// All that asks on a branch for instances of axioms.
 pub(crate) fn all_askers(
     alloc: Global,
     pool: &Pool,
