@@ -7,3 +7,5 @@ mod class_tests;
 mod history_tests;
 #[cfg(test)]
 mod number_tests;
+#[cfg(test)]
+mod text_tests;
