@@ -6,9 +6,10 @@ script draws, and prints for each family how many valid formulas are proved, how
 and the greatest time, and each disagreement. Whether a formula is valid is known by how it was made, or by an evaluation
 of this script's own. A formula that is proved and not valid ends the script with status 1.
 
-    bench/families.py [--folder FOLDER] [--count N] [--seed N] [FAMILY..]
+    bench/families.py [--folder FOLDER] [--count N] [--seed N] [--seconds N] [FAMILY..]
 
-FOLDER is where the copy is made; a temporary one if it is left out.
+FOLDER is where the copy is made; a temporary one if it is left out. Each formula has a run of its own, which is ended after
+so many seconds, 10 if they are left out, and then counts as `late`.
 """
 
 import argparse
@@ -292,6 +293,8 @@ def structs(draw):
         j, fresh = draw.randrange(count), x(100 + step)
         premises.append(op("is:num", fresh))
         premises.append(op("=", x(step + 1), op(f"put:{count}:{j}", x(step), fresh)))
+        # no axiom gives the type of a struct with a field set, so the type of each value is said, as of any other value
+        premises.append(op(f"is:{count}", x(step + 1)))
         values[j] = fresh
     j = draw.choice(sorted(values))
     said = values[j] if draw.random() < 0.7 else x(200)
@@ -451,15 +454,21 @@ def built(folder):
     return program
 
 
-def measure(program, name, count, seed):
+def answer(program, formula, seconds):
+    """The word that the program answers for a formula, and the time in microseconds."""
+    try:
+        done = subprocess.run([program], input=formula + "\n", check=False, capture_output=True, text=True, timeout=seconds)
+    except subprocess.TimeoutExpired:
+        return "late", seconds * 1_000_000
+    said = done.stdout.split()
+    return (said[0], said[1]) if len(said) == 2 else ("none", 0)
+
+
+def measure(program, name, given):
     """Runs a family and prints what came out; gives the number of formulas that are proved and not valid."""
-    draw = random.Random(f"{name} {seed}")
-    formulas = [FAMILIES[name](draw) for _ in range(count)]
-    text = "".join(formula + "\n" for formula, _ in formulas)
-    done = subprocess.run([program], input=text, check=False, capture_output=True, text=True)
-    answers = [line.split() for line in done.stdout.splitlines()]
-    if len(answers) < count:
-        print(f"{name}: ended behind {len(answers)} of {count}: {done.stderr[-500:]}")
+    draw = random.Random(f"{name} {given.seed}")
+    formulas = [FAMILIES[name](draw) for _ in range(given.count)]
+    answers = [answer(program, formula, given.seconds) for formula, _ in formulas]
     valid, proved, others, wrong, words_of_valid, times = 0, 0, {}, 0, {}, []
     for (formula, is_valid), (word, micros) in zip(formulas, answers):
         times.append(int(micros) / 1000)
@@ -482,11 +491,12 @@ def main() -> int:
     words_of.add_argument("--folder")
     words_of.add_argument("--count", type=int, default=100)
     words_of.add_argument("--seed", type=int, default=1)
+    words_of.add_argument("--seconds", type=int, default=10)
     words_of.add_argument("families", nargs="*")
     given = words_of.parse_args()
     with tempfile.TemporaryDirectory(prefix="families.") as room:
         program = built(given.folder or room)
-        wrong = sum(measure(program, name, given.count, given.seed) for name in given.families or FAMILIES)
+        wrong = sum(measure(program, name, given) for name in given.families or FAMILIES)
     return 1 if wrong else 0
 
 

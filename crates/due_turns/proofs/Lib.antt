@@ -1,3 +1,4 @@
 pub mod GrowthLemmas
 pub mod LateLemmas
 pub mod PlainLemmas
+pub mod PromisingLemmas

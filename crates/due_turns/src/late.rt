@@ -12,6 +12,7 @@ ghost use Rattle.search_trees.specs.Turns.{term_at};
 ghost use Rattle.proof_search.specs.Decisions.{NothingLate, IsGrowthDue};
 
 use crate::growths::split_turn;
+use crate::promising::ranked_turn;
 use branch_classes::branch_classes::BranchClasses;
 use due_decisions::cuts::{CutStep, next_cut};
 use entry_steps::split::next_split;
@@ -20,6 +21,7 @@ use formula_pool::pool::Pool;
 use pool_branch::branch::PoolBranch;
 use pv_base::memory::NoMemory;
 use search_trees::turn::{Growth, Reason};
+use split_ranks::guess::Guess;
 use std::alloc::Global;
 
 // The generation of a term of the branch.
@@ -67,9 +69,8 @@ fn cut_turn(
     })
 }
 
-/// A split or a cut, on a branch on which nothing earlier is due; none where neither is due. The classes are those of the
-/// branch.
-pub fn late_turn(
+// The first split or cut that is due, on a branch on which nothing earlier is; none where neither is.
+fn first_late_turn(
     alloc: Global,
     pool: &mut Pool,
     branch: &PoolBranch,
@@ -87,4 +88,24 @@ pub fn late_turn(
         return Ok(None);
     };
     Ok(Some(cut_turn(alloc, pool, branch, cut)?))
+}
+
+/// A split or a cut, on a branch on which nothing earlier is due; none where neither is due. The split that leaves the fewest
+/// cases open comes first. The classes are those of the branch.
+pub fn late_turn(
+    alloc: Global,
+    pool: &mut Pool,
+    branch: &PoolBranch,
+    classes: &BranchClasses,
+    guess: Option<&Guess>,
+) -> Result<Option<Growth>, NoMemory>
+    requires over { IsOver pool.old branch.now }
+    requires classes { AreClassesOf pool.old branch.now classes.now }
+    ensures extends { Extends pool.old pool.new }
+    ensures due { (shapes : List Shape) → IsLate shapes (branch_in pool.old branch.now) → IfOk result (λ found. MatchOption found (NothingLate (branch_in pool.old branch.now)) (IsGrowthDue shapes pool.new (branch_in pool.old branch.now))) }
+{
+    if let Some(turn) = ranked_turn(alloc, pool, branch, classes, guess, u32::MAX)? {
+        return Ok(Some(turn));
+    }
+    first_late_turn(alloc, pool, branch, classes)
 }

@@ -4,4 +4,6 @@
 pub mod growths;
 pub mod late;
 pub mod laws;
+pub mod near;
 pub mod plain;
+pub mod promising;

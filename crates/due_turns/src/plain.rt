@@ -82,7 +82,7 @@ fn axioms_turn(
 }
 
 // An instance of a quantified entry.
-fn quantified_turn(
+pub(crate) fn quantified_turn(
     alloc: Global,
     pool: &mut Pool,
     branch: &PoolBranch,

@@ -12,7 +12,9 @@ use branch_state::state::BranchState;
 use clash_turns::closing::closing;
 use due_instances::quantifiers::QuantifierFree;
 use due_turns::late::late_turn;
+use due_turns::near::near_turn;
 use due_turns::plain::plain_turn;
+use due_turns::promising::promising_turn;
 use early_turns::early::early_turn;
 use entry_matches::heads::HeadIndex;
 use fol::shapes::Shapes;
@@ -21,6 +23,8 @@ use pool_branch::branch::PoolBranch;
 use proof_search::deciders::{ClosingAnswer, Deciders, LeafAnswer, RowsAnswer};
 use pv_base::memory::NoMemory;
 use search_trees::turn::Growth;
+use split_ranks::guess::Guess;
+use split_ranks::ranks::is_urgent;
 use std::alloc::Global;
 
 /// The deciders over the shapes of structs. They keep the state of the branch that is worked on, which follows it, and what
@@ -31,6 +35,8 @@ pub struct FormulaDeciders<'a> {
     state: BranchState,
     heads: HeadIndex,
     quantifiers: QuantifierFree,
+    // The values that met the rows when they were solved last. They choose what is looked at first, and nothing rests on them.
+    guess: Option<Guess>,
 }
 
 impl<'a> FormulaDeciders<'a> {
@@ -45,6 +51,7 @@ impl<'a> FormulaDeciders<'a> {
             state: BranchState::new(alloc),
             heads: HeadIndex::new(alloc),
             quantifiers: QuantifierFree::new(alloc),
+            guess: None,
         }
     }
 }
@@ -105,6 +112,48 @@ impl<'a> Deciders for FormulaDeciders<'a> {
         Ok(found)
     }
 
+    fn is_urgent(
+        &mut self,
+        alloc: Global,
+        pool: &Pool,
+        branch: &PoolBranch,
+    ) -> Result<bool, NoMemory> {
+        self.state.follow(alloc, pool, branch)?;
+        let found = is_urgent(alloc, pool, branch, &self.state.classes)?;
+        Ok(found)
+    }
+
+    fn near(
+        &mut self,
+        alloc: Global,
+        pool: &mut Pool,
+        branch: &PoolBranch,
+    ) -> Result<Option<Growth>, NoMemory> {
+        self.state.follow(alloc, pool, branch)?;
+        let found = near_turn(
+            alloc,
+            pool,
+            self.shapes,
+            branch,
+            &self.state.classes,
+            &mut self.heads,
+            &mut self.quantifiers,
+        )?;
+        Ok(found)
+    }
+
+    fn promising(
+        &mut self,
+        alloc: Global,
+        pool: &mut Pool,
+        branch: &PoolBranch,
+    ) -> Result<Option<Growth>, NoMemory> {
+        self.state.follow(alloc, pool, branch)?;
+        let guess = self.guess.as_ref();
+        let found = promising_turn(alloc, pool, branch, &self.state.classes, guess)?;
+        Ok(found)
+    }
+
     fn rows(
         &mut self,
         alloc: Global,
@@ -112,8 +161,9 @@ impl<'a> Deciders for FormulaDeciders<'a> {
         branch: &PoolBranch,
     ) -> Result<RowsAnswer, NoMemory> {
         let variable = follow_with_variable(alloc, pool, branch, &mut self.state)?;
-        let answer = rows_answer(alloc, pool, branch, &self.state.classes, variable)?;
-        Ok(answer)
+        let found = rows_answer(alloc, pool, branch, &self.state.classes, variable)?;
+        self.guess = found.guess;
+        Ok(found.answer)
     }
 
     fn late(
@@ -123,7 +173,8 @@ impl<'a> Deciders for FormulaDeciders<'a> {
         branch: &PoolBranch,
     ) -> Result<Option<Growth>, NoMemory> {
         self.state.follow(alloc, pool, branch)?;
-        let found = late_turn(alloc, pool, branch, &self.state.classes)?;
+        let guess = self.guess.as_ref();
+        let found = late_turn(alloc, pool, branch, &self.state.classes, guess)?;
         Ok(found)
     }
 

@@ -20,11 +20,12 @@ use branch_solving::elimination::eliminate;
 use branch_solving::values::open_or_bound;
 use clash_turns::history::history_of;
 use formula_pool::pool::Pool;
-use linear_rows::rows::LinAnswer;
+use linear_rows::rows::{Fraction, LinAnswer};
 use pool_branch::branch::PoolBranch;
 use proof_search::deciders::{LeafAnswer, RowsAnswer};
 use pv_base::memory::NoMemory;
 use row_turns::end::{RowsEnd, close_rows};
+use split_ranks::guess::{Guess, Quotient};
 use std::alloc::Global;
 
 // What the rows of a branch lead to, which these multipliers combine to a contradiction.
@@ -62,6 +63,33 @@ fn end_of(
     Ok(end)
 }
 
+/// What an elimination of the rows says, and the values that meet them, where it gives some.
+#[derive(Drop)]
+pub(crate) struct RowsFound {
+    pub answer: RowsAnswer,
+    pub guess: Option<Guess>,
+}
+
+// The values by the names of classes.
+fn guess_of(
+    alloc: Global,
+    names: Vec<usize>,
+    rows: &BranchRows,
+    values: &[Fraction],
+) -> Result<Guess, NoMemory> {
+    let mut guess = Guess::new(alloc, names);
+    for value in values {
+        if let Some(name) = rows.classes.get_index(value.unknown) {
+            let quotient = Quotient {
+                numerator: value.numerator,
+                denominator: value.denominator,
+            };
+            guess.note(*name, quotient)?;
+        }
+    }
+    Ok(guess)
+}
+
 /// What an elimination of the rows of a branch says, for any shapes. These are the classes into which its entries were put,
 /// and nothing else; the variable is above all those of the branch.
 pub(crate) fn rows_answer(
@@ -70,30 +98,48 @@ pub(crate) fn rows_answer(
     branch: &PoolBranch,
     classes: &BranchClasses,
     variable: u32,
-) -> Result<RowsAnswer, NoMemory>
+) -> Result<RowsFound, NoMemory>
     requires over { IsOver pool.old branch.now }
     requires classes { AreClassesOf pool.old branch.now classes.now }
     requires inside { AreInEntries pool.old classes.now }
     requires variable { above_all (formulas (branch_in pool.old branch.now)) ≤ variable }
     ensures extends { Extends pool.old pool.new }
-    ensures shown { IfOk result (λ answer. (shapes : List Shape) → ShowsRows shapes pool.new (branch_in pool.old branch.now) answer) }
+    ensures shown { IfOk result (λ found. (shapes : List Shape) → ShowsRows shapes pool.new (branch_in pool.old branch.now) found.answer) }
 {
     let found = eliminate(alloc, pool, branch, classes)?;
     let names = found.names;
     let rows = found.rows;
     match found.answer {
-        LinAnswer::Feasible(_) => Ok(RowsAnswer::Met),
+        LinAnswer::Feasible(values) => {
+            let guess = guess_of(alloc, names, &rows, values.as_slice())?;
+            Ok(RowsFound {
+                answer: RowsAnswer::Met,
+                guess: Some(guess),
+            })
+        }
         LinAnswer::Infeasible(multipliers) => {
             let by = multipliers.as_slice();
             let known = names.as_slice();
             let end = end_of(alloc, pool, branch, classes, variable, known, &rows, by)?;
             match end {
-                RowsEnd::Closes(closing) => Ok(RowsAnswer::Closes(closing)),
-                RowsEnd::TooLong => Ok(RowsAnswer::TooLong),
+                RowsEnd::Closes(closing) => Ok(RowsFound {
+                    answer: RowsAnswer::Closes(closing),
+                    guess: None,
+                }),
+                RowsEnd::TooLong => Ok(RowsFound {
+                    answer: RowsAnswer::TooLong,
+                    guess: None,
+                }),
             }
         }
-        LinAnswer::Wide(first, second) => Ok(RowsAnswer::Wide(first, second)),
-        LinAnswer::TooManyRows(many) => Ok(RowsAnswer::TooMany(many)),
+        LinAnswer::Wide(first, second) => Ok(RowsFound {
+            answer: RowsAnswer::Wide(first, second),
+            guess: None,
+        }),
+        LinAnswer::TooManyRows(many) => Ok(RowsFound {
+            answer: RowsAnswer::TooMany(many),
+            guess: None,
+        }),
     }
 }
 

@@ -1,6 +1,6 @@
 //! What decides which turns are due on a branch.
 
-ghost use Rattle.std.specs.Prelude.{◌≡◌, ◌↔◌, List, IsTrue, IfOk, OnOk, MatchOption};
+ghost use Rattle.std.specs.Prelude.{◌≡◌, ◌↔◌, List, IsTrue, IfOk, IfSome, OnOk, MatchOption};
 ghost use Rattle.fol.specs.declared.shapes.Shape.{Shape};
 ghost use Rattle.formula_pool.specs.Pools.{Extends};
 ghost use Rattle.formula_pool.specs.declared.node.Node.{Node};
@@ -128,6 +128,51 @@ pub trait Deciders {
         ensures knows { OnOk result (knows self.new pool.new) }
         ensures shapes { OnOk result (shapes self.new ≡ shapes self.old) }
         ensures due { IfOk result (λ found. MatchOption found (NothingPlain (shapes self.old) (branch_in pool.old branch.now)) (IsGrowthDue (shapes self.old) pool.new (branch_in pool.old branch.now))) };
+
+    /// Whether the rows of the branch are best solved before anything is added. What it tells chooses what is looked at
+    /// first, and nothing rests on it.
+    fn is_urgent(
+        &mut self,
+        alloc: Global,
+        pool: &Pool,
+        branch: &PoolBranch,
+    ) -> Result<bool, NoMemory>
+        requires knows { knows self.old pool.now }
+        requires over { IsOver pool.now branch.now }
+        ensures knows { OnOk result (knows self.new pool.now) }
+        ensures shapes { OnOk result (shapes self.new ≡ shapes self.old) };
+
+    /// An instance that a proof is likely to need, if it finds one that is due; where it finds none, others may be due.
+    fn near(
+        &mut self,
+        alloc: Global,
+        pool: &mut Pool,
+        branch: &PoolBranch,
+    ) -> Result<Option<Growth>, NoMemory>
+        requires knows { knows self.old pool.old }
+        requires over { IsOver pool.old branch.now }
+        requires room { HasRoom (branch_in pool.old branch.now) }
+        ensures extends { Extends pool.old pool.new }
+        ensures knows { OnOk result (knows self.new pool.new) }
+        ensures shapes { OnOk result (shapes self.new ≡ shapes self.old) }
+        ensures due { IfOk result (λ found. IfSome found (IsGrowthDue (shapes self.old) pool.new (branch_in pool.old branch.now))) };
+
+    /// A split, or a decision of two numbers, that is likely to close soon, if it finds one that is due; where it finds none,
+    /// others may be due.
+    fn promising(
+        &mut self,
+        alloc: Global,
+        pool: &mut Pool,
+        branch: &PoolBranch,
+    ) -> Result<Option<Growth>, NoMemory>
+        requires knows { knows self.old pool.old }
+        requires over { IsOver pool.old branch.now }
+        requires room { HasRoom (branch_in pool.old branch.now) }
+        requires late { IsLate (shapes self.old) (branch_in pool.old branch.now) }
+        ensures extends { Extends pool.old pool.new }
+        ensures knows { OnOk result (knows self.new pool.new) }
+        ensures shapes { OnOk result (shapes self.new ≡ shapes self.old) }
+        ensures due { IfOk result (λ found. IfSome found (IsGrowthDue (shapes self.old) pool.new (branch_in pool.old branch.now))) };
 
     /// What an elimination of the rows of the branch says.
     fn rows(

@@ -41,7 +41,8 @@ pub enum Decision {
     Stops(Stop),
 }
 
-/// Decides what comes next on the branch: first what is early, then what closes it, instances, splits and cuts, bounds.
+/// Decides what comes next on the branch: first what is early, then what closes it, what a proof is likely to need, all
+/// instances, splits and cuts, bounds.
 pub(crate) fn decide<D: Deciders>(
     alloc: Global,
     deciders: &mut D,
@@ -95,6 +96,177 @@ fn after_early<D: Deciders>(
 
 // Nor does a clash close the branch.
 fn after_closing<D: Deciders>(
+    alloc: Global,
+    deciders: &mut D,
+    pool: &mut Pool,
+    branch: &PoolBranch,
+) -> Result<Decision, NoMemory>
+    requires knows { D.knows deciders.old pool.old }
+    requires over { IsOver pool.old branch.now }
+    requires room { HasRoom (branch_in pool.old branch.now) }
+    requires level { IsLevel (branch_in pool.old branch.now) }
+    requires early { NothingEarly (D.shapes deciders.old) (branch_in pool.old branch.now) }
+    requires closed { IsNotClosed (branch_in pool.old branch.now) }
+    ensures extends { Extends pool.old pool.new }
+    ensures knows { OnOk result (D.knows deciders.new pool.new) }
+    ensures shapes { OnOk result (D.shapes deciders.new ≡ D.shapes deciders.old) }
+    ensures decided { IfOk result (IsDecided (D.shapes deciders.old) pool.new (branch_in pool.old branch.now)) }
+{
+    let is_urgent = deciders.is_urgent(alloc, pool, branch)?;
+    if is_urgent {
+        in_haste(alloc, deciders, pool, branch)
+    } else {
+        with_near(alloc, deciders, pool, branch)
+    }
+}
+
+// Its rows are solved first.
+fn in_haste<D: Deciders>(
+    alloc: Global,
+    deciders: &mut D,
+    pool: &mut Pool,
+    branch: &PoolBranch,
+) -> Result<Decision, NoMemory>
+    requires knows { D.knows deciders.old pool.old }
+    requires over { IsOver pool.old branch.now }
+    requires room { HasRoom (branch_in pool.old branch.now) }
+    requires level { IsLevel (branch_in pool.old branch.now) }
+    requires early { NothingEarly (D.shapes deciders.old) (branch_in pool.old branch.now) }
+    requires closed { IsNotClosed (branch_in pool.old branch.now) }
+    ensures extends { Extends pool.old pool.new }
+    ensures knows { OnOk result (D.knows deciders.new pool.new) }
+    ensures shapes { OnOk result (D.shapes deciders.new ≡ D.shapes deciders.old) }
+    ensures decided { IfOk result (IsDecided (D.shapes deciders.old) pool.new (branch_in pool.old branch.now)) }
+{
+    match deciders.rows(alloc, pool, branch)? {
+        RowsAnswer::Met => in_haste_by_values(alloc, deciders, pool, branch),
+        RowsAnswer::Closes(closing) => Ok(Decision::Closes(closing)),
+        _ => with_near(alloc, deciders, pool, branch),
+    }
+}
+
+// Values meet the rows, which were solved first.
+fn in_haste_by_values<D: Deciders>(
+    alloc: Global,
+    deciders: &mut D,
+    pool: &mut Pool,
+    branch: &PoolBranch,
+) -> Result<Decision, NoMemory>
+    requires knows { D.knows deciders.old pool.old }
+    requires over { IsOver pool.old branch.now }
+    requires room { HasRoom (branch_in pool.old branch.now) }
+    requires level { IsLevel (branch_in pool.old branch.now) }
+    requires early { NothingEarly (D.shapes deciders.old) (branch_in pool.old branch.now) }
+    requires closed { IsNotClosed (branch_in pool.old branch.now) }
+    requires late { IsLate (D.shapes deciders.old) (branch_in pool.old branch.now) }
+    ensures extends { Extends pool.old pool.new }
+    ensures knows { OnOk result (D.knows deciders.new pool.new) }
+    ensures shapes { OnOk result (D.shapes deciders.new ≡ D.shapes deciders.old) }
+    ensures decided { IfOk result (IsDecided (D.shapes deciders.old) pool.new (branch_in pool.old branch.now)) }
+{
+    match deciders.promising(alloc, pool, branch)? {
+        Some(growth) => Ok(Decision::Grows(growth)),
+        None => with_near(alloc, deciders, pool, branch),
+    }
+}
+
+// The instances that a proof is likely to need come before the rows.
+fn with_near<D: Deciders>(
+    alloc: Global,
+    deciders: &mut D,
+    pool: &mut Pool,
+    branch: &PoolBranch,
+) -> Result<Decision, NoMemory>
+    requires knows { D.knows deciders.old pool.old }
+    requires over { IsOver pool.old branch.now }
+    requires room { HasRoom (branch_in pool.old branch.now) }
+    requires level { IsLevel (branch_in pool.old branch.now) }
+    requires early { NothingEarly (D.shapes deciders.old) (branch_in pool.old branch.now) }
+    requires closed { IsNotClosed (branch_in pool.old branch.now) }
+    ensures extends { Extends pool.old pool.new }
+    ensures knows { OnOk result (D.knows deciders.new pool.new) }
+    ensures shapes { OnOk result (D.shapes deciders.new ≡ D.shapes deciders.old) }
+    ensures decided { IfOk result (IsDecided (D.shapes deciders.old) pool.new (branch_in pool.old branch.now)) }
+{
+    match deciders.near(alloc, pool, branch)? {
+        Some(growth) => Ok(Decision::Grows(growth)),
+        None => after_near(alloc, deciders, pool, branch),
+    }
+}
+
+// No such instance is left. Where the rows give no values, instances may close the branch yet.
+fn after_near<D: Deciders>(
+    alloc: Global,
+    deciders: &mut D,
+    pool: &mut Pool,
+    branch: &PoolBranch,
+) -> Result<Decision, NoMemory>
+    requires knows { D.knows deciders.old pool.old }
+    requires over { IsOver pool.old branch.now }
+    requires room { HasRoom (branch_in pool.old branch.now) }
+    requires level { IsLevel (branch_in pool.old branch.now) }
+    requires early { NothingEarly (D.shapes deciders.old) (branch_in pool.old branch.now) }
+    requires closed { IsNotClosed (branch_in pool.old branch.now) }
+    ensures extends { Extends pool.old pool.new }
+    ensures knows { OnOk result (D.knows deciders.new pool.new) }
+    ensures shapes { OnOk result (D.shapes deciders.new ≡ D.shapes deciders.old) }
+    ensures decided { IfOk result (IsDecided (D.shapes deciders.old) pool.new (branch_in pool.old branch.now)) }
+{
+    match deciders.rows(alloc, pool, branch)? {
+        RowsAnswer::Met => by_values(alloc, deciders, pool, branch),
+        RowsAnswer::Closes(closing) => Ok(Decision::Closes(closing)),
+        _ => without_values(alloc, deciders, pool, branch),
+    }
+}
+
+// Values meet the rows, and no instance is left that a proof is likely to need.
+fn by_values<D: Deciders>(
+    alloc: Global,
+    deciders: &mut D,
+    pool: &mut Pool,
+    branch: &PoolBranch,
+) -> Result<Decision, NoMemory>
+    requires knows { D.knows deciders.old pool.old }
+    requires over { IsOver pool.old branch.now }
+    requires room { HasRoom (branch_in pool.old branch.now) }
+    requires level { IsLevel (branch_in pool.old branch.now) }
+    requires late { IsLate (D.shapes deciders.old) (branch_in pool.old branch.now) }
+    ensures extends { Extends pool.old pool.new }
+    ensures knows { OnOk result (D.knows deciders.new pool.new) }
+    ensures shapes { OnOk result (D.shapes deciders.new ≡ D.shapes deciders.old) }
+    ensures decided { IfOk result (IsDecided (D.shapes deciders.old) pool.new (branch_in pool.old branch.now)) }
+{
+    match deciders.promising(alloc, pool, branch)? {
+        Some(growth) => Ok(Decision::Grows(growth)),
+        None => with_plain(alloc, deciders, pool, branch),
+    }
+}
+
+// Nor does a split promise to close soon.
+fn with_plain<D: Deciders>(
+    alloc: Global,
+    deciders: &mut D,
+    pool: &mut Pool,
+    branch: &PoolBranch,
+) -> Result<Decision, NoMemory>
+    requires knows { D.knows deciders.old pool.old }
+    requires over { IsOver pool.old branch.now }
+    requires room { HasRoom (branch_in pool.old branch.now) }
+    requires level { IsLevel (branch_in pool.old branch.now) }
+    requires late { IsLate (D.shapes deciders.old) (branch_in pool.old branch.now) }
+    ensures extends { Extends pool.old pool.new }
+    ensures knows { OnOk result (D.knows deciders.new pool.new) }
+    ensures shapes { OnOk result (D.shapes deciders.new ≡ D.shapes deciders.old) }
+    ensures decided { IfOk result (IsDecided (D.shapes deciders.old) pool.new (branch_in pool.old branch.now)) }
+{
+    match deciders.plain(alloc, pool, branch)? {
+        Some(growth) => Ok(Decision::Grows(growth)),
+        None => after_rows(alloc, deciders, pool, branch),
+    }
+}
+
+// The rows have given no values.
+fn without_values<D: Deciders>(
     alloc: Global,
     deciders: &mut D,
     pool: &mut Pool,

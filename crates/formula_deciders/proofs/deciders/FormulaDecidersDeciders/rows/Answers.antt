@@ -23,4 +23,4 @@ returns-clause-knows c =
     }
 
 pub returns-clause-shown : goal.returns-clause-shown
-returns-clause-shown c = c.in_ok-answer.ensures.shown (shapes_of c.args.self.now)
+returns-clause-shown c = c.in_ok-found.ensures.shown (shapes_of c.args.self.now)

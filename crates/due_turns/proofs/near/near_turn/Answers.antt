@@ -1,0 +1,39 @@
+use Rattle.std.proofs.Common.{subst}
+use Rattle.std.specs.Prelude.{IfSome, MatchOption}
+use Rattle.pool_branch.specs.PoolBranches.{branch_in}
+use Rattle.entry_matches.proofs.HeadLemmas.{index_later}
+use Rattle.due_instances.proofs.QuantifierLemmas.{free_grown}
+use Rattle.due_instances.specs.Instances.{NoInstance}
+use Rattle.proof_search.specs.Decisions.{IsGrowthDue}
+use Rattle.proof_search.proofs.TurnLemmas.{over_stays, fact_goes_back, ok_map}
+use Rattle.due_turns.proofs.PromisingLemmas.{found_of}
+use Rattle.due_turns.proofs.near.near_turn.Goals as goal
+
+pub returns-in-Some-clause-index : goal.returns-in-Some-clause-index
+returns-in-Some-clause-index c = index_later c.args.pool.now c.near_axiom_turn.new.pool c.near_axiom_turn.ensures.extends c.grow.new.self c.in_ok-grow.ensures
+
+pub returns-in-Some-clause-free : goal.returns-in-Some-clause-free
+returns-in-Some-clause-free c = free_grown c.args.pool.now c.near_axiom_turn.new.pool c.args.quantifiers.now c.near_axiom_turn.ensures.extends c.requires.free
+
+pub returns-in-Some-clause-due : goal.returns-in-Some-clause-due
+returns-in-Some-clause-due c =
+    subst (λ o. IfSome o (IsGrowthDue c.args.shapes.now c.near_axiom_turn.new.pool (branch_in c.args.pool.now c.args.branch.now))) c.in-Some.is c.in_ok-found.ensures.due
+
+pub quantified_turn-requires-clause-over : goal.quantified_turn-requires-clause-over
+quantified_turn-requires-clause-over c = over_stays c.args.pool.now c.near_axiom_turn.new.pool c.near_axiom_turn.ensures.extends c.args.branch.now c.requires.over
+
+pub quantified_turn-requires-clause-index : goal.quantified_turn-requires-clause-index
+quantified_turn-requires-clause-index c = index_later c.args.pool.now c.near_axiom_turn.new.pool c.near_axiom_turn.ensures.extends c.grow.new.self c.in_ok-grow.ensures
+
+pub quantified_turn-requires-clause-free : goal.quantified_turn-requires-clause-free
+quantified_turn-requires-clause-free c = free_grown c.args.pool.now c.near_axiom_turn.new.pool c.args.quantifiers.now c.near_axiom_turn.ensures.extends c.requires.free
+
+pub returns-clause-due : goal.returns-clause-due
+returns-clause-due c =
+    let ns = c.args.pool.now in
+    let ms = c.near_axiom_turn.new.pool in
+    let ks = c.quantified_turn.new.pool in
+    let shapes = c.args.shapes.now in
+    ok_map c.quantified_turn.result _ _
+    (λ o h. found_of _ _ o (fact_goes_back ns ms c.near_axiom_turn.ensures.extends (λ e. MatchOption o (NoInstance e) (IsGrowthDue shapes ks e)) c.args.branch.now c.requires.over h))
+    (c.quantified_turn.ensures.due shapes)

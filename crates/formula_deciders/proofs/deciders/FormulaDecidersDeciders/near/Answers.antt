@@ -1,0 +1,25 @@
+use Rattle.branch_state.proofs.StateLemmas.{state_stays}
+use Rattle.formula_deciders.proofs.deciders.FormulaDecidersDeciders.near.Goals as goal
+
+pub follow-requires-clause-state : goal.follow-requires-clause-state
+follow-requires-clause-state c = c.requires.knows.state
+
+pub near_turn-requires-clause-few : goal.near_turn-requires-clause-few
+near_turn-requires-clause-few c = c.requires.knows.few
+
+pub near_turn-requires-clause-index : goal.near_turn-requires-clause-index
+near_turn-requires-clause-index c = c.requires.knows.heads
+
+pub near_turn-requires-clause-free : goal.near_turn-requires-clause-free
+near_turn-requires-clause-free c = c.requires.knows.quantifiers
+
+pub returns-clause-knows : goal.returns-clause-knows
+returns-clause-knows c = record {
+  few = c.requires.knows.few;
+  state = state_stays c.args.pool.now c.near_turn.new.pool c.near_turn.ensures.extends c.follow.new.self c.in_ok-follow.ensures.state;
+  heads = c.in_ok-found.ensures.index;
+  quantifiers = c.in_ok-found.ensures.free;
+}
+
+pub returns-clause-due : goal.returns-clause-due
+returns-clause-due c = c.in_ok-found.ensures.due

@@ -1,0 +1,23 @@
+use Rattle.branch_state.proofs.StateLemmas.{state_stays}
+use Rattle.due_instances.proofs.QuantifierLemmas.{free_grown}
+use Rattle.formula_deciders.specs.Known.{shapes_of}
+use Rattle.formula_deciders.proofs.StayLemmas.{index_stays}
+use Rattle.formula_deciders.proofs.deciders.FormulaDecidersDeciders.promising.Goals as goal
+
+pub follow-requires-clause-state : goal.follow-requires-clause-state
+follow-requires-clause-state c = c.requires.knows.state
+
+pub returns-clause-knows : goal.returns-clause-knows
+returns-clause-knows c =
+    let ns = c.args.pool.now in
+    let ms = c.promising_turn.new.pool in
+    let grown = c.promising_turn.ensures.extends in
+    record {
+      few = c.requires.knows.few;
+      state = state_stays ns ms grown c.follow.new.self c.in_ok-follow.ensures.state;
+      heads = index_stays ns ms grown c.args.self.now.heads c.requires.knows.heads;
+      quantifiers = free_grown ns ms c.args.self.now.quantifiers grown c.requires.knows.quantifiers;
+    }
+
+pub returns-clause-due : goal.returns-clause-due
+returns-clause-due c = c.in_ok-found.ensures.due (shapes_of c.args.self.now) c.requires.late

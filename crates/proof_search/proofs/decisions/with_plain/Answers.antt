@@ -1,0 +1,26 @@
+use Rattle.pool_branch.specs.PoolBranches.{branch_in}
+use Rattle.branches.specs.Due.{IsNotClosed}
+use Rattle.branches.specs.Turns.{NothingEarly, IsLate}
+use Rattle.formula_pool.proofs.GrowthLemmas.{extends_itself}
+use Rattle.proof_search.specs.Decisions.{HasRoom, IsLevel, NothingPlain, ShowsRows}
+use Rattle.proof_search.proofs.TurnLemmas.{over_stays, fact_stays, shaped_fact_stays, decided_back, late_by, ok_map, at_none}
+use Rattle.std.proofs.Common.{subst}
+use Rattle.proof_search.proofs.decisions.with_plain.Goals as goal
+
+pub after_rows-requires-clause-over : goal.after_rows-requires-clause-over
+after_rows-requires-clause-over g c = over_stays c.args.pool.now c.plain.new.pool c.plain.ensures.extends c.args.branch.now c.requires.over
+
+pub after_rows-requires-clause-room : goal.after_rows-requires-clause-room
+after_rows-requires-clause-room g c = fact_stays c.args.pool.now c.plain.new.pool c.plain.ensures.extends HasRoom c.args.branch.now c.requires.over c.requires.room
+
+pub after_rows-requires-clause-level : goal.after_rows-requires-clause-level
+after_rows-requires-clause-level g c = fact_stays c.args.pool.now c.plain.new.pool c.plain.ensures.extends IsLevel c.args.branch.now c.requires.over c.requires.level
+
+pub after_rows-requires-clause-late : goal.after_rows-requires-clause-late
+after_rows-requires-clause-late g c = shaped_fact_stays c.args.pool.now c.plain.new.pool c.plain.ensures.extends c.args.branch.now c.requires.over (g.D.Deciders.shapes c.args.deciders.now) (g.D.Deciders.shapes c.plain.new.self) c.in_ok-growth.ensures.shapes IsLate (c.requires.late)
+
+pub after_rows-requires-clause-plain : goal.after_rows-requires-clause-plain
+after_rows-requires-clause-plain g c = shaped_fact_stays c.args.pool.now c.plain.new.pool c.plain.ensures.extends c.args.branch.now c.requires.over (g.D.Deciders.shapes c.args.deciders.now) (g.D.Deciders.shapes c.plain.new.self) c.in_ok-growth.ensures.shapes NothingPlain (at_none c.in_ok-growth.field-0 _ _ c.in-None.is c.in_ok-growth.ensures.due)
+
+pub returns-in-None-clause-decided : goal.returns-in-None-clause-decided
+returns-in-None-clause-decided g c = ok_map c.after_rows.result _ _ (decided_back c.args.pool.now c.plain.new.pool c.after_rows.new.pool c.plain.ensures.extends c.args.branch.now c.requires.over (g.D.Deciders.shapes c.args.deciders.now) (g.D.Deciders.shapes c.plain.new.self) c.in_ok-growth.ensures.shapes) c.after_rows.ensures.decided

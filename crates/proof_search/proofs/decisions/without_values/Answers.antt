@@ -1,0 +1,29 @@
+use Rattle.pool_branch.specs.PoolBranches.{branch_in}
+use Rattle.branches.specs.Due.{IsNotClosed}
+use Rattle.branches.specs.Turns.{NothingEarly, IsLate}
+use Rattle.formula_pool.proofs.GrowthLemmas.{extends_itself}
+use Rattle.proof_search.specs.Decisions.{HasRoom, IsLevel, NothingPlain, ShowsRows}
+use Rattle.proof_search.proofs.TurnLemmas.{over_stays, fact_stays, shaped_fact_stays, decided_back, late_by, ok_map, at_none}
+use Rattle.std.proofs.Common.{subst}
+use Rattle.proof_search.proofs.decisions.without_values.Goals as goal
+
+pub after_plain-requires-clause-over : goal.after_plain-requires-clause-over
+after_plain-requires-clause-over g c = over_stays c.args.pool.now c.plain.new.pool c.plain.ensures.extends c.args.branch.now c.requires.over
+
+pub after_plain-requires-clause-room : goal.after_plain-requires-clause-room
+after_plain-requires-clause-room g c = fact_stays c.args.pool.now c.plain.new.pool c.plain.ensures.extends HasRoom c.args.branch.now c.requires.over c.requires.room
+
+pub after_plain-requires-clause-level : goal.after_plain-requires-clause-level
+after_plain-requires-clause-level g c = fact_stays c.args.pool.now c.plain.new.pool c.plain.ensures.extends IsLevel c.args.branch.now c.requires.over c.requires.level
+
+pub after_plain-requires-clause-early : goal.after_plain-requires-clause-early
+after_plain-requires-clause-early g c = shaped_fact_stays c.args.pool.now c.plain.new.pool c.plain.ensures.extends c.args.branch.now c.requires.over (g.D.Deciders.shapes c.args.deciders.now) (g.D.Deciders.shapes c.plain.new.self) c.in_ok-growth.ensures.shapes NothingEarly (c.requires.early)
+
+pub after_plain-requires-clause-closed : goal.after_plain-requires-clause-closed
+after_plain-requires-clause-closed g c = fact_stays c.args.pool.now c.plain.new.pool c.plain.ensures.extends IsNotClosed c.args.branch.now c.requires.over (c.requires.closed)
+
+pub after_plain-requires-clause-plain : goal.after_plain-requires-clause-plain
+after_plain-requires-clause-plain g c = shaped_fact_stays c.args.pool.now c.plain.new.pool c.plain.ensures.extends c.args.branch.now c.requires.over (g.D.Deciders.shapes c.args.deciders.now) (g.D.Deciders.shapes c.plain.new.self) c.in_ok-growth.ensures.shapes NothingPlain (at_none c.in_ok-growth.field-0 _ _ c.in-None.is c.in_ok-growth.ensures.due)
+
+pub returns-in-None-clause-decided : goal.returns-in-None-clause-decided
+returns-in-None-clause-decided g c = ok_map c.after_plain.result _ _ (decided_back c.args.pool.now c.plain.new.pool c.after_plain.new.pool c.plain.ensures.extends c.args.branch.now c.requires.over (g.D.Deciders.shapes c.args.deciders.now) (g.D.Deciders.shapes c.plain.new.self) c.in_ok-growth.ensures.shapes) c.after_plain.ensures.decided
