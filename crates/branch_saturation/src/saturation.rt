@@ -15,6 +15,7 @@ use branch_clashes::search::next_clash;
 use branch_classes::branch_classes::BranchClasses;
 use branch_state::state::BranchState;
 use due_axioms::due::WantedAxioms;
+use due_axioms::known::KnownInstances;
 use due_axioms::next::next_axiom;
 use due_decisions::cuts::next_cut;
 use due_decisions::orders::next_order;
@@ -72,7 +73,9 @@ fn has_all_axioms(
     ensures exact { IfOk result (λ done. MatchBool done (HasAllAxioms shapes.now (branch_in pool.old branch.now)) (HasAllAxioms shapes.now (branch_in pool.old branch.now) → ⊥)) }
 {
     let standing = terms(alloc, pool, branch)?;
-    let axiom = next_axiom(alloc, pool, shapes, branch, classes, standing.as_slice())?;
+    let numbers = standing.as_slice();
+    let mut known = KnownInstances::new(alloc);
+    let axiom = next_axiom(alloc, pool, shapes, &mut known, branch, classes, numbers)?;
     if axiom.is_some() {
         return Ok(false);
     }

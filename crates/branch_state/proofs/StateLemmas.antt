@@ -98,57 +98,77 @@ module _ (ns : List Node) where
   -- ---- what is kept
 
   -- before any entry
-  pub state_begun : (s : BranchState) → s.entries.items ≡ [] → s.marks.items ≡ [] → AreAbove ns [] s.variables → IsOver ns s.classes → AreInEntries ns s.classes → s.classes.entries ≡ [] → IsState ns s
-  state_begun s entries marks variables classes inside none = record {
+  pub state_begun : (s : BranchState) → s.entries.items ≡ [] → s.marks.items ≡ [] → AreAbove ns [] s.variables → IsOver ns s.classes → AreInEntries ns s.classes → s.classed.items ≡ [] → s.classes.entries ≡ [] → IsState ns s
+  state_begun s entries marks variables classes inside classed none = record {
     numbers = subst (HaveNumbers ns) (sym entries) (no_numbers ns);
     variables = subst (λ es. AreAbove ns es s.variables) (sym entries) variables;
+    classed_numbers = subst (HaveNumbers ns) (sym classed) (no_numbers ns);
     classes = classes;
     inside = inside;
-    entries = none ∙ ap (map formula_number) (sym entries);
+    classed = none ∙ ap (map formula_number) (sym classed);
     marks = subst (λ es. AreAllMarks ns es s.marks.items) (sym entries) (subst (AreAllMarks ns []) (sym marks) (all_of_none ns));
   }
 
   -- after entries are left
-  pub state_cut : (s t : BranchState) (count : ℕ) → IsState ns s → t.entries.items ≡ take count s.entries.items → AreAbove ns (take count s.entries.items) t.variables → IsOver ns t.classes → AreInEntries ns t.classes → t.classes.entries ≡ map formula_number t.entries.items → t.marks.items ≡ take count s.marks.items → IsState ns t
-  state_cut s t count h entries variables classes inside same marks = record {
+  pub state_cut : (s t : BranchState) (count : ℕ) → IsState ns s → t.entries.items ≡ take count s.entries.items → AreAbove ns (take count s.entries.items) t.variables → t.classes ≡ s.classes → t.classed ≡ s.classed → t.marks.items ≡ take count s.marks.items → IsState ns t
+  state_cut s t count h entries variables classes classed marks = record {
     numbers = subst (HaveNumbers ns) (sym entries) (numbers_cut count s.entries.items h.numbers);
     variables = subst (λ es. AreAbove ns es t.variables) (sym entries) variables;
-    classes = classes;
-    inside = inside;
-    entries = same;
+    classed_numbers = subst (λ v. HaveNumbers ns v.items) (sym classed) h.classed_numbers;
+    classes = subst (IsOver ns) (sym classes) h.classes;
+    inside = subst (AreInEntries ns) (sym classes) h.inside;
+    classed = ap (λ x. x.entries) classes ∙ h.classed ∙ ap (λ v. map formula_number v.items) (sym classed);
     marks = subst (λ es. AreAllMarks ns es t.marks.items) (sym entries) (subst (AreAllMarks ns (take count s.entries.items)) (sym marks) (all_cut ns s.entries.items s.marks.items count h.marks));
   }
 
   -- after one more is put in
-  pub state_more : (s t : BranchState) (e : PoolEntry) → IsState ns s → IsFormulaNumber ns e.formula → t.entries.items ≡ s.entries.items ++ e ∷ [] → t.variables ≡ s.variables → IsOver ns t.classes → AreInEntries ns t.classes → t.classes.entries ≡ s.classes.entries ++ e.formula ∷ [] → t.marks.items ≡ s.marks.items ++ last_of s.marks.items ∷ [] → IsState ns t
-  state_more s t e h number entries variables classes inside same marks = record {
+  pub state_more : (s t : BranchState) (e : PoolEntry) → IsState ns s → IsFormulaNumber ns e.formula → t.entries.items ≡ s.entries.items ++ e ∷ [] → t.variables ≡ s.variables → t.classes ≡ s.classes → t.classed ≡ s.classed → t.marks.items ≡ s.marks.items ++ last_of s.marks.items ∷ [] → IsState ns t
+  state_more s t e h number entries variables classes classed marks = record {
     numbers = subst (HaveNumbers ns) (sym entries) (numbers_more s.entries.items e h.numbers number);
     variables = subst (λ v. AreAbove ns t.entries.items v) (sym variables) (subst (λ es. AreAbove ns es s.variables) (sym entries) (above_longer ns s.entries.items (e ∷ []) s.variables h.variables));
-    classes = classes;
-    inside = inside;
-    entries = same ∙ (λ i. h.entries i ++ e.formula ∷ []) ∙ sym (map_push formula_number s.entries.items e) ∙ ap (map formula_number) (sym entries);
+    classed_numbers = subst (λ v. HaveNumbers ns v.items) (sym classed) h.classed_numbers;
+    classes = subst (IsOver ns) (sym classes) h.classes;
+    inside = subst (AreInEntries ns) (sym classes) h.inside;
+    classed = ap (λ x. x.entries) classes ∙ h.classed ∙ ap (λ v. map formula_number v.items) (sym classed);
     marks = subst (λ es. AreAllMarks ns es t.marks.items) (sym entries) (subst (AreAllMarks ns (s.entries.items ++ e ∷ [])) (sym marks) (all_push ns s.entries.items s.marks.items e h.marks));
   }
+
+  -- with other classes
+  pub state_classed : (s t : BranchState) → IsState ns s → t.entries ≡ s.entries → t.variables ≡ s.variables → t.marks ≡ s.marks → HaveNumbers ns t.classed.items → IsOver ns t.classes → AreInEntries ns t.classes → t.classes.entries ≡ map formula_number t.classed.items → IsState ns t
+  state_classed s t h entries variables marks numbers classes inside classed = record {
+    numbers = subst (λ v. HaveNumbers ns v.items) (sym entries) h.numbers;
+    variables = subst (λ v. AreAbove ns t.entries.items v) (sym variables) (subst (λ v. AreAbove ns v.items s.variables) (sym entries) h.variables);
+    classed_numbers = numbers;
+    classes = classes;
+    inside = inside;
+    classed = classed;
+    marks = subst (λ v. AreAllMarks ns v.items t.marks.items) (sym entries) (subst (λ v. AreAllMarks ns s.entries.items v.items) (sym marks) h.marks);
+  }
+
+  -- one more formula among those that were put into classes
+  pub classed_more : (before after : List ℕ) (es fs : List PoolEntry) (e : PoolEntry) → before ≡ map formula_number es → after ≡ before ++ e.formula ∷ [] → fs ≡ es ++ e ∷ [] → after ≡ map formula_number fs
+  classed_more before after es fs e front same more = same ∙ (λ i. front i ++ e.formula ∷ []) ∙ sym (map_push formula_number es e) ∙ ap (map formula_number) (sym more)
 
   -- the marks of the last entry are those of the branch
   pub marks_followed : (d : BranchData) (s : BranchState) → IsState ns s → Follows d s → AreMarks (branch_in ns d) (last_of s.marks.items)
   marks_followed d s h follows = subst (λ es. AreMarks (map (entry_in ns) es) (last_of s.marks.items)) follows.entries (last_are ns s.entries.items s.marks.items h.marks)
 
   -- other marks
-  pub state_marked : (s t : BranchState) (d : BranchData) (last : ℕ) (m : Marks) → last + 1 ≡ length s.marks.items → t.entries ≡ s.entries → t.variables ≡ s.variables → t.classes ≡ s.classes → t.marks.items ≡ set s.marks.items last m → IsState ns s → Follows d s → AreMarks (branch_in ns d) m → IsState ns t
-  state_marked s t d last m e entries variables classes marks h follows are =
+  pub state_marked : (s t : BranchState) (d : BranchData) (last : ℕ) (m : Marks) → last + 1 ≡ length s.marks.items → t.entries ≡ s.entries → t.variables ≡ s.variables → t.classes ≡ s.classes → t.classed ≡ s.classed → t.marks.items ≡ set s.marks.items last m → IsState ns s → Follows d s → AreMarks (branch_in ns d) m → IsState ns t
+  state_marked s t d last m e entries variables classes classed marks h follows are =
       let es : t.entries.items ≡ s.entries.items = ap (λ x. x.items) entries in
       record {
         numbers = subst (HaveNumbers ns) (sym es) h.numbers;
         variables = subst (λ v. AreAbove ns t.entries.items v) (sym variables) (subst (λ xs. AreAbove ns xs s.variables) (sym es) h.variables);
+        classed_numbers = subst (λ v. HaveNumbers ns v.items) (sym classed) h.classed_numbers;
         classes = subst (IsOver ns) (sym classes) h.classes;
         inside = subst (AreInEntries ns) (sym classes) h.inside;
-        entries = ap (λ x. x.entries) classes ∙ h.entries ∙ ap (map formula_number) (sym es);
+        classed = ap (λ x. x.entries) classes ∙ h.classed ∙ ap (λ v. map formula_number v.items) (sym classed);
         marks = subst (λ xs. AreAllMarks ns xs t.marks.items) (sym es) (subst (AreAllMarks ns s.entries.items) (sym marks) (all_set ns s.entries.items s.marks.items last m e h.marks (subst (λ xs. AreMarks (map (entry_in ns) xs) m) (sym follows.entries) are)));
       }
 
-  pub classes_followed : (d : BranchData) (s : BranchState) → IsState ns s → s.entries.items ≡ d.entries → AreClassesOf ns d s.classes
-  classes_followed d s h same = record { over = h.classes; entries = h.entries ∙ ap (map formula_number) same }
+  pub classes_followed : (d : BranchData) (s : BranchState) → IsState ns s → s.classed.items ≡ d.entries → AreClassesOf ns d s.classes
+  classes_followed d s h same = record { over = h.classes; entries = h.classed ∙ ap (map formula_number) same }
 
 module _ (ns ms : List Node) (grown : Extends ns ms) where
   same_entries : (k : ℕ) (es : List PoolEntry) → HaveNumbers ns es → map (entry_in ms) (take k es) ≡ map (entry_in ns) (take k es)
@@ -176,9 +196,10 @@ module _ (ns ms : List Node) (grown : Extends ns ms) where
       entries = above_stays s.entries.items h.numbers s.variables.entries h.variables.entries;
       names = h.variables.names;
     };
+    classed_numbers = numbers_stay s.classed.items h.classed_numbers;
     classes = still_over ns ms s.classes grown h.classes;
     inside = inside_more ns ms s.classes grown h.inside;
-    entries = h.entries;
+    classed = h.classed;
     marks = record {
       one_each = h.marks.one_each;
       each = λ k w. subst (λ b. AreMarks b (slice_index_or s.marks.items k no_marks)) (sym (same_entries (k + 1) s.entries.items h.numbers)) (h.marks.each k w);

@@ -56,13 +56,15 @@ pub record AreAllMarks (ns : List Node) (es : List PoolEntry) (ms : List Marks) 
   pub one_each : length ms ≡ length es
   pub each : (k : ℕ) → k < length ms → AreMarks (branch_to ns es k) (slice_index_or ms k no_marks)
 
--- the variables, the classes and the marks are those of the entries, and the classes know nothing but what stands in them
+-- the variables and the marks are those of the entries, and the classes those of the entries that were put into them, and
+-- know nothing but what stands in these
 pub record IsState (ns : List Node) (s : BranchState) : Type 0 where
   pub numbers : HaveNumbers ns s.entries.items
   pub variables : AreAbove ns s.entries.items s.variables
+  pub classed_numbers : HaveNumbers ns s.classed.items
   pub classes : IsOver ns s.classes
   pub inside : AreInEntries ns s.classes
-  pub entries : s.classes.entries ≡ map formula_number s.entries.items
+  pub classed : s.classes.entries ≡ map formula_number s.classed.items
   pub marks : AreAllMarks ns s.entries.items s.marks.items
 
 -- the entries are those of the branch

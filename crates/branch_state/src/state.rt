@@ -17,14 +17,17 @@ use pv_base::memory::NoMemory;
 use std::alloc::Global;
 use std::mem;
 
-/// What is kept of the branch that was followed last.
+/// What is kept of the branch that was followed last. Its classes follow by themselves, since many a branch is closed before
+/// they are asked for.
 #[derive(Drop)]
 pub struct BranchState {
     pub entries: Vec<PoolEntry>,
     /// The variables of its entries.
     pub variables: Variables,
-    /// The classes into which its entries were put.
+    /// The classes of the branch whose classes were followed last.
     pub classes: BranchClasses,
+    // The entries that were put into them.
+    classed: Vec<PoolEntry>,
     // Of the branch up to each entry.
     marks: Vec<Marks>,
 }
@@ -67,23 +70,47 @@ fn classes_of(alloc: Global, pool: &Pool, entries: &[PoolEntry]) -> Result<Branc
 }
 
 // Leaves the entries behind the first ones, as many as this.
-fn leave(state: &mut BranchState, alloc: Global, pool: &Pool, count: usize) -> Result<(), NoMemory>
-    requires { IsState pool.now state.old }
-    ensures state { OnOk result (IsState pool.now state.new) }
-    ensures entries { OnOk result (state.new.entries.items ≡ take count state.old.entries.items) }
+fn leave(state: &mut BranchState, count: usize)
+    ensures state { (ns : List Node) → IsState ns state.old → IsState ns state.new }
+    ensures entries { state.new.entries.items ≡ take count state.old.entries.items }
 {
-    if state.entries.len() <= count {
-        return Ok(());
-    }
     state.entries.truncate(count);
     state.variables.truncate(count);
     state.marks.truncate(count);
-    state.classes = classes_of(alloc, pool, state.entries.as_slice())?;
-    Ok(())
 }
 
 // Puts in an entry behind the others.
-fn enter(
+fn enter(state: &mut BranchState, entry: PoolEntry) -> Result<(), NoMemory>
+    ensures state { (ns : List Node) → IsState ns state.old → IsFormulaNumber ns entry.formula → OnOk result (IsState ns state.new) }
+    ensures entries { OnOk result (state.new.entries.items ≡ state.old.entries.items ++ entry ∷ []) }
+{
+    state.entries.push(entry)?;
+    state.marks.push(last_marks(state.marks.as_slice()))?;
+    Ok(())
+}
+
+// The classes again of the first entries that were put into them, as many as this.
+fn leave_classes(
+    state: &mut BranchState,
+    alloc: Global,
+    pool: &Pool,
+    count: usize,
+) -> Result<(), NoMemory>
+    requires { IsState pool.now state.old }
+    ensures state { OnOk result (IsState pool.now state.new) }
+    ensures entries { state.new.entries ≡ state.old.entries }
+    ensures classed { OnOk result (state.new.classed.items ≡ take count state.old.classed.items) }
+{
+    if state.classed.len() <= count {
+        return Ok(());
+    }
+    state.classed.truncate(count);
+    state.classes = classes_of(alloc, pool, state.classed.as_slice())?;
+    Ok(())
+}
+
+// Puts an entry into the classes behind the others.
+fn enter_classes(
     state: &mut BranchState,
     alloc: Global,
     pool: &Pool,
@@ -92,12 +119,12 @@ fn enter(
     requires state { IsState pool.now state.old }
     requires formula { IsFormulaNumber pool.now entry.formula }
     ensures state { OnOk result (IsState pool.now state.new) }
-    ensures entries { OnOk result (state.new.entries.items ≡ state.old.entries.items ++ entry ∷ []) }
+    ensures entries { state.new.entries ≡ state.old.entries }
+    ensures classed { OnOk result (state.new.classed.items ≡ state.old.classed.items ++ entry ∷ []) }
 {
     let before = mem::replace(&mut state.classes, BranchClasses::new(alloc));
     state.classes = before.with_entry(alloc, pool, entry.formula)?;
-    state.entries.push(entry)?;
-    state.marks.push(last_marks(state.marks.as_slice()))?;
+    state.classed.push(entry)?;
     Ok(())
 }
 
@@ -110,12 +137,58 @@ impl BranchState {
             entries: Vec::new(alloc),
             variables: Variables::new(alloc),
             classes: BranchClasses::new(alloc),
+            classed: Vec::new(alloc),
             marks: Vec::new(alloc),
         }
     }
 
-    /// Follows the branch: what belongs to entries that it does not have is left, and its further entries are put in. The
-    /// time is that of its further entries; where entries are left, the classes of those that stay are made anew.
+    /// Follows the entries of the branch, and its marks with them: what belongs to entries that it does not have is left, and
+    /// its further entries are put in. The classes stay those of the branch before.
+    ///
+    /// # Errors
+    ///
+    /// Only where memory is refused. What is kept is then of no use.
+    pub fn follow_entries(&mut self, pool: &Pool, branch: &PoolBranch) -> Result<(), NoMemory>
+        requires state { IsState pool.now self.old }
+        requires over { IsOver pool.now branch.now }
+        ensures state { OnOk result (IsState pool.now self.new) }
+        ensures follows { OnOk result (Follows branch.now self.new) }
+    {
+        let kept = shared(self.entries.as_slice(), branch);
+        leave(self, kept);
+        while let Some(entry) = branch.entry(self.entries.len()) {
+            enter(self, entry)?;
+        }
+        Ok(())
+    }
+
+    /// Follows the branch with the classes alone. The time is that of its further entries; where entries are left, the
+    /// classes of those that stay are made anew.
+    ///
+    /// # Errors
+    ///
+    /// Only where memory is refused. What is kept is then of no use.
+    pub fn follow_classes(
+        &mut self,
+        alloc: Global,
+        pool: &Pool,
+        branch: &PoolBranch,
+    ) -> Result<(), NoMemory>
+        requires state { IsState pool.now self.old }
+        requires over { IsOver pool.now branch.now }
+        ensures state { OnOk result (IsState pool.now self.new) }
+        ensures entries { OnOk result (self.new.entries ≡ self.old.entries) }
+        ensures classes { OnOk result (AreClassesOf pool.now branch.now self.new.classes) }
+    {
+        let kept = shared(self.classed.as_slice(), branch);
+        leave_classes(self, alloc, pool, kept)?;
+        while let Some(entry) = branch.entry(self.classed.len()) {
+            enter_classes(self, alloc, pool, entry)?;
+        }
+        Ok(())
+    }
+
+    /// Follows the branch with all that is kept.
     ///
     /// # Errors
     ///
@@ -132,13 +205,10 @@ impl BranchState {
         ensures follows { OnOk result (Follows branch.now self.new) }
         ensures classes { OnOk result (AreClassesOf pool.now branch.now self.new.classes) }
     {
-        let kept = shared(self.entries.as_slice(), branch);
-        leave(self, alloc, pool, kept)?;
-        while let Some(entry) = branch.entry(self.entries.len()) {
-            enter(self, alloc, pool, entry)?;
-        }
-        Ok(())
+        self.follow_entries(pool, branch)?;
+        self.follow_classes(alloc, pool, branch)
     }
+
     /// The marks of the branch that was followed last.
     pub fn marks(&self) -> Marks
         ensures { (ns : List Node) (d : BranchData) → IsState ns self.now → Follows d self.now → AreMarks (branch_in ns d) result }
@@ -152,6 +222,7 @@ impl BranchState {
         ensures follows { (d : BranchData) → Follows d self.old → Follows d self.new }
         ensures variables { self.new.variables ≡ self.old.variables }
         ensures classes { self.new.classes ≡ self.old.classes }
+        ensures classed { self.new.classed ≡ self.old.classed }
     {
         let count = self.marks.len();
         if count > 0 {

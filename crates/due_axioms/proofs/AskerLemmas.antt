@@ -41,7 +41,7 @@ module _ {ns ms : List Node} (grown : Extends ns ms) where
   type_and_terms : {a t u : ℕ} → AreTypeAndTerms ns a t u → AreTypeAndTerms ms a t u
   type_and_terms h = record { of = type_stays grown h.of; first = number_stays grown h.first; second = number_stays grown h.second }
 
-  asker_stays : (x : Asker) → IsAsker ns x → IsAsker ms x
+  pub asker_stays : (x : Asker) → IsAsker ns x → IsAsker ms x
   asker_stays Always h = tt
   asker_stays (Term t) h = number_stays grown h
   asker_stays (Typing a t) h = type_and_term h

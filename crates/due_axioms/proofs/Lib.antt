@@ -1,5 +1,6 @@
 pub mod DueLemmas
 pub mod AskerLemmas
+pub mod KnownLemmas
 pub mod TypingLemmas
 pub mod RangeLemmas
 pub mod TakenLemmas

@@ -1,6 +1,7 @@
 pub mod Due
 pub mod Instances
 pub mod Askers
+pub mod Known
 pub mod Typings
 pub mod Beside
 pub mod Families

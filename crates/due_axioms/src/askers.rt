@@ -1,14 +1,16 @@
 //! What asks for instances of axioms, and the first instance that is due.
 
-ghost use Rattle.std.specs.Prelude.{length, IfOk, MatchOption};
+ghost use Rattle.std.specs.Prelude.{length, IfOk, OnOk, MatchOption};
 ghost use Rattle.formula_pool.specs.Pools.{Extends};
 ghost use Rattle.pool_branch.specs.PoolBranches.{branch_in, IsOver};
 ghost use Rattle.asked_axioms.specs.Lists.{ListsAll};
 ghost use Rattle.asked_axioms.specs.StructRows.{HasFewFields};
 ghost use Rattle.due_axioms.specs.Due.{NoneDue, IsDueStep, AsksOfSome};
 ghost use Rattle.due_axioms.specs.Askers.{IsAsker, AreAskers, asks_of, asks_at};
+ghost use Rattle.due_axioms.specs.Known.{AreKnownInstances};
 
 use crate::due::{AxiomStep, WantedAxioms, first_due};
+use crate::known::KnownInstances;
 use asked_axioms::asked::AskedAxiom;
 use asked_axioms::instances::{
     always_asked, axioms_of_item, axioms_of_read, axioms_of_type, axioms_of_type_beside,
@@ -23,7 +25,7 @@ use pv_base::memory::NoMemory;
 use std::alloc::Global;
 
 /// What asks for instances, by numbers of types and terms.
-#[derive(Clone, Copy)]
+#[derive(Clone, Copy, PartialEq, Eq, Hash)]
 pub enum Asker {
     /// What stands at all times.
     Always,
@@ -72,6 +74,7 @@ pub(crate) fn next_of(
     alloc: Global,
     pool: &mut Pool,
     shapes: &Shapes,
+    known: &mut KnownInstances,
     branch: &PoolBranch,
     wanted: WantedAxioms,
     asker: Asker,
@@ -79,19 +82,23 @@ pub(crate) fn next_of(
     requires few { HasFewFields shapes.now }
     requires over { IsOver pool.old branch.now }
     requires asker { IsAsker pool.old asker }
+    requires known { AreKnownInstances shapes.now pool.old known.old }
     ensures extends { Extends pool.old pool.new }
+    ensures known { OnOk result (AreKnownInstances shapes.now pool.new known.new) }
     ensures due { IfOk result (λ found. MatchOption found (NoneDue (branch_in pool.old branch.now) wanted (asks_of shapes.now pool.old asker)) (IsDueStep pool.new (branch_in pool.old branch.now) wanted (asks_of shapes.now pool.old asker))) }
 {
-    let instances = instances_of(alloc, pool, shapes, asker)?;
-    Ok(first_due(pool, branch, wanted, instances.as_slice()))
+    let place = known.place_of(alloc, pool, shapes, asker)?;
+    Ok(first_due(pool, branch, wanted, known.list(place)))
 }
 
 /// The first instance that one of these asks for and that is wanted and due; none where none is. It begins with the one at
-/// this place. The shapes of structs have fewer than 2^32 fields each.
+/// this place. What is known is that of the pool, or of what it was before it grew, and the shapes of structs have fewer than
+/// 2^32 fields each.
 pub fn next_asked(
     alloc: Global,
     pool: &mut Pool,
     shapes: &Shapes,
+    known: &mut KnownInstances,
     branch: &PoolBranch,
     wanted: WantedAxioms,
     askers: &[Asker],
@@ -100,13 +107,15 @@ pub fn next_asked(
     requires few { HasFewFields shapes.now }
     requires over { IsOver pool.old branch.now }
     requires askers { AreAskers pool.old askers.now }
+    requires known { AreKnownInstances shapes.now pool.old known.old }
     requires before { NoneDue (branch_in pool.old branch.now) wanted (AsksOfSome from (asks_at shapes.now pool.old askers.now)) }
     ensures extends { Extends pool.old pool.new }
+    ensures known { OnOk result (AreKnownInstances shapes.now pool.new known.new) }
     ensures due { IfOk result (λ found. MatchOption found (NoneDue (branch_in pool.old branch.now) wanted (AsksOfSome (length askers.now) (asks_at shapes.now pool.old askers.now))) (IsDueStep pool.new (branch_in pool.old branch.now) wanted (AsksOfSome (length askers.now) (asks_at shapes.now pool.old askers.now)))) }
 {
     for i in from..askers.len() {
         let asker = askers[i];
-        if let Some(step) = next_of(alloc, pool, shapes, branch, wanted, asker)? {
+        if let Some(step) = next_of(alloc, pool, shapes, known, branch, wanted, asker)? {
             return Ok(Some(step));
         }
     }

@@ -5,6 +5,7 @@ pub mod askers;
 pub mod beside;
 pub mod due;
 mod keyed;
+pub mod known;
 pub mod laws;
 pub mod listing;
 pub mod near;

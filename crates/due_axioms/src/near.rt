@@ -1,6 +1,6 @@
 //! Instances that are looked for first: those that a read of the branch asks for which is no plain form of a write.
 
-ghost use Rattle.std.specs.Prelude.{length, IfOk, IfSome};
+ghost use Rattle.std.specs.Prelude.{length, IfOk, IfSome, OnOk};
 ghost use Rattle.formula_pool.specs.Pools.{Extends};
 ghost use Rattle.pool_branch.specs.PoolBranches.{branch_in, IsOver};
 ghost use Rattle.near_groups.specs.Terms.{AreBranchTerms, AreClassesOf};
@@ -8,9 +8,11 @@ ghost use Rattle.asked_axioms.specs.StructRows.{HasFewFields};
 ghost use Rattle.due_axioms.specs.Due.{IsDueStep, IsAxiomStep, AsksOfSome};
 ghost use Rattle.due_axioms.specs.Askers.{AreAskers, asks_at};
 ghost use Rattle.due_axioms.specs.Families.{HasVariable};
+ghost use Rattle.due_axioms.specs.Known.{AreKnownInstances};
 
 use crate::askers::{Asker, next_of};
 use crate::due::{AxiomStep, WantedAxioms};
+use crate::known::KnownInstances;
 use crate::next::all_askers;
 use crate::typings::typings;
 use asked_axioms::reading::{TermForm, term_form};
@@ -112,6 +114,7 @@ fn near_asked(
     alloc: Global,
     pool: &mut Pool,
     shapes: &Shapes,
+    known: &mut KnownInstances,
     branch: &PoolBranch,
     classes: &BranchClasses,
     reads: &Pairs,
@@ -120,7 +123,9 @@ fn near_asked(
     requires few { HasFewFields shapes.now }
     requires over { IsOver pool.old branch.now }
     requires askers { AreAskers pool.old askers.now }
+    requires known { AreKnownInstances shapes.now pool.old known.old }
     ensures extends { Extends pool.old pool.new }
+    ensures known { OnOk result (AreKnownInstances shapes.now pool.new known.new) }
     ensures due { IfOk result (λ found. IfSome found (IsDueStep pool.new (branch_in pool.old branch.now) WantedAxioms.All (AsksOfSome (length askers.now) (asks_at shapes.now pool.old askers.now)))) }
 {
     let wanted = WantedAxioms::All;
@@ -129,7 +134,7 @@ fn near_asked(
         if !is_near(pool, classes, reads, asker) {
             continue;
         }
-        if let Some(step) = next_of(alloc, pool, shapes, branch, wanted, asker)? {
+        if let Some(step) = next_of(alloc, pool, shapes, known, branch, wanted, asker)? {
             return Ok(Some(step));
         }
     }
@@ -139,12 +144,14 @@ fn near_asked(
 /// An instance that is due of an axiom of the table, as `next_axiom` tells it, but where a read or a store asks for it only
 /// if something of the class of what is read, or of the store, is read at that place's class by a term of the branch that
 /// is no plain form of a write: a plain form reads what was just stored, set or pushed. None tells nothing, since this is a
-/// choice of what to look at first. The classes are those of the branch, these are the numbers of its terms, some variable
-/// is free in none of its entries, and the shapes of structs have fewer than 2^32 fields each.
+/// choice of what to look at first. The classes are those of the branch, these are the numbers of its terms, what is known
+/// is that of the pool, or of what it was before it grew, some variable is free in none of the branch's entries, and the
+/// shapes of structs have fewer than 2^32 fields each.
 pub fn near_axiom(
     alloc: Global,
     pool: &mut Pool,
     shapes: &Shapes,
+    known: &mut KnownInstances,
     branch: &PoolBranch,
     classes: &BranchClasses,
     terms: &[usize],
@@ -153,8 +160,10 @@ pub fn near_axiom(
     requires over { IsOver pool.old branch.now }
     requires classes { AreClassesOf pool.old branch.now classes.now }
     requires terms { AreBranchTerms pool.old (branch_in pool.old branch.now) terms.now }
+    requires known { AreKnownInstances shapes.now pool.old known.old }
     requires room { HasVariable (branch_in pool.old branch.now) }
     ensures extends { Extends pool.old pool.new }
+    ensures known { OnOk result (AreKnownInstances shapes.now pool.new known.new) }
     ensures due { IfOk result (λ found. IfSome found (IsAxiomStep pool.new shapes.now (branch_in pool.new branch.now) WantedAxioms.All)) }
 {
     let found = typings(alloc, pool, branch)?;
@@ -164,6 +173,7 @@ pub fn near_axiom(
         alloc,
         pool,
         shapes,
+        known,
         branch,
         classes,
         &reads,

@@ -11,10 +11,12 @@ ghost use Rattle.due_axioms.specs.Beside.{AreTypeAskers};
 ghost use Rattle.due_axioms.specs.Families.{AskAll, AsksOfReads, AsksOfItems, AsksOfPairs, HasVariable, AskEverything};
 ghost use Rattle.due_axioms.specs.Reads.{IsReadIndex};
 ghost use Rattle.due_axioms.specs.Next.{AddsList, AddsLists};
+ghost use Rattle.due_axioms.specs.Known.{AreKnownInstances};
 
 use crate::askers::{Asker, next_asked};
 use crate::beside::type_askers;
 use crate::due::{AxiomStep, WantedAxioms};
+use crate::known::KnownInstances;
 use crate::ranges::range_askers;
 use crate::reads::{ReadIndex, item_askers, read_askers, read_index};
 use crate::typings::{Typing, typings};
@@ -147,12 +149,13 @@ pub(crate) fn all_askers(
 }
 
 /// An instance that is due of an axiom of the table; none where none is due. The classes are those of the branch, these are
-/// the numbers of its terms, some variable is free in none of its entries, and the shapes of structs have fewer than 2^32
-/// fields each.
+/// the numbers of its terms, what is known is that of the pool, or of what it was before it grew, some variable is free in
+/// none of the branch's entries, and the shapes of structs have fewer than 2^32 fields each.
 pub fn next_axiom(
     alloc: Global,
     pool: &mut Pool,
     shapes: &Shapes,
+    known: &mut KnownInstances,
     branch: &PoolBranch,
     classes: &BranchClasses,
     terms: &[usize],
@@ -161,12 +164,23 @@ pub fn next_axiom(
     requires over { IsOver pool.old branch.now }
     requires classes { AreClassesOf pool.old branch.now classes.now }
     requires terms { AreBranchTerms pool.old (branch_in pool.old branch.now) terms.now }
+    requires known { AreKnownInstances shapes.now pool.old known.old }
     requires room { HasVariable (branch_in pool.old branch.now) }
     ensures extends { Extends pool.old pool.new }
+    ensures known { OnOk result (AreKnownInstances shapes.now pool.new known.new) }
     ensures due { IfOk result (λ found. MatchOption found (NoAxiom shapes.now (branch_in pool.new branch.now) WantedAxioms.All) (IsAxiomStep pool.new shapes.now (branch_in pool.new branch.now) WantedAxioms.All)) }
 {
     let found = typings(alloc, pool, branch)?;
     let askers = all_askers(alloc, pool, branch, classes, terms, found.as_slice())?;
     let wanted = WantedAxioms::All;
-    next_asked(alloc, pool, shapes, branch, wanted, askers.as_slice(), 0)
+    next_asked(
+        alloc,
+        pool,
+        shapes,
+        known,
+        branch,
+        wanted,
+        askers.as_slice(),
+        0,
+    )
 }

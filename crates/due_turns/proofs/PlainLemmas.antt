@@ -1,12 +1,12 @@
 -- Instances of axioms and of quantified entries that are due.
-use Rattle.std.proofs.Common.{◌≡◌, ℕ, List, [], ◌∷◌, Option, Some, None, refl, arith}
+use Rattle.std.proofs.Common.{ℕ, List, [], ◌∷◌, Option, Some, None, arith}
 use Rattle.std.specs.Prelude.{MatchOption}
 use Rattle.fol.specs.declared.shapes.Shape.{Shape}
 use Rattle.fol.specs.FormulaData.{TermData, FormulaData}
 use Rattle.axioms.specs.declared.axiom.Axiom.{Axiom}
 use Rattle.formula_pool.specs.declared.node.Node.{Node}
 use Rattle.branches.specs.Branch.{Branch, formulas, IsNew}
-use Rattle.branches.specs.Due.{IsShallow, trichotomy_axiom, AsksAxiom, ByTable, AsDecision, AreGenerations, AxiomDue}
+use Rattle.branches.specs.Due.{IsShallow, trichotomy_axiom, AsksAxiom, ByTable, AsDecision, AreGenerations}
 use Rattle.branches.specs.Names.{above_all}
 use Rattle.entry_names.proofs.AboveLemmas.{all_new}
 use Rattle.due_axioms.specs.declared.due.WantedAxioms.TheVariants.{All as Everything}

@@ -1,11 +1,7 @@
 -- Turns that are found by a guess.
-use Rattle.std.proofs.Common.{List, Option, Some, None}
+use Rattle.std.proofs.Common.{Option, Some, None}
 use Rattle.std.specs.Prelude.{IfSome, MatchOption}
-use Rattle.fol.specs.declared.shapes.Shape.{Shape}
-use Rattle.formula_pool.specs.declared.node.Node.{Node}
-use Rattle.branches.specs.Branch.{Branch}
 use Rattle.search_trees.specs.declared.turn.Growth.{Growth}
-use Rattle.proof_search.specs.Decisions.{IsGrowthDue}
 
 -- what is found where all or nothing is told is found where something is
 pub found_of : (P : Type 0) (R : Growth → Type 0) (o : Option Growth) → MatchOption o P R → IfSome o R

@@ -8,6 +8,7 @@ ghost use Rattle.near_groups.specs.Terms.{AreClassesOf};
 ghost use Rattle.asked_axioms.specs.StructRows.{HasFewFields};
 ghost use Rattle.entry_matches.specs.Heads.{IsIndex};
 ghost use Rattle.due_axioms.specs.Due.{NoAxiom};
+ghost use Rattle.due_axioms.specs.Known.{AreKnownInstances};
 ghost use Rattle.due_instances.specs.QuantifierFree.{AreFree};
 ghost use Rattle.due_instances.specs.Instances.{NoInstance};
 ghost use Rattle.proof_search.specs.Decisions.{HasRoom, IsGrowthDue, NothingPlain};
@@ -17,6 +18,7 @@ use crate::growths::{axiom_turn, instance_turn};
 use axioms::axiom::{Alternative, Axiom};
 use branch_classes::branch_classes::BranchClasses;
 use due_axioms::due::WantedAxioms;
+use due_axioms::known::KnownInstances;
 use due_axioms::next::next_axiom;
 use due_decisions::orders::next_order;
 use due_instances::due::next_instance;
@@ -37,17 +39,20 @@ fn table_turn(
     shapes: &Shapes,
     branch: &PoolBranch,
     classes: &BranchClasses,
+    known: &mut KnownInstances,
 ) -> Result<Option<Growth>, NoMemory>
     requires few { HasFewFields shapes.now }
     requires over { IsOver pool.old branch.now }
     requires classes { AreClassesOf pool.old branch.now classes.now }
+    requires known { AreKnownInstances shapes.now pool.old known.old }
     requires room { HasRoom (branch_in pool.old branch.now) }
     ensures extends { Extends pool.old pool.new }
+    ensures known { OnOk result (AreKnownInstances shapes.now pool.new known.new) }
     ensures due { IfOk result (λ found. MatchOption found (NoAxiom shapes.now (branch_in pool.old branch.now) WantedAxioms.All) (IsGrowthDue shapes.now pool.new (branch_in pool.old branch.now))) }
 {
     let listed = terms(alloc, pool, branch)?;
     let numbers = listed.as_slice();
-    let Some(step) = next_axiom(alloc, pool, shapes, branch, classes, numbers)? else {
+    let Some(step) = next_axiom(alloc, pool, shapes, known, branch, classes, numbers)? else {
         return Ok(None);
     };
     let turn = axiom_turn(alloc, step.name, step.formula, step.generation)?;
@@ -62,15 +67,18 @@ fn axioms_turn(
     shapes: &Shapes,
     branch: &PoolBranch,
     classes: &BranchClasses,
+    known: &mut KnownInstances,
 ) -> Result<Option<Growth>, NoMemory>
     requires few { HasFewFields shapes.now }
     requires over { IsOver pool.old branch.now }
     requires classes { AreClassesOf pool.old branch.now classes.now }
+    requires known { AreKnownInstances shapes.now pool.old known.old }
     requires room { HasRoom (branch_in pool.old branch.now) }
     ensures extends { Extends pool.old pool.new }
+    ensures known { OnOk result (AreKnownInstances shapes.now pool.new known.new) }
     ensures due { IfOk result (λ found. MatchOption found (NoAxiomDue shapes.now (branch_in pool.old branch.now)) (IsGrowthDue shapes.now pool.new (branch_in pool.old branch.now))) }
 {
-    if let Some(found) = table_turn(alloc, pool, shapes, branch, classes)? {
+    if let Some(found) = table_turn(alloc, pool, shapes, branch, classes, known)? {
         return Ok(Some(found));
     }
     let Some(order) = next_order(alloc, pool, branch, classes)? else {
@@ -105,8 +113,8 @@ pub(crate) fn quantified_turn(
 }
 
 /// An instance of an axiom or of a quantified entry; none where neither is due. The classes are those of the branch, the
-/// index of heads and what is known of quantifiers are those of the pool, or of what it was before it grew, and the shapes
-/// of structs have fewer than 2^32 fields each.
+/// index of heads and what is known of quantifiers and of instances are those of the pool, or of what it was before it grew,
+/// and the shapes of structs have fewer than 2^32 fields each.
 #[tactic(auto, using(formula_pool::proofs::GrowthLemmas::extends_then))]
 pub fn plain_turn(
     alloc: Global,
@@ -116,20 +124,23 @@ pub fn plain_turn(
     classes: &BranchClasses,
     index: &mut HeadIndex,
     quantifiers: &mut QuantifierFree,
+    known: &mut KnownInstances,
 ) -> Result<Option<Growth>, NoMemory>
     requires few { HasFewFields shapes.now }
     requires over { IsOver pool.old branch.now }
     requires classes { AreClassesOf pool.old branch.now classes.now }
     requires index { IsIndex pool.old index.old }
     requires free { AreFree pool.old quantifiers.old }
+    requires known { AreKnownInstances shapes.now pool.old known.old }
     requires room { HasRoom (branch_in pool.old branch.now) }
     ensures extends { Extends pool.old pool.new }
     ensures index { OnOk result (IsIndex pool.new index.new) }
     ensures free { OnOk result (AreFree pool.new quantifiers.new) }
+    ensures known { OnOk result (AreKnownInstances shapes.now pool.new known.new) }
     ensures due { IfOk result (λ found. MatchOption found (NothingPlain shapes.now (branch_in pool.old branch.now)) (IsGrowthDue shapes.now pool.new (branch_in pool.old branch.now))) }
 {
     index.grow(pool)?;
-    if let Some(found) = axioms_turn(alloc, pool, shapes, branch, classes)? {
+    if let Some(found) = axioms_turn(alloc, pool, shapes, branch, classes, known)? {
         return Ok(Some(found));
     }
     quantified_turn(alloc, pool, branch, index, quantifiers)

@@ -70,16 +70,17 @@ module _ (d : BranchData) (s t : BranchState) (entries : t.entries ≡ s.entries
   pub still_follows : Follows d s → Follows d t
   still_follows follows = record { entries = ap (λ x. x.items) entries ∙ follows.entries }
 
-  pub state_varied : (ns ms : List Node) → Extends ns ms → t.classes ≡ s.classes → t.marks ≡ s.marks → IsState ns s → Follows d s → AreAbove ms d.entries t.variables → IsState ms t
-  state_varied ns ms grown classes marks old follows above =
+  pub state_varied : (ns ms : List Node) → Extends ns ms → t.classes ≡ s.classes → t.classed ≡ s.classed → t.marks ≡ s.marks → IsState ns s → Follows d s → AreAbove ms d.entries t.variables → IsState ms t
+  state_varied ns ms grown classes classed marks old follows above =
       let h = state_stays ns ms grown s old in
       let es : t.entries.items ≡ s.entries.items = ap (λ x. x.items) entries in
       let same : t.marks.items ≡ s.marks.items = ap (λ x. x.items) marks in
       record {
         numbers = subst (HaveNumbers ms) (sym es) h.numbers;
         variables = subst (λ xs. AreAbove ms xs t.variables) (sym (es ∙ follows.entries)) above;
+        classed_numbers = subst (λ v. HaveNumbers ms v.items) (sym classed) h.classed_numbers;
         classes = subst (ClassesOver ms) (sym classes) h.classes;
         inside = subst (AreInEntries ms) (sym classes) h.inside;
-        entries = ap (λ x. x.entries) classes ∙ h.entries ∙ ap (map formula_number) (sym es);
+        classed = ap (λ x. x.entries) classes ∙ h.classed ∙ ap (λ v. map formula_number v.items) (sym classed);
         marks = subst (λ xs. AreAllMarks ms xs t.marks.items) (sym es) (subst (AreAllMarks ms s.entries.items) (sym same) h.marks);
       }

@@ -9,6 +9,7 @@ ghost use Rattle.entry_steps.specs.Steps.{NoParts};
 ghost use Rattle.entry_names.specs.Names.{NoName};
 ghost use Rattle.asked_axioms.specs.StructRows.{HasFewFields};
 ghost use Rattle.due_axioms.specs.Due.{NoAxiom};
+ghost use Rattle.due_axioms.specs.Known.{AreKnownInstances};
 ghost use Rattle.branch_state.specs.States.{IsState, Follows};
 ghost use Rattle.proof_search.specs.Decisions.{HasRoom, IsGrowthDue};
 ghost use Rattle.early_turns.specs.Ranges.{NoRangeSplit};
@@ -16,6 +17,7 @@ ghost use Rattle.early_turns.specs.Ranges.{NoRangeSplit};
 use crate::ranges::next_range_split;
 use branch_state::state::BranchState;
 use due_axioms::due::WantedAxioms;
+use due_axioms::known::KnownInstances;
 use due_axioms::ranges::next_range_axiom;
 use due_turns::growths::{axiom_turn, name_turn, parts_turn, split_turn};
 use entry_names::names::next_name;
@@ -88,14 +90,18 @@ fn range_axiom_due(
     pool: &mut Pool,
     shapes: &Shapes,
     branch: &PoolBranch,
+    known: &mut KnownInstances,
 ) -> Result<Option<Growth>, NoMemory>
     requires few { HasFewFields shapes.now }
     requires over { IsOver pool.old branch.now }
+    requires known { AreKnownInstances shapes.now pool.old known.old }
     ensures extends { Extends pool.old pool.new }
+    ensures known { OnOk result (AreKnownInstances shapes.now pool.new known.new) }
     ensures due { IfOk result (λ found. MatchOption found (NoAxiom shapes.now (branch_in pool.new branch.now) WantedAxioms.Ranges) (IsGrowthDue shapes.now pool.new (branch_in pool.new branch.now))) }
 {
     let standing = terms(alloc, pool, branch)?;
-    let Some(step) = next_range_axiom(alloc, pool, shapes, branch, standing.as_slice())? else {
+    let numbers = standing.as_slice();
+    let Some(step) = next_range_axiom(alloc, pool, shapes, known, branch, numbers)? else {
         return Ok(None);
     };
     let growth = axiom_turn(alloc, step.name, step.formula, step.generation)?;
@@ -109,18 +115,21 @@ fn range_split_due(
     shapes: &Shapes,
     branch: &PoolBranch,
     state: &mut BranchState,
+    known: &mut KnownInstances,
 ) -> Result<Option<Growth>, NoMemory>
     requires few { HasFewFields shapes.now }
     requires over { IsOver pool.old branch.now }
     requires state { IsState pool.old state.old }
     requires follows { Follows branch.now state.old }
+    requires known { AreKnownInstances shapes.now pool.old known.old }
     ensures extends { Extends pool.old pool.new }
     ensures state { OnOk result (IsState pool.new state.new) }
     ensures follows { OnOk result (Follows branch.now state.new) }
+    ensures known { OnOk result (AreKnownInstances shapes.now pool.new known.new) }
     ensures due { IfOk result (λ found. MatchOption found (NoRangeSplit (branch_in pool.new branch.now)) (IsGrowthDue shapes.now pool.new (branch_in pool.new branch.now))) }
 {
     let mut marks = state.marks();
-    let Some(step) = next_range_split(alloc, pool, shapes, branch, marks.ranges)? else {
+    let Some(step) = next_range_split(alloc, pool, shapes, known, branch, marks.ranges)? else {
         marks.ranges = branch.len();
         state.set_marks(marks);
         return Ok(None);
@@ -132,22 +141,26 @@ fn range_split_due(
 
 /// A turn that comes before all others: parts, a name, an instance of the axioms on ranges and on whole numbers, or a split
 /// at an instance of the axiom on ranges; none where none is due. The state follows the branch, and has marks: no entry is
-/// looked at again before these. The shapes of structs have fewer than 2^32 fields each.
+/// looked at again before these. What is known is that of the pool, or of what it was before it grew, and the shapes of
+/// structs have fewer than 2^32 fields each.
 pub fn early_turn(
     alloc: Global,
     pool: &mut Pool,
     shapes: &Shapes,
     branch: &PoolBranch,
     state: &mut BranchState,
+    known: &mut KnownInstances,
 ) -> Result<Option<Growth>, NoMemory>
     requires few { HasFewFields shapes.now }
     requires over { IsOver pool.old branch.now }
     requires room { HasRoom (branch_in pool.old branch.now) }
     requires state { IsState pool.old state.old }
     requires follows { Follows branch.now state.old }
+    requires known { AreKnownInstances shapes.now pool.old known.old }
     ensures extends { Extends pool.old pool.new }
     ensures state { OnOk result (IsState pool.new state.new) }
     ensures follows { OnOk result (Follows branch.now state.new) }
+    ensures known { OnOk result (AreKnownInstances shapes.now pool.new known.new) }
     ensures due { IfOk result (λ found. MatchOption found (NothingEarly shapes.now (branch_in pool.old branch.now)) (IsGrowthDue shapes.now pool.new (branch_in pool.old branch.now))) }
 {
     if let Some(parts) = parts_due(alloc, pool, branch, state)? {
@@ -156,8 +169,8 @@ pub fn early_turn(
     if let Some(name) = name_due(alloc, pool, branch, state)? {
         return Ok(Some(name));
     }
-    if let Some(axiom) = range_axiom_due(alloc, pool, shapes, branch)? {
+    if let Some(axiom) = range_axiom_due(alloc, pool, shapes, branch, known)? {
         return Ok(Some(axiom));
     }
-    range_split_due(alloc, pool, shapes, branch, state)
+    range_split_due(alloc, pool, shapes, branch, state, known)
 }

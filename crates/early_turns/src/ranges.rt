@@ -1,17 +1,19 @@
 //! Splits at instances of the axiom on ranges, which come before all others.
 
-ghost use Rattle.std.specs.Prelude.{◌≡◌, ◌↔◌, IsTrue, IfOk, MatchOption};
+ghost use Rattle.std.specs.Prelude.{◌≡◌, ◌↔◌, IsTrue, IfOk, OnOk, MatchOption};
 ghost use Rattle.formula_pool.specs.Pools.{Extends};
 ghost use Rattle.branches.specs.Due.{IsRange};
 ghost use Rattle.pool_branch.specs.PoolBranches.{branch_in, IsFormulaNumber, IsOver};
 ghost use Rattle.entry_steps.specs.Numbers.{formula_at};
 ghost use Rattle.asked_axioms.specs.StructRows.{HasFewFields};
+ghost use Rattle.due_axioms.specs.Known.{AreKnownInstances};
 ghost use Rattle.branch_state.specs.States.{NoRangeSplitAt, NoRangeSplitBefore};
 ghost use Rattle.early_turns.specs.Ranges.{IsNoEquivalence, IsLeftSide, left_of, is_range_axiom, IsRangeInstance, ListsRange, NoRangeSplit, IsRangeSplitAt, IsRangeSplitStep};
 
 use asked_axioms::asked::AskedAxiom;
-use asked_struct_axioms::types::axioms_of_typed_term;
 use axioms::axiom::{Axiom, Equivalence};
+use due_axioms::askers::Asker;
+use due_axioms::known::KnownInstances;
 use due_axioms::typings::typing_of;
 use entry_steps::compounds::{Compound, compound_at};
 use entry_steps::formulas::EntryStep;
@@ -79,17 +81,21 @@ fn lists_range(instances: &[AskedAxiom], formula: usize) -> bool
     false
 }
 
-/// Whether a formula is an instance of the axiom on ranges: one that is asked for by the type and the term to its left. The
-/// shapes of structs have fewer than 2^32 fields each.
+/// Whether a formula is an instance of the axiom on ranges: one that is asked for by the type and the term to its left. What
+/// is known is that of the pool, or of what it was before it grew, and the shapes of structs have fewer than 2^32 fields
+/// each.
 pub fn is_range(
     alloc: Global,
     pool: &mut Pool,
     shapes: &Shapes,
+    known: &mut KnownInstances,
     formula: usize,
 ) -> Result<bool, NoMemory>
     requires few { HasFewFields shapes.now }
     requires formula { IsFormulaNumber pool.old formula }
+    requires known { AreKnownInstances shapes.now pool.old known.old }
     ensures extends { Extends pool.old pool.new }
+    ensures known { OnOk result (AreKnownInstances shapes.now pool.new known.new) }
     ensures is { IfOk result (λ is. IsTrue is ↔ IsRange (formula_at pool.old formula)) }
 {
     let Some(left) = left_side(pool, formula) else {
@@ -98,9 +104,10 @@ pub fn is_range(
     let Some(typing) = typing_of(pool, left) else {
         return Ok(false);
     };
-    let instances = axioms_of_typed_term(alloc, pool, shapes, typing.of, typing.term)?;
+    let asker = Asker::Typing(typing.of, typing.term);
+    let place = known.place_of(alloc, pool, shapes, asker)?;
     pool.one_number();
-    Ok(lists_range(instances.as_slice(), formula))
+    Ok(lists_range(known.list(place), formula))
 }
 
 // ---- splits
@@ -110,41 +117,47 @@ fn range_cases_at(
     alloc: Global,
     pool: &mut Pool,
     shapes: &Shapes,
+    known: &mut KnownInstances,
     branch: &PoolBranch,
     i: usize,
 ) -> Result<Option<Vec<usize>>, NoMemory>
     requires few { HasFewFields shapes.now }
     requires over { IsOver pool.old branch.now }
+    requires known { AreKnownInstances shapes.now pool.old known.old }
     ensures extends { Extends pool.old pool.new }
+    ensures known { OnOk result (AreKnownInstances shapes.now pool.new known.new) }
     ensures due { IfOk result (λ found. MatchOption found (NoRangeSplitAt (branch_in pool.new branch.now) i) (λ cases. IsRangeSplitAt pool.new (branch_in pool.new branch.now) i cases.items)) }
 {
     let Some(entry) = branch.entry(i) else {
         return Ok(None);
     };
-    if !is_range(alloc, pool, shapes, entry.formula)? {
+    if !is_range(alloc, pool, shapes, known, entry.formula)? {
         return Ok(None);
     }
     cases_at(alloc, pool, branch, i)
 }
 
 /// The first entry that is an instance of the axiom on ranges and at which a split is due, with the numbers of its cases;
-/// none where there is none. It looks at the entries from this one on. The shapes of structs have fewer than 2^32 fields
-/// each.
+/// none where there is none. It looks at the entries from this one on. What is known is that of the pool, or of what it was
+/// before it grew, and the shapes of structs have fewer than 2^32 fields each.
 pub fn next_range_split(
     alloc: Global,
     pool: &mut Pool,
     shapes: &Shapes,
+    known: &mut KnownInstances,
     branch: &PoolBranch,
     from: usize,
 ) -> Result<Option<EntryStep>, NoMemory>
     requires few { HasFewFields shapes.now }
     requires over { IsOver pool.old branch.now }
+    requires known { AreKnownInstances shapes.now pool.old known.old }
     requires before { NoRangeSplitBefore (branch_in pool.old branch.now) from }
     ensures extends { Extends pool.old pool.new }
+    ensures known { OnOk result (AreKnownInstances shapes.now pool.new known.new) }
     ensures due { IfOk result (λ found. MatchOption found (NoRangeSplit (branch_in pool.new branch.now)) (IsRangeSplitStep pool.new (branch_in pool.new branch.now))) }
 {
     for i in from..branch.len() {
-        if let Some(formulas) = range_cases_at(alloc, pool, shapes, branch, i)? {
+        if let Some(formulas) = range_cases_at(alloc, pool, shapes, known, branch, i)? {
             return Ok(Some(EntryStep { entry: i, formulas }));
         }
     }

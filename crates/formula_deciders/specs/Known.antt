@@ -4,6 +4,7 @@ use Rattle.fol.specs.declared.shapes.Shape.{Shape}
 use Rattle.formula_pool.specs.declared.node.Node.{Node}
 use Rattle.asked_axioms.specs.StructRows.{HasFewFields}
 use Rattle.entry_matches.specs.Heads.{IsIndex}
+use Rattle.due_axioms.specs.Known.{AreKnownInstances}
 use Rattle.due_instances.specs.QuantifierFree.{AreFree}
 use Rattle.branch_state.specs.States.{IsState}
 use Rattle.formula_deciders.specs.declared.deciders.FormulaDeciders.{FormulaDeciders}
@@ -18,3 +19,4 @@ pub record Knows (d : FormulaDeciders) (ns : List Node) : Type 0 where
   pub state : IsState ns d.state
   pub heads : IsIndex ns d.heads
   pub quantifiers : AreFree ns d.quantifiers
+  pub known : AreKnownInstances (shapes_of d) ns d.known

@@ -8,8 +8,11 @@ ghost use Rattle.formula_deciders.specs.Known.{shapes_of, Knows};
 
 use crate::following::{follow_above, follow_with_variable, is_past};
 use crate::rows::{leaf_answer, rows_answer};
+use branch_clashes::literal::next_literal;
 use branch_state::state::BranchState;
 use clash_turns::closing::closing;
+use closing_turns::literal::literal_closing;
+use due_axioms::known::KnownInstances;
 use due_instances::quantifiers::QuantifierFree;
 use due_turns::late::late_turn;
 use due_turns::near::near_turn;
@@ -35,6 +38,7 @@ pub struct FormulaDeciders<'a> {
     state: BranchState,
     heads: HeadIndex,
     quantifiers: QuantifierFree,
+    known: KnownInstances,
     // The values that met the rows when they were solved last. They choose what is looked at first, and nothing rests on them.
     guess: Option<Guess>,
 }
@@ -51,6 +55,7 @@ impl<'a> FormulaDeciders<'a> {
             state: BranchState::new(alloc),
             heads: HeadIndex::new(alloc),
             quantifiers: QuantifierFree::new(alloc),
+            known: KnownInstances::new(alloc),
             guess: None,
         }
     }
@@ -67,7 +72,7 @@ impl<'a> Deciders for FormulaDeciders<'a> {
         pool: &Pool,
         branch: &PoolBranch,
     ) -> Result<bool, NoMemory> {
-        let above = follow_above(alloc, pool, branch, &mut self.state)?;
+        let above = follow_above(pool, branch, &mut self.state)?;
         Ok(is_past(above))
     }
 
@@ -77,8 +82,15 @@ impl<'a> Deciders for FormulaDeciders<'a> {
         pool: &mut Pool,
         branch: &PoolBranch,
     ) -> Result<Option<Growth>, NoMemory> {
-        self.state.follow(alloc, pool, branch)?;
-        let found = early_turn(alloc, pool, self.shapes, branch, &mut self.state)?;
+        self.state.follow_entries(pool, branch)?;
+        let found = early_turn(
+            alloc,
+            pool,
+            self.shapes,
+            branch,
+            &mut self.state,
+            &mut self.known,
+        )?;
         Ok(found)
     }
 
@@ -88,6 +100,11 @@ impl<'a> Deciders for FormulaDeciders<'a> {
         pool: &mut Pool,
         branch: &PoolBranch,
     ) -> Result<ClosingAnswer, NoMemory> {
+        // (before the classes follow, which then need not for this branch)
+        if let Some(literal) = next_literal(pool, branch) {
+            let closing = literal_closing(alloc, pool, branch, literal);
+            return Ok(ClosingAnswer::Closes(closing));
+        }
         let variable = follow_with_variable(alloc, pool, branch, &mut self.state)?;
         let answer = closing(alloc, pool, branch, &self.state.classes, variable)?;
         Ok(answer)
@@ -108,6 +125,7 @@ impl<'a> Deciders for FormulaDeciders<'a> {
             &self.state.classes,
             &mut self.heads,
             &mut self.quantifiers,
+            &mut self.known,
         )?;
         Ok(found)
     }
@@ -138,6 +156,7 @@ impl<'a> Deciders for FormulaDeciders<'a> {
             &self.state.classes,
             &mut self.heads,
             &mut self.quantifiers,
+            &mut self.known,
         )?;
         Ok(found)
     }

@@ -21,9 +21,8 @@ pub(crate) fn is_past(number: u64) -> bool
     number > u64::from(u32::MAX)
 }
 
-/// Follows a branch, and tells the least number above all its variables.
+/// Follows the entries of a branch, and tells the least number above all its variables.
 pub(crate) fn follow_above(
-    alloc: Global,
     pool: &Pool,
     branch: &PoolBranch,
     state: &mut BranchState,
@@ -31,10 +30,9 @@ pub(crate) fn follow_above(
     requires over { IsOver pool.now branch.now }
     requires state { IsState pool.now state.old }
     ensures state { OnOk result (IsState pool.now state.new) }
-    ensures classes { OnOk result (AreClassesOf pool.now branch.now state.new.classes) }
     ensures is { IfOk result (λ above. above ≡ above_all (formulas (branch_in pool.now branch.now))) }
 {
-    state.follow(alloc, pool, branch)?;
+    state.follow_entries(pool, branch)?;
     let above = state.variables.above_all(pool, branch)?;
     Ok(above)
 }
@@ -53,6 +51,7 @@ pub(crate) fn follow_with_variable(
     ensures classes { OnOk result (AreClassesOf pool.now branch.now state.new.classes) }
     ensures above { IfOk result (λ variable. above_all (formulas (branch_in pool.now branch.now)) ≤ variable) }
 {
-    let above = follow_above(alloc, pool, branch, state)?;
+    let above = follow_above(pool, branch, state)?;
+    state.follow_classes(alloc, pool, branch)?;
     Ok(above as u32)
 }

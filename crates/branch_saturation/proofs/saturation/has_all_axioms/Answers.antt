@@ -8,6 +8,9 @@ use Rattle.branch_saturation.specs.Families.{HasAllAxioms}
 use Rattle.branch_saturation.proofs.SaturationLemmas.{one_of, none_of, decided, there, back, classes_stay, all_axioms}
 use Rattle.branch_saturation.proofs.saturation.has_all_axioms.Goals as goal
 
+pub next_axiom-requires-clause-known : goal.next_axiom-requires-clause-known
+next_axiom-requires-clause-known c = c.new-known.ensures c.args.shapes.now c.args.pool.now
+
 pub returns-then-is_some-clause-exact : goal.returns-then-is_some-clause-exact
 returns-then-is_some-clause-exact c = λ all. (
     let shapes = c.args.shapes.now in

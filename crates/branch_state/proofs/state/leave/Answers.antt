@@ -1,12 +1,6 @@
-use Rattle.std.proofs.Common.{map, sym, ap, ◌∙◌, subst}
-use Rattle.near_groups.specs.Terms.{formula_number}
-use Rattle.branch_state.specs.States.{HaveNumbers}
-use Rattle.branch_state.proofs.StateLemmas.{numbers_cut, state_cut}
+use Rattle.std.proofs.Common.{refl}
+use Rattle.branch_state.proofs.StateLemmas.{state_cut}
 use Rattle.branch_state.proofs.state.leave.Goals as goal
 
-pub classes_of-requires : goal.classes_of-requires
-classes_of-requires c = subst (HaveNumbers c.args.pool.now) (sym (c.as_slice.ensures.value ∙ c.truncate.ensures.items)) (numbers_cut c.args.pool.now c.args.count c.args.state.now.entries.items c.requires.numbers)
-
 pub returns-clause-state : goal.returns-clause-state
-returns-clause-state c =
-    state_cut c.args.pool.now c.args.state.now _ c.args.count c.requires c.truncate.ensures.items (c.truncate-2.ensures c.args.pool.now c.args.state.now.entries.items c.requires.variables) c.in_ok-state.ensures.over c.in_ok-state.ensures.inside (c.in_ok-state.ensures.entries ∙ ap (map formula_number) c.as_slice.ensures.value) c.truncate-3.ensures.items
+returns-clause-state c = λ ns h. state_cut ns c.args.state.now _ c.args.count h c.truncate.ensures.items (c.truncate-2.ensures ns c.args.state.now.entries.items h.variables) refl refl c.truncate-3.ensures.items

@@ -26,6 +26,7 @@ loop-i-preserved c =
     let i = c.loop-i.i in
     record {
       extends = extends_then c.loop-i.invariant.extends c.next_of.ensures.extends;
+      known = c.in_ok-step.ensures.known;
       none = some_more (asks_at c.args.shapes.now c.args.pool.now xs) i c.loop-i.invariant.none (answer_still c.args.pool.now c.loop-i.pool c.loop-i.invariant.extends c.args.branch.now c.requires.over c.next_of.new.pool c.args.wanted c.args.shapes.now (get_or xs i Always) None (c.requires.askers.each i (omega arith)) (rw c.in_default.is at c.in_ok-step.ensures.due));
     }
 

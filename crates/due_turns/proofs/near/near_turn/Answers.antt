@@ -1,7 +1,9 @@
 use Rattle.std.proofs.Common.{subst}
+use Rattle.std.proofs.lemmas.Result.{on_ok_weaker}
 use Rattle.std.specs.Prelude.{IfSome, MatchOption}
 use Rattle.pool_branch.specs.PoolBranches.{branch_in}
 use Rattle.entry_matches.proofs.HeadLemmas.{index_later}
+use Rattle.due_axioms.proofs.KnownLemmas.{known_stay}
 use Rattle.due_instances.proofs.QuantifierLemmas.{free_grown}
 use Rattle.due_instances.specs.Instances.{NoInstance}
 use Rattle.proof_search.specs.Decisions.{IsGrowthDue}
@@ -27,6 +29,9 @@ quantified_turn-requires-clause-index c = index_later c.args.pool.now c.near_axi
 
 pub quantified_turn-requires-clause-free : goal.quantified_turn-requires-clause-free
 quantified_turn-requires-clause-free c = free_grown c.args.pool.now c.near_axiom_turn.new.pool c.args.quantifiers.now c.near_axiom_turn.ensures.extends c.requires.free
+
+pub returns-clause-known : goal.returns-clause-known
+returns-clause-known c = on_ok_weaker c.quantified_turn.result (λ free. known_stay c.args.shapes.now c.near_axiom_turn.new.pool c.quantified_turn.new.pool c.near_axiom_turn.new.known c.quantified_turn.ensures.extends c.in_ok-found.ensures.known) c.quantified_turn.ensures.free
 
 pub returns-clause-due : goal.returns-clause-due
 returns-clause-due c =

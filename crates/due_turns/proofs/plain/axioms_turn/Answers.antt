@@ -4,6 +4,7 @@ use Rattle.formula_pool.proofs.GrowthLemmas.{extends_then}
 use Rattle.pool_branch.specs.PoolBranches.{branch_in}
 use Rattle.due_axioms.specs.declared.due.WantedAxioms.TheVariants.{All as Everything}
 use Rattle.due_axioms.specs.Due.{NoAxiom}
+use Rattle.due_axioms.proofs.KnownLemmas.{known_stay}
 use Rattle.due_decisions.specs.Orders.{NoOrder, IsOrder}
 use Rattle.proof_search.specs.Decisions.{IsGrowthDue}
 use Rattle.proof_search.proofs.TurnLemmas.{over_stays, fact_goes_back}
@@ -23,6 +24,9 @@ next_order-requires-clause-over c = over_stays c.args.pool.now c.table_turn.new.
 pub next_order-requires-clause-classes : goal.next_order-requires-clause-classes
 next_order-requires-clause-classes c = classes_stay c.args.pool.now c.table_turn.new.pool c.table_turn.ensures.extends c.args.branch.now c.requires.over c.args.classes.now c.requires.classes
 
+pub returns-in_default-2-clause-known : goal.returns-in_default-2-clause-known
+returns-in_default-2-clause-known c = known_stay c.args.shapes.now c.table_turn.new.pool c.next_order.new.pool c.table_turn.new.known c.next_order.ensures.extends c.in_ok-found.ensures.known
+
 pub returns-in_default-2-clause-due : goal.returns-in_default-2-clause-due
 returns-in_default-2-clause-due c =
     let shapes = c.args.shapes.now in
@@ -33,6 +37,9 @@ returns-in_default-2-clause-due c =
     let table = subst (λ o. MatchOption o (NoAxiom shapes b Everything) (IsGrowthDue shapes c.table_turn.new.pool b)) c.in_default.is c.in_ok-found.ensures.due in
     let orders = subst (λ o. MatchOption o (NoOrder e) (IsOrder os e)) c.in_default-2.is c.in_ok-order.ensures.due in
     no_axiom shapes b table (fact_goes_back c.args.pool.now os both NoOrder c.args.branch.now c.requires.over orders)
+
+pub returns-clause-known : goal.returns-clause-known
+returns-clause-known c = known_stay c.args.shapes.now c.table_turn.new.pool c.next_order.new.pool c.table_turn.new.known c.next_order.ensures.extends c.in_ok-found.ensures.known
 
 pub returns-clause-due : goal.returns-clause-due
 returns-clause-due c =

@@ -1,4 +1,3 @@
-use Rattle.pool_branch.specs.PoolBranches.{branch_in}
 use Rattle.std.specs.Prelude.{IfSome}
 use Rattle.branches.specs.Turns.{IsLate}
 use Rattle.formula_pool.proofs.GrowthLemmas.{extends_then}

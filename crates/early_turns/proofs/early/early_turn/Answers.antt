@@ -7,11 +7,15 @@ use Rattle.entry_names.specs.Names.{NoName}
 use Rattle.near_groups.proofs.GraphLemmas.{ok_map}
 use Rattle.due_axioms.specs.declared.due.WantedAxioms.TheVariants.{Ranges}
 use Rattle.due_axioms.specs.Due.{NoAxiom}
+use Rattle.due_axioms.proofs.KnownLemmas.{known_stay}
 use Rattle.branch_state.proofs.StateLemmas.{state_stays}
 use Rattle.proof_search.specs.Decisions.{HasRoom, IsGrowthDue}
 use Rattle.proof_search.proofs.TurnLemmas.{over_stays, fact_stays}
 use Rattle.early_turns.proofs.EarlyLemmas.{due_back, early_answer}
 use Rattle.early_turns.proofs.early.early_turn.Goals as goal
+
+pub returns-in-Some-clause-known : goal.returns-in-Some-clause-known
+returns-in-Some-clause-known c = known_stay c.args.shapes.now c.args.pool.now c.parts_due.new.pool c.args.known.now c.parts_due.ensures.extends c.requires.known
 
 pub returns-in-Some-clause-due : goal.returns-in-Some-clause-due
 returns-in-Some-clause-due c =
@@ -26,6 +30,9 @@ name_due-requires-clause-over c = over_stays c.args.pool.now c.parts_due.new.poo
 pub name_due-requires-clause-room : goal.name_due-requires-clause-room
 name_due-requires-clause-room c = fact_stays c.args.pool.now c.parts_due.new.pool c.parts_due.ensures.extends HasRoom c.args.branch.now c.requires.over c.requires.room
 
+pub returns-in-Some-2-clause-known : goal.returns-in-Some-2-clause-known
+returns-in-Some-2-clause-known c = known_stay c.args.shapes.now c.args.pool.now c.name_due.new.pool c.args.known.now (extends_then c.parts_due.ensures.extends c.name_due.ensures.extends) c.requires.known
+
 pub returns-in-Some-2-clause-due : goal.returns-in-Some-2-clause-due
 returns-in-Some-2-clause-due c =
     let shapes = c.args.shapes.now in
@@ -35,6 +42,9 @@ returns-in-Some-2-clause-due c =
 
 pub range_axiom_due-requires-clause-over : goal.range_axiom_due-requires-clause-over
 range_axiom_due-requires-clause-over c = over_stays c.args.pool.now c.name_due.new.pool (extends_then c.parts_due.ensures.extends c.name_due.ensures.extends) c.args.branch.now c.requires.over
+
+pub range_axiom_due-requires-clause-known : goal.range_axiom_due-requires-clause-known
+range_axiom_due-requires-clause-known c = known_stay c.args.shapes.now c.args.pool.now c.name_due.new.pool c.args.known.now (extends_then c.parts_due.ensures.extends c.name_due.ensures.extends) c.requires.known
 
 pub returns-in-Some-3-clause-state : goal.returns-in-Some-3-clause-state
 returns-in-Some-3-clause-state c = state_stays c.name_due.new.pool c.range_axiom_due.new.pool c.range_axiom_due.ensures.extends c.name_due.new.state c.in_ok-name.ensures.state

@@ -13,7 +13,7 @@ returns-in_default-clause-state c =
     let b = branch_in ms d in
     let grown = c.next_name.ensures.extends in
     let none = subst (λ o. MatchOption o (NoName b) (IsNameStep ms b)) c.in_default.is c.in_ok-step.ensures.due in
-    c.set_marks.ensures.state ms d (state_varied d c.args.state.now _ refl ns ms grown refl refl c.requires.state c.requires.follows c.in_ok-step.ensures.above) (still_follows d c.args.state.now _ refl c.requires.follows) (names_past ns ms grown d c.requires.over c.marks-marks.result (c.marks-marks.ensures ns d c.requires.state c.requires.follows) c.len.result c.len.ensures none)
+    c.set_marks.ensures.state ms d (state_varied d c.args.state.now _ refl ns ms grown refl refl refl c.requires.state c.requires.follows c.in_ok-step.ensures.above) (still_follows d c.args.state.now _ refl c.requires.follows) (names_past ns ms grown d c.requires.over c.marks-marks.result (c.marks-marks.ensures ns d c.requires.state c.requires.follows) c.len.result c.len.ensures none)
 
 pub returns-in_default-clause-follows : goal.returns-in_default-clause-follows
 returns-in_default-clause-follows c = c.set_marks.ensures.follows c.args.branch.now (still_follows c.args.branch.now c.args.state.now _ refl c.requires.follows)
@@ -32,7 +32,7 @@ returns-clause-state c =
     let b = branch_in ms d in
     let grown = c.next_name.ensures.extends in
     let first = subst (λ o. MatchOption o (NoName b) (IsNameStep ms b)) c.in-Some.is c.in_ok-step.ensures.due in
-    c.set_marks-2.ensures.state ms d (state_varied d c.args.state.now _ refl ns ms grown refl refl c.requires.state c.requires.follows c.in_ok-step.ensures.above) (still_follows d c.args.state.now _ refl c.requires.follows) (names_first ns ms grown d c.requires.over c.marks-marks.result (c.marks-marks.ensures ns d c.requires.state c.requires.follows) c.in-Some.step first)
+    c.set_marks-2.ensures.state ms d (state_varied d c.args.state.now _ refl ns ms grown refl refl refl c.requires.state c.requires.follows c.in_ok-step.ensures.above) (still_follows d c.args.state.now _ refl c.requires.follows) (names_first ns ms grown d c.requires.over c.marks-marks.result (c.marks-marks.ensures ns d c.requires.state c.requires.follows) c.in-Some.step first)
 
 pub returns-clause-follows : goal.returns-clause-follows
 returns-clause-follows c = c.set_marks-2.ensures.follows c.args.branch.now (still_follows c.args.branch.now c.args.state.now _ refl c.requires.follows)

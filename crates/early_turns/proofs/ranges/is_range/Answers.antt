@@ -1,4 +1,5 @@
 use Rattle.entry_steps.specs.Numbers.{formula_at}
+use Rattle.due_axioms.specs.Known.{list_at}
 use Rattle.early_turns.proofs.RangeLemmas.{no_range, no_range_untyped, range_listed, listed_range}
 use Rattle.early_turns.proofs.ranges.is_range.Goals as goal
 
@@ -14,13 +15,17 @@ returns-in_default-typing_of-clause-is c = (
   λ h. absurd (no_range_untyped c.args.pool.now (formula_at c.args.pool.now c.args.formula) c.in-Some.left c.in-Some.ensures c.in_default-typing_of.ensures h),
 )
 
+pub place_of-requires-clause-asker : goal.place_of-requires-clause-asker
+place_of-requires-clause-asker c = record { of = c.in-Some-typing_of.ensures.of; term = c.in-Some-typing_of.ensures.term }
+
 pub returns-clause-is : goal.returns-clause-is
 returns-clause-is c =
     let ns = c.args.pool.now in
-    let ms = c.axioms_of_typed_term.new.pool in
-    let grown = c.axioms_of_typed_term.ensures.extends in
-    let all = c.in_ok-instances.ensures.all in
-    let listed = rw c.as_slice.ensures.value at c.lists_range.ensures in (
-      λ e. range_listed ns ms grown c.one_number.ensures c.args.formula c.requires.formula c.args.shapes.now c.in-Some.left c.in-Some.ensures c.in-Some-typing_of.typing c.in-Some-typing_of.ensures c.in_ok-instances.instances.items all (listed.0 e),
-      λ h. listed.1 (listed_range ns ms grown c.one_number.ensures c.args.formula c.requires.formula c.args.shapes.now c.in-Some.left c.in-Some.ensures c.in-Some-typing_of.typing c.in-Some-typing_of.ensures c.in_ok-instances.instances.items all h),
+    let ms = c.place_of.new.pool in
+    let xs = list_at c.place_of.new.self c.in_ok-place.place in
+    let grown = c.place_of.ensures.extends in
+    let all = c.in_ok-place.ensures.all in
+    let listed = rw c.list.ensures at c.lists_range.ensures in (
+      λ e. range_listed ns ms grown c.one_number.ensures c.args.formula c.requires.formula c.args.shapes.now c.in-Some.left c.in-Some.ensures c.in-Some-typing_of.typing c.in-Some-typing_of.ensures xs all (listed.0 e),
+      λ h. listed.1 (listed_range ns ms grown c.one_number.ensures c.args.formula c.requires.formula c.args.shapes.now c.in-Some.left c.in-Some.ensures c.in-Some-typing_of.typing c.in-Some-typing_of.ensures xs all h),
     )

@@ -17,6 +17,7 @@ returns-in-Some-clause-due c = record {
 pub loop-i-preserved : goal.loop-i-preserved
 loop-i-preserved c = record {
   extends = extends_then c.loop-i.invariant.extends c.range_cases_at.ensures.extends;
+  known = c.in_ok-formulas.ensures.known;
   before = before_more (branch_in c.range_cases_at.new.pool c.args.branch.now) c.loop-i.i (before_grown c.loop-i.pool c.range_cases_at.new.pool c.range_cases_at.ensures.extends c.args.branch.now (still_over c.args.pool.now c.loop-i.pool c.loop-i.invariant.extends c.args.branch.now c.requires.over) c.loop-i.i c.loop-i.invariant.before) (rw c.in_default.is at c.in_ok-formulas.ensures.due);
 }
 

@@ -1,6 +1,9 @@
 use Rattle.std.proofs.Common.{◌≡◌, true, false, sym, ◌∙◌}
+use Rattle.std.proofs.lemmas.Result.{IfOk-weaker}
 use Rattle.formula_pool.proofs.GrowthLemmas.{extends_then}
 use Rattle.entry_steps.proofs.EntryLemmas.{still_over}
+use Rattle.due_axioms.specs.Known.{AreKnownInstances}
+use Rattle.due_axioms.proofs.KnownLemmas.{known_stay}
 use Rattle.early_turns.proofs.RangeLemmas.{answer_map, no_entry_split, no_range_entry, no_range_split, range_split}
 use Rattle.early_turns.proofs.ranges.range_cases_at.Goals as goal
 
@@ -16,6 +19,13 @@ returns-then-not-branch-clause-due c =
 
 pub cases_at-requires : goal.cases_at-requires
 cases_at-requires c = still_over c.args.pool.now c.is_range.new.pool c.is_range.ensures.extends c.args.branch.now c.requires.over
+
+pub returns-clause-known : goal.returns-clause-known
+returns-clause-known c =
+    let shapes = c.args.shapes.now in
+    let ks = c.cases_at.new.pool in
+    let known = c.is_range.new.known in
+    IfOk-weaker c.cases_at.result _ (λ found. AreKnownInstances shapes ks known) (λ found due. known_stay shapes c.is_range.new.pool ks known c.cases_at.ensures.extends c.in_ok-is_range.ensures.known) c.cases_at.ensures.due
 
 pub returns-clause-due : goal.returns-clause-due
 returns-clause-due c =

@@ -1,5 +1,6 @@
 use Rattle.std.proofs.Common.{arith}
 use Rattle.branch_state.proofs.StateLemmas.{state_stays}
+use Rattle.due_axioms.proofs.KnownLemmas.{known_stay}
 use Rattle.due_instances.proofs.QuantifierLemmas.{free_grown}
 use Rattle.proof_search.proofs.TurnLemmas.{length_in}
 use Rattle.formula_deciders.specs.Known.{shapes_of}
@@ -15,6 +16,15 @@ closing-requires-clause-inside c = c.in_ok-variable.ensures.state.inside
 pub closing-requires-clause-short : goal.closing-requires-clause-short
 closing-requires-clause-short c = (let w = c.requires.room.entry in omega (arith, w, length_in c.args.pool.now c.args.branch.now))
 
+pub returns-in-Some-clause-knows : goal.returns-in-Some-clause-knows
+returns-in-Some-clause-knows c = c.requires.knows
+
+pub returns-in-Some-clause-shown : goal.returns-in-Some-clause-shown
+returns-in-Some-clause-shown c = c.literal_closing-closing.ensures (shapes_of c.args.self.now)
+
+pub literal_closing-closing-requires-clause-short : goal.literal_closing-closing-requires-clause-short
+literal_closing-closing-requires-clause-short c = (let w = c.requires.room.entry in omega (arith, w, length_in c.args.pool.now c.args.branch.now))
+
 pub returns-clause-knows : goal.returns-clause-knows
 returns-clause-knows c =
     let ns = c.args.pool.now in
@@ -25,6 +35,7 @@ returns-clause-knows c =
       state = state_stays ns ms grown c.follow_with_variable.new.state c.in_ok-variable.ensures.state;
       heads = index_stays ns ms grown c.args.self.now.heads c.requires.knows.heads;
       quantifiers = free_grown ns ms c.args.self.now.quantifiers grown c.requires.knows.quantifiers;
+      known = known_stay (shapes_of c.args.self.now) ns ms c.args.self.now.known grown c.requires.knows.known;
     }
 
 pub returns-clause-shown : goal.returns-clause-shown

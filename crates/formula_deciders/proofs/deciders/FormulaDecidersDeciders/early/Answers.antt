@@ -2,11 +2,14 @@ use Rattle.due_instances.proofs.QuantifierLemmas.{free_grown}
 use Rattle.formula_deciders.proofs.StayLemmas.{index_stays}
 use Rattle.formula_deciders.proofs.deciders.FormulaDecidersDeciders.early.Goals as goal
 
-pub follow-requires-clause-state : goal.follow-requires-clause-state
-follow-requires-clause-state c = c.requires.knows.state
+pub follow_entries-requires-clause-state : goal.follow_entries-requires-clause-state
+follow_entries-requires-clause-state c = c.requires.knows.state
 
 pub early_turn-requires-clause-few : goal.early_turn-requires-clause-few
 early_turn-requires-clause-few c = c.requires.knows.few
+
+pub early_turn-requires-clause-known : goal.early_turn-requires-clause-known
+early_turn-requires-clause-known c = c.requires.knows.known
 
 pub returns-clause-knows : goal.returns-clause-knows
 returns-clause-knows c =
@@ -18,6 +21,7 @@ returns-clause-knows c =
       state = c.in_ok-found.ensures.state;
       heads = index_stays ns ms grown c.args.self.now.heads c.requires.knows.heads;
       quantifiers = free_grown ns ms c.args.self.now.quantifiers grown c.requires.knows.quantifiers;
+      known = c.in_ok-found.ensures.known;
     }
 
 pub returns-clause-due : goal.returns-clause-due

@@ -13,12 +13,16 @@ near_turn-requires-clause-index c = c.requires.knows.heads
 pub near_turn-requires-clause-free : goal.near_turn-requires-clause-free
 near_turn-requires-clause-free c = c.requires.knows.quantifiers
 
+pub near_turn-requires-clause-known : goal.near_turn-requires-clause-known
+near_turn-requires-clause-known c = c.requires.knows.known
+
 pub returns-clause-knows : goal.returns-clause-knows
 returns-clause-knows c = record {
   few = c.requires.knows.few;
   state = state_stays c.args.pool.now c.near_turn.new.pool c.near_turn.ensures.extends c.follow.new.self c.in_ok-follow.ensures.state;
   heads = c.in_ok-found.ensures.index;
   quantifiers = c.in_ok-found.ensures.free;
+  known = c.in_ok-found.ensures.known;
 }
 
 pub returns-clause-due : goal.returns-clause-due

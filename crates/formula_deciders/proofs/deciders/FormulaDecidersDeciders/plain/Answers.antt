@@ -13,12 +13,16 @@ plain_turn-requires-clause-index c = c.requires.knows.heads
 pub plain_turn-requires-clause-free : goal.plain_turn-requires-clause-free
 plain_turn-requires-clause-free c = c.requires.knows.quantifiers
 
+pub plain_turn-requires-clause-known : goal.plain_turn-requires-clause-known
+plain_turn-requires-clause-known c = c.requires.knows.known
+
 pub returns-clause-knows : goal.returns-clause-knows
 returns-clause-knows c = record {
   few = c.requires.knows.few;
   state = state_stays c.args.pool.now c.plain_turn.new.pool c.plain_turn.ensures.extends c.follow.new.self c.in_ok-follow.ensures.state;
   heads = c.in_ok-found.ensures.index;
   quantifiers = c.in_ok-found.ensures.free;
+  known = c.in_ok-found.ensures.known;
 }
 
 pub returns-clause-due : goal.returns-clause-due

@@ -1,4 +1,5 @@
 use Rattle.branch_state.proofs.StateLemmas.{state_stays}
+use Rattle.due_axioms.proofs.KnownLemmas.{known_stay}
 use Rattle.due_instances.proofs.QuantifierLemmas.{free_grown}
 use Rattle.formula_deciders.specs.Known.{shapes_of}
 use Rattle.formula_deciders.proofs.StayLemmas.{index_stays}
@@ -17,6 +18,7 @@ returns-clause-knows c =
       state = state_stays ns ms grown c.follow.new.self c.in_ok-follow.ensures.state;
       heads = index_stays ns ms grown c.args.self.now.heads c.requires.knows.heads;
       quantifiers = free_grown ns ms c.args.self.now.quantifiers grown c.requires.knows.quantifiers;
+      known = known_stay (shapes_of c.args.self.now) ns ms c.args.self.now.known grown c.requires.knows.known;
     }
 
 pub returns-clause-due : goal.returns-clause-due
