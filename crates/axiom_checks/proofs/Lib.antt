@@ -1,0 +1,4 @@
+pub mod SideLemmas
+pub mod OrderLemmas
+pub mod ListedLemmas
+pub mod AxiomLemmas

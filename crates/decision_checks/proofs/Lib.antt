@@ -1,0 +1,5 @@
+pub mod TruthLemmas
+pub mod ReadLemmas
+pub mod DenyLemmas
+pub mod NumberLemmas
+pub mod CutLemmas

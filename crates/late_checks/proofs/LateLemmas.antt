@@ -1,0 +1,91 @@
+-- What comes first, what closes a branch, and late turns.
+use Rattle.std.proofs.Common.{◌≡◌, ◌↔◌, inl, inr, ℕ, Bool, false, IsTrue, List, ap, ◌∙◌, subst}
+use Rattle.fol.specs.declared.shapes.Shape.{Shape}
+use Rattle.fol.specs.FormulaData.{TermData, NotFormula}
+use Rattle.axioms.specs.declared.axiom.Axiom.TheVariants.{Exactly, Plain}
+use Rattle.axioms.specs.declared.axiom.Equivalence.TheVariants.{Range}
+use Rattle.axioms.specs.declared.axiom.Fact.TheVariants.{Whole}
+use Rattle.linear_rows.specs.Inequality.{Inequality}
+use Rattle.linear_rows.specs.declared.rows.Fraction.{Fraction}
+use Rattle.lin_arith.specs.Answer.{IsSolution}
+use Rattle.formula_pool.specs.declared.node.Node.{Node}
+use Rattle.branches.specs.Branch.{Branch}
+use Rattle.branches.specs.Due.{AxiomDue, IsNotClosed}
+use Rattle.branches.specs.Rows.{AreBranchRows}
+use Rattle.branches.specs.Turns.{NothingEarly, IsLate}
+use Rattle.due_axioms.specs.declared.due.WantedAxioms.TheVariants.{Ranges}
+use Rattle.due_axioms.specs.declared.due.AxiomStep.{AxiomStep}
+use Rattle.due_axioms.specs.Due.{IsAxiomStep, NothingOfRanges}
+use Rattle.branch_clashes.specs.Clashes.{IsClashOf}
+use Rattle.branch_clashes.specs.declared.clash.Clash.{Clash}
+use Rattle.branch_clashes.specs.declared.clash.Clash.TheVariants.{Opposed, Differing, False}
+use Rattle.late_checks.specs.Late.{HasNoEntryTurn, HasNoRangeTurn, IsLateWith}
+use Rattle.late_checks.proofs.FamilyLemmas.{never, weaker}
+
+-- ---- ranges
+
+pub range_due : (ns : List Node) (shapes : List Shape) (b : Branch) (step : AxiomStep) → IsAxiomStep ns shapes b Ranges step → NothingOfRanges shapes b → ⊥
+range_due ns shapes b step h none = elim h.is_wanted [
+  | inl e ↦ none.no_range h.formula step.generation (subst (λ n. AxiomDue shapes b n h.formula step.generation) e h.due)
+  | inr e ↦ none.no_whole h.formula step.generation (subst (λ n. AxiomDue shapes b n h.formula step.generation) e h.due)
+]
+
+-- ---- nothing early
+
+module _ (shapes : List Shape) (b : Branch) where
+  nothing_early : HasNoEntryTurn b → HasNoRangeTurn shapes b → NothingEarly shapes b
+  nothing_early entries ranges = record {
+    no_parts = λ i ps due. (entries.no_parts.each i).none ps due;
+    no_name = λ i v p due. (entries.no_name.each i).none v p due;
+    no_range = ranges.no_axiom.no_range;
+    no_whole = ranges.no_axiom.no_whole;
+    no_range_split = λ i p ps says is due. (ranges.no_split.each i).none p ps says is due;
+  }
+
+  no_entry_turn : NothingEarly shapes b → HasNoEntryTurn b
+  no_entry_turn h = record {
+    no_parts = record { each = λ i. record { none = λ ps due. h.no_parts i ps due } };
+    no_name = record { each = λ i. record { none = λ v p due. h.no_name i v p due } };
+  }
+
+  no_range_turn : NothingEarly shapes b → HasNoRangeTurn shapes b
+  no_range_turn h = record {
+    no_axiom = record { no_range = h.no_range; no_whole = h.no_whole };
+    no_split = record { each = λ i. record { none = λ p ps says is due. h.no_range_split i p ps says is due } };
+  }
+
+  pub entries_early : (HasNoEntryTurn b → ⊥) → IsTrue false ↔ NothingEarly shapes b
+  entries_early none = never (λ h. none (no_entry_turn h))
+
+  pub ranges_tell : HasNoEntryTurn b → (told : Bool) → IsTrue told ↔ HasNoRangeTurn shapes b → IsTrue told ↔ NothingEarly shapes b
+  ranges_tell entries told h = weaker told (nothing_early entries) no_range_turn h
+
+-- ---- what closes a branch
+
+pub closes : (b : Branch) (clash : Clash) → IsClashOf b clash → IsNotClosed b → ⊥
+closes b (Opposed said denied) h n = n.no_clash h.formula h.other (record { place = said; says = h.says }) (record { place = denied; says = h.denies }) h.alike
+closes b (Differing i) h n =
+    n.no_differing h.equates.left h.equates.right (record { place = i; says = record { entry = h.denies.entry; found = h.denies.found; is = h.denies.is ∙ ap NotFormula h.equates.is } }) h.equates.joined
+closes b (False i) h n = n.no_false h.formula (record { place = i; says = h.says }) h.is_false
+
+-- ---- late turns
+
+module _ (shapes : List Shape) (b : Branch) (rows : List Inequality) (values : List Fraction) where
+  pub not_met : (IsSolution rows values → ⊥) → IsTrue false ↔ IsLateWith shapes b rows values
+  not_met none = never (λ h. none h.solution)
+
+  pub is_closed : (IsNotClosed b → ⊥) → IsTrue false ↔ IsLateWith shapes b rows values
+  is_closed none = never (λ h. none h.not_closed)
+
+  pub late_so : IsSolution rows values → IsNotClosed b → (told : Bool) → IsTrue told ↔ NothingEarly shapes b → IsTrue told ↔ IsLateWith shapes b rows values
+  late_so solution open_still told h = weaker told (λ nothing. record { nothing_early = nothing; not_closed = open_still; solution = solution }) (λ late. late.nothing_early) h
+
+  pub is_late : (class : TermData → ℕ) (ks : List ℕ) → AreBranchRows b class ks rows → (told : Bool) → IsTrue told ↔ IsLateWith shapes b rows values → IsTrue told → IsLate shapes b
+  is_late class ks are told h so =
+      let late = h.0 so in
+      record {
+        nothing_early = late.nothing_early;
+        not_closed = late.not_closed;
+        values = values;
+        met = record { class = class; classes = ks; rows = rows; are_rows = are; solution = late.solution };
+      }

@@ -1,0 +1,3 @@
+pub mod FamilyLemmas
+pub mod LateLemmas
+pub mod TurnLemmas

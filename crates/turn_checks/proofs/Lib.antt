@@ -1,0 +1,4 @@
+pub mod GivenLemmas
+pub mod NameLemmas
+pub mod SaidLemmas
+pub mod InstanceLemmas
