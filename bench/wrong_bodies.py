@@ -3,8 +3,8 @@
 
 They are must-fail edits like those in crates/CRATE/must-fail, which the test command tries; these stand here because
 to try one costs up to as much as the proof of its crate. They are put beside the others in a new clone of the
-repository, as it was last committed, and `rt ci` of those crates proves what is not kept and tries them. Without
-names: all crates that have some. The status is that of `rt ci`.
+repository, as it was last committed, and `rt must-fail` of those crates builds what stands below them and tries them.
+Without names: all crates that have some. The status is that of `rt must-fail`.
 """
 import pathlib
 import shutil
@@ -25,7 +25,7 @@ def main():
             into.mkdir(exist_ok=True)
             for edit in sorted((FOLDERS / name).glob("*.edit")):
                 shutil.copy(edit, into)
-        return subprocess.run(["rt", "ci", *names], cwd=room).returncode
+        return subprocess.run(["rt", "must-fail", *names], cwd=room).returncode
 
 
 if __name__ == "__main__":
