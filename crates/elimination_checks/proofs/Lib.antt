@@ -1,0 +1,4 @@
+pub mod GcdLemmas
+pub mod ReducedLemmas
+pub mod SumLemmas
+pub mod ShownLemmas
