@@ -1,4 +1,7 @@
+pub mod CheckLemmas
 pub mod GcdLemmas
 pub mod ReducedLemmas
-pub mod SumLemmas
+pub mod SetLemmas
 pub mod ShownLemmas
+pub mod StageLemmas
+pub mod SumLemmas

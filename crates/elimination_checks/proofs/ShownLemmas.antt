@@ -22,7 +22,10 @@ use Rattle.lin_arith.proofs.GivenLemmas.{padded_is}
 use Rattle.lin_arith.proofs.StageLemmas.{width_of_combination, length_of_reduced}
 use Rattle.elimination_checks.specs.Sums.{IsReducedSum}
 use Rattle.elimination_checks.specs.Given.{rows_of, width_of, stage_of, IsOfStage, IsGivenRow, IsOfOrigin, AreOfOrigins, HasStageSums, HasEachSum, IsGivenElimination}
+use Rattle.elimination_checks.specs.GivenValues.{AreGivenValues}
 use Rattle.elimination_checks.specs.Shown.{ShowsElimination}
+use Rattle.linear_rows.specs.declared.rows.Fraction.{Fraction}
+use Rattle.lin_arith.specs.Values.{AreAllChosen}
 use Rattle.elimination_checks.specs.declared.elimination.Origin.{Origin}
 use Rattle.elimination_checks.specs.declared.elimination.Origin.TheVariants.{Given, Sum}
 use Rattle.elimination_checks.specs.declared.elimination.GivenRow.{GivenRow}
@@ -271,3 +274,17 @@ shows rows handed g =
       unknowns = refl;
       found = refl;
     }
+
+-- values that are chosen after it are chosen for all unknowns
+pub chosen : (rows : List Inequality) (handed : GivenElimination) (values : List Fraction) → AreGivenValues rows handed values → AreAllChosen rows values
+unfolding shows
+chosen rows handed values g = record {
+  choosing = record {
+    complete = (shows rows handed g.elimination).complete;
+    different = g.different;
+    before = [];
+    are_values = g.are_values;
+  };
+  none_before = refl;
+  covered = g.covered;
+}

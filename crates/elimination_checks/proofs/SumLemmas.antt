@@ -9,14 +9,14 @@ use Rattle.std.proofs.lemmas.Int.{ints}
 use Rattle.std.proofs.lemmas.Nat.Gcd.{dvd_antisymm}
 use Rattle.std.proofs.lemmas.List.{ext_get_or}
 use Rattle.linear_rows.specs.Inequality.{Inequality, coefficient}
-use Rattle.linear_rows.specs.Elimination.{Cancels, IsMix}
+use Rattle.linear_rows.specs.Elimination.{Cancels, IsMix, MixFits}
 use Rattle.linear_rows.specs.Reduction.{IsReduced}
 use Rattle.linear_rows.specs.Closure.{IsSumOf}
 use Rattle.linear_rows.proofs.SumLemmas.{cancels_by_sizes, no_zero_divisor}
 use Rattle.linear_rows.proofs.ClosureLemmas.{rows_summed, sum_of_multiples, multiple_of_itself, multiple_of_reduced}
 use Rattle.linear_rows.proofs.ProductLemmas.{positive_product}
 use Rattle.pv_base.proofs.WholeNumbers.{mul_assoc, mul_add, mul_swap}
-use Rattle.elimination_checks.specs.Sums.{IsReducedSum}
+use Rattle.elimination_checks.specs.Sums.{MixesWithin, IsReducedSum}
 use Rattle.elimination_checks.proofs.GcdLemmas.{has_gcd, gcd_times}
 use Rattle.elimination_checks.proofs.ReducedLemmas.{AreInRatio, one_reduced, mul_cancel, size_positive}
 
@@ -138,3 +138,14 @@ sums_in_ratio unknown upper lower first second above below same s t =
       coefficients = λ u. part_in_ratio s.factor s.first s.second t.factor t.first t.second _ _ _ _ c (s.coefficients u) (t.coefficients u);
       bound = part_in_ratio s.factor s.first s.second t.factor t.first t.second _ _ _ _ c s.bound t.bound;
     }
+
+-- with the least multipliers, whatever they are called, the numbers of the sum are made within 128 bits
+pub bound_fits : (unknown : ℕ) (upper lower row : Inequality) (x y : ℕ) → Cancels (coefficient unknown upper) (coefficient unknown lower) x y → IsReducedSum unknown upper lower row → MixFits x y upper.bound lower.bound
+bound_fits unknown upper lower row x y c s =
+    let w = one_weights _ _ x y s.x s.y s.above s.below c s.cancels in
+    subst (λ (n : ℕ). MixFits n y upper.bound lower.bound) (sym w.first) (subst (λ (n : ℕ). MixFits s.x n upper.bound lower.bound) (sym w.second) s.bound_within)
+
+pub numbers_fit : (unknown : ℕ) (upper lower row : Inequality) (x y : ℕ) → Cancels (coefficient unknown upper) (coefficient unknown lower) x y → IsReducedSum unknown upper lower row → MixesWithin x y upper.coefficients lower.coefficients
+numbers_fit unknown upper lower row x y c s =
+    let w = one_weights _ _ x y s.x s.y s.above s.below c s.cancels in
+    subst (λ (n : ℕ). MixesWithin n y upper.coefficients lower.coefficients) (sym w.first) (subst (λ (n : ℕ). MixesWithin s.x n upper.coefficients lower.coefficients) (sym w.second) s.coefficients_within)

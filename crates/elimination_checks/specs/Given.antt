@@ -68,9 +68,12 @@ pub record HasStageSums (found : List Inequality) (eliminated : List ℕ) (unkno
 abbrev pub HasEachSum : List Inequality → List ℕ → Type 0
 HasEachSum found unknowns = (step d : ℕ) → step < length unknowns → HasStageSums found (take step unknowns) (slice_index_or unknowns step d)
 
--- where the unknowns are gone from a row, no unknown is left in it
+-- where the unknowns are gone from the row, no unknown is left in it
+abbrev pub HasNoneLeft : List ℕ → Inequality → Type 0
+HasNoneLeft unknowns row = IsWithout unknowns row → (unknown : ℕ) → coefficient unknown row ≡ pos 0
+
 abbrev pub NoUnknownIsLeft : List Inequality → List ℕ → Type 0
-NoUnknownIsLeft found unknowns = (row : Inequality) → Contains found row → IsWithout unknowns row → (unknown : ℕ) → coefficient unknown row ≡ pos 0
+NoUnknownIsLeft found unknowns = (row : Inequality) → Contains found row → HasNoneLeft unknowns row
 
 -- what is handed over is an elimination of the rows that came to its end, with fewer than 5,000 different rows: each is
 -- what its origin says, and all given rows and all sums are among them

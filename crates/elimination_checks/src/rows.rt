@@ -1,0 +1,59 @@
+//! Rows, and what is asked of one of them.
+
+ghost use Rattle.std.specs.Prelude.{◌≡◌, ◌↔◌, pos, ◌<ℤ◌, IsTrue};
+ghost use Rattle.linear_rows.specs.Inequality.{coefficient};
+ghost use Rattle.linear_rows.specs.Closure.{IsWithout};
+ghost use Rattle.elimination_checks.specs.Given.{width_of, HasNoneLeft};
+
+use linear_rows::rows::LinRow;
+
+/// Whether two rows are one.
+pub(crate) fn are_same(first: &LinRow, second: &LinRow) -> bool
+    ensures { IsTrue result ↔ (first.now ≡ second.now) }
+{
+    first.bound() == second.bound() && first.coefficients() == second.coefficients()
+}
+
+/// The greatest number of coefficients that one of the rows has.
+pub(crate) fn greatest_width(rows: &[LinRow]) -> usize
+    ensures { result ≡ width_of rows.now }
+{
+    let mut width = 0;
+    for row in rows {
+        width = width.max(row.coefficients().len());
+    }
+    width
+}
+
+/// Whether none of the unknowns stands in the row.
+pub(crate) fn is_without(unknowns: &[usize], row: &LinRow) -> bool
+    ensures { IsTrue result ↔ IsWithout unknowns.now row.now }
+{
+    unknowns
+        .iter()
+        .all(|unknown| row.coefficient(*unknown) == 0)
+}
+
+/// Whether the row has none of the unknowns that are eliminated, and the next one with a coefficient above 0.
+pub(crate) fn is_upper(eliminated: &[usize], unknown: usize, row: &LinRow) -> bool
+    ensures { IsTrue result ↔ ((pos 0 <ℤ coefficient unknown row.now) × IsWithout eliminated.now row.now) }
+{
+    row.coefficient(unknown) > 0 && is_without(eliminated, row)
+}
+
+/// The same with a coefficient below 0.
+pub(crate) fn is_lower(eliminated: &[usize], unknown: usize, row: &LinRow) -> bool
+    ensures { IsTrue result ↔ ((coefficient unknown row.now <ℤ pos 0) × IsWithout eliminated.now row.now) }
+{
+    row.coefficient(unknown) < 0 && is_without(eliminated, row)
+}
+
+/// Whether no unknown is left in the row, if these are gone from it.
+pub(crate) fn has_none_left(unknowns: &[usize], row: &LinRow) -> bool
+    ensures { IsTrue result ↔ HasNoneLeft unknowns.now row.now }
+{
+    if row.is_without_unknowns() {
+        return true;
+    }
+    !is_without(unknowns, row)
+}
