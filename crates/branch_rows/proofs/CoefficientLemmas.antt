@@ -80,6 +80,19 @@ module _ (k : ℕ) (v : ℤ) where
       go (inr s) (inl f) g = subst (λ xs. Has xs n) (sym (by_different k e.0 ((e.0, v) ∷ es) (e ∷ insert_entry nat_eq es k v) s)) (inl f)
       go (inr s) (inr f) g = subst (λ xs. Has xs n) (sym (by_different k e.0 ((e.0, v) ∷ es) (e ∷ insert_entry nat_eq es k v) s)) (inr (g f))
 
+  pub put_cases : (es : List (ℕ × ℤ)) (n : ℕ) → Has (insert_entry nat_eq es k v) n → Has es n ⊎ (n ≡ k)
+  put_cases [] n (inl f) = inr f
+  put_cases [] n (inr f) = absurd f
+  put_cases (e ∷ es) n h = go (cases_eq k e.0) h (put_cases es n)
+    where
+      split : (n ≡ e.0) ⊎ Has (insert_entry nat_eq es k v) n → (Has (insert_entry nat_eq es k v) n → Has es n ⊎ (n ≡ k)) → Has (e ∷ es) n ⊎ (n ≡ k)
+      split (inl f) g = inl (inl f)
+      split (inr f) g = elim (g f) [ inl a ↦ inl (inr a) | inr a ↦ inr a ]
+
+      go : (k ≡ e.0) ⊎ (k ≢ e.0) → Has (insert_entry nat_eq (e ∷ es) k v) n → (Has (insert_entry nat_eq es k v) n → Has es n ⊎ (n ≡ k)) → Has (e ∷ es) n ⊎ (n ≡ k)
+      go (inl s) f g = inl (subst (λ xs. Has xs n) (by_equal k e.0 ((e.0, v) ∷ es) (e ∷ insert_entry nat_eq es k v) s) f)
+      go (inr s) f g = split (subst (λ xs. Has xs n) (by_different k e.0 ((e.0, v) ∷ es) (e ∷ insert_entry nat_eq es k v) s) f) g
+
 -- ---- one more entry at the end
 
 take_next : {X : Type 0} (xs : List X) (k : ℕ) (x : X) → slice_get xs k ≡ Some x → take (suc k) xs ≡ take k xs ++ x ∷ []
@@ -149,6 +162,7 @@ added_none factor es gs e = record {
   others = λ n h. ap (λ xs. coefficient_in xs n) e;
   left = λ n h. subst (λ xs. Has xs n) (sym e) h;
   right = λ n h. absurd h;
+  from = λ n h. inl (subst (λ xs. Has xs n) e h);
 }
 
 module _ (factor : ℤ) (es fs gs hs : List (ℕ × ℤ)) (k : ℕ) (e : ℕ × ℤ) (distinct : IsDistinct nat_eq (keys_of fs)) (found : slice_get fs k ≡ Some e) (before : IsAdded factor es (take k fs) gs) where
@@ -164,6 +178,7 @@ module _ (factor : ℤ) (es fs gs hs : List (ℕ × ℤ)) (k : ℕ) (e : ℕ × 
     others = λ n h. put_other e.0 sum gs n (λ s. h (subst (Has (take k fs ++ e ∷ [])) (sym s) (last_has e (take k fs)))) ∙ before.others n (λ g. h (last_keeps e (take k fs) n g));
     left = λ n h. put_keeps e.0 sum gs n (before.left n h);
     right = λ n h. right n (last_cases e (take k fs) n h);
+    from = λ n h. from n (put_cases e.0 sum gs n h);
   }))
     where
       plus : plus_multiple_of total factor e.1 ≡ Some sum
@@ -185,6 +200,10 @@ module _ (factor : ℤ) (es fs gs hs : List (ℕ × ℤ)) (k : ℕ) (e : ℕ × 
       right : (n : ℕ) → Has (take k fs) n ⊎ (n ≡ e.0) → Has (insert_entry nat_eq gs e.0 sum) n
       right n (inl h) = put_keeps e.0 sum gs n (before.right n h)
       right n (inr s) = subst (Has (insert_entry nat_eq gs e.0 sum)) (sym s) (put_has e.0 sum gs)
+
+      from : (n : ℕ) → Has gs n ⊎ (n ≡ e.0) → Has es n ⊎ Has (take k fs ++ e ∷ []) n
+      from n (inl h) = elim (before.from n h) [ inl a ↦ inl a | inr a ↦ inr (last_keeps e (take k fs) n a) ]
+      from n (inr s) = inr (subst (Has (take k fs ++ e ∷ [])) (sym s) (last_has e (take k fs)))
 
   pub added_leaves : (total : ℤ) → total ≡ coefficient_in gs e.0 → SomeIff None (FitsAdded total (factor *ℤ e.1)) (total +ℤ (factor *ℤ e.1)) → LeavesAdded factor es fs
   added_leaves total is made = record {

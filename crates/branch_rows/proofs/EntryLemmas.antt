@@ -1,17 +1,18 @@
 -- Rows of entries over classes.
-use Rattle.std.proofs.Common.{◌≡◌, ℕ, ℤ, pos, ◌+ℤ◌, ◌-ℤ◌, Bool, true, false, List, [], Option, Some, None, refl, sym, ap, ◌∙◌}
+use Rattle.std.proofs.Common.{◌≡◌, ◌⊎◌, inl, inr, ℕ, ℤ, pos, ◌+ℤ◌, ◌-ℤ◌, Bool, true, false, List, [], Option, Some, None, refl, sym, ap, ◌∙◌, subst}
 use Rattle.std.specs.Option.{option_map}
 use Rattle.fol.specs.declared.operators.Comparison.TheVariants.{Eq, Le}
 use Rattle.fol.specs.FormulaData.{TermData, VarTerm, FormulaData, CompareFormula, NotFormula}
 use Rattle.cert.specs.Linear.{kept_of, Part, weight, Row, row_of, gap_weight, row_weight}
-use Rattle.branches.specs.Rows.{over, comparison_with, FitsRow, IsEntryRow, Fits, Leaves}
+use Rattle.cert.specs.Unknowns.{EachUnknown}
+use Rattle.branches.specs.Rows.{over, IsKnown, comparison_with, FitsRow, IsEntryRow, Fits, Leaves}
 use Rattle.formula_pool.specs.declared.node.Node.{Node}
-use Rattle.branch_rows.specs.Sums.{coefficient_in, signed, amount, IsSumOf, Leaves as LeavesSum, IsJoined, LeavesJoined}
+use Rattle.branch_rows.specs.Sums.{coefficient_in, Has, IsAmong, signed, amount, IsSumOf, Leaves as LeavesSum, IsJoined, LeavesJoined}
 use Rattle.branch_rows.specs.Entries.{formula_at, gap_of, row_with, HasSides, IsRowSum, LeavesRow, row_over, IsEntrySum}
 use Rattle.branch_rows.specs.declared.sum.LinearSum.{LinearSum}
 use Rattle.branch_rows.specs.declared.comparison.Sides.{Sides}
 use Rattle.branch_rows.specs.declared.entry.EntrySum.{EntrySum}
-use Rattle.branch_rows.proofs.WalkLemmas.{same_classes}
+use Rattle.branch_rows.proofs.WalkLemmas.{same_classes, either_spoken}
 
 -- ---- the lesser less the greater, and the gap
 
@@ -35,11 +36,16 @@ module _ (s : Bool) (g : LinearSum) (negated : g.is_negated ≡ false) (constant
       pub gap_leaves : LeavesJoined false d g → LeavesRow (row_with t u s e)
       gap_leaves h = record { part = h.part; leaves = (λ j. kept_of ◌+ℤ◌ (weights h.part j) (gap_is h.part j)) ∙ h.leaves }
 
+      row_spoken : (n : ℕ) → Has d.coefficients.entries n ⊎ Has g.coefficients.entries n → (ks : List ℕ) → EachUnknown (IsKnown ks) t → EachUnknown (IsKnown ks) u → IsAmong ks n
+      row_spoken n (inl h) ks first second = either_spoken t u x y sum_t sum_u n (difference.from.either n h) ks first second
+      row_spoken n (inr h) ks first second = absurd (subst (λ es. Has es n) entries h)
+
       pub row_made : (r : LinearSum) → IsJoined false d g r → IsRowSum (row_with t u s e) r
       row_made r h = record {
         weights = λ part. (λ j. kept_of ◌+ℤ◌ (weights part j) (gap_is part j)) ∙ h.numbers part;
         lesser = same_classes t d r h.left (same_classes t x d difference.left sum_t.unknowns);
         greater = same_classes u d r h.left (same_classes u y d difference.right sum_u.unknowns);
+        spoken = λ n has ks first second. row_spoken n (h.from.either n has) ks first second;
       }
 
 pub lesser_leaves : (t u : TermData) (s e : Bool) → LeavesSum t → LeavesRow (row_with t u s e)

@@ -65,6 +65,7 @@ module _ (x : LinearSum) (factor : ℤ) (y r : LinearSum) (kept_x : IsKept x) (s
     numbers = numbers;
     left = record { has = added.left };
     right = record { has = added.right };
+    from = record { either = added.from };
   }
     where
       nothing : plus_multiple_of (pos 0) factor (pos 0) ≡ Some (pos 0)
@@ -98,6 +99,7 @@ module _ (x y : LinearSum) (d : Bool) (kept_x : IsKept x) (kept_y : IsKept y) (f
         signed_kept r.is_negated (unsigned r part) (joining d (amount x part) (amount y part)) (turned_first x.is_negated y.is_negated d (unsigned x part) (unsigned y part) (unsigned r part) is ∙ ap (λ s. signed s (unsigned r part)) (sym h.sign)) c.fits);
     left = h.left;
     right = h.right;
+    from = h.from;
   }
 
   pub joined_first_leaves : LeavesPlusMultiple x factor y → LeavesJoined d x y
@@ -117,6 +119,7 @@ module _ (x y : LinearSum) (d : Bool) (kept_x : IsKept x) (kept_y : IsKept y) (f
         signed_kept s.is_negated (unsigned s part) (joining d (amount x part) (amount y part)) (turned_second x.is_negated y.is_negated d (unsigned x part) (unsigned y part) (unsigned r part) is ∙ (λ i. signed (sym sign i) (sym same i))) (subst (λ (z : ℤ). Fits z) (sym same) c.fits));
     left = record { has = λ n g. subst (λ es. Has es n) (sym made.coefficients) (h.right.has n g) };
     right = record { has = λ n g. subst (λ es. Has es n) (sym made.coefficients) (h.left.has n g) };
+    from = record { either = λ n g. elim (h.from.either n (subst (λ es. Has es n) made.coefficients g)) [ inl a ↦ inr a | inr a ↦ inl a ] };
   }
     where
       sign : s.is_negated ≡ turned y.is_negated d
@@ -166,6 +169,7 @@ module _ (x e : LinearSum) (factor : ℤ) (empty : IsMadeOf e x.is_negated (pos 
         let is : factor *ℤ unsigned x part ≡ unsigned r part = omega (arith, ints, zero, total) in
         signed_kept r.is_negated (unsigned r part) (factor *ℤ amount x part) (signed_multiple x.is_negated factor (unsigned x part) ∙ (λ i. signed (sign i) (is i))) c.fits);
     classes = h.right;
+    from = record { has = λ n g. elim (h.from.either n g) [ inl a ↦ absurd (subst (λ es. Has es n) empty.coefficients a) | inr a ↦ a ] };
   }
     where
       sign : x.is_negated ≡ r.is_negated

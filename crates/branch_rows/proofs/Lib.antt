@@ -11,3 +11,4 @@ pub mod PutLemmas
 pub mod RowLemmas
 pub mod StateLemmas
 pub mod NameLemmas
+pub mod GivenLemmas

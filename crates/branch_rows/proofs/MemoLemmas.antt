@@ -20,6 +20,7 @@ pub copied : (t : TermData) (s r : LinearSum) → IsSumOf t s → IsMultiple (po
 copied t s r sum h = record {
   weights = λ part. sum.weights part ∙ ap Some (sym (one_mul (amount s part)) ∙ kept_exact (pos 1 *ℤ amount s part) (amount r part) (h.numbers part));
   unknowns = same_classes t s r h.classes sum.unknowns;
+  spoken = λ n g ks each. sum.spoken n (h.from.has n g) ks each;
 }
 
 pub right_begun : (ns : List Node) (class : TermData → ℕ) (m : Memo) → m.sums.entries ≡ [] → IsRight ns class m

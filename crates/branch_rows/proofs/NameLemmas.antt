@@ -1,6 +1,7 @@
 -- Names of the terms of an entry.
 use Rattle.std.proofs.Common.{◌≡◌, ℕ, zero, suc, ◌+◌, ◌<◌, ◌≤◌, List, [], ◌∷◌, ◌++◌, length, map, take, Some, None, refl, sym, ap, subst, arith}
 use Rattle.std.specs.Prelude.{slice_get}
+use Rattle.std.proofs.lemmas.List.{take_all}
 use Rattle.fol.specs.FormulaData.{TermData}
 use Rattle.formula_pool.specs.Pools.{item_at}
 use Rattle.formula_pool.specs.declared.node.Node.{Node}
@@ -14,7 +15,8 @@ use Rattle.pool_branch.proofs.InsideLemmas.{IsInItem}
 use Rattle.pool_branch.proofs.AnswerLemmas.{pure_entry, under_inside}
 use Rattle.branch_rows.specs.Shapes.{term_at, IsNamedUnder}
 use Rattle.branch_rows.specs.Entries.{formula_at}
-use Rattle.branch_rows.specs.Rows.{AreNames}
+use Rattle.branch_rows.specs.Rows.{AreNames, AreRowsSoFar}
+use Rattle.branch_rows.specs.declared.rows.BranchRows.{BranchRows}
 use Rattle.branch_rows.proofs.CoefficientLemmas.{take_found}
 
 module _ (ns : List Node) (d : BranchData) (over : IsOver ns d) (i : ℕ) (e : PoolEntry) (found : slice_get d.entries i ≡ Some e) where
@@ -58,3 +60,9 @@ pub not_past : {X : Type 0} (xs : List X) (k : ℕ) → k < length xs → None �
 not_past [] k h e = omega (arith, h)
 not_past (x ∷ xs) zero h e = (cc)
 not_past (x ∷ xs) (suc k) h e = not_past xs k (omega (arith, h)) e
+
+-- all entries were taken
+pub all_rows : (ns : List Node) (d : BranchData) (class : TermData → ℕ) (given : List ℕ) (made : BranchRows) (k : ℕ) → length d.entries ≤ k → AreRowsSoFar class given (take k (formulas (branch_in ns d))) made → AreRowsSoFar class given (formulas (branch_in ns d)) made
+all_rows ns d class given made k past h =
+    let long = formulas_length ns d.entries in
+    subst (λ ps. AreRowsSoFar class given ps made) (take_all k (formulas (branch_in ns d)) (omega (arith, past, long))) h

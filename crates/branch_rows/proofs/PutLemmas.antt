@@ -11,9 +11,9 @@ use Rattle.pool_branch.proofs.ListLemmas.{push_new}
 use Rattle.std.specs.Map.{keys_of}
 use Rattle.linear_rows.specs.Fits.{Fits}
 use Rattle.fol.specs.FormulaData.{VarTerm}
-use Rattle.branch_rows.specs.Sums.{coefficient_in, Has, signed, IsKept}
-use Rattle.branch_rows.specs.Rows.{IsAmong, IsLonger, AreDifferent, IsPut}
-use Rattle.branch_rows.proofs.CoefficientLemmas.{has_or, absent, last_same, last_other, last_cases, coefficient_at}
+use Rattle.branch_rows.specs.Sums.{coefficient_in, Has, IsAmong, signed, IsKept}
+use Rattle.branch_rows.specs.Rows.{IsLonger, AreDifferent, IsPut}
+use Rattle.branch_rows.proofs.CoefficientLemmas.{has_or, absent, last_same, last_other, last_has, last_keeps, last_cases, coefficient_at}
 use Rattle.branch_rows.proofs.KeptLemmas.{fits_kept}
 use Rattle.branch_rows.specs.declared.sum.LinearSum.{LinearSum}
 
@@ -71,9 +71,22 @@ longer_length ks ls h = (let e = ap length h.is in omega (arith, e, length-appen
 pub among_longer : (ks ls : List ℕ) → IsLonger ks ls → (n : ℕ) → IsAmong ks n → IsAmong ls n
 among_longer ks ls h n a = record { place = a.place; found = longer_keeps ks ls h a.place n a.found }
 
+-- a class of the list with one more at its end
+pub last_among : (ks : List ℕ) (class n : ℕ) → IsAmong (ks ++ class ∷ []) n → IsAmong ks n ⊎ (n ≡ class)
+last_among ks class n a = elim (cases_lt a.place (length ks)) [
+  | inl l ↦ inl (record { place = a.place; found = old_place ks (class ∷ []) a.place n l a.found })
+  | inr l ↦ (
+      let within = slice_get_within (ks ++ class ∷ []) a.place n a.found in
+      let long = length_push ks class in
+      let last : a.place ≡ length ks = omega (arith, within, long, l) in
+      let both : Some n ≡ Some class = sym a.found ∙ ap (slice_get (ks ++ class ∷ [])) last ∙ push_new ks class in
+      let same : n ≡ class = cc in
+      inr same)
+]
+
 -- ---- a class that is put
 
-insert_cases : (ks : List ℕ) (class : ℕ) → (insert_key nat_eq ks class ≡ ks) ⊎ (insert_key nat_eq ks class ≡ ks ++ class ∷ [])
+pub insert_cases : (ks : List ℕ) (class : ℕ) → (insert_key nat_eq ks class ≡ ks) ⊎ (insert_key nat_eq ks class ≡ ks ++ class ∷ [])
 insert_cases ks class = go (list_any (nat_eq class) ks)
   where
     go : (b : Bool) → (cond b ks (ks ++ class ∷ []) ≡ ks) ⊎ (cond b ks (ks ++ class ∷ []) ≡ ks ++ class ∷ [])
@@ -98,6 +111,10 @@ module _ (ks ls : List ℕ) (cs ds : List ℤ) (class place : ℕ) (number : ℤ
   longer (inl e) = longer_itself ks ls e
   longer (inr e) = record { more = class ∷ []; is = e }
 
+  among_cases : (ls ≡ ks) ⊎ (ls ≡ ks ++ class ∷ []) → (n : ℕ) → IsAmong ls n → IsAmong ks n ⊎ (n ≡ class)
+  among_cases (inl e) n a = inl (subst (λ xs. IsAmong xs n) e a)
+  among_cases (inr e) n a = last_among ks class n (subst (λ xs. IsAmong xs n) e a)
+
   -- a place within the old ones is that of a class that was there
   old_length : place < length cs → (ls ≡ ks) ⊎ (ls ≡ ks ++ class ∷ []) → length ls ≡ length ks
   old_length l (inl e) = ap length e
@@ -112,6 +129,7 @@ module _ (ks ls : List ℕ) (cs ds : List ℤ) (class place : ℕ) (number : ℤ
     different = different;
     long = ap length is ∙ length-set cs place number ∙ long ∙ sym (old_length l (grown (insert_cases ks class)));
     among = record { place = place; found = found };
+    from = among_cases (grown (insert_cases ks class));
     here = λ k e. (let at : k ≡ place = one_place ls different k place class e found in
         ap (λ i. get_or ds i (pos 0)) at ∙ ap (λ xs. get_or xs place (pos 0)) is ∙ get_or-set_same cs place number (pos 0) l);
     others = λ k n e d. (let other : k ≢ place = λ s. (let both : Some n ≡ Some class = sym e ∙ ap (slice_get ls) s ∙ found in let same : n ≡ class = cc in d same) in
@@ -128,6 +146,7 @@ module _ (ks ls : List ℕ) (cs ds : List ℤ) (class place : ℕ) (number : ℤ
     different = different;
     long = (let s = ap length is ∙ length_push cs number in let t = new_length l (grown (insert_cases ks class)) in omega (arith, s, t, long));
     among = record { place = place; found = found };
+    from = among_cases (grown (insert_cases ks class));
     here = λ k e. (let at : k ≡ place = one_place ls different k place class e found in
         ap (λ i. get_or ds i (pos 0)) (at ∙ last) ∙ ap (λ xs. get_or xs (length cs) (pos 0)) is ∙ get_or_push cs number (pos 0) (length cs) refl);
     others = λ k n e d. (let other : k ≢ place = λ s. (let both : Some n ≡ Some class = sym e ∙ ap (slice_get ls) s ∙ found in let same : n ≡ class = cc in d same) in
@@ -148,6 +167,7 @@ pub record IsWriting (ks : List ℕ) (negated : Bool) (es : List (ℕ × ℤ)) (
   pub different : AreDifferent ls
   pub long : length cs ≡ length ls
   pub known : (n : ℕ) → Has es n → IsAmong ls n
+  pub from : (n : ℕ) → IsAmong ls n → IsAmong ks n ⊎ Has es n
   pub numbers : (k n : ℕ) → slice_get ls k ≡ Some n → get_or cs k (pos 0) ≡ signed negated (coefficient_in es n)
 
 signed_zero : (negated : Bool) → pos 0 ≡ signed negated (pos 0)
@@ -160,6 +180,7 @@ writing_begun ks negated cs d l z = record {
   different = all_different ks d;
   long = l;
   known = λ n h. absurd h;
+  from = λ n a. inl a;
   numbers = λ k n e. z k ∙ signed_zero negated;
 }
 
@@ -170,12 +191,17 @@ module _ (ks : List ℕ) (negated : Bool) (es : List (ℕ × ℤ)) (ls ms : List
     different = put.different;
     long = put.long;
     known = λ n h. known n (last_cases e es n h);
+    from = λ n a. from n (put.from n a);
     numbers = λ k n f. numbers k n f (cases_eq n e.0);
   }
     where
       known : (n : ℕ) → Has es n ⊎ (n ≡ e.0) → IsAmong ms n
       known n (inl h) = among_longer ls ms put.longer n (before.known n h)
       known n (inr s) = subst (IsAmong ms) (sym s) put.among
+
+      from : (n : ℕ) → IsAmong ls n ⊎ (n ≡ e.0) → IsAmong ks n ⊎ Has (es ++ e ∷ []) n
+      from n (inl a) = elim (before.from n a) [ inl b ↦ inl b | inr b ↦ inr (last_keeps e es n b) ]
+      from n (inr s) = inr (subst (Has (es ++ e ∷ [])) (sym s) (last_has e es))
 
       -- a class whose place is new had no number
       at : (k n : ℕ) → slice_get ms k ≡ Some n → (k < length ls) ⊎ (length ls ≤ k) → Has es n ⊎ (Has es n → ⊥) → get_or cs k (pos 0) ≡ signed negated (coefficient_in es n)

@@ -38,6 +38,7 @@ written_made ks ls s cs b h e = record {
   longer = h.longer;
   different = h.different;
   known = h.known;
+  from = h.from;
   few = (let l = h.long in omega (arith, l));
   numbers = h.numbers;
   bound = e ∙ opposite s.is_negated s.constant;
@@ -194,6 +195,7 @@ turned_sum row s n made gap h = record {
   weights = λ part. turned_difference (weight part row.lesser) (weight part row.greater) (gap_weight part row.gap) (amount s part) (zero_gap row.gap gap part) (h.weights part) (row_fits part (Some row) (amount s part) (h.weights part)) ∙ ap Some (sym (turned_amount s n made part));
   lesser = unknowns row.greater h.greater;
   greater = unknowns row.lesser h.lesser;
+  spoken = λ m has ks first second. h.spoken m (subst (λ es. Has es m) made.coefficients has) ks second first;
 }
   where
     unknowns : (t : TermData) → EachUnknown (IsUnknownOf s) t → EachUnknown (IsUnknownOf n) t

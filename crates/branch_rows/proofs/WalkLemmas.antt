@@ -9,10 +9,10 @@ use Rattle.fol.specs.FormulaData.{TermData, VarTerm, NumTerm, MulTerm, BinaryTer
 use Rattle.cert.specs.Linear.{kept, kept_of, same_term, numeral_of, Part, unknown_weight, product_weight, weight}
 use Rattle.cert.specs.Unknowns.{EachUnknown, EachOfProduct}
 use Rattle.cert.proofs.Sums.{same_term-equal, same_term_itself, EachUnknown-map}
-use Rattle.branches.specs.Rows.{over, product_over}
+use Rattle.branches.specs.Rows.{over, product_over, IsKnown}
 use Rattle.formula_pool.specs.declared.node.Node.{Node}
 use Rattle.pool_branch.specs.Marks.{IsUnder, Itself, Below}
-use Rattle.branch_rows.specs.Sums.{coefficient_in, Has, unsigned, signed, amount, IsKept, IsUnknownOf, IsSumOf, Leaves, HasClassesOf, IsJoined, LeavesJoined, IsMultiple, LeavesMultiple}
+use Rattle.branch_rows.specs.Sums.{coefficient_in, Has, IsAmong, unsigned, signed, amount, IsKept, IsUnknownOf, IsSumOf, Leaves, HasClassesOf, IsJoined, LeavesJoined, IsMultiple, LeavesMultiple}
 use Rattle.branch_rows.specs.Shapes.{term_at, IsTermPart, joined_terms, IsTimes, Before, Behind, IsUnknown, IsNamedUnder}
 use Rattle.branch_rows.specs.declared.sum.LinearSum.{LinearSum}
 use Rattle.branch_rows.proofs.KeptLemmas.{kept_none}
@@ -47,7 +47,7 @@ module _ (s : LinearSum) (negated : s.is_negated ≡ false) where
   numeral_weights i constant entries k (Some u) = ap (λ b. Some (signed b (pos 0))) (sym negated)
 
   pub numeral_sum : (class : TermData → ℕ) (t : TermData) (i : ℤ) → t ≡ NumTerm i → s.constant ≡ i → s.coefficients.entries ≡ [] → kept i ≡ Some i → IsSumOf (over class t) s
-  numeral_sum class t i e constant entries k = subst (λ u. IsSumOf (over class u) s) (sym e) (record { weights = numeral_weights i constant entries k; unknowns = tt })
+  numeral_sum class t i e constant entries k = subst (λ u. IsSumOf (over class u) s) (sym e) (record { weights = numeral_weights i constant entries k; unknowns = tt; spoken = λ n h ks each. absurd (subst (λ es. Has es n) entries h) })
 
   -- ---- an unknown
 
@@ -84,8 +84,16 @@ module _ (s : LinearSum) (negated : s.is_negated ≡ false) where
     single_weights (Some (VarTerm n)) = class_weight n (cases_eq n m) ∙ ap Some (λ j. signed (sym negated j) (coefficient_in (sym entries j) n))
     single_weights (Some u) = other_weight u (λ e. absurd (cc))
 
+    single_spoken : (n : ℕ) → (n ≡ m) ⊎ ⊥ → (ks : List ℕ) → IsKnown ks (VarTerm m) → IsAmong ks n
+    single_spoken n (inl e) ks known = (let same : m ≡ known.1 = (let both = known.3 in cc) in record { place = known.0; found = known.2 ∙ ap Some (sym (e ∙ same)) })
+    single_spoken n (inr h) ks known = absurd h
+
     pub variable_sum : IsSumOf (VarTerm m) s
-    variable_sum = record { weights = single_weights; unknowns = (m, refl, subst (λ es. Has es m) (sym entries) (inl refl)) }
+    variable_sum = record {
+      weights = single_weights;
+      unknowns = (m, refl, subst (λ es. Has es m) (sym entries) (inl refl));
+      spoken = λ n h ks each. single_spoken n (subst (λ es. Has es n) entries h) ks each;
+    }
 
     pub unknown_sum : (class : TermData → ℕ) (t : TermData) → IsUnknown t → m ≡ class t → IsSumOf (over class t) s
     unknown_sum class t h e = subst (λ u. IsSumOf u s) (sym (h.is class ∙ ap VarTerm (sym e))) variable_sum
@@ -99,14 +107,20 @@ pub same_classes : (t : TermData) (x r : LinearSum) → HasClassesOf x r → Eac
 same_classes t x r h each = EachUnknown-map (IsUnknownOf x) (IsUnknownOf r) (λ u k. (k.0, k.1, h.has k.0 k.2)) t each
 
 module _ (t u : TermData) (x y : LinearSum) (sum_t : IsSumOf t x) (sum_u : IsSumOf u y) where
+  pub either_spoken : (n : ℕ) → Has x.coefficients.entries n ⊎ Has y.coefficients.entries n → (ks : List ℕ) → EachUnknown (IsKnown ks) t → EachUnknown (IsKnown ks) u → IsAmong ks n
+  either_spoken n (inl h) ks first second = sum_t.spoken n h ks first
+  either_spoken n (inr h) ks first second = sum_u.spoken n h ks second
+
   pub joined_sum : (d : Bool) (r : LinearSum) → IsJoined d x y r → IsSumOf (joined_terms d t u) r
   joined_sum false r h = record {
     weights = λ part. (λ j. kept_of ◌+ℤ◌ (sum_t.weights part j) (sum_u.weights part j)) ∙ h.numbers part;
     unknowns = (same_classes t x r h.left sum_t.unknowns, same_classes u y r h.right sum_u.unknowns);
+    spoken = λ n g ks each. either_spoken n (h.from.either n g) ks each.0 each.1;
   }
   joined_sum true r h = record {
     weights = λ part. (λ j. kept_of ◌-ℤ◌ (sum_t.weights part j) (sum_u.weights part j)) ∙ h.numbers part;
     unknowns = (same_classes t x r h.left sum_t.unknowns, same_classes u y r h.right sum_u.unknowns);
+    spoken = λ n g ks each. either_spoken n (h.from.either n g) ks each.0 each.1;
   }
 
   pub joined_leave : (d : Bool) → LeavesJoined d x y → Leaves (joined_terms d t u)
@@ -177,6 +191,12 @@ module _ (class : TermData → ℕ) (c : ℤ) (t : TermData) where
       subst (EachUnknown P) (sym (behind e))
       (subst (λ o. EachOfProduct o (Some c) (EachUnknown P (over class t)) (EachUnknown P (NumTerm c)) (P (MulTerm (over class t) (NumTerm c)))) (sym (no_numeral e)) h)
 
+  times_back : (P : TermData → Type 0) (w : TermData) → IsTimes c t w → EachUnknown P (over class w) → EachUnknown P (over class t)
+  times_back P _ Before h = h
+  times_back P _ (Behind e) h =
+      subst (λ o. EachOfProduct o (Some c) (EachUnknown P (over class t)) (EachUnknown P (NumTerm c)) (P (MulTerm (over class t) (NumTerm c)))) (no_numeral e)
+      (subst (EachUnknown P) (behind e) h)
+
   module _ (w : TermData) (times : IsTimes c t w) where
     pub times_leaves : Leaves (over class t) → Leaves (over class w)
     times_leaves h = record { part = h.part; leaves = times_weight w times h.part ∙ ap (kept_of ◌*ℤ◌ (Some c)) h.leaves }
@@ -186,6 +206,7 @@ module _ (class : TermData → ℕ) (c : ℤ) (t : TermData) where
       multiple_sum r h = record {
         weights = λ part. times_weight w times part ∙ ap (kept_of ◌*ℤ◌ (Some c)) (sum_t.weights part) ∙ h.numbers part;
         unknowns = times_unknowns (IsUnknownOf r) w times (same_classes (over class t) x r h.classes sum_t.unknowns);
+        spoken = λ n g ks each. sum_t.spoken n (h.from.has n g) ks (times_back (IsKnown ks) w times each);
       }
 
       pub multiple_leave : LeavesMultiple c x → Leaves (over class w)

@@ -5,13 +5,13 @@ use Rattle.fol.specs.declared.operators.Comparison.TheVariants.{Eq, Le}
 use Rattle.fol.specs.FormulaData.{TermData, FormulaData}
 use Rattle.cert.specs.Linear.{Part, Row, row_weight}
 use Rattle.cert.specs.Unknowns.{EachUnknown}
-use Rattle.branches.specs.Rows.{over, IsEntryRow}
+use Rattle.branches.specs.Rows.{over, IsKnown, IsEntryRow}
 use Rattle.formula_pool.specs.Items.{formula_in}
 use Rattle.formula_pool.specs.Pools.{item_at}
 use Rattle.formula_pool.specs.declared.node.Node.{Node}
 use Rattle.pool_branch.specs.Marks.{IsUnder}
 use Rattle.pool_branch.specs.PoolBranches.{IsTermNumber}
-use Rattle.branch_rows.specs.Sums.{amount, IsUnknownOf}
+use Rattle.branch_rows.specs.Sums.{Has, IsAmong, amount, IsUnknownOf}
 use Rattle.branch_rows.specs.Shapes.{term_at}
 use Rattle.branch_rows.specs.declared.sum.LinearSum.{LinearSum}
 use Rattle.branch_rows.specs.declared.comparison.Sides.{Sides}
@@ -56,11 +56,12 @@ denied_sides Le a b = Some (record { lesser = b; greater = a; is_strict = true; 
 
 -- ---- rows as sums
 
--- the numbers of the row are those of the sum
+-- the numbers of the row are those of the sum, and its classes those of the row's unknowns
 pub record IsRowSum (row : Row) (s : LinearSum) : Type 0 where
   pub weights : (part : Part) → row_weight part (Some row) ≡ Some (amount s part)
   pub lesser : EachUnknown (IsUnknownOf s) row.lesser
   pub greater : EachUnknown (IsUnknownOf s) row.greater
+  pub spoken : (n : ℕ) → Has s.coefficients.entries n → (ks : List ℕ) → EachUnknown (IsKnown ks) row.lesser → EachUnknown (IsKnown ks) row.greater → IsAmong ks n
 
 -- a number of the row, or one on the way to it, leaves 128 bits
 pub record LeavesRow (row : Row) : Type 0 where

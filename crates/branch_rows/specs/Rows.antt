@@ -1,14 +1,15 @@
 -- The rows of a branch, while they are made.
-use Rattle.std.specs.Prelude.{◌≡◌, ◌≢◌, ℕ, ◌≤◌, ℤ, pos, ◌-ℤ◌, Bool, true, false, List, [], ◌∷◌, ◌++◌, length, get_or, slice_get, slice_index, Option, Some, None}
+use Rattle.std.specs.Prelude.{◌≡◌, ◌≢◌, ◌⊎◌, ℕ, ◌≤◌, ℤ, pos, ◌-ℤ◌, Bool, true, false, List, [], ◌∷◌, ◌++◌, length, get_or, slice_get, slice_index, Option, Some, None}
 use Rattle.std.specs.List.{AllPairs, AllZip}
 use Rattle.fol.specs.FormulaData.{TermData, VarTerm, FormulaData}
 use Rattle.cert.specs.Linear.{Row}
+use Rattle.cert.specs.Unknowns.{EachUnknown}
 use Rattle.linear_rows.specs.Inequality.{Inequality, coefficient}
-use Rattle.branches.specs.Branch.{Branch, IsTerm}
-use Rattle.branches.specs.Rows.{IsEntryRow, IsRowOf, turned, AreRowsOf}
+use Rattle.branches.specs.Branch.{Branch, formulas, IsTerm}
+use Rattle.branches.specs.Rows.{IsEntryRow, IsKnown, IsRowOf, turned, AreRowsOf, AreBranchRows}
 use Rattle.formula_pool.specs.declared.node.Node.{Node}
 use Rattle.pool_branch.specs.PoolBranches.{IsTermNumber}
-use Rattle.branch_rows.specs.Sums.{Has, amount}
+use Rattle.branch_rows.specs.Sums.{Has, IsAmong, amount}
 use Rattle.branch_rows.specs.Shapes.{term_at}
 use Rattle.branch_rows.specs.declared.sum.LinearSum.{LinearSum}
 use Rattle.branch_rows.specs.declared.rows.RowOrigin.{RowOrigin}
@@ -37,11 +38,6 @@ pub record IsRowFrom (class : TermData → ℕ) (ps : List FormulaData) (classes
 
 -- ---- rows that are written
 
--- the class stands in the list
-pub record IsAmong (ks : List ℕ) (n : ℕ) : Type 0 where
-  pub place : ℕ
-  pub found : slice_get ks place ≡ Some n
-
 -- the first list, and more
 pub record IsLonger (ks ls : List ℕ) : Type 0 where
   pub more : List ℕ
@@ -56,6 +52,7 @@ pub record IsPut (ks : List ℕ) (cs : List ℤ) (class : ℕ) (number : ℤ) (l
   pub different : AreDifferent ls
   pub long : length ds ≡ length ls
   pub among : IsAmong ls class
+  pub from : (n : ℕ) → IsAmong ls n → IsAmong ks n ⊎ (n ≡ class)
   pub here : (k : ℕ) → slice_get ls k ≡ Some class → get_or ds k (pos 0) ≡ number
   pub others : (k n : ℕ) → slice_get ls k ≡ Some n → n ≢ class → get_or ds k (pos 0) ≡ get_or cs k (pos 0)
 
@@ -64,6 +61,7 @@ pub record IsWritten (ks ls : List ℕ) (s : LinearSum) (row : Inequality) : Typ
   pub longer : IsLonger ks ls
   pub different : AreDifferent ls
   pub known : (n : ℕ) → Has s.coefficients.entries n → IsAmong ls n
+  pub from : (n : ℕ) → IsAmong ls n → IsAmong ks n ⊎ Has s.coefficients.entries n
   pub few : length row.coefficients ≤ length ls
   pub numbers : (k n : ℕ) → slice_get ls k ≡ Some n → coefficient k row ≡ amount s (Some (VarTerm n))
   pub bound : row.bound ≡ pos 0 -ℤ amount s None
@@ -75,10 +73,47 @@ pub record IsPushed (old new : BranchRows) (s : LinearSum) (origin : RowOrigin) 
   pub rows : new.rows ≡ old.rows ++ row ∷ []
   pub origins : new.origins.items ≡ old.origins.items ++ origin ∷ []
 
--- the rows of these entries
-pub record AreRowsSoFar (class : TermData → ℕ) (ps : List FormulaData) (made : BranchRows) : Type 0 where
+-- the list has the classes of the row's unknowns
+abbrev pub CoversRow : List ℕ → Option Row → Type 0
+CoversRow ks None = Unit {0}
+CoversRow ks (Some row) = EachUnknown (IsKnown ks) row.lesser × EachUnknown (IsKnown ks) row.greater
+
+abbrev pub Covers : List ℕ → List (Option Row) → Type 0
+Covers ks [] = Unit {0}
+Covers ks (row ∷ more) = CoversRow ks row × Covers ks more
+
+-- the rows of these entries, over the classes that were given and others of which some row speaks
+pub record AreRowsSoFar (class : TermData → ℕ) (given : List ℕ) (ps : List FormulaData) (made : BranchRows) : Type 0 where
   pub stated : List (Option Row)
   pub are_stated : AllZip (IsEntryRow class) ps stated
   pub different : AreDifferent made.classes.keys
+  pub longer : IsLonger given made.classes.keys
+  pub spoken : (n : ℕ) → IsAmong made.classes.keys n → IsAmong given n ⊎ ((ks : List ℕ) → Covers ks stated → IsAmong ks n)
   pub are_rows : AreRowsOf made.classes.keys stated made.rows
   pub origins : AllZip (IsRowFrom class ps made.classes.keys) made.rows made.origins.items
+
+-- ---- which classes rows need
+
+-- the class is one of the unknowns of the branch's rows: rows over any classes have it among these
+pub record IsSpoken (b : Branch) (class : TermData → ℕ) (n : ℕ) : Type 0 where
+  pub among : (ks : List ℕ) (rows : List Inequality) → AreBranchRows b class ks rows → IsAmong ks n
+
+-- the classes that were given stand first, and of each other one some row of the branch speaks
+pub record AreClassesFrom (b : Branch) (class : TermData → ℕ) (given classes : List ℕ) : Type 0 where
+  pub longer : IsLonger given classes
+  pub spoken : (n : ℕ) → IsAmong classes n → IsAmong given n ⊎ IsSpoken b class n
+
+-- the branch has no rows over these classes
+pub record HasNoRows (b : Branch) (class : TermData → ℕ) (classes : List ℕ) : Type 0 where
+  pub none : (rows : List Inequality) → AreBranchRows b class classes rows → ⊥
+
+-- its rows, over the classes that were given
+pub record AreRowsOver (b : Branch) (class : TermData → ℕ) (given : List ℕ) (made : BranchRows) : Type 0 where
+  pub keys : made.classes.keys ≡ given
+  pub are_rows : AreBranchRows b class given made.rows
+  pub origins : AllZip (IsRowFrom class (formulas b) given) made.rows made.origins.items
+
+-- the set has these keys, which are different
+pub record IsSetOf (given keys : List ℕ) : Type 0 where
+  pub keys_are : keys ≡ given
+  pub different : AreDifferent given

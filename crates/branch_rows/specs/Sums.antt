@@ -1,8 +1,9 @@
 -- Terms as sums: a constant part, and a coefficient for each class of unknowns.
-use Rattle.std.specs.Prelude.{◌≡◌, ◌⊎◌, ℕ, ℤ, pos, negsuc, ◌+ℤ◌, ◌-ℤ◌, ◌*ℤ◌, Bool, true, false, cond, nat_eq, List, [], ◌∷◌, Option, Some, None}
+use Rattle.std.specs.Prelude.{◌≡◌, ◌⊎◌, ℕ, ℤ, pos, negsuc, ◌+ℤ◌, ◌-ℤ◌, ◌*ℤ◌, Bool, true, false, cond, nat_eq, List, [], ◌∷◌, slice_get, Option, Some, None}
 use Rattle.fol.specs.FormulaData.{TermData, VarTerm}
 use Rattle.cert.specs.Linear.{kept, kept_of, Part, weight}
 use Rattle.cert.specs.Unknowns.{EachUnknown}
+use Rattle.branches.specs.Rows.{IsKnown}
 use Rattle.branch_rows.specs.declared.sum.LinearSum.{LinearSum}
 
 -- ---- coefficients
@@ -16,6 +17,11 @@ coefficient_in (e ∷ es) n = cond (nat_eq n e.0) e.1 (coefficient_in es n)
 abbrev pub Has : List (ℕ × ℤ) → ℕ → Type 0
 Has [] n = ⊥
 Has (e ∷ es) n = (n ≡ e.0) ⊎ Has es n
+
+-- the class stands in the list
+pub record IsAmong (ks : List ℕ) (n : ℕ) : Type 0 where
+  pub place : ℕ
+  pub found : slice_get ks place ≡ Some n
 
 -- ---- sums
 
@@ -41,10 +47,11 @@ pub record IsKept (s : LinearSum) : Type 0 where
 abbrev pub IsUnknownOf : LinearSum → TermData → Type 0
 IsUnknownOf s u = (n : ℕ) × (u ≡ VarTerm n) × Has s.coefficients.entries n
 
--- the sum is that of the term
+-- the sum is that of the term, and has no class but those of its unknowns: a list with the classes of these has each
 pub record IsSumOf (t : TermData) (s : LinearSum) : Type 0 where
   pub weights : (part : Part) → weight part t ≡ Some (amount s part)
   pub unknowns : EachUnknown (IsUnknownOf s) t
+  pub spoken : (n : ℕ) → Has s.coefficients.entries n → (ks : List ℕ) → EachUnknown (IsKnown ks) t → IsAmong ks n
 
 -- a number of the term as a sum, or one on the way to it, leaves 128 bits
 pub record Leaves (t : TermData) : Type 0 where
@@ -63,6 +70,7 @@ pub record IsAdded (factor : ℤ) (es fs gs : List (ℕ × ℤ)) : Type 0 where
   pub others : (n : ℕ) → (Has fs n → ⊥) → coefficient_in gs n ≡ coefficient_in es n
   pub left : (n : ℕ) → Has es n → Has gs n
   pub right : (n : ℕ) → Has fs n → Has gs n
+  pub from : (n : ℕ) → Has gs n → Has es n ⊎ Has fs n
 
 pub record LeavesAdded (factor : ℤ) (es fs : List (ℕ × ℤ)) : Type 0 where
   pub class : ℕ
@@ -77,12 +85,17 @@ AddsUp factor es fs gs false = LeavesAdded factor es fs
 pub record HasClassesOf (x r : LinearSum) : Type 0 where
   pub has : (n : ℕ) → Has x.coefficients.entries n → Has r.coefficients.entries n
 
+-- each class of the sum is one of these two
+pub record HasClassesFrom (x y r : LinearSum) : Type 0 where
+  pub either : (n : ℕ) → Has r.coefficients.entries n → Has x.coefficients.entries n ⊎ Has y.coefficients.entries n
+
 -- the first sum with a multiple of the second before its sign
 pub record IsPlusMultiple (x : LinearSum) (factor : ℤ) (y r : LinearSum) : Type 0 where
   pub sign : r.is_negated ≡ x.is_negated
   pub numbers : (part : Part) → plus_multiple_of (unsigned x part) factor (unsigned y part) ≡ Some (unsigned r part)
   pub left : HasClassesOf x r
   pub right : HasClassesOf y r
+  pub from : HasClassesFrom x y r
 
 pub record LeavesPlusMultiple (x : LinearSum) (factor : ℤ) (y : LinearSum) : Type 0 where
   pub part : Part
@@ -115,6 +128,7 @@ pub record IsJoined (is_difference : Bool) (x y r : LinearSum) : Type 0 where
   pub numbers : (part : Part) → kept (joining is_difference (amount x part) (amount y part)) ≡ Some (amount r part)
   pub left : HasClassesOf x r
   pub right : HasClassesOf y r
+  pub from : HasClassesFrom x y r
 
 pub record LeavesJoined (is_difference : Bool) (x y : LinearSum) : Type 0 where
   pub part : Part
@@ -124,6 +138,7 @@ pub record LeavesJoined (is_difference : Bool) (x y : LinearSum) : Type 0 where
 pub record IsMultiple (factor : ℤ) (x r : LinearSum) : Type 0 where
   pub numbers : (part : Part) → kept (factor *ℤ amount x part) ≡ Some (amount r part)
   pub classes : HasClassesOf x r
+  pub from : HasClassesOf r x
 
 pub record LeavesMultiple (factor : ℤ) (x : LinearSum) : Type 0 where
   pub part : Part

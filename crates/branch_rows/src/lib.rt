@@ -3,6 +3,7 @@
 
 mod comparison;
 mod entry;
+pub mod given;
 mod memo;
 pub mod rows;
 mod shape;

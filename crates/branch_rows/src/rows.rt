@@ -7,10 +7,10 @@ ghost use Rattle.linear_rows.specs.Fits.{Fits};
 ghost use Rattle.branches.specs.Branch.{formulas};
 ghost use Rattle.branches.specs.Rows.{IsClassing, AreBranchRows};
 ghost use Rattle.pool_branch.specs.PoolBranches.{branch_in, IsOver};
-ghost use Rattle.branch_rows.specs.Sums.{signed, IsKept};
+ghost use Rattle.branch_rows.specs.Sums.{signed, IsKept, IsAmong};
 ghost use Rattle.branch_rows.specs.Shapes.{IsNamedUnder};
 ghost use Rattle.branch_rows.specs.Entries.{formula_at, IsEntrySum};
-ghost use Rattle.branch_rows.specs.Rows.{AreNames, IsRowFrom, IsPut, IsWritten, IsPushed, AreRowsSoFar};
+ghost use Rattle.branch_rows.specs.Rows.{AreNames, IsRowFrom, IsPut, IsWritten, IsPushed, AreDifferent, AreRowsSoFar, IsSpoken, AreClassesFrom};
 
 use crate::entry::{EntrySum, entry_sum};
 use crate::sum::{LinearSum, negated};
@@ -122,7 +122,7 @@ fn push_entry(
     row: EntrySum,
 ) -> Result<(), NoMemory>
     requires { IsKept row.sum }
-    ensures { (class : TermData → ℕ) (ps : List FormulaData) (p : FormulaData) → length ps ≡ entry → IsEntrySum class p row → AreRowsSoFar class ps made.old → OnOk result (AreRowsSoFar class (ps ++ p ∷ []) made.new) }
+    ensures { (class : TermData → ℕ) (given : List ℕ) (ps : List FormulaData) (p : FormulaData) → length ps ≡ entry → IsEntrySum class p row → AreRowsSoFar class given ps made.old → OnOk result (AreRowsSoFar class given (ps ++ p ∷ []) made.new) }
 {
     let EntrySum { sum, is_equation } = row;
     push_row(
@@ -159,7 +159,7 @@ fn take_entry(
     formula: usize,
 ) -> Result<(), NoMemory>
     requires { length pool.now ≤ length names.now }
-    ensures { (class : TermData → ℕ) (ps : List FormulaData) → length ps ≡ entry → IsNamedUnder pool.now formula class names.now → AreRowsSoFar class ps made.old → OnOk result (AreRowsSoFar class (ps ++ formula_at pool.now formula ∷ []) made.new) }
+    ensures { (class : TermData → ℕ) (given : List ℕ) (ps : List FormulaData) → length ps ≡ entry → IsNamedUnder pool.now formula class names.now → AreRowsSoFar class given ps made.old → OnOk result (AreRowsSoFar class given (ps ++ formula_at pool.now formula ∷ []) made.new) }
 {
     match entry_sum(alloc, pool, names, formula)? {
         Some(row) => push_entry(alloc, made, entry, row),
@@ -167,8 +167,36 @@ fn take_entry(
     }
 }
 
+// The rows over these classes, with those behind them of which other rows speak.
+pub(crate) fn rows_from(
+    alloc: Global,
+    pool: &Pool,
+    branch: &PoolBranch,
+    names: &[usize],
+    classes: IndexSet<usize>,
+) -> Result<BranchRows, NoMemory>
+    requires over { IsOver pool.now branch.now }
+    requires named { length pool.now ≤ length names.now }
+    requires different { AreDifferent classes.keys }
+    ensures rows { (class : TermData → ℕ) → IsClassing (branch_in pool.now branch.now) class → AreNames pool.now (branch_in pool.now branch.now) class names.now → IfOk result (λ made. AreBranchRows (branch_in pool.now branch.now) class made.classes.keys made.rows) }
+    ensures origins { (class : TermData → ℕ) → IsClassing (branch_in pool.now branch.now) class → AreNames pool.now (branch_in pool.now branch.now) class names.now → IfOk result (λ made. AllZip (IsRowFrom class (formulas (branch_in pool.now branch.now)) made.classes.keys) made.rows made.origins.items) }
+    ensures spoken { (class : TermData → ℕ) → IsClassing (branch_in pool.now branch.now) class → AreNames pool.now (branch_in pool.now branch.now) class names.now → IfOk result (λ made. AreClassesFrom (branch_in pool.now branch.now) class classes.keys made.classes.keys) }
+{
+    let mut made = BranchRows {
+        classes,
+        rows: Rows::new(alloc),
+        origins: Vec::new(alloc),
+    };
+    for number in 0..branch.len() {
+        if let Some(entry) = branch.entry(number) {
+            take_entry(alloc, pool, names, &mut made, number, entry.formula)?;
+        }
+    }
+    Ok(made)
+}
+
 /// The comparisons of the branch as rows over whole numbers, with one unknown for each class of terms. Each number of a
-/// term of the branch has the name of its class. `NoMemory` comes where memory ran out.
+/// term of the branch has the name of its class. Some row speaks of each class. `NoMemory` comes where memory ran out.
 pub fn branch_rows(
     alloc: Global,
     pool: &Pool,
@@ -179,16 +207,7 @@ pub fn branch_rows(
     requires named { length pool.now ≤ length names.now }
     ensures rows { (class : TermData → ℕ) → IsClassing (branch_in pool.now branch.now) class → AreNames pool.now (branch_in pool.now branch.now) class names.now → IfOk result (λ made. AreBranchRows (branch_in pool.now branch.now) class made.classes.keys made.rows) }
     ensures origins { (class : TermData → ℕ) → IsClassing (branch_in pool.now branch.now) class → AreNames pool.now (branch_in pool.now branch.now) class names.now → IfOk result (λ made. AllZip (IsRowFrom class (formulas (branch_in pool.now branch.now)) made.classes.keys) made.rows made.origins.items) }
+    ensures spoken { (class : TermData → ℕ) → IsClassing (branch_in pool.now branch.now) class → AreNames pool.now (branch_in pool.now branch.now) class names.now → IfOk result (λ made. (n : ℕ) → IsAmong made.classes.keys n → IsSpoken (branch_in pool.now branch.now) class n) }
 {
-    let mut made = BranchRows {
-        classes: IndexSet::new(alloc),
-        rows: Rows::new(alloc),
-        origins: Vec::new(alloc),
-    };
-    for number in 0..branch.len() {
-        if let Some(entry) = branch.entry(number) {
-            take_entry(alloc, pool, names, &mut made, number, entry.formula)?;
-        }
-    }
-    Ok(made)
+    rows_from(alloc, pool, branch, names, IndexSet::new(alloc))
 }
