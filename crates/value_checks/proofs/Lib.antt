@@ -1,0 +1,4 @@
+pub mod NamingLemmas
+pub mod SameLemmas
+pub mod OpenLemmas
+pub mod ValuedLemmas
