@@ -1,2 +1,1 @@
-pub mod SameLemmas
 pub mod OpenLemmas

@@ -2,5 +2,3 @@
 #![tactic(auto)]
 
 pub mod open;
-pub mod rows;
-pub mod values;

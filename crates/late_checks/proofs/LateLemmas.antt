@@ -1,17 +1,13 @@
 -- What comes first, what closes a branch, and late turns.
 use Rattle.std.proofs.Common.{◌≡◌, ◌↔◌, inl, inr, ℕ, Bool, false, IsTrue, List, ap, ◌∙◌, subst}
 use Rattle.fol.specs.declared.shapes.Shape.{Shape}
-use Rattle.fol.specs.FormulaData.{TermData, NotFormula}
+use Rattle.fol.specs.FormulaData.{NotFormula}
 use Rattle.axioms.specs.declared.axiom.Axiom.TheVariants.{Exactly, Plain}
 use Rattle.axioms.specs.declared.axiom.Equivalence.TheVariants.{Range}
 use Rattle.axioms.specs.declared.axiom.Fact.TheVariants.{Whole}
-use Rattle.linear_rows.specs.Inequality.{Inequality}
-use Rattle.linear_rows.specs.declared.rows.Fraction.{Fraction}
-use Rattle.lin_arith.specs.Answer.{IsSolution}
 use Rattle.formula_pool.specs.declared.node.Node.{Node}
 use Rattle.branches.specs.Branch.{Branch}
 use Rattle.branches.specs.Due.{AxiomDue, IsNotClosed}
-use Rattle.branches.specs.Rows.{AreBranchRows}
 use Rattle.branches.specs.Turns.{NothingEarly, IsLate}
 use Rattle.due_axioms.specs.declared.due.WantedAxioms.TheVariants.{Ranges}
 use Rattle.due_axioms.specs.declared.due.AxiomStep.{AxiomStep}
@@ -19,7 +15,9 @@ use Rattle.due_axioms.specs.Due.{IsAxiomStep, NothingOfRanges}
 use Rattle.branch_clashes.specs.Clashes.{IsClashOf}
 use Rattle.branch_clashes.specs.declared.clash.Clash.{Clash}
 use Rattle.branch_clashes.specs.declared.clash.Clash.TheVariants.{Opposed, Differing, False}
-use Rattle.late_checks.specs.Late.{HasNoEntryTurn, HasNoRangeTurn, IsLateWith}
+use Rattle.proof_search.specs.declared.values.OpenValues.{OpenValues}
+use Rattle.value_checks.specs.Rows.{IsMet}
+use Rattle.late_checks.specs.Late.{HasNoEntryTurn, HasNoRangeTurn, IsLateBy}
 use Rattle.late_checks.proofs.FamilyLemmas.{never, weaker}
 
 -- ---- ranges
@@ -70,22 +68,23 @@ closes b (False i) h n = n.no_false h.formula (record { place = i; says = h.says
 
 -- ---- late turns
 
-module _ (shapes : List Shape) (b : Branch) (rows : List Inequality) (values : List Fraction) where
-  pub not_met : (IsSolution rows values → ⊥) → IsTrue false ↔ IsLateWith shapes b rows values
-  not_met none = never (λ h. none h.solution)
+module _ (shapes : List Shape) (ns : List Node) (b : Branch) (v : OpenValues) where
+  pub not_met : (IsMet ns b v → ⊥) → IsTrue false ↔ IsLateBy shapes ns b v
+  not_met none = never (λ h. none h.met)
 
-  pub is_closed : (IsNotClosed b → ⊥) → IsTrue false ↔ IsLateWith shapes b rows values
+  pub is_closed : (IsNotClosed b → ⊥) → IsTrue false ↔ IsLateBy shapes ns b v
   is_closed none = never (λ h. none h.not_closed)
 
-  pub late_so : IsSolution rows values → IsNotClosed b → (told : Bool) → IsTrue told ↔ NothingEarly shapes b → IsTrue told ↔ IsLateWith shapes b rows values
-  late_so solution open_still told h = weaker told (λ nothing. record { nothing_early = nothing; not_closed = open_still; solution = solution }) (λ late. late.nothing_early) h
+  pub late_so : IsMet ns b v → IsNotClosed b → (told : Bool) → IsTrue told ↔ NothingEarly shapes b → IsTrue told ↔ IsLateBy shapes ns b v
+  late_so met open_still told h = weaker told (λ nothing. record { nothing_early = nothing; not_closed = open_still; met = met }) (λ late. late.nothing_early) h
 
-  pub is_late : (class : TermData → ℕ) (ks : List ℕ) → AreBranchRows b class ks rows → (told : Bool) → IsTrue told ↔ IsLateWith shapes b rows values → IsTrue told → IsLate shapes b
-  is_late class ks are told h so =
+  pub is_late : (told : Bool) → IsTrue told ↔ IsLateBy shapes ns b v → IsTrue told → IsLate shapes b
+  is_late told h so =
       let late = h.0 so in
+      let has = late.met.has in
       record {
         nothing_early = late.nothing_early;
         not_closed = late.not_closed;
-        values = values;
-        met = record { class = class; classes = ks; rows = rows; are_rows = are; solution = late.solution };
+        values = v.values;
+        met = record { class = has.class; classes = v.classes.items; rows = late.met.rows; are_rows = has.are_rows; solution = late.met.solution };
       }

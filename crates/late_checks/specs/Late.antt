@@ -2,9 +2,7 @@
 use Rattle.std.specs.Prelude.{ℕ, List}
 use Rattle.fol.specs.declared.shapes.Shape.{Shape}
 use Rattle.fol.specs.FormulaData.{FormulaData}
-use Rattle.linear_rows.specs.Inequality.{Inequality}
-use Rattle.linear_rows.specs.declared.rows.Fraction.{Fraction}
-use Rattle.lin_arith.specs.Answer.{IsSolution}
+use Rattle.formula_pool.specs.declared.node.Node.{Node}
 use Rattle.branches.specs.Branch.{Branch, Says}
 use Rattle.branches.specs.Due.{IsNotClosed, IsRange}
 use Rattle.branches.specs.Turns.{NothingEarly}
@@ -12,6 +10,8 @@ use Rattle.entry_steps.specs.Steps.{NoParts}
 use Rattle.entry_names.specs.Names.{NoName}
 use Rattle.due_axioms.specs.Due.{NothingOfRanges}
 use Rattle.early_turns.specs.Ranges.{NoRangeSplit}
+use Rattle.proof_search.specs.declared.values.OpenValues.{OpenValues}
+use Rattle.value_checks.specs.Rows.{IsMet}
 
 -- no entry has parts or a name that is due
 pub record HasNoEntryTurn (b : Branch) : Type 0 where
@@ -23,11 +23,11 @@ pub record HasNoRangeTurn (shapes : List Shape) (b : Branch) : Type 0 where
   pub no_axiom : NothingOfRanges shapes b
   pub no_split : NoRangeSplit b
 
--- a late turn may stand on the branch, where these are rows of it: the values meet them
-pub record IsLateWith (shapes : List Shape) (b : Branch) (rows : List Inequality) (values : List Fraction) : Type 0 where
+-- a late turn may stand on the branch, as these values show it: they meet its rows over their classes, under their names
+pub record IsLateBy (shapes : List Shape) (ns : List Node) (b : Branch) (v : OpenValues) : Type 0 where
   pub nothing_early : NothingEarly shapes b
   pub not_closed : IsNotClosed b
-  pub solution : IsSolution rows values
+  pub met : IsMet ns b v
 
 -- the entry is an instance of the axiom on ranges
 pub record IsRangeEntry (b : Branch) (i : ℕ) : Type 0 where
