@@ -10,11 +10,11 @@ use Rattle.branches.specs.Turns.{Turn, PartsTurn, NameTurn, InstanceTurn, AxiomT
 use Rattle.grown_branches.specs.Grown.{BoundsDue, IsDueWhenever, Step, IsGrownStep, IsGrownFrom, denial, IsGrown}
 
 -- what is so of each element by its number is so of all
-all_found : {X : Type 0} (P : X → Type 0) (xs : List X) → ((k : ℕ) (x : X) → slice_get xs k ≡ Some x → P x) → All P xs
+pub all_found : {X : Type 0} (P : X → Type 0) (xs : List X) → ((k : ℕ) (x : X) → slice_get xs k ≡ Some x → P x) → All P xs
 all_found P [] h = All-nil P
 all_found P (x ∷ xs) h = All-cons P x xs (h 0 x refl) (all_found P xs (λ k y e. h (suc k) y e))
 
-found : {X : Type 0} (P : X → Type 0) (xs : List X) (k : ℕ) (x : X) → All P xs → slice_get xs k ≡ Some x → P x
+pub found : {X : Type 0} (P : X → Type 0) (xs : List X) (k : ℕ) (x : X) → All P xs → slice_get xs k ≡ Some x → P x
 found P [] k x h e = absurd (cc)
 found P (y ∷ xs) zero x h e = (let same : y ≡ x = cc in subst P same (All-head P y xs h))
 found P (y ∷ xs) (suc k) x h e = found P xs k x (All-tail P y xs h) e

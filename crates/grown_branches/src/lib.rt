@@ -1,4 +1,19 @@
-//! Branches that are grown step by step, apart from the branches beside them.
+//! Branches that are grown step by step, apart from the branches beside them: whether steps that are given lead to one.
 #![tactic(auto)]
 
+mod axiom;
+mod bound;
+mod cut;
+mod growing;
+pub mod grown;
+mod instance;
+mod keeping;
 pub mod laws;
+mod naming;
+mod numbers;
+mod orders;
+mod plain;
+mod pushing;
+mod reading;
+pub mod steps;
+mod taking;

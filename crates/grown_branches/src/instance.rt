@@ -1,0 +1,51 @@
+//! Steps by which an instance of a quantified formula is added.
+
+ghost use Rattle.std.specs.Prelude.{◌≡◌, ◌↔◌, List, IsTrue, OnOk, IfOk};
+ghost use Rattle.fol.specs.declared.shapes.Shape.{Shape};
+ghost use Rattle.pool_branch.specs.PoolBranches.{branch_in, IsOver};
+ghost use Rattle.search_trees.specs.declared.turn.Reason.TheVariants.{Instance};
+ghost use Rattle.grown_branches.specs.Kept.{IsKept};
+ghost use Rattle.grown_branches.specs.Steps.{HasNumbers, IsGrowing};
+
+use crate::keeping::Kept;
+use crate::numbers::only;
+use formula_pool::pool::Pool;
+use pool_branch::branch::PoolBranch;
+use pv_base::memory::NoMemory;
+use search_trees::turn::Growth;
+use std::alloc::Global;
+use turn_checks::universals::is_instance_due;
+
+/// Whether the formula is what the entry with this number says of the term, and the instance is due with its generation.
+pub(crate) fn is_instance_growing(
+    alloc: Global,
+    pool: &Pool,
+    branch: &PoolBranch,
+    kept: &mut Kept,
+    growth: &Growth,
+    entry: usize,
+    term: usize,
+) -> Result<bool, NoMemory>
+    requires over { IsOver pool.now branch.now }
+    requires kept { IsKept pool.now branch.now.entries kept.old }
+    requires numbers { HasNumbers pool.now growth.now }
+    requires reason { growth.now.reason ≡ Instance entry term }
+    ensures kept { OnOk result (IsKept pool.now branch.now.entries kept.new) }
+    ensures exact { (shapes : List Shape) → IfOk result (λ told. IsTrue told ↔ IsGrowing shapes pool.now (branch_in pool.now branch.now) growth.now) }
+{
+    let Some(formula) = only(growth.formulas.as_slice()) else {
+        return Ok(false);
+    };
+    let told = is_instance_due(
+        alloc,
+        pool,
+        branch,
+        &mut kept.heads,
+        &mut kept.quantifiers,
+        entry,
+        term,
+        formula,
+        growth.generation,
+    )?;
+    Ok(told)
+}
