@@ -1,10 +1,7 @@
 -- What comes first, what closes a branch, and late turns.
-use Rattle.std.proofs.Common.{◌≡◌, ◌↔◌, inl, inr, ℕ, Bool, false, IsTrue, List, ap, ◌∙◌, subst}
+use Rattle.std.proofs.Common.{◌↔◌, inl, inr, Bool, false, IsTrue, List, ap, ◌∙◌, subst}
 use Rattle.fol.specs.declared.shapes.Shape.{Shape}
 use Rattle.fol.specs.FormulaData.{NotFormula}
-use Rattle.axioms.specs.declared.axiom.Axiom.TheVariants.{Exactly, Plain}
-use Rattle.axioms.specs.declared.axiom.Equivalence.TheVariants.{Range}
-use Rattle.axioms.specs.declared.axiom.Fact.TheVariants.{Whole}
 use Rattle.formula_pool.specs.declared.node.Node.{Node}
 use Rattle.branches.specs.Branch.{Branch}
 use Rattle.branches.specs.Due.{AxiomDue, IsNotClosed}
