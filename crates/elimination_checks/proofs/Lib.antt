@@ -1,7 +1,14 @@
+pub mod AlikeLemmas
+pub mod BoundLemmas
 pub mod CheckLemmas
+pub mod ChoiceLemmas
 pub mod GcdLemmas
+pub mod GivenValueLemmas
+pub mod NumberLemmas
+pub mod ProductLemmas
 pub mod ReducedLemmas
 pub mod SetLemmas
 pub mod ShownLemmas
 pub mod StageLemmas
 pub mod SumLemmas
+pub mod ValueLemmas

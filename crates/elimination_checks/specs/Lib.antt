@@ -1,3 +1,4 @@
+pub mod Choices
 pub mod Given
 pub mod GivenValues
 pub mod Sets

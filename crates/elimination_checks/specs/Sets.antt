@@ -1,5 +1,7 @@
--- Sets of rows.
-use Rattle.std.specs.Prelude.{List, Contains}
+-- Sets of rows and of unknowns.
+use Rattle.std.specs.Prelude.{◌↔◌, ℕ, List, Contains, IsTrue}
+use Rattle.std.specs.BTreeSet.{BTreeSet, contains}
+use Rattle.std.specs.Ordering.{nat_cmp}
 use Rattle.linear_rows.specs.Inequality.{Inequality}
 use Rattle.lin_arith.specs.Stages.{HasKey}
 use Rattle.elimination_checks.specs.declared.row_set.RowSet.{RowSet}
@@ -8,3 +10,7 @@ use Rattle.elimination_checks.specs.declared.row_set.RowSet.{RowSet}
 pub record IsSetOf (rows : List Inequality) (set : RowSet) : Type 0 where
   pub has : (row : Inequality) → Contains rows row → HasKey set.keys row
   pub only : (row : Inequality) → HasKey set.keys row → Contains rows row
+
+-- the set has these numbers and no others
+pub record IsNumberSet (numbers : List ℕ) (set : BTreeSet ℕ) : Type 0 where
+  pub has : (n : ℕ) → IsTrue (contains nat_cmp set n) ↔ Contains numbers n
