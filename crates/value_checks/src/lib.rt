@@ -2,6 +2,7 @@
 //! order in which they come, and are whole at numbers.
 #![tactic(auto)]
 
+pub mod laws;
 pub mod naming;
 pub mod rows;
 pub mod valued;
