@@ -2,3 +2,4 @@
 #![tactic(auto)]
 
 pub mod open;
+pub mod reached;
