@@ -26,7 +26,7 @@ use Rattle.grown_branches.proofs.ReachedLemmas.{all_found, found}
 
 -- ---- one formula
 
-abbrev alone : PoolEntry → List PoolEntry
+abbrev pub alone : PoolEntry → List PoolEntry
 alone e = e ∷ []
 
 at_case : (f : ℕ → PoolEntry) (xs : List ℕ) (k : ℕ) (d : ℕ) → k < length xs → slice_get (map alone (map f xs)) k ≡ Some (f (get_or xs k d) ∷ [])
@@ -34,7 +34,7 @@ at_case f [] k d w = absurd (omega (arith, w))
 at_case f (x ∷ xs) zero d w = refl
 at_case f (x ∷ xs) (suc k) d w = at_case f xs k d (omega (arith, w))
 
-one_alone : (es : List PoolEntry) (k : ℕ) (added : List PoolEntry) → slice_get (map alone es) k ≡ Some added → length added ≡ 1
+pub one_alone : (es : List PoolEntry) (k : ℕ) (added : List PoolEntry) → slice_get (map alone es) k ≡ Some added → length added ≡ 1
 one_alone [] k added e = absurd (cc)
 one_alone (x ∷ es) zero added e = (let same : x ∷ [] ≡ added = cc in ap length (sym same))
 one_alone (x ∷ es) (suc k) added e = one_alone es k added e
@@ -63,11 +63,11 @@ module _ (g : Growth) (number : ℕ) (before : List PoolEntry) where
 
 -- ---- as branches
 
-map_alone : (ns : List Node) (es ds : List PoolEntry) → map (λ (d : PoolEntry). branch_of ns (es ++ d ∷ [])) ds ≡ map (λ (xs : List PoolEntry). branch_of ns (es ++ xs)) (map alone ds)
+pub map_alone : (ns : List Node) (es ds : List PoolEntry) → map (λ (d : PoolEntry). branch_of ns (es ++ d ∷ [])) ds ≡ map (λ (xs : List PoolEntry). branch_of ns (es ++ xs)) (map alone ds)
 map_alone ns es [] = refl
 map_alone ns es (d ∷ ds) = (let rest = map_alone ns es ds in λ i. branch_of ns (es ++ d ∷ []) ∷ rest i)
 
-lefts_are : (f : Bool) (ns : List Node) (es ds : List PoolEntry) → lefts f (branch_of ns es) (branch_of ns ds) ≡ map (λ (xs : List PoolEntry). branch_of ns (es ++ xs)) (cases_by f ds)
+pub lefts_are : (f : Bool) (ns : List Node) (es ds : List PoolEntry) → lefts f (branch_of ns es) (branch_of ns ds) ≡ map (λ (xs : List PoolEntry). branch_of ns (es ++ xs)) (cases_by f ds)
 lefts_are false ns es ds = ap (λ b. b ∷ []) (sym (branch_append ns es ds))
 lefts_are true ns es ds = sym (branches_append ns es ds) ∙ map_alone ns es ds
 
@@ -82,7 +82,7 @@ one_taken shapes ns b s c d h k =
     let second = left_is ns (formulas_of ns s.growth) b s.growth.reason s.growth.generation k.growing.turn k.growing.is.added k.growing.from in
     same_Some c d (sym h.left ∙ ap (λ bs. slice_get bs s.case) (first ∙ sym second) ∙ k.left)
 
-short_entries : (ns : List Node) (es : List PoolEntry) → length (branch_of ns es) ≡ length es
+pub short_entries : (ns : List Node) (es : List PoolEntry) → length (branch_of ns es) ≡ length es
 short_entries ns es = length-map es (entry_in ns)
 
 module _ (shapes : List Shape) (ns : List Node) (es : List PoolEntry) (s : GrownStep) where

@@ -30,10 +30,10 @@ use Rattle.grown_branches.proofs.GrowthLemmas.{number_within}
 -- ---- the same numbers in two pools
 
 module _ (ns ms : List Node) where
-  abbrev IsSameTerm : ℕ → Type 0
+  abbrev pub IsSameTerm : ℕ → Type 0
   IsSameTerm t = term_at ms t ≡ term_at ns t
 
-  added_also : (ps qs : List FormulaData) (r : Reason) (g : ℕ) (turn : Turn) → qs ≡ ps → All IsSameTerm (terms_of r) → IsAddedFor ns ps r g turn → IsAddedFor ms qs r g turn
+  pub added_also : (ps qs : List FormulaData) (r : Reason) (g : ℕ) (turn : Turn) → qs ≡ ps → All IsSameTerm (terms_of r) → IsAddedFor ns ps r g turn → IsAddedFor ms qs r g turn
   added_also ps qs r g turn same terms (AsParts i k) = subst (λ xs. IsAddedFor ms qs r g (PartsTurn i xs)) same (AsParts i k)
   added_also ps qs r g turn same terms (AsName i v k p is) = AsName i v k p (same ∙ is)
   added_also ps qs r g turn same terms (AsInstance i t k p is) =
@@ -75,7 +75,7 @@ module _ (ns ms : List Node) (grown : Extends ns ms) where
   }
 
   module _ (shapes : List Shape) (s : GrownStep) (h : HasNumbers ns s.growth) where
-    same_formulas : formulas_of ms s.growth ≡ formulas_of ns s.growth
+    pub same_formulas : formulas_of ms s.growth ≡ formulas_of ns s.growth
     same_formulas = (numbers_stay ns ms grown (formulas_of ns s.growth) s.growth.formulas.items (record { formulas = h.formulas; are = refl })).are
 
     taken_later : (b c : Branch) → IsTaken shapes ns b s c → IsTaken shapes ms b s c

@@ -21,8 +21,13 @@ use pv_base::memory::NoMemory;
 use search_trees::turn::{Growth, Reason};
 use std::alloc::Global;
 
-/// Whether formulas may be added to the branch for the reason that is given, with their generation.
-pub(crate) fn is_growing(
+/// Whether formulas may be added to the branch for the reason that is given, with their generation. The numbers are
+/// those of formulas and terms, and the shapes of structs have fewer than 2^32 fields each.
+///
+/// # Errors
+///
+/// Only where memory is refused.
+pub fn is_growing(
     alloc: Global,
     pool: &mut Pool,
     shapes: &Shapes,

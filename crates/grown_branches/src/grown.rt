@@ -20,8 +20,12 @@ use pool_branch::branch::PoolBranch;
 use pv_base::memory::NoMemory;
 use std::alloc::Global;
 
-// The branch whose one entry is the formula with this number.
-fn first_branch(alloc: Global, pool: &Pool, formula: usize) -> Result<PoolBranch, NoMemory>
+/// The branch whose one entry is the formula with this number.
+///
+/// # Errors
+///
+/// Only where memory is refused.
+pub fn first_branch(alloc: Global, pool: &Pool, formula: usize) -> Result<PoolBranch, NoMemory>
     requires { IsFormulaNumber pool.now formula }
     ensures over { IfOk result (λ branch. IsOver pool.now branch) }
     ensures is { IfOk result (λ branch. branch_in pool.now branch ≡ first_branch pool.now formula) }

@@ -13,16 +13,16 @@ use std::alloc::Global;
 
 /// The variables of the branch, its classes as they were followed last, and the heads and quantifiers of the pool's nodes.
 #[derive(Drop)]
-pub(crate) struct Kept {
-    pub(crate) variables: Variables,
+pub struct Kept {
+    pub variables: Variables,
     // Its classes alone are used.
-    pub(crate) state: BranchState,
-    pub(crate) heads: HeadIndex,
-    pub(crate) quantifiers: QuantifierFree,
+    pub state: BranchState,
+    pub heads: HeadIndex,
+    pub quantifiers: QuantifierFree,
 }
 
 /// Nothing is kept yet.
-pub(crate) fn nothing_kept(alloc: Global) -> Kept
+pub fn nothing_kept(alloc: Global) -> Kept
     ensures { (ns : List Node) (es : List PoolEntry) → IsKept ns es result }
 {
     Kept {

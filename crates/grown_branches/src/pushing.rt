@@ -17,7 +17,7 @@ use search_trees::turn::{Growth, is_fork, origin_of};
 use std::alloc::Global;
 
 /// The entry that says the formula.
-pub(crate) fn entry_with(formula: usize, generation: usize, origin: Origin) -> PoolEntry
+pub fn entry_with(formula: usize, generation: usize, origin: Origin) -> PoolEntry
     ensures { result ≡ record { formula = formula; generation = generation; origin = origin } }
 {
     PoolEntry {
@@ -98,7 +98,11 @@ fn go_aside(
 }
 
 /// Goes on with the case of the formulas that has this number, if there is one and the branch does not get too long.
-pub(crate) fn go_on(
+///
+/// # Errors
+///
+/// Only where memory is refused.
+pub fn go_on(
     alloc: Global,
     pool: &Pool,
     branch: &mut PoolBranch,

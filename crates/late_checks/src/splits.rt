@@ -17,8 +17,13 @@ use pv_base::memory::NoMemory;
 use std::alloc::Global;
 use turn_checks::entries::are_cases_due;
 
-// Whether the entry with this number is an instance of the axiom on ranges.
-fn is_range_entry(
+/// Whether the entry with this number is an instance of the axiom on ranges. The shapes of structs have fewer than 2^32 fields
+/// each.
+///
+/// # Errors
+///
+/// Only where memory is refused.
+pub fn is_range_entry(
     alloc: Global,
     pool: &mut Pool,
     shapes: &Shapes,
