@@ -1,0 +1,3 @@
+pub mod Timely
+pub mod Partial
+pub mod Walks

@@ -1,0 +1,10 @@
+//! Whether a text of turns that is handed over, with what shows that each may come where it stands, is a partial tree of a
+//! formula.
+#![tactic(auto)]
+
+mod ending;
+pub mod partial;
+mod stepping;
+mod timely;
+pub mod turns;
+mod walk;
