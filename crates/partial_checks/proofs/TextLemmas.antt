@@ -109,15 +109,15 @@ named ns ss h = All-weaker (IsNamed ns) (NamesInPool ns) go ss h.each
     go (Rewritten r) k = (k.0.within, k.1.within)
 
 -- the turns of a text, due one after another
-record IsTextOf (shapes : List Shape) (ns : List Node) (turns : List GivenTurn) (bs cs : OpenBranches) : Type 0 where
-  text : List Turn
-  are : AllZip (IsTurnOf ns) (map turn_of turns) text
-  due : AreDue shapes bs text
-  leads : after_turns bs text ≡ cs
-  steps : steps_in text ≡ steps_in_all turns
+pub record IsTextOf (shapes : List Shape) (ns : List Node) (turns : List GivenTurn) (bs cs : OpenBranches) : Type 0 where
+  pub text : List Turn
+  pub are : AllZip (IsTurnOf ns) (map turn_of turns) text
+  pub due : AreDue shapes bs text
+  pub leads : after_turns bs text ≡ cs
+  pub steps : steps_in text ≡ steps_in_all turns
 
 module _ (shapes : List Shape) (ns : List Node) where
-  text_of : (turns : List GivenTurn) (bs cs : OpenBranches) → All (IsNumbered ns) turns → AreTakenBy shapes ns bs turns cs → IsTextOf shapes ns turns bs cs
+  pub text_of : (turns : List GivenTurn) (bs cs : OpenBranches) → All (IsNumbered ns) turns → AreTakenBy shapes ns bs turns cs → IsTextOf shapes ns turns bs cs
   text_of [] bs cs numbers h = record { text = []; are = tt; due = tt; leads = h; steps = refl }
   text_of (Grown given ∷ turns) bs cs numbers h =
       let it = h.1 in
@@ -150,7 +150,7 @@ module _ (shapes : List Shape) (ns : List Node) where
         steps = omega (arith, l, steps);
       }
 
-  tree_with : (p : FormulaData) (turns : List GivenTurn) (left : OpenBranches) (chain : Option GivenChain) (count : ℕ) (it : IsTextOf shapes ns turns (begun p) left) → EndsBy shapes ns left chain → steps_in_all turns + links_of chain ≡ count → IsTreeWith shapes ns p it.text chain count
+  pub tree_with : (p : FormulaData) (turns : List GivenTurn) (left : OpenBranches) (chain : Option GivenChain) (count : ℕ) (it : IsTextOf shapes ns turns (begun p) left) → EndsBy shapes ns left chain → steps_in_all turns + links_of chain ≡ count → IsTreeWith shapes ns p it.text chain count
   tree_with p turns left None count it ends steps = record { due = it.due; steps = (let s = it.steps in omega (arith, s, steps)) }
   tree_with p turns left (Some given) count it ends steps =
       let ss = map (step_in ns) given.closing.chain.items in

@@ -41,8 +41,13 @@ fn ends_among(
     Ok(told)
 }
 
-/// Whether a text may end here, with so many steps left.
-pub(crate) fn ends(
+/// Whether a text may end here, with so many steps left: none, or the links of a turn that would close the branch that is
+/// worked on. What the walk keeps is right for the pool, and the numbers are those of formulas.
+///
+/// # Errors
+///
+/// Only where memory is refused.
+pub fn ends(
     alloc: Global,
     pool: &Pool,
     walk: &mut Walk,

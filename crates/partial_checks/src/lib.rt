@@ -2,9 +2,9 @@
 //! formula.
 #![tactic(auto)]
 
-mod ending;
+pub mod ending;
 pub mod partial;
-mod stepping;
+pub mod stepping;
 mod timely;
 pub mod turns;
-mod walk;
+pub mod walk;

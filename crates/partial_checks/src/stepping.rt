@@ -80,8 +80,14 @@ fn close(
     Ok(true)
 }
 
-/// Goes on with the branches that the turn leaves open, if it is due.
-pub(crate) fn take(
+/// Goes on with the branches that the turn leaves open, if it is due, with its grounds, on the branch that is worked on. What
+/// the walk keeps is right for the pool, the numbers are those of formulas and terms, and the shapes of structs have fewer
+/// than 2^32 fields each.
+///
+/// # Errors
+///
+/// Only where memory is refused.
+pub fn take(
     alloc: Global,
     pool: &mut Pool,
     shapes: &Shapes,

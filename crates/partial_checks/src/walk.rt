@@ -22,19 +22,23 @@ use std::alloc::Global;
 
 /// The branch that is worked on and those that wait.
 #[derive(Drop)]
-pub(crate) struct Walk {
+pub struct Walk {
     /// Whether there is one that is worked on. Otherwise none is open.
-    pub(crate) is_open: bool,
-    pub(crate) branch: PoolBranch,
+    pub is_open: bool,
+    pub branch: PoolBranch,
     /// Those that wait. The last one is the next.
-    pub(crate) waiting: Vec<Waiting>,
-    pub(crate) kept: Kept,
+    pub waiting: Vec<Waiting>,
+    pub kept: Kept,
     /// The trees of its first entries, which are read when a turn is to close it.
-    pub(crate) trees: Vec<Formula>,
+    pub trees: Vec<Formula>,
 }
 
 /// The branch with this formula alone is open.
-pub(crate) fn begin(alloc: Global, pool: &Pool, formula: usize) -> Result<Walk, NoMemory>
+///
+/// # Errors
+///
+/// Only where memory is refused.
+pub fn begin(alloc: Global, pool: &Pool, formula: usize) -> Result<Walk, NoMemory>
     requires { IsFormulaNumber pool.now formula }
     ensures walk { IfOk result (λ walk. IsWalk pool.now walk) }
     ensures now_open { IfOk result (λ walk. opened pool.now walk ≡ first_branch pool.now formula ∷ []) }

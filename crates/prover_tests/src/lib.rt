@@ -10,6 +10,10 @@ mod searches;
 #[cfg(test)]
 mod structs;
 #[cfg(test)]
+mod text_tests;
+#[cfg(test)]
+mod texts;
+#[cfg(test)]
 mod word_tests;
 #[cfg(test)]
 mod words;

@@ -32,7 +32,8 @@ pub(crate) fn found<L: Ledger>(
     Ok(answer)
 }
 
-fn word_of(end: &End) -> &'static str {
+/// The word for the end of a search.
+pub(crate) fn word_of(end: &End) -> &'static str {
     match end {
         End::Proved => "proved",
         End::Open(_) => "open",

@@ -1,0 +1,220 @@
+//! Whether the texts of searches are seen to show what the searches answer.
+
+ghost use Rattle.std.specs.Prelude.{IfOk};
+ghost use Rattle.pool_branch.specs.PoolBranches.{IsFormulaNumber};
+
+use crate::searches::word_of;
+use crate::structs::shapes;
+use crate::words::Fault;
+use fol::formula::Formula;
+use formula_pool::interning::intern_formula;
+use formula_pool::pool::Pool;
+use formula_prover::answer::{Answer, Search};
+use linear_rows::rows::{Fraction, Fractions};
+use partial_checks::turns::GivenChain;
+use proof_search::end::End;
+use proof_search::search::Outcome;
+use proof_search::values::OpenValues;
+use search_trees::tree::SearchTree;
+use search_trees::turn::{Growth, PoolTurn};
+use std::alloc::Global;
+use text_checks::open::is_open_text;
+use text_checks::partial::is_partial_text;
+
+/// What is changed before it is asked whether a text shows an answer.
+#[derive(Clone, Copy, Debug, PartialEq, Eq)]
+pub(crate) enum Change {
+    Nothing,
+    /// It is to have one step more.
+    AnotherStep,
+    FirstLeftOut,
+    LastLeftOut,
+    /// The first turn comes once more, at the end.
+    FirstTwice,
+    /// Each turn has the next generation.
+    NextGeneration,
+    /// The first value is one less.
+    OneLess,
+}
+
+/// A search that has ended, and the number of the denial of its formula.
+#[derive(Drop)]
+pub(crate) struct Searched {
+    pool: Pool,
+    denial: usize,
+    text: Vec<PoolTurn>,
+    end: End,
+}
+
+/// The search that gave the answer for a formula, if one ended.
+pub(crate) fn search_of(formula: Box<Formula>, answer: Answer) -> Result<Searched, Fault>
+    ensures { IfOk result (λ search. IsFormulaNumber search.pool search.denial) }
+{
+    let Answer::Ended(search) = answer else {
+        return Err(Fault::Word);
+    };
+    let Search { mut pool, outcome } = search;
+    let Outcome { end, tree } = outcome;
+    let SearchTree {
+        branch: _,
+        waiting: _,
+        text,
+    } = tree;
+    let denial = intern_formula(&mut pool, &Formula::not(formula))?;
+    Ok(Searched {
+        pool,
+        denial,
+        text,
+        end,
+    })
+}
+
+/// The word for the search's answer.
+pub(crate) fn answer_of(search: &Searched) -> &'static str {
+    word_of(&search.end)
+}
+
+fn steps_of(text: &[PoolTurn]) -> u64 {
+    let mut steps: u64 = 0;
+    for turn in text {
+        let more = match turn {
+            PoolTurn::Grown(_) => 1,
+            PoolTurn::Closed(closing) => closing.chain.len() as u64,
+        };
+        steps = steps.saturating_add(more);
+    }
+    steps
+}
+
+// ---- changes
+
+fn copied(alloc: Global, growth: &Growth) -> Result<Growth, Fault> {
+    Ok(Growth {
+        reason: growth.reason,
+        generation: growth.generation,
+        formulas: Vec::from_slice(alloc, growth.formulas.as_slice())?,
+    })
+}
+
+// The first turn once more, if formulas are added by it.
+fn first_again(alloc: Global, text: &[PoolTurn]) -> Result<Option<PoolTurn>, Fault> {
+    match text.first() {
+        Some(PoolTurn::Grown(growth)) => Ok(Some(PoolTurn::Grown(copied(alloc, growth)?))),
+        _ => Ok(None),
+    }
+}
+
+fn raise_generations(text: &mut Vec<PoolTurn>) {
+    for turn in text.iter_mut() {
+        if let PoolTurn::Grown(growth) = turn {
+            growth.generation = growth.generation.saturating_add(1);
+        }
+    }
+}
+
+fn change_text(alloc: Global, text: &mut Vec<PoolTurn>, change: Change) -> Result<(), Fault> {
+    match change {
+        Change::FirstLeftOut => {
+            text.reverse();
+            let _first = text.pop();
+            text.reverse();
+        }
+        Change::LastLeftOut => {
+            let _last = text.pop();
+        }
+        Change::FirstTwice => {
+            if let Some(turn) = first_again(alloc, text.as_slice())? {
+                text.push(turn)?;
+            }
+        }
+        Change::NextGeneration => raise_generations(text),
+        Change::Nothing | Change::AnotherStep | Change::OneLess => {}
+    }
+    Ok(())
+}
+
+fn change_values(alloc: Global, values: OpenValues, change: Change) -> Result<OpenValues, Fault> {
+    let OpenValues {
+        names,
+        classes,
+        values,
+    } = values;
+    if change != Change::OneLess {
+        return Ok(OpenValues {
+            names,
+            classes,
+            values,
+        });
+    }
+    let mut less = Fractions::new(alloc);
+    for value in values.as_slice() {
+        let one = if less.as_slice().is_empty() {
+            value.denominator
+        } else {
+            0
+        };
+        less.push(Fraction {
+            unknown: value.unknown,
+            numerator: value.numerator.saturating_sub(one),
+            denominator: value.denominator,
+        })?;
+    }
+    Ok(OpenValues {
+        names,
+        classes,
+        values: less,
+    })
+}
+
+// ---- what is told
+
+/// Whether the search's text is seen to be a partial tree with as many steps as it has.
+pub(crate) fn is_tree(alloc: Global, search: Searched, change: Change) -> Result<bool, Fault>
+    requires { IsFormulaNumber search.pool search.denial }
+{
+    let Searched {
+        mut pool,
+        denial,
+        mut text,
+        end: _,
+    } = search;
+    let shapes = shapes(alloc)?;
+    change_text(alloc, &mut text, change)?;
+    let mut steps = steps_of(text.as_slice());
+    if change == Change::AnotherStep {
+        steps = steps.saturating_add(1);
+    }
+    let told = is_partial_text(alloc, &mut pool, &shapes, denial, text, &None, steps)?;
+    Ok(told)
+}
+
+/// Whether the search's text is seen to show its answer, that the budget is spent or that a branch is open with values.
+pub(crate) fn is_shown(
+    alloc: Global,
+    search: Searched,
+    budget: u64,
+    change: Change,
+) -> Result<bool, Fault>
+    requires { IsFormulaNumber search.pool search.denial }
+{
+    let Searched {
+        mut pool,
+        denial,
+        mut text,
+        end,
+    } = search;
+    let shapes = shapes(alloc)?;
+    change_text(alloc, &mut text, change)?;
+    let chain = match end {
+        End::Open(values) => {
+            let values = change_values(alloc, values, change)?;
+            let told = is_open_text(alloc, &mut pool, &shapes, denial, text, &values)?;
+            return Ok(told);
+        }
+        End::SpentInChain(closing, links) => Some(GivenChain { closing, links }),
+        End::Spent => None,
+        _ => return Err(Fault::Word),
+    };
+    let told = is_partial_text(alloc, &mut pool, &shapes, denial, text, &chain, budget)?;
+    Ok(told)
+}
