@@ -30,6 +30,10 @@ pub enum Stop {
     Full,
 }
 
+// A long branch is asked for what closes it whenever it has got so much longer, be there still something early or not: there
+// is an instance of the axiom on ranges for each term, and a branch is full before all of these are added to a long one.
+const LENGTH_BETWEEN: usize = 256;
+
 /// What comes next on a branch.
 #[derive(Drop)]
 pub enum Decision {
@@ -42,7 +46,7 @@ pub enum Decision {
 }
 
 /// Decides what comes next on the branch: first what is early, then what closes it, what a proof is likely to need, all
-/// instances, splits and cuts, bounds.
+/// instances, splits and cuts, bounds. On a long branch what closes it comes first now and then.
 pub(crate) fn decide<D: Deciders>(
     alloc: Global,
     deciders: &mut D,
@@ -64,6 +68,73 @@ pub(crate) fn decide<D: Deciders>(
     if deciders.is_crowded(alloc, pool, branch)? {
         return Ok(Decision::Stops(Stop::Full));
     }
+    if branch.len() % LENGTH_BETWEEN == 0 {
+        at_length(alloc, deciders, pool, branch)
+    } else {
+        with_early(alloc, deciders, pool, branch)
+    }
+}
+
+// The branch may close before all is added that is early.
+fn at_length<D: Deciders>(
+    alloc: Global,
+    deciders: &mut D,
+    pool: &mut Pool,
+    branch: &PoolBranch,
+) -> Result<Decision, NoMemory>
+    requires knows { D.knows deciders.old pool.old }
+    requires over { IsOver pool.old branch.now }
+    requires room { HasRoom (branch_in pool.old branch.now) }
+    requires level { IsLevel (branch_in pool.old branch.now) }
+    ensures extends { Extends pool.old pool.new }
+    ensures knows { OnOk result (D.knows deciders.new pool.new) }
+    ensures shapes { OnOk result (D.shapes deciders.new ≡ D.shapes deciders.old) }
+    ensures decided { IfOk result (IsDecided (D.shapes deciders.old) pool.new (branch_in pool.old branch.now)) }
+{
+    match deciders.closing(alloc, pool, branch)? {
+        ClosingAnswer::Closes(closing) => Ok(Decision::Closes(closing)),
+        ClosingAnswer::TooLong | ClosingAnswer::Open => with_rows(alloc, deciders, pool, branch),
+    }
+}
+
+// Nor does a clash close the branch.
+fn with_rows<D: Deciders>(
+    alloc: Global,
+    deciders: &mut D,
+    pool: &mut Pool,
+    branch: &PoolBranch,
+) -> Result<Decision, NoMemory>
+    requires knows { D.knows deciders.old pool.old }
+    requires over { IsOver pool.old branch.now }
+    requires room { HasRoom (branch_in pool.old branch.now) }
+    requires level { IsLevel (branch_in pool.old branch.now) }
+    ensures extends { Extends pool.old pool.new }
+    ensures knows { OnOk result (D.knows deciders.new pool.new) }
+    ensures shapes { OnOk result (D.shapes deciders.new ≡ D.shapes deciders.old) }
+    ensures decided { IfOk result (IsDecided (D.shapes deciders.old) pool.new (branch_in pool.old branch.now)) }
+{
+    match deciders.rows(alloc, pool, branch)? {
+        RowsAnswer::Closes(closing) => Ok(Decision::Closes(closing)),
+        _ => with_early(alloc, deciders, pool, branch),
+    }
+}
+
+// What is early comes first.
+fn with_early<D: Deciders>(
+    alloc: Global,
+    deciders: &mut D,
+    pool: &mut Pool,
+    branch: &PoolBranch,
+) -> Result<Decision, NoMemory>
+    requires knows { D.knows deciders.old pool.old }
+    requires over { IsOver pool.old branch.now }
+    requires room { HasRoom (branch_in pool.old branch.now) }
+    requires level { IsLevel (branch_in pool.old branch.now) }
+    ensures extends { Extends pool.old pool.new }
+    ensures knows { OnOk result (D.knows deciders.new pool.new) }
+    ensures shapes { OnOk result (D.shapes deciders.new ≡ D.shapes deciders.old) }
+    ensures decided { IfOk result (IsDecided (D.shapes deciders.old) pool.new (branch_in pool.old branch.now)) }
+{
     match deciders.early(alloc, pool, branch)? {
         Some(growth) => Ok(Decision::Grows(growth)),
         None => after_early(alloc, deciders, pool, branch),

@@ -142,3 +142,20 @@ fn large_numbers(rt: HostRuntime) -> Result<(), Fail> {
     }
     Ok(())
 }
+
+// A branch closes before all is added that is early: an instance of an axiom for each of these numerals would fill it.
+#[test]
+fn long_branches_close(rt: HostRuntime) -> Result<(), Fail> {
+    let alloc = rt.alloc();
+    let mut text = String::new(alloc);
+    for number in 0..2500 {
+        let words = format!(in alloc; "n:{number} x:0 <= ").expect(&rt, "memory");
+        text.push_str(words.as_str()).expect(&rt, "memory");
+    }
+    text.push_str("and:2500 x:1 x:1 = implies")
+        .expect(&rt, "memory");
+    let formula = formula_of(alloc, text.as_str()).expect(&rt, "a formula");
+    let answer = found::<Brand>(alloc, &formula, 20_000, Blank::new(1)).expect(&rt, "memory");
+    assert_eq!(rt; word(&answer), "proved");
+    Ok(())
+}

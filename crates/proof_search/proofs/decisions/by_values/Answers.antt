@@ -1,10 +1,6 @@
-use Rattle.pool_branch.specs.PoolBranches.{branch_in}
-use Rattle.branches.specs.Due.{IsNotClosed}
-use Rattle.branches.specs.Turns.{NothingEarly, IsLate}
-use Rattle.formula_pool.proofs.GrowthLemmas.{extends_itself}
-use Rattle.proof_search.specs.Decisions.{HasRoom, IsLevel, NothingPlain, ShowsRows}
-use Rattle.proof_search.proofs.TurnLemmas.{over_stays, fact_stays, shaped_fact_stays, decided_back, late_by, ok_map, at_none}
-use Rattle.std.proofs.Common.{subst}
+use Rattle.branches.specs.Turns.{IsLate}
+use Rattle.proof_search.specs.Decisions.{HasRoom, IsLevel}
+use Rattle.proof_search.proofs.TurnLemmas.{over_stays, fact_stays, shaped_fact_stays, decided_back, ok_map}
 use Rattle.proof_search.proofs.decisions.by_values.Goals as goal
 
 pub with_plain-requires-clause-over : goal.with_plain-requires-clause-over

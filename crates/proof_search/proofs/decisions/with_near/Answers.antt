@@ -1,10 +1,7 @@
-use Rattle.pool_branch.specs.PoolBranches.{branch_in}
 use Rattle.branches.specs.Due.{IsNotClosed}
-use Rattle.branches.specs.Turns.{NothingEarly, IsLate}
-use Rattle.formula_pool.proofs.GrowthLemmas.{extends_itself}
-use Rattle.proof_search.specs.Decisions.{HasRoom, IsLevel, NothingPlain, ShowsRows}
-use Rattle.proof_search.proofs.TurnLemmas.{over_stays, fact_stays, shaped_fact_stays, decided_back, late_by, ok_map, at_none}
-use Rattle.std.proofs.Common.{subst}
+use Rattle.branches.specs.Turns.{NothingEarly}
+use Rattle.proof_search.specs.Decisions.{HasRoom, IsLevel}
+use Rattle.proof_search.proofs.TurnLemmas.{over_stays, fact_stays, shaped_fact_stays, decided_back, ok_map}
 use Rattle.proof_search.proofs.decisions.with_near.Goals as goal
 
 pub after_near-requires-clause-over : goal.after_near-requires-clause-over
