@@ -1,7 +1,7 @@
 //! What the texts of searches are seen to show.
 
 use crate::searches::found;
-use crate::texts::{Change, answer_of, is_shown, is_tree, search_of};
+use crate::texts::{Change, answer_of, is_open, is_spent, is_tree, search_of};
 use crate::words::formula_of;
 use std::marker::Brand;
 use std::panic::Expect;
@@ -34,8 +34,8 @@ fn texts_are_partial_trees(rt: HostRuntime) -> Result<(), Fail> {
             let answer = found::<Brand>(alloc, &formula, 20_000, Blank::new(1)).expect(
                 &rt, "memory",
             );
-            let search = search_of(formula, answer).expect(&rt, "a search");
-            let told = is_tree(alloc, search, change).expect(&rt, "memory");
+            let mut search = search_of(formula, answer).expect(&rt, "a search");
+            let told = is_tree(alloc, &mut search, change).expect(&rt, "memory");
             assert_eq!(rt; told, wanted, "{words} {change:?}");
         }
     }
@@ -62,9 +62,9 @@ fn values_leave_a_branch_open(rt: HostRuntime) -> Result<(), Fail> {
             let answer = found::<Brand>(alloc, &formula, 20_000, Blank::new(1)).expect(
                 &rt, "memory",
             );
-            let search = search_of(formula, answer).expect(&rt, "a search");
+            let mut search = search_of(formula, answer).expect(&rt, "a search");
             assert_eq!(rt; answer_of(&search), "open", "{words}");
-            let told = is_shown(alloc, search, 20_000, change).expect(&rt, "memory");
+            let told = is_open(alloc, &mut search, change).expect(&rt, "memory");
             assert_eq!(rt; told, wanted, "{words} {change:?}");
         }
     }
@@ -105,9 +105,9 @@ fn budgets_are_spent(rt: HostRuntime) -> Result<(), Fail> {
             let answer = found::<Brand>(alloc, &formula, budget, Blank::new(1)).expect(
                 &rt, "memory",
             );
-            let search = search_of(formula, answer).expect(&rt, "a search");
+            let mut search = search_of(formula, answer).expect(&rt, "a search");
             assert_eq!(rt; answer_of(&search), wanted, "{words} {budget}");
-            let told = is_shown(alloc, search, budget, change).expect(&rt, "memory");
+            let told = is_spent(alloc, &mut search, budget, change).expect(&rt, "memory");
             let is_whole = change == Change::Nothing || budget == 0;
             assert_eq!(rt; told, is_whole, "{words} {budget} {change:?}");
         }

@@ -1,6 +1,6 @@
 //! Whether the texts of searches are seen to show what the searches answer.
 
-ghost use Rattle.std.specs.Prelude.{IfOk};
+ghost use Rattle.std.specs.Prelude.{◌≡◌, OnOk, IfOk};
 ghost use Rattle.pool_branch.specs.PoolBranches.{IsFormulaNumber};
 
 use crate::searches::word_of;
@@ -18,6 +18,7 @@ use proof_search::values::OpenValues;
 use search_trees::tree::SearchTree;
 use search_trees::turn::{Growth, PoolTurn};
 use std::alloc::Global;
+use std::mem;
 use text_checks::open::is_open_text;
 use text_checks::partial::is_partial_text;
 
@@ -168,53 +169,70 @@ fn change_values(alloc: Global, values: OpenValues, change: Change) -> Result<Op
 
 // ---- what is told
 
-/// Whether the search's text is seen to be a partial tree with as many steps as it has.
-pub(crate) fn is_tree(alloc: Global, search: Searched, change: Change) -> Result<bool, Fault>
-    requires { IsFormulaNumber search.pool search.denial }
+// The search's text, which it has no more.
+fn taken_text(alloc: Global, search: &mut Searched, change: Change) -> Result<Vec<PoolTurn>, Fault>
+    ensures pool { OnOk result (search.new.pool ≡ search.old.pool) }
+    ensures denial { OnOk result (search.new.denial ≡ search.old.denial) }
 {
-    let Searched {
-        mut pool,
-        denial,
-        mut text,
-        end: _,
-    } = search;
-    let shapes = shapes(alloc)?;
+    let mut text = mem::replace(&mut search.text, Vec::new(alloc));
     change_text(alloc, &mut text, change)?;
+    Ok(text)
+}
+
+/// Whether the search's text is seen to be a partial tree with as many steps as it has.
+pub(crate) fn is_tree(alloc: Global, search: &mut Searched, change: Change) -> Result<bool, Fault>
+    requires { IsFormulaNumber search.old.pool search.old.denial }
+{
+    let shapes = shapes(alloc)?;
+    let text = taken_text(alloc, search, change)?;
     let mut steps = steps_of(text.as_slice());
     if change == Change::AnotherStep {
         steps = steps.saturating_add(1);
     }
-    let told = is_partial_text(alloc, &mut pool, &shapes, denial, text, &None, steps)?;
+    let denial = search.denial;
+    let told = is_partial_text(alloc, &mut search.pool, &shapes, denial, text, &None, steps)?;
     Ok(told)
 }
 
-/// Whether the search's text is seen to show its answer, that the budget is spent or that a branch is open with values.
-pub(crate) fn is_shown(
+/// Whether the search's text is seen to show that its budget is spent.
+pub(crate) fn is_spent(
     alloc: Global,
-    search: Searched,
+    search: &mut Searched,
     budget: u64,
     change: Change,
 ) -> Result<bool, Fault>
-    requires { IsFormulaNumber search.pool search.denial }
+    requires { IsFormulaNumber search.old.pool search.old.denial }
 {
-    let Searched {
-        mut pool,
-        denial,
-        mut text,
-        end,
-    } = search;
     let shapes = shapes(alloc)?;
-    change_text(alloc, &mut text, change)?;
-    let chain = match end {
-        End::Open(values) => {
-            let values = change_values(alloc, values, change)?;
-            let told = is_open_text(alloc, &mut pool, &shapes, denial, text, &values)?;
-            return Ok(told);
-        }
+    let text = taken_text(alloc, search, change)?;
+    let denial = search.denial;
+    let chain = match mem::replace(&mut search.end, End::Spent) {
         End::SpentInChain(closing, links) => Some(GivenChain { closing, links }),
-        End::Spent => None,
-        _ => return Err(Fault::Word),
+        _ => None,
     };
-    let told = is_partial_text(alloc, &mut pool, &shapes, denial, text, &chain, budget)?;
+    let told = is_partial_text(
+        alloc,
+        &mut search.pool,
+        &shapes,
+        denial,
+        text,
+        &chain,
+        budget,
+    )?;
+    Ok(told)
+}
+
+/// Whether the search's text is seen to show that a branch is open with its values.
+pub(crate) fn is_open(alloc: Global, search: &mut Searched, change: Change) -> Result<bool, Fault>
+    requires { IsFormulaNumber search.old.pool search.old.denial }
+{
+    let shapes = shapes(alloc)?;
+    let text = taken_text(alloc, search, change)?;
+    let denial = search.denial;
+    let End::Open(values) = mem::replace(&mut search.end, End::Spent) else {
+        return Err(Fault::Word);
+    };
+    let values = change_values(alloc, values, change)?;
+    let told = is_open_text(alloc, &mut search.pool, &shapes, denial, text, &values)?;
     Ok(told)
 }

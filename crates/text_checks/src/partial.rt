@@ -1,11 +1,13 @@
 //! Whether a text is a partial tree, as far as what shows it is found.
 
-ghost use Rattle.std.specs.Prelude.{◌≡◌, IsTrue, OnOk, IfOk};
+ghost use Rattle.std.specs.Prelude.{◌≡◌, ℕ, ◌∷◌, [], All, IsTrue, OnOk, IfOk};
 ghost use Rattle.fol.specs.FormulaData.{FormulaData, NotFormula};
 ghost use Rattle.formula_pool.specs.Pools.{Extends};
 ghost use Rattle.pool_branch.specs.PoolBranches.{IsFormulaNumber};
 ghost use Rattle.entry_steps.specs.Numbers.{formula_at};
 ghost use Rattle.asked_axioms.specs.StructRows.{HasFewFields};
+ghost use Rattle.grown_branches.specs.Steps.{first_branch};
+ghost use Rattle.partial_checks.specs.Partial.{IsChainNumbered};
 ghost use Rattle.partial_checks.specs.Walks.{opened, IsWalk};
 ghost use Rattle.text_checks.specs.Numbers.{IsTurnNumbered};
 ghost use Rattle.text_checks.specs.Texts.{steps_of, IsTakenFor, IsPartialText};
@@ -55,6 +57,39 @@ fn take_turn(
     Ok(told)
 }
 
+// Whether the turns are seen to be due, one after another, and the text may end behind them, with so many steps.
+fn is_read(
+    alloc: Global,
+    pool: &mut Pool,
+    shapes: &Shapes,
+    walk: &mut Walk,
+    text: Vec<PoolTurn>,
+    chain: &Option<GivenChain>,
+    budget: u64,
+) -> Result<bool, NoMemory>
+    requires few { HasFewFields shapes.now }
+    requires walk { IsWalk pool.old walk.old }
+    requires numbers { All (IsTurnNumbered pool.old) text.items }
+    requires named { IsChainNumbered pool.old chain.now }
+    ensures extends { Extends pool.old pool.new }
+    ensures partial { (n : ℕ) (p : FormulaData) → IsFormulaNumber pool.old n → opened pool.old walk.old ≡ first_branch pool.old n ∷ [] → formula_at pool.old n ≡ NotFormula p → IfOk result (λ told. IsTrue told → IsPartialText shapes.now pool.old p text.items chain.now budget) }
+{
+    let mut left = budget;
+    for turn in text {
+        let steps = steps_of(&turn);
+        if steps > left {
+            return Ok(false);
+        }
+        left -= steps;
+        let told = take_turn(alloc, pool, shapes, walk, turn)?;
+        if !told {
+            return Ok(false);
+        }
+    }
+    let ended = ends(alloc, pool, walk, chain, left)?;
+    Ok(ended)
+}
+
 /// Whether the text of a search, from the branch with the denial of a formula alone, is seen to be a partial tree of the
 /// formula with so many steps. It may end among the links of a turn that would close the branch that is worked on. The shapes
 /// of structs have fewer than 2^32 fields each.
@@ -83,18 +118,5 @@ pub fn is_partial_text(
         return Ok(false);
     }
     let mut walk = begin(alloc, pool, denial)?;
-    let mut left = budget;
-    for turn in text {
-        let steps = steps_of(&turn);
-        if steps > left {
-            return Ok(false);
-        }
-        left -= steps;
-        let told = take_turn(alloc, pool, shapes, &mut walk, turn)?;
-        if !told {
-            return Ok(false);
-        }
-    }
-    let ended = ends(alloc, pool, &mut walk, chain, left)?;
-    Ok(ended)
+    is_read(alloc, pool, shapes, &mut walk, text, chain, budget)
 }
