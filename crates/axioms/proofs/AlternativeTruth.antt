@@ -1,10 +1,10 @@
--- The axioms that state that some of a list of formulas is true are so.
+-- The axioms that state a disjunction are true.
 use Rattle.std.proofs.Common.{◌≡◌, ℕ, ◌<◌, ◌≤◌, ℤ, pos, negsuc, ◌-ℤ◌, List, length, cond, Bool, true, false, not, ◌&&◌, ◌||◌, refl, sym, ap, ◌∙◌, subst, arith}
 use Rattle.std.specs.Prelude.{IsTrue, int_le}
 use Rattle.std.proofs.lemmas.Int.{ints}
 use Rattle.std.proofs.lemmas.Bool.Decides.{nat_tests}
-use Rattle.pv_base.proofs.TruthValues.{or_true, true_both, never, true_is}
-use Rattle.pv_base.specs.TypeData.{TypeData, NumType, VectorType}
+use Rattle.base.proofs.TruthValues.{or_true, true_both, never, true_is}
+use Rattle.base.specs.TypeData.{TypeData, NumType, VectorType}
 use Rattle.fol.specs.declared.shapes.Shape.{Shape}
 use Rattle.fol.specs.FormulaData.{TermData, VarTerm, FormulaData, AnyOfFormula, formulas_of}
 use Rattle.fol.specs.Val.{Val, NumberValue, TruthValue, NothingValue, VectorValue, StructValue, MemoryValue, Vals, list_of_values, same_value, same_value-equal, same_value_itself}
@@ -26,7 +26,7 @@ or_right false b e = e
 pub or_left : (a b : Bool) → a ≡ true → a || b ≡ true
 or_left a b e = ap (λ x. x || b) e
 
--- ---- an item that was put at a place
+-- ---- an item that was written at an index
 
 pub within : (n k : ℕ) → int_le (pos k) (pos n) ≡ false → n < k
 within n k h = grind (arith, nat_tests)
@@ -68,7 +68,7 @@ is_so : (b : Bool) → IsTrue b → b ≡ true
 is_so true h = refl
 is_so false h = absurd (never h)
 
--- x is a place of v at which v and w differ
+-- x is an index of v at which v and w differ
 abbrev differ_at : Val → Val → Val → Bool
 differ_at v w x =
     at_most (NumberValue (pos 0)) x && (not (at_most (len_value v) x) && (not (same_value (at_value v x) (at_value w x)) && true))
@@ -103,7 +103,7 @@ choice_true : (b : Bool) (v w : Val) → (b && (same_value (cond b v w) v && tru
 choice_true true v w = or_left _ _ (true_both _ _ (same_value_itself v) refl)
 choice_true false v w = or_left _ false (true_both _ _ (same_value_itself w) refl)
 
--- ---- of two whole numbers
+-- ---- two whole numbers
 
 three_ways : (a b : ℤ) (l g : Bool) → int_le a (b -ℤ pos 1) ≡ l → int_le b (a -ℤ pos 1) ≡ g → same_value (NumberValue a) (NumberValue b) || (l || (g || false)) ≡ true
 three_ways a b true g e f = or_true (same_value (NumberValue a) (NumberValue b))
@@ -132,11 +132,11 @@ module _ (m : Interpretation) (right : AnswersRight m.all) (s : Assignment) wher
   abbrev at_list : {cs ds : List FormulaData} → cs ≡ ds → truth_of m (AnyOfFormula (formulas_of cs)) s ≡ truth_of m (AnyOfFormula (formulas_of ds)) s
   at_list e = ap (λ (xs : List FormulaData). truth_of m (AnyOfFormula (formulas_of xs)) s) e
 
-  -- what the body of the quantified formula says of a value
+  -- the value of the bound variable in the body of a quantified formula
   bound_value : (i : ℕ) (x : Val) → value_of m (VarTerm i) (set_var s i x) ≡ x
   bound_value i x = ap (λ b. cond b x (s i)) (eqb_itself i)
 
-  -- no value is a place at which the vectors differ
+  -- no value is an index at which the vectors differ
   nowhere : (v w : TermData) (i : ℕ) → free_in_term i v ≡ false → free_in_term i w ≡ false → m.all (λ x. not (at_most (NumberValue (pos 0)) (value_of m (VarTerm i) (set_var s i x)) && (not (at_most (len_value (value_of m v (set_var s i x))) (value_of m (VarTerm i) (set_var s i x))) && (not (same_value (at_value (value_of m v (set_var s i x)) (value_of m (VarTerm i) (set_var s i x))) (at_value (value_of m w (set_var s i x)) (value_of m (VarTerm i) (set_var s i x)))) && true)))) ≡ true → (x : Val) → not (differ_at (value_of m v s) (value_of m w s) x) ≡ true
   nowhere v w i f g all x =
       let one = bound_value i x in

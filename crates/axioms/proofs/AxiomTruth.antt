@@ -1,6 +1,6 @@
--- Instances of axioms are true, whatever their variables and type parameters stand for.
+-- Instances of axioms are true for all values of their variables and all types of their type parameters.
 use Rattle.std.proofs.Common.{◌≡◌, List, Bool, true, false, ◌||◌, refl, sym, ap, ◌∙◌, subst}
-use Rattle.pv_base.proofs.TruthValues.{true_is}
+use Rattle.base.proofs.TruthValues.{true_is}
 use Rattle.fol.specs.declared.shapes.Shape.{Shape}
 use Rattle.fol.specs.FormulaData.{FormulaData}
 use Rattle.fol.specs.Val.{Val, same_value, same_value_itself}

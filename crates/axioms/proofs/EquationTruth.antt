@@ -1,4 +1,4 @@
--- The two terms of an axiom on equations have one value.
+-- The two terms of an axiom on equations have equal values.
 use Rattle.std.proofs.Common.{◌≡◌, ℕ, ℤ, pos, negsuc, ◌+ℤ◌, ◌*ℤ◌, List, length, sym, ap, ◌∙◌, arith}
 use Rattle.std.proofs.lemmas.Int.{ints}
 use Rattle.std.proofs.lemmas.List.{length-set}
@@ -12,7 +12,7 @@ use Rattle.axioms.specs.Equations.{IsEquation}
 use Rattle.axioms.proofs.Memories.{select_stored}
 use Rattle.axioms.proofs.Vectors.{items_of_vector, len_push, at_pushed}
 
--- replacing an item keeps the length
+-- replacing an item does not change the length
 len_set : (v i x : Val) → len_value (set_value v i x) ≡ len_value v
 len_set v (NumberValue (pos n)) x =
     ap (λ (ys : List Val). NumberValue (pos (length ys))) (items_of_vector _) ∙ ap (λ (k : ℕ). NumberValue (pos k)) (length-set (items_of v) n x)
@@ -33,7 +33,7 @@ mul_by_zero : (a : ℤ) → a *ℤ pos 0 ≡ pos 0
 mul_by_zero a = grind (arith, ints)
 
 module _ (m : Interpretation) (s : Assignment) where
-  -- the value of a term that is known to be another one
+  -- equal terms have equal values
   abbrev at : {l t : TermData} → l ≡ t → value_of m l s ≡ value_of m t s
   at e = ap (λ x. value_of m x s) e
 

@@ -1,10 +1,10 @@
--- The axioms that state that two formulas are true together are so.
+-- The axioms that state an equivalence are true.
 use Rattle.std.proofs.Common.{◌≡◌, ℕ, ◌-◌, ◌^◌, ◌<◌, pos, negsuc, List, [], ◌∷◌, Some, Bool, true, false, not, ◌&&◌, ◌||◌, refl, ap, ◌∙◌, subst, arith}
 use Rattle.std.specs.Prelude.{nat_lt, nat_le}
 use Rattle.std.proofs.lemmas.Bool.Decides.{nat_tests}
-use Rattle.pv_base.specs.TypeData.{TypeData, BoolType, IntType, NumType, AddressType, SignerType, VectorType, StructType, ParamType, SharedType, MutableType, TupleType}
-use Rattle.pv_base.specs.declared.types.Width.{Width}
-use Rattle.pv_base.specs.declared.types.Width.TheVariants.{U8, U16, U32, U64, U128}
+use Rattle.base.specs.TypeData.{TypeData, BoolType, IntType, NumType, AddressType, SignerType, VectorType, StructType, ParamType, SharedType, MutableType, TupleType}
+use Rattle.base.specs.declared.types.Width.{Width}
+use Rattle.base.specs.declared.types.Width.TheVariants.{U8, U16, U32, U64, U128}
 use Rattle.fol.specs.declared.shapes.Shape.{Shape}
 use Rattle.fol.specs.FormulaData.{TermData, NumTerm, MaxTerm, FormulaData, IsFormula, LeFormula, AllOfFormula, IffFormula, formulas_of}
 use Rattle.fol.specs.Val.{Val, NumberValue, TruthValue, NothingValue, VectorValue, StructValue, MemoryValue, same_value, same_value-equal, same_value_itself}
@@ -97,7 +97,7 @@ differs : (v w : Val) → (v ≡ w → ⊥) → (b : Bool) → same_value v w �
 differs v w none true e = absurd (none (same_value-equal v w e))
 differs v w none false e = refl
 
--- what is neither truth value
+-- a value other than both truth values
 neither : (v : Val) → (v ≡ TruthValue true → ⊥) → (v ≡ TruthValue false → ⊥) → not (same_value v (TruthValue true) || (same_value v (TruthValue false) || false)) ≡ true
 neither v f g =
     let one = differs v (TruthValue true) f (same_value v (TruthValue true)) refl in

@@ -1,9 +1,9 @@
--- The two terms of an axiom with an exception have one value where the exception is false.
+-- The two terms of an axiom with an exception have equal values if the exception is false.
 use Rattle.std.proofs.Common.{◌≡◌, ℕ, ◌+◌, ◌<◌, pos, negsuc, ◌-ℤ◌, false, sym, ap, ◌∙◌, subst, arith}
 use Rattle.std.specs.Prelude.{int_le}
 use Rattle.std.proofs.lemmas.Int.{ints}
 use Rattle.std.proofs.lemmas.Bool.Decides.{nat_tests}
-use Rattle.pv_base.proofs.TruthValues.{apart}
+use Rattle.base.proofs.TruthValues.{apart}
 use Rattle.fol.specs.FormulaData.{TermData, FormulaData}
 use Rattle.fol.specs.Val.{Val, NumberValue, TruthValue, NothingValue, VectorValue, StructValue, MemoryValue, same_value, same_value_itself}
 use Rattle.fol.specs.Operators.{items_of, entries_of, at_value, set_value, at_most}
@@ -14,7 +14,7 @@ use Rattle.axioms.specs.Exceptions.{IsException}
 use Rattle.axioms.proofs.Memories.{select_other}
 use Rattle.axioms.proofs.Vectors.{at_vector, len_pop, at_other_pushed, at_popped, at_other_set}
 
--- values that the test tells apart
+-- values for which the test is false differ
 differ : (v w : Val) → same_value v w ≡ false → v ≡ w → ⊥
 differ v w d e = apart (same_value v w) (ap (same_value v) (sym e) ∙ same_value_itself v) d
 
@@ -27,7 +27,7 @@ before_last n i h k e = go (subst (λ (j : Val). at_most (NumberValue (pos n -�
     go : int_le (pos n -ℤ pos 1) (pos k) ≡ false → k + 1 < n
     go f = grind (arith, ints)
 
--- another item than the one that was put at a place
+-- an item other than the one that was written at an index
 at_other : (v i j x : Val) → (i ≡ j → ⊥) → at_value (set_value v i x) j ≡ at_value v j
 at_other v (NumberValue (pos n)) j x other =
     at_other_set (items_of v) x n j (λ e. other (sym e)) ∙ at_vector v j

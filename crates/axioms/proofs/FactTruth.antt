@@ -1,12 +1,12 @@
--- The axioms of other shapes are true.
+-- The axioms of other forms are true.
 use Rattle.std.proofs.Common.{◌≡◌, ℕ, zero, suc, ◌-◌, ◌*◌, ◌%◌, ◌^◌, ◌<◌, ℤ, pos, negsuc, ◌+ℤ◌, ◌-ℤ◌, ◌*ℤ◌, List, length, lit<, cond, Bool, true, false, not, ◌&&◌, refl, sym, ap, ◌∙◌, subst, arith}
 use Rattle.std.specs.Prelude.{int_le, nat_lt, nat_le}
 use Rattle.std.proofs.lemmas.Int.{ints}
 use Rattle.std.proofs.lemmas.Bool.Decides.{nat_tests}
-use Rattle.pv_base.proofs.TruthValues.{true_both, true_not}
-use Rattle.pv_base.specs.TypeData.{TypeData, BoolType, IntType, NumType, AddressType, SignerType, VectorType, StructType, ParamType, SharedType, MutableType, TupleType}
-use Rattle.pv_base.specs.declared.types.Width.{Width}
-use Rattle.pv_base.specs.declared.types.Width.TheVariants.{U8, U16, U32, U64, U128}
+use Rattle.base.proofs.TruthValues.{true_both, true_not}
+use Rattle.base.specs.TypeData.{TypeData, BoolType, IntType, NumType, AddressType, SignerType, VectorType, StructType, ParamType, SharedType, MutableType, TupleType}
+use Rattle.base.specs.declared.types.Width.{Width}
+use Rattle.base.specs.declared.types.Width.TheVariants.{U8, U16, U32, U64, U128}
 use Rattle.fol.specs.declared.shapes.Shape.{Shape}
 use Rattle.fol.specs.declared.operators.Binary.TheVariants.{Add, And, Div, Mod, Mul, Or, Shl, Shr, Sub, Xor}
 use Rattle.fol.specs.declared.operators.Constant.{Constant}

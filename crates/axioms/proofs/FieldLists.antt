@@ -3,8 +3,8 @@ use Rattle.std.proofs.Common.{◌≡◌, ◌↔◌, ℕ, ◌+◌, ◌<◌, List,
 use Rattle.std.specs.Prelude.{IsTrue}
 use Rattle.std.proofs.lemmas.Bool.{cases_lt}
 use Rattle.std.proofs.lemmas.List.{get_or_default}
-use Rattle.pv_base.proofs.TruthValues.{fails, not_true, true_is}
-use Rattle.pv_base.specs.TypeData.{TypeData}
+use Rattle.base.proofs.TruthValues.{fails, not_true, true_is}
+use Rattle.base.specs.TypeData.{TypeData}
 use Rattle.fol.specs.FormulaData.{TermData, TermsData, PackTerm, FormulaData, terms_of, terms_of_injective}
 use Rattle.fol.specs.declared.shapes.Shape.{Shape}
 use Rattle.axioms.specs.Fields.{HasFields}
@@ -35,7 +35,7 @@ terms_inside : {a b : TypeData} {ts us : TermsData} → PackTerm a ts ≡ PackTe
 terms_inside e = cc
 
 module _ (shapes : List Shape) (a : TypeData) (k : ℕ) (t : TermData) where
-  -- a struct with such a field, from how it is stored
+  -- a struct with such a field, in the form in which it is stored
   pub pack_stored : (packed : TermData) (xs : List TermData) (b : Bool) → PackTerm a (terms_of xs) ≡ packed → IsTrue b ↔ (HasFields shapes a (length xs) × (slice_get xs k ≡ Some t)) → IsTrue b ↔ ((ts : List TermData) × HasFields shapes a (length ts) × (slice_get ts k ≡ Some t) × (packed ≡ PackTerm a (terms_of ts)))
   pack_stored packed xs b stored test = (
     λ h. let both = test.0 h in (xs, both.0, both.1, sym stored),

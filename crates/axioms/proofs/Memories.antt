@@ -1,4 +1,4 @@
--- What a memory holds after a value was stored.
+-- The contents of a memory after a store.
 use Rattle.std.proofs.Common.{◌≡◌, Bool, true, false, cond, refl, sym, ap, ◌∙◌}
 use Rattle.std.specs.declared.cmp.Ordering.{Ordering}
 use Rattle.std.specs.declared.cmp.Ordering.TheVariants.{Less, Equal, Greater}
@@ -7,11 +7,11 @@ use Rattle.std.proofs.lemmas.Cmp.{tied_itself}
 use Rattle.fol.specs.Val.{Val, MemoryValue, Entries, NoEntries, MoreEntries, same_value, same_value-equal, same_value_itself, compare_values, compare_values_total, compare_values-equal}
 use Rattle.fol.specs.Operators.{entries_of, select_value, store_value}
 
--- the entries after a value was stored
+-- the entries after a store
 abbrev stored : Entries → Val → Val → Entries
 stored es k v = entries_of (store_value (MemoryValue es) k v)
 
--- keys that do not tie are told apart
+-- keys that do not compare as equal differ
 not_tied : (k l : Val) (o : Ordering) → compare_values k l ≡ o → (o ≡ Equal → ⊥) → (b : Bool) → same_value k l ≡ b → b ≡ false
 not_tied k l o e none true t =
     absurd (none (sym e ∙ ap (compare_values k) (sym (same_value-equal k l t)) ∙ tied_itself compare_values_total k))

@@ -4,9 +4,9 @@ use Rattle.std.specs.Prelude.{int_le, nat_lt, nat_le, bit_and, bit_or, bit_xor}
 use Rattle.std.proofs.lemmas.Bool.Decides.{nat_tests}
 use Rattle.std.proofs.lemmas.List.{length-set, length-append, length-take-le}
 use Rattle.std.proofs.lemmas.Nat.{and_le_l, or_lt, xor_lt}
-use Rattle.pv_base.proofs.TruthValues.{both_true, true_both, or_true}
-use Rattle.pv_base.specs.TypeData.{TypeData, IntType, NumType, VectorType}
-use Rattle.pv_base.specs.declared.types.Width.{Width}
+use Rattle.base.proofs.TruthValues.{both_true, true_both, or_true}
+use Rattle.base.specs.TypeData.{TypeData, IntType, NumType, VectorType}
+use Rattle.base.specs.declared.types.Width.{Width}
 use Rattle.fol.specs.declared.shapes.Shape.{Shape}
 use Rattle.fol.specs.declared.operators.Binary.{Binary}
 use Rattle.fol.specs.declared.operators.Binary.TheVariants.{And, Or, Xor}
@@ -28,7 +28,7 @@ implied false b h = refl
 -- ---- vectors of a type
 
 module _ (shapes : List Shape) (t : TypeData) where
-  -- there are few enough items, and each has the type
+  -- the items are few enough, and each has the type
   pub record Typed (xs : List Val) : Type 0 where
     pub few : nat_le (length xs) most_items ≡ true
     pub each : all_have_type shapes t (values_of xs) ≡ true

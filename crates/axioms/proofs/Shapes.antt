@@ -1,7 +1,7 @@
 -- The shape of a struct, by a walk along the shapes.
 use Rattle.std.proofs.Common.{◌≡◌, ℕ, ◌+◌, ◌<◌, List, length, get_or, drop, Some, cond, Bool, true, false, refl, sym, ap, ◌∙◌, add-one, drop-cons}
-use Rattle.pv_base.specs.TypeData.{TypeData, types_of, list_of_types, list_of_types-types_of, struct_code, struct_back, struct_back-code}
-use Rattle.pv_base.specs.declared.types.StructId.{StructId}
+use Rattle.base.specs.TypeData.{TypeData, types_of, list_of_types, list_of_types-types_of, struct_code, struct_back, struct_back-code}
+use Rattle.base.specs.declared.types.StructId.{StructId}
 use Rattle.fol.specs.TreeOrder.{same_tree-equal, same_tree_itself}
 use Rattle.fol.specs.declared.shapes.Shape.{Shape}
 use Rattle.fol.specs.TypedValue.{same_struct}

@@ -2,9 +2,9 @@
 use Rattle.std.proofs.Common.{◌≡◌, ◌≢◌, ℕ, zero, suc, ◌<◌, List, [], ◌∷◌, length, map, get_or, set, Option, Some, None, slice_get, cond, Bool, true, false, ◌&&◌, ◌==◌, refl, sym, ap, ◌∙◌, subst, arith}
 use Rattle.std.proofs.lemmas.List.{get_or-set_same, get_or-set_other, ext_get_or}
 use Rattle.std.proofs.lemmas.Bool.{eq-eqb}
-use Rattle.pv_base.proofs.TruthValues.{both_true}
-use Rattle.pv_base.specs.TypeData.{TypeData, TypesData, BoolType, IntType, NumType, AddressType, SignerType, VectorType, StructType, ParamType, SharedType, MutableType, TupleType, NoTypes, MoreTypes, list_of_types}
-use Rattle.pv_base.specs.declared.types.StructId.{StructId}
+use Rattle.base.proofs.TruthValues.{both_true}
+use Rattle.base.specs.TypeData.{TypeData, TypesData, BoolType, IntType, NumType, AddressType, SignerType, VectorType, StructType, ParamType, SharedType, MutableType, TupleType, NoTypes, MoreTypes, list_of_types}
+use Rattle.base.specs.declared.types.StructId.{StructId}
 use Rattle.fol.specs.declared.shapes.Shape.{Shape}
 use Rattle.fol.specs.FormulaData.{TermData, FormulaData, terms_of, formulas_of}
 use Rattle.fol.specs.Val.{Val, NumberValue, TruthValue, NothingValue, VectorValue, StructValue, MemoryValue, Vals, NoValues, MoreValues, values_of, list_of_values, list_of_values-values_of, values_of-list_of_values, same_value, same_value_itself, same_type, same_type-equal, same_type_itself}
@@ -46,7 +46,7 @@ module _ (named : ℕ → TypeData) where
   put_argument (MoreTypes b args) (suc n) a d e = put_argument args n a d e
 
   mutual
-    -- type arguments first, and then what type parameters name
+    -- the substitution of the type arguments, and then of the types of the type parameters
     put_twice : (args : TypesData) (f a : TypeData) → IsPut (list_of_types args) f a → put_types named a ≡ put_types (argument (put_types_in named args)) f
     put_twice args (ParamType n) a h = put_argument args n a (ParamType n) h
     put_twice args (VectorType f) (VectorType a) h = ap VectorType (put_twice args f a h)
@@ -75,7 +75,7 @@ some_and None test = false
 some_and (Some x) test = test x
 
 module _ (shapes : List Shape) where
-  -- a value of a struct type is a struct of it with its fields
+  -- a value of a struct type is a struct of that type with its fields
   pub record Fields (a : TypeData) (types : List TypeData) (v : Val) : Type 0 where
     pub values : Vals
     pub is : v ≡ StructValue a values
@@ -156,7 +156,7 @@ module _ (m : Interpretation) (s : Assignment) where
   values_length [] = refl
   values_length (t ∷ ts) = ap suc (values_length ts)
 
-  -- the struct that the type is one of, where type parameters have their meaning
+  -- the struct of the type, under the types of the type parameters
   pub record Met (a : TypeData) (shape : Shape) (args : TypesData) : Type 0 where
     pub name : StructId
     pub is : put_types m.named a ≡ StructType name (put_types_in m.named args)
@@ -181,7 +181,7 @@ module _ (m : Interpretation) (s : Assignment) where
   fields_count a shape args v in' =
       types_length m.shapes _ in'.values in'.typed ∙ map_length (put_types (argument (put_types_in m.named args))) (list_of_types shape.fields)
 
-  -- each part of a struct's type holds where the part's formula does
+  -- each part of a struct has its type exactly when the part's formula is true
   parts_alike : (args : TypesData) (fields : List TypeData) (ts : List TermData) (ps : List FormulaData) → length ts ≡ length fields → length ps ≡ length fields → ((k : ℕ) (f : TypeData) (t : TermData) (p : FormulaData) → k < length fields → IsFieldTyped (list_of_types args) (get_or fields k f) (get_or ts k t) (get_or ps k p)) → have_types m.shapes (map (put_types (argument (put_types_in m.named args))) fields) (values_of_terms m (terms_of ts) s) ≡ all_true m (formulas_of ps) s
   parts_alike args [] [] [] e g h = refl
   parts_alike args [] (t ∷ ts) ps e g h = absurd (omega arith)

@@ -1,4 +1,4 @@
--- What the operators of vectors give at lists of items.
+-- The values of the operators of vectors at lists of items.
 use Rattle.std.proofs.Common.{◌≡◌, ℕ, ◌+◌, ◌-◌, ◌<◌, ◌≤◌, pos, negsuc, ◌+ℤ◌, ◌-ℤ◌, List, [], ◌∷◌, ◌++◌, length, take, get_or, set, refl, sym, ap, ◌∙◌, arith, inl, inr}
 use Rattle.std.proofs.lemmas.Int.{ints}
 use Rattle.std.proofs.lemmas.List.{length-append, length-take-le, get_or_append_left, get_or_past, get_or_push, get_or-set_same, get_or-set_other, get_or-take, ext_get_or}
@@ -6,7 +6,7 @@ use Rattle.std.proofs.lemmas.Bool.{cases_lt}
 use Rattle.fol.specs.Val.{Val, NumberValue, TruthValue, NothingValue, VectorValue, StructValue, MemoryValue, Vals, values_of, list_of_values, list_of_values-values_of, values_of-list_of_values}
 use Rattle.fol.specs.Operators.{items_of, vector_of, at_value}
 
--- a vector's items
+-- the items of a vector
 pub items_of_vector : (xs : List Val) → items_of (vector_of xs) ≡ xs
 items_of_vector xs = list_of_values-values_of xs
 
@@ -22,7 +22,7 @@ len_pop xs h =
 
 -- ---- items
 
--- an item beyond the end, or of what is no number, is Nothing
+-- the item at an index beyond the end, or at a value that is no number, is Nothing
 pub at_items : (xs ys : List Val) (i : Val) → ((n : ℕ) → i ≡ NumberValue (pos n) → get_or xs n NothingValue ≡ get_or ys n NothingValue) → at_value (vector_of xs) i ≡ at_value (vector_of ys) i
 at_items xs ys (NumberValue (pos n)) h =
     ap (λ (zs : List Val). get_or zs n NothingValue) (items_of_vector xs) ∙ h n refl ∙ sym (ap (λ (zs : List Val). get_or zs n NothingValue) (items_of_vector ys))
@@ -33,7 +33,7 @@ at_items xs ys (VectorValue vs) h = refl
 at_items xs ys (StructValue t vs) h = refl
 at_items xs ys (MemoryValue es) h = refl
 
--- the item at a place hangs on the items alone
+-- the item at an index depends on the items alone
 pub at_vector : (v i : Val) → at_value (vector_of (items_of v)) i ≡ at_value v i
 at_vector v (NumberValue (pos n)) = ap (λ (zs : List Val). get_or zs n NothingValue) (items_of_vector (items_of v))
 at_vector v (NumberValue (negsuc n)) = refl
@@ -47,7 +47,7 @@ pub at_pushed : (xs : List Val) (x : Val) → at_value (vector_of (xs ++ x ∷ [
 at_pushed xs x =
     ap (λ (zs : List Val). get_or zs (length xs) NothingValue) (items_of_vector (xs ++ x ∷ [])) ∙ get_or_push xs x NothingValue (length xs) refl
 
--- the items before the one that was put at the end
+-- the items before the one that was pushed at the end
 pub at_other_pushed : (xs : List Val) (x i : Val) → (i ≡ NumberValue (pos (length xs)) → ⊥) → at_value (vector_of (xs ++ x ∷ [])) i ≡ at_value (vector_of xs) i
 at_other_pushed xs x i other = at_items (xs ++ x ∷ []) xs i (λ n e. go n (λ f. other (e ∙ ap (λ k. NumberValue (pos k)) f)))
   where
@@ -57,12 +57,12 @@ at_other_pushed xs x i other = at_items (xs ++ x ∷ []) xs i (λ n e. go n (λ 
       | inr h ↦ (let long : length (xs ++ x ∷ []) ≤ n = (let e : length (xs ++ x ∷ []) ≡ length xs + 1 = length-append xs (x ∷ []) in omega arith) in get_or_past (xs ++ x ∷ []) n NothingValue long ∙ sym (get_or_past xs n NothingValue h))
     ]
 
--- the items before the one that was taken from the end
+-- the items before the one that was popped from the end
 pub at_popped : (xs : List Val) (i : Val) → ((n : ℕ) → i ≡ NumberValue (pos n) → n + 1 < length xs) → at_value (vector_of (take (length xs - 1) xs)) i ≡ at_value (vector_of xs) i
 at_popped xs i within =
     at_items (take (length xs - 1) xs) xs i (λ n e. let h : n + 1 < length xs = within n e in get_or-take (length xs - 1) xs n NothingValue (omega arith))
 
--- the item that was put at a place, and the others
+-- the item that was written at an index, and the others
 pub at_set : (xs : List Val) (x : Val) (n : ℕ) → n < length xs → at_value (vector_of (set xs n x)) (NumberValue (pos n)) ≡ x
 at_set xs x n h =
     ap (λ (zs : List Val). get_or zs n NothingValue) (items_of_vector (set xs n x)) ∙ get_or-set_same xs n x NothingValue h

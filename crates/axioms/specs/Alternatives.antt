@@ -1,13 +1,13 @@
 -- The axioms that state that some of the formulas cs is true.
 use Rattle.std.specs.Prelude.{◌≡◌, ℕ, false, List, [], ◌∷◌}
-use Rattle.pv_base.specs.TypeData.{TypeData}
+use Rattle.base.specs.TypeData.{TypeData}
 use Rattle.fol.specs.FormulaData.{TermData, VarTerm, LenTerm, SubTerm, AtTerm, SetTerm, IfTerm, FormulaData, EqFormula, LeFormula, NotFormula, AllOfFormula, ExistsFormula, NoTriggers, formulas_of}
 use Rattle.substitution.specs.Free.{free_in_term}
 use Rattle.axioms.specs.declared.axiom.Alternative.{Alternative}
 use Rattle.axioms.specs.declared.axiom.Alternative.TheVariants.{AtSet, SameItems, Choice, Trichotomy}
 use Rattle.axioms.specs.Forms.{number, LessFormula, DifferFormula, WholeFormula, VectorFormula}
 
--- some i is a place of v at which v and w differ
+-- some i is an index of v at which v and w differ
 abbrev pub DifferAtFormula : ℕ → TermData → TermData → FormulaData
 DifferAtFormula i v w =
     ExistsFormula i NoTriggers (AllOfFormula (formulas_of (LeFormula (number 0) (VarTerm i) ∷ LessFormula (VarTerm i) (LenTerm v) ∷ DifferFormula (AtTerm v (VarTerm i)) (AtTerm w (VarTerm i)) ∷ [])))

@@ -1,8 +1,8 @@
--- The codes by which the logic stores the names of axioms: each as two numbers, and back.
+-- The codes by which the logic stores the names of axioms, as pairs of numbers, and the inverse maps.
 use base.Stored.{Gv, gnum, gcons, num}
 use Rattle.std.specs.Prelude.{◌≡◌, ℕ, [], ◌∷◌, refl}
 use Rattle.std.proofs.Common.{ap}
-use Rattle.pv_base.specs.Codes.{pick}
+use Rattle.base.specs.Codes.{pick}
 use Rattle.fol.specs.OperatorCodes.{head, tail}
 use Rattle.axioms.specs.declared.axiom.Axiom.{Axiom}
 use Rattle.axioms.specs.declared.axiom.Axiom.TheVariants.{Equal, EqualUnless, Cases, Implied, Exactly, Plain, OfStruct}

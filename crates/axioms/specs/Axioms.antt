@@ -1,4 +1,4 @@
--- When a formula is an instance of an axiom, over these shapes of structs.
+-- The instances of the axioms, over these shapes of structs.
 use Rattle.std.specs.Prelude.{◌≡◌, List, [], ◌∷◌}
 use Rattle.fol.specs.declared.shapes.Shape.{Shape}
 use Rattle.fol.specs.FormulaData.{TermData, FormulaData, EqFormula, AnyOfFormula, ImpliesFormula, IffFormula, formulas_of}

@@ -1,7 +1,7 @@
--- The axioms that state that the formulas p and q are true together.
+-- The axioms that state that the formulas p and q are equivalent.
 use Rattle.std.specs.Prelude.{◌≡◌, ◌-◌, ◌^◌, [], ◌∷◌, Option, Some, None, pos}
-use Rattle.pv_base.specs.TypeData.{TypeData, BoolType, IntType, NumType, AddressType, SignerType, VectorType, StructType, ParamType, SharedType, MutableType, TupleType}
-use Rattle.pv_base.specs.declared.types.Width.TheVariants.{U8, U16, U32, U64, U128}
+use Rattle.base.specs.TypeData.{TypeData, BoolType, IntType, NumType, AddressType, SignerType, VectorType, StructType, ParamType, SharedType, MutableType, TupleType}
+use Rattle.base.specs.declared.types.Width.TheVariants.{U8, U16, U32, U64, U128}
 use Rattle.fol.specs.FormulaData.{TermData, NumTerm, MaxTerm, TrueTerm, FalseTerm, FormulaData, EqFormula, LeFormula, IsFormula, AllOfFormula, AnyOfFormula, formulas_of}
 use Rattle.axioms.specs.declared.axiom.Equivalence.{Equivalence}
 use Rattle.axioms.specs.declared.axiom.Equivalence.TheVariants.{Range, BoolTyped}

@@ -1,7 +1,7 @@
--- The axioms of other shapes.
+-- The axioms of other forms.
 use Rattle.std.specs.Prelude.{◌≡◌, ◌^◌, ◌≤◌, ◌≤ℤ◌, pos, [], ◌∷◌}
-use Rattle.pv_base.specs.TypeData.{TypeData, IntType}
-use Rattle.pv_base.specs.declared.types.Width.{Width}
+use Rattle.base.specs.TypeData.{TypeData, IntType}
+use Rattle.base.specs.declared.types.Width.{Width}
 use Rattle.fol.specs.declared.operators.Binary.{Binary}
 use Rattle.fol.specs.declared.operators.Binary.TheVariants.{Add, And, At, Div, Mod, Mul, Or, Push, Select, Shl, Shr, Sub, Xor}
 use Rattle.fol.specs.declared.operators.Constant.{Constant}
@@ -13,7 +13,7 @@ use Rattle.axioms.specs.declared.axiom.Fact.{Fact}
 use Rattle.axioms.specs.declared.axiom.Fact.TheVariants.{LenFromZero, QuotientBounds, MaxBound, Whole, EmptyTyped, ShlTyped, NothingUntyped, TruthsDiffer, TrueHolds, FalseFails, NothingFails}
 use Rattle.axioms.specs.Forms.{number, DifferFormula, WholeFormula, VectorFormula}
 
--- whether a constant is a number that an axiom says to be whole
+-- whether an axiom states that the constant is a whole number
 abbrev IsWholeConstant : Constant → Type 0
 IsWholeConstant (Num i) = Unit {0}
 IsWholeConstant Max = Unit {0}
@@ -28,7 +28,7 @@ abbrev CountsItems : Unary → Type 0
 CountsItems Len = Unit {0}
 CountsItems Pop = ⊥
 
--- whether an operator is one of arithmetic or of bits
+-- whether an operator is arithmetic or bitwise
 abbrev IsArithmetic : Binary → Type 0
 IsArithmetic Add = Unit {0}
 IsArithmetic Sub = Unit {0}

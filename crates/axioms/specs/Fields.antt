@@ -1,7 +1,7 @@
 -- The fields of struct types, by the shapes of structs.
 use Rattle.std.specs.Prelude.{◌≡◌, ℕ, ◌<◌, List, [], ◌∷◌, length, slice_get, Option, Some, None, if◌then◌else◌}
-use Rattle.pv_base.specs.TypeData.{TypeData, TypesData, BoolType, IntType, NumType, AddressType, SignerType, VectorType, StructType, ParamType, SharedType, MutableType, TupleType, NoTypes, MoreTypes, list_of_types}
-use Rattle.pv_base.specs.declared.types.StructId.{StructId}
+use Rattle.base.specs.TypeData.{TypeData, TypesData, BoolType, IntType, NumType, AddressType, SignerType, VectorType, StructType, ParamType, SharedType, MutableType, TupleType, NoTypes, MoreTypes, list_of_types}
+use Rattle.base.specs.declared.types.StructId.{StructId}
 use Rattle.fol.specs.declared.shapes.Shape.{Shape}
 use Rattle.fol.specs.TypedValue.{same_struct}
 
@@ -26,7 +26,7 @@ HasField shapes a k =
     (shape : Shape) × (args : TypesData) × IsStruct shapes a shape args × (k < length (list_of_types shape.fields))
 
 abbrev mutual
-  -- b is the type a with type arguments in place of its type parameters, each of which has one
+  -- b is the type a with type arguments substituted for its type parameters, each of which has one
   pub IsPut : List TypeData → TypeData → TypeData → Type 0
   IsPut args (ParamType n) b = slice_get args n ≡ Some b
   IsPut args (VectorType a) (VectorType b) = IsPut args a b

@@ -1,6 +1,6 @@
--- Forms of terms and formulas that axioms are stated in.
+-- The forms of terms and formulas in axioms.
 use Rattle.std.specs.Prelude.{ℕ, pos}
-use Rattle.pv_base.specs.TypeData.{TypeData, NumType, VectorType}
+use Rattle.base.specs.TypeData.{TypeData, NumType, VectorType}
 use Rattle.fol.specs.FormulaData.{TermData, NumTerm, FormulaData, EqFormula, LeFormula, IsFormula, NotFormula}
 
 -- the numeral of a whole number from 0

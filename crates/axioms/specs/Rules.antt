@@ -1,7 +1,7 @@
 -- The axioms that state that the formula p implies q.
 use Rattle.std.specs.Prelude.{◌≡◌, ℕ, ◌-◌, ◌^◌, [], ◌∷◌}
-use Rattle.pv_base.specs.TypeData.{TypeData, IntType}
-use Rattle.pv_base.specs.declared.types.Width.{Width}
+use Rattle.base.specs.TypeData.{TypeData, IntType}
+use Rattle.base.specs.declared.types.Width.{Width}
 use Rattle.fol.specs.declared.operators.Binary.{Binary}
 use Rattle.fol.specs.declared.operators.Binary.TheVariants.{Add, And, At, Div, Mod, Mul, Or, Push, Select, Shl, Shr, Sub, Xor}
 use Rattle.fol.specs.FormulaData.{TermData, BinaryTerm, LenTerm, PopTerm, AtTerm, PushTerm, SetTerm, ShrTerm, FormulaData, LeFormula, IsFormula, NotFormula, AllOfFormula, AnyOfFormula, formulas_of}
@@ -9,7 +9,7 @@ use Rattle.axioms.specs.declared.axiom.Rule.{Rule}
 use Rattle.axioms.specs.declared.axiom.Rule.TheVariants.{ItemTyped, LenBounded, SetTyped, PushTyped, PopTyped, BitsTyped, ShrTyped}
 use Rattle.axioms.specs.Forms.{number, LessFormula, WholeFormula, VectorFormula}
 
--- the operators of two terms bit by bit
+-- the bitwise operators of two terms
 abbrev pub IsBitOperator : Binary → Type 0
 IsBitOperator And = Unit {0}
 IsBitOperator Or = Unit {0}

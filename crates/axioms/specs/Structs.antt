@@ -1,26 +1,26 @@
--- The axioms on struct types, whose fields their shapes tell. s is a struct type and k the number of a field.
+-- The axioms on struct types, whose fields are given by their shapes. s is a struct type and k the number of a field.
 use Rattle.std.specs.Prelude.{◌≡◌, ◌≢◌, ℕ, ◌<◌, List, [], ◌∷◌, length, slice_get, slice_index_or, Some}
-use Rattle.pv_base.specs.TypeData.{TypeData, TypesData, list_of_types}
+use Rattle.base.specs.TypeData.{TypeData, TypesData, list_of_types}
 use Rattle.fol.specs.declared.shapes.Shape.{Shape}
 use Rattle.fol.specs.FormulaData.{TermData, PackTerm, FieldTerm, SetFieldTerm, FormulaData, EqFormula, IsFormula, NotFormula, AllOfFormula, AnyOfFormula, ImpliesFormula, IffFormula, terms_of, formulas_of}
 use Rattle.axioms.specs.declared.axiom.StructAxiom.{StructAxiom}
 use Rattle.axioms.specs.declared.axiom.StructAxiom.TheVariants.{FieldOfPack, FieldSet, FieldOfOther, PackOfFields, PackTyped, FieldTyped}
 use Rattle.axioms.specs.Fields.{IsStruct, HasFields, HasField, HasFieldType, IsPut}
 
--- the terms are fields of t, in order, where it is a struct of type s
+-- the terms are the first fields of t, in order, as a struct of type s
 unfoldable pub AreFieldsOf : TypeData → TermData → List TermData → Type 0
 AreFieldsOf s t ts = (k : ℕ) (d : TermData) → k < length ts → slice_index_or ts k d ≡ FieldTerm s k t
 
--- the formula says that the term has the type f with the type arguments in place
+-- the formula states that the term has the type f with the type arguments substituted
 abbrev pub IsFieldTyped : List TypeData → TypeData → TermData → FormulaData → Type 0
 IsFieldTyped args f t p = (a : TypeData) × IsPut args f a × (p ≡ IsFormula a t)
 
--- there is a term and a formula for each type of a field, and the formula says that the term has it
+-- there is a term and a formula for each type of a field, and the formula states that the term has it
 unfoldable pub AreFieldsTyped : List TypeData → List TypeData → List TermData → List FormulaData → Type 0
 AreFieldsTyped args fields ts ps =
     (length ts ≡ length fields) × (length ps ≡ length fields) × ((k : ℕ) (f : TypeData) (t : TermData) (p : FormulaData) → k < length fields → IsFieldTyped args (slice_index_or fields k f) (slice_index_or ts k t) (slice_index_or ps k p))
 
--- s is the type of a struct, and the formulas say of the terms that they have the types of its fields
+-- s is the type of a struct, and the formulas state that the terms have the types of its fields
 unfoldable pub ArePartsTyped : List Shape → TypeData → List TermData → List FormulaData → Type 0
 ArePartsTyped shapes s ts ps =
     (shape : Shape) × (args : TypesData) × IsStruct shapes s shape args × AreFieldsTyped (list_of_types args) (list_of_types shape.fields) ts ps

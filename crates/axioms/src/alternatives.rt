@@ -1,21 +1,21 @@
-//! The axioms that state that some of a list of formulas is true.
+//! The axioms that state a disjunction.
 
 ghost use Rattle.std.specs.Prelude.{◌≡◌, ◌↔◌, ◌∷◌, [], ℕ, IsTrue, false};
 ghost use Rattle.fol.specs.FormulaData.{TermData, VarTerm, SubTerm, LenTerm, AtTerm, IfTerm, FormulaData, EqFormula, LeFormula, NotFormula, AllOfFormula, NoTriggers, triggers_of, formulas_of};
 ghost use Rattle.substitution.specs.Free.{free_in_term};
-ghost use Rattle.pv_base.specs.TypeData.{TypeData};
+ghost use Rattle.base.specs.TypeData.{TypeData};
 ghost use Rattle.axioms.specs.Forms.{number, LessFormula, DifferFormula, VectorFormula};
 ghost use Rattle.axioms.specs.Alternatives.{DifferAtFormula, IsAlternative};
 
 use crate::axiom::Alternative;
 use crate::forms::{is_compare, is_no_whole, is_numeral, is_outside, is_unary, is_untyped};
+use base::types::TypeNode;
 use fol::formula::{Formula, FormulaNode, Term, TermNode, Trigger};
 use fol::operators::{Binary, Comparison, Junction, Quantifier, Ternary, Unary};
 use fol::same::{same_formula, same_term};
-use pv_base::types::TypeNode;
 use substitution::free::is_free_in_term;
 
-/// Whether the axiom states that some of the formulas is true.
+/// Decides whether the axiom states that some of the formulas is true.
 pub fn are_alternative(name: Alternative, cases: &[Formula]) -> bool
     ensures { IsTrue result ↔ IsAlternative name cases.now }
 {
@@ -42,8 +42,8 @@ fn are_at_set(cases: &[Formula]) -> bool
     }
 }
 
-// Whether the terms are the item at a place of a vector to which it was put, and this item, and the
-// formulas say that the place is none of the vector.
+// Decides whether the terms are the item at an index where a vector was updated, and the new item, and the formulas
+// state that the index is out of range.
 fn is_at_set(below: &Formula, above: &Formula, other: &Formula, left: &Term, right: &Term) -> bool
     ensures { IsTrue result
         ↔ IsAlternative Alternative.AtSet (below.now ∷ above.now ∷ other.now ∷ EqFormula left.now right.now ∷ []) }
@@ -78,7 +78,7 @@ fn are_same_items(cases: &[Formula]) -> bool
     }
 }
 
-// Whether the formulas say that the terms are no vectors of one type.
+// Decides whether the formulas state that the terms are not both vectors of one type.
 fn are_no_vectors(first: &Formula, second: &Formula, left: &Term, right: &Term) -> bool
     ensures { IsTrue result
         ↔ ((a : TypeData) × (first.now ≡ NotFormula (VectorFormula a left.now)) × (second.now ≡ NotFormula (VectorFormula a right.now))) }
@@ -96,7 +96,7 @@ fn are_no_vectors(first: &Formula, second: &Formula, left: &Term, right: &Term) 
     }
 }
 
-// Whether the formula says that the lengths of the vectors differ.
+// Decides whether the formula states that the lengths of the vectors differ.
 fn is_other_len(formula: &Formula, left: &Term, right: &Term) -> bool
     ensures { IsTrue result ↔ (formula.now ≡ DifferFormula (LenTerm left.now) (LenTerm right.now)) }
 {
@@ -117,7 +117,8 @@ fn is_same_len(formula: &Formula, left: &Term, right: &Term) -> bool
     }
 }
 
-// Whether the formula says that the vectors differ at a place, by a variable that is free in neither.
+// Decides whether the formula states that the vectors differ at an index, for a bound variable that is free in
+// neither.
 fn is_differ_at(formula: &Formula, left: &Term, right: &Term) -> bool
     ensures { IsTrue result
         ↔ ((i : ℕ) × (free_in_term i left.now ≡ false) × (free_in_term i right.now ≡ false) × (formula.now ≡ DifferAtFormula i left.now right.now)) }
@@ -227,7 +228,7 @@ fn is_same_item(formula: &Formula, place: u32, left: &Term, right: &Term) -> boo
     }
 }
 
-// Whether the term is the item of the vector at the place that the variable names.
+// Decides whether the term is the item of the vector at the index given by the variable.
 fn is_item_at(term: &Term, vector: &Term, place: u32) -> bool
     ensures { IsTrue result ↔ (term.now ≡ AtTerm vector.now (VarTerm place)) }
 {
@@ -245,7 +246,7 @@ fn are_choice(cases: &[Formula]) -> bool
     cases.len() == 2 && are_both_choices(&cases[0], &cases[1])
 }
 
-// Whether the formulas are the two cases of a choice.
+// Decides whether the formulas are the two cases of a choice.
 #[tactic(auto, using(fol::specs::FormulaData::formulas_of_injective))]
 fn are_both_choices(first: &Formula, second: &Formula) -> bool
     ensures { IsTrue result
@@ -257,7 +258,7 @@ fn are_both_choices(first: &Formula, second: &Formula) -> bool
     }
 }
 
-// Whether the formulas are the parts of the first case of a choice, and its second case.
+// Decides whether the formulas are the parts of the first case of a choice, and its second case.
 #[tactic(auto, using(fol::specs::FormulaData::formulas_of_injective))]
 fn is_second_choice(yes: &[Formula], second: &Formula) -> bool
     ensures { IsTrue result
@@ -285,8 +286,8 @@ fn are_choice_parts(yes: &[Formula], no: &[Formula]) -> bool
     }
 }
 
-// Whether the term is a choice by the condition whose first branch is the other term, and the formulas
-// say that the condition is false and that the choice is its second branch.
+// Decides whether the term is a choice by the condition with the other term as its first branch, and the formulas
+// state that the condition is false and that the choice is equal to its second branch.
 fn is_choice(
     choice: &Term,
     condition: &Formula,
@@ -335,7 +336,7 @@ fn are_trichotomy(cases: &[Formula]) -> bool
     }
 }
 
-// Whether the formula says that the first term is at least 1 less than the second.
+// Decides whether the formula states that the first term is at most the second minus 1.
 fn is_less(formula: &Formula, lesser: &Term, greater: &Term) -> bool
     ensures { IsTrue result
         ↔ (formula.now ≡ LeFormula lesser.now (SubTerm greater.now (number 1))) }
@@ -348,7 +349,7 @@ fn is_less(formula: &Formula, lesser: &Term, greater: &Term) -> bool
     }
 }
 
-// Whether the term is another one less 1.
+// Decides whether the term is another one minus 1.
 fn is_predecessor(term: &Term, of: &Term) -> bool
     ensures { IsTrue result ↔ (term.now ≡ SubTerm of.now (number 1)) }
 {

@@ -1,4 +1,4 @@
-//! The names of the axioms, grouped by the shape of what they state.
+//! The names of the axioms, grouped by the form of their statements.
 
 /// An axiom.
 #[derive(Clone, Copy, Debug, PartialEq, Eq)]
@@ -11,36 +11,36 @@ pub enum Axiom {
     Cases(Alternative),
     /// One formula implies another.
     Implied(Rule),
-    /// Two formulas are true together.
+    /// Two formulas are equivalent.
     Exactly(Equivalence),
-    /// A formula of another shape.
+    /// A formula of another form.
     Plain(Fact),
     /// A formula on a struct type that has a shape.
     OfStruct(StructAxiom),
 }
 
-/// The axioms that state an equation of two terms.
+/// The axioms that state an equation between two terms.
 #[derive(Clone, Copy, Debug, PartialEq, Eq)]
 pub enum Equation {
-    /// A term is itself.
+    /// A term is equal to itself.
     Itself,
-    /// What a memory holds where a value was stored.
+    /// The value of a memory at the key where it was stored.
     SelectStored,
-    /// The memory without entries holds nothing.
+    /// The memory without entries has `Nothing` at each key.
     SelectBlank,
     /// The vector without items has length 0.
     LenEmpty,
     /// A vector with one more item is longer by 1.
     LenPush,
-    /// The item that was put at a vector's end.
+    /// The item that was pushed at a vector's end.
     AtPushed,
-    /// Replacing an item keeps the length.
+    /// Replacing an item does not change the length.
     LenSet,
-    /// What a quotient leaves.
+    /// The definition of the remainder.
     Remainder,
     /// The quotient by 0 is 0.
     DivByZero,
-    /// A product does not hang on the order of its factors.
+    /// Multiplication is commutative.
     MulTurned,
     /// A product with 1.
     MulByOne,
@@ -51,62 +51,61 @@ pub enum Equation {
 /// The axioms that state that two terms are equal unless a formula is true.
 #[derive(Clone, Copy, Debug, PartialEq, Eq)]
 pub enum Exception {
-    /// What a memory holds at another key than the one that was stored at.
+    /// The value of a memory at a key other than the one that was stored at.
     SelectOther,
-    /// The items before the one that was put at a vector's end.
+    /// The items before the one that was pushed at a vector's end.
     AtOtherPushed,
-    /// A vector without its last item is shorter by 1, unless it has none.
+    /// A vector without its last item is shorter by 1, unless it has no items.
     LenPopped,
-    /// The items before the one that was taken from a vector's end.
+    /// The items before the one that was popped from a vector's end.
     AtPopped,
-    /// Another item than the one that was replaced.
+    /// An item other than the one that was replaced.
     AtOtherSet,
 }
 
-/// The axioms that state that some of a list of formulas is true. The last one says what holds where
-/// those before it do not.
+/// The axioms that state a disjunction. The last disjunct holds when those before it do not.
 #[derive(Clone, Copy, Debug, PartialEq, Eq)]
 pub enum Alternative {
-    /// The item that was put at a place of a vector.
+    /// The item that was written at an index of a vector.
     AtSet,
-    /// Vectors of one type, of one length and with the same items are equal.
+    /// Vectors of one type, of one length and with the same items are equal (extensionality).
     SameItems,
-    /// What a choice between two terms is.
+    /// The value of a choice between two terms.
     Choice,
-    /// Of two whole numbers either they are equal or one of them is at least 1 less than the other.
+    /// Two whole numbers are equal, or one of them is at most the other minus 1.
     Trichotomy,
 }
 
 /// The axioms that state an implication.
 #[derive(Clone, Copy, Debug, PartialEq, Eq)]
 pub enum Rule {
-    /// The items of a vector have its items' type.
+    /// The items of a vector have its item type.
     ItemTyped,
     /// A vector has at most 2^64 - 1 items.
     LenBounded,
-    /// A vector keeps its type where an item of that type is put into it.
+    /// A vector keeps its type when an item of the item type is written into it.
     SetTyped,
-    /// A vector keeps its type where an item of that type is put at its end and there is room.
+    /// A vector keeps its type when an item of the item type is pushed and there is room.
     PushTyped,
-    /// A vector keeps its type without its last item.
+    /// A vector keeps its type when its last item is popped.
     PopTyped,
-    /// Operators on bits stay within the width of their parts.
+    /// Bitwise operators stay within the width of their operands.
     BitsTyped,
-    /// A shift to the right stays within the width.
+    /// A right shift stays within the width.
     ShrTyped,
 }
 
-/// The axioms that state that two formulas are true together.
+/// The axioms that state an equivalence.
 #[derive(Clone, Copy, Debug, PartialEq, Eq)]
 pub enum Equivalence {
-    /// A term has an integer type, or the type of addresses or signers, exactly where it is a whole
-    /// number from 0 to the greatest of the type.
+    /// A term has an integer type, or the type of addresses or signers, exactly when it is a whole number from 0 to
+    /// the greatest of the type.
     Range,
-    /// The truth values are `True` and `False`.
+    /// A term has the type of truth values exactly when it is `True` or `False`.
     BoolTyped,
 }
 
-/// The axioms of other shapes.
+/// The axioms of other forms.
 #[derive(Clone, Copy, Debug, PartialEq, Eq)]
 pub enum Fact {
     /// A length is at least 0.
@@ -115,11 +114,11 @@ pub enum Fact {
     QuotientBounds,
     /// The greatest `u128` is at least 2^126.
     MaxBound,
-    /// Numerals, lengths, arithmetic and operations on bits are whole numbers.
+    /// Numerals, lengths, and the results of arithmetic and bitwise operators are whole numbers.
     Whole,
-    /// The vector without items is one of every type of vectors.
+    /// The vector without items has every vector type.
     EmptyTyped,
-    /// A shift to the left stays within the width.
+    /// A left shift stays within the width.
     ShlTyped,
     /// `Nothing` has no type.
     NothingUntyped,
@@ -133,18 +132,18 @@ pub enum Fact {
     NothingFails,
 }
 
-/// The axioms on struct types, whose fields their shapes tell.
+/// The axioms on struct types, whose fields are given by their shapes.
 #[derive(Clone, Copy, Debug, PartialEq, Eq)]
 pub enum StructAxiom {
-    /// A field of a struct that was made of its fields.
+    /// A field of a struct that is packed from its fields.
     FieldOfPack,
     /// The field that was replaced.
     FieldSet,
-    /// Another field than the one that was replaced.
+    /// A field other than the one that was replaced.
     FieldOfOther,
-    /// A struct is made of its fields.
+    /// A struct is packed from its fields.
     PackOfFields,
-    /// A struct that is made of its fields has its type exactly where each field has its own.
+    /// A struct that is packed from its fields has its type exactly when each field has its own.
     PackTyped,
     /// A field of a struct has the field's type.
     FieldTyped,

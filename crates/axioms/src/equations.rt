@@ -11,7 +11,7 @@ use fol::formula::{Term, TermNode};
 use fol::operators::{Binary, Constant, Ternary, Unary};
 use fol::same::same_term;
 
-/// Whether the axiom states that the two terms are equal.
+/// Decides whether the axiom states that the two terms are equal.
 pub fn is_equation(name: Equation, left: &Term, right: &Term) -> bool
     ensures { IsTrue result ↔ IsEquation name left.now right.now }
 {
@@ -79,7 +79,7 @@ fn is_len_push(left: &Term, right: &Term) -> bool
     }
 }
 
-// Whether the term is the length of the vector and 1.
+// Decides whether the term is the length of the vector plus 1.
 fn is_next_len(term: &Term, vector: &Term) -> bool
     ensures { IsTrue result ↔ (term.now ≡ AddTerm (LenTerm vector.now) (number 1)) }
 {
@@ -126,7 +126,8 @@ fn is_remainder(left: &Term, right: &Term) -> bool
     }
 }
 
-// Whether the term is what the quotient of the two terms leaves.
+// Decides whether the term is the remainder of the two terms by its definition: the first minus the second times their
+// quotient.
 fn is_rest(term: &Term, whole: &Term, by: &Term) -> bool
     ensures { IsTrue result ↔ (term.now ≡ SubTerm whole.now (MulTerm by.now (DivTerm whole.now by.now))) }
 {

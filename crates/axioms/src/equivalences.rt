@@ -1,4 +1,4 @@
-//! The axioms that state that two formulas are true together.
+//! The axioms that state an equivalence.
 
 ghost use Rattle.std.specs.Prelude.{◌≡◌, ◌↔◌, ◌∷◌, [], IsTrue, Some};
 ghost use Rattle.fol.specs.FormulaData.{TermData, ConstantTerm, MaxTerm, TrueTerm, FalseTerm, EqFormula, LeFormula};
@@ -7,12 +7,12 @@ ghost use Rattle.axioms.specs.Equivalences.{greatest, IsEquivalence};
 
 use crate::axiom::Equivalence;
 use crate::forms::{is_constant, is_from_zero, is_numeral, is_whole};
+use base::types::{TypeNode, TypeTerm, Width};
 use fol::formula::{Formula, FormulaNode, Term};
 use fol::operators::{Comparison, Constant, Junction};
 use fol::same::same_term;
-use pv_base::types::{TypeNode, TypeTerm, Width};
 
-/// Whether the axiom states that the two formulas are true together.
+/// Decides whether the axiom states that the two formulas are equivalent.
 pub fn is_equivalence(name: Equivalence, left: &Formula, right: &Formula) -> bool
     ensures { IsTrue result ↔ IsEquivalence name left.now right.now }
 {
@@ -34,7 +34,7 @@ fn is_range(left: &Formula, right: &Formula) -> bool
     }
 }
 
-// Whether the formulas say that the term is a whole number from 0 to the greatest of the type.
+// Decides whether the formulas state that the term is a whole number from 0 to the greatest of the type.
 fn are_range(parts: &[Formula], of: &TypeTerm, term: &Term) -> bool
     ensures { IsTrue result
         ↔ ((most : TermData) × (greatest of.now ≡ Some most) × (parts.now ≡ WholeFormula term.now ∷ LeFormula (number 0) term.now ∷ LeFormula term.now most ∷ [])) }
@@ -45,7 +45,7 @@ fn are_range(parts: &[Formula], of: &TypeTerm, term: &Term) -> bool
         && is_up_to_greatest(&parts[2], term, of)
 }
 
-// Whether the formula says that the term is at most the greatest of the type.
+// Decides whether the formula states that the term is at most the greatest of the type.
 fn is_up_to_greatest(formula: &Formula, term: &Term, of: &TypeTerm) -> bool
     ensures { IsTrue result
         ↔ ((most : TermData) × (greatest of.now ≡ Some most) × (formula.now ≡ LeFormula term.now most)) }
@@ -58,7 +58,7 @@ fn is_up_to_greatest(formula: &Formula, term: &Term, of: &TypeTerm) -> bool
     }
 }
 
-// Whether the term is the greatest value of the type.
+// Decides whether the term is the greatest value of the type.
 fn is_greatest(term: &Term, of: &TypeTerm) -> bool
     ensures { IsTrue result ↔ (greatest of.now ≡ Some term.now) }
 {
@@ -90,7 +90,7 @@ fn is_bool_typed(left: &Formula, right: &Formula) -> bool
     }
 }
 
-// Whether the formulas say that the term is `True` and that it is `False`.
+// Decides whether the formulas state that the term is `True` and that it is `False`.
 fn are_truths(cases: &[Formula], term: &Term) -> bool
     ensures { IsTrue result ↔ (cases.now ≡ EqFormula term.now TrueTerm ∷ EqFormula term.now FalseTerm ∷ []) }
 {

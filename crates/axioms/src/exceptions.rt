@@ -11,7 +11,7 @@ use fol::formula::{Formula, FormulaNode, Term, TermNode};
 use fol::operators::{Binary, Comparison, Ternary, Unary};
 use fol::same::same_term;
 
-/// Whether the axiom states that the two terms are equal unless the formula is true.
+/// Decides whether the axiom states that the two terms are equal unless the formula is true.
 pub fn is_exception(name: Exception, unless: &Formula, left: &Term, right: &Term) -> bool
     ensures { IsTrue result ↔ IsException name unless.now left.now right.now }
 {
@@ -53,7 +53,7 @@ fn is_at_other_pushed(unless: &Formula, left: &Term, right: &Term) -> bool
     }
 }
 
-// Whether the formula says that the term is the length of the vector.
+// Decides whether the formula states that the term is the length of the vector.
 fn is_len(formula: &Formula, term: &Term, vector: &Term) -> bool
     ensures { IsTrue result ↔ (formula.now ≡ EqFormula term.now (LenTerm vector.now)) }
 {
@@ -79,7 +79,7 @@ fn is_len_popped(unless: &Formula, left: &Term, right: &Term) -> bool
     }
 }
 
-// Whether the formula says that the vector has no items.
+// Decides whether the formula states that the vector has no items.
 fn is_empty(formula: &Formula, vector: &Term) -> bool
     ensures { IsTrue result ↔ (formula.now ≡ LeFormula (LenTerm vector.now) (number 0)) }
 {
@@ -91,7 +91,7 @@ fn is_empty(formula: &Formula, vector: &Term) -> bool
     }
 }
 
-// Whether the term is the length of the vector less 1.
+// Decides whether the term is the length of the vector minus 1.
 fn is_last_place(term: &Term, vector: &Term) -> bool
     ensures { IsTrue result ↔ (term.now ≡ SubTerm (LenTerm vector.now) (number 1)) }
 {
@@ -118,7 +118,7 @@ fn is_at_popped(unless: &Formula, left: &Term, right: &Term) -> bool
     }
 }
 
-// Whether the formula says that the term is at least the length of the vector less 1.
+// Decides whether the formula states that the term is at least the length of the vector minus 1.
 fn is_from_last_place(formula: &Formula, vector: &Term, term: &Term) -> bool
     ensures { IsTrue result ↔ (formula.now ≡ LeFormula (SubTerm (LenTerm vector.now) (number 1)) term.now) }
 {

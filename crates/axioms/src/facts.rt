@@ -1,4 +1,4 @@
-//! The axioms of other shapes.
+//! The axioms of other forms.
 
 ghost use Rattle.std.specs.Prelude.{◌≡◌, ◌↔◌, ◌∷◌, [], IsTrue};
 ghost use Rattle.fol.specs.FormulaData.{TermData, ConstantTerm, LenTerm, AddTerm, SubTerm, LeFormula, HoldsFormula, NotFormula};
@@ -8,12 +8,12 @@ ghost use Rattle.axioms.specs.Facts.{IsWhole, IsFromOne, multiple, IsFact};
 
 use crate::axiom::Fact;
 use crate::forms::{is_binary, is_constant, is_int_type, is_multiple, is_numeral};
+use base::types::TypeNode;
 use fol::formula::{Formula, FormulaNode, Term, TermNode};
 use fol::operators::{Binary, Comparison, Constant, Junction, Unary};
 use fol::same::same_term;
-use pv_base::types::TypeNode;
 
-/// Whether the formula is an instance of the axiom.
+/// Decides whether the formula is an instance of the axiom.
 pub fn is_fact(name: Fact, formula: &Formula) -> bool
     ensures { IsTrue result ↔ IsFact name formula.now }
 {
@@ -78,8 +78,8 @@ fn are_quotient_bounds(parts: &[Formula]) -> bool
     }
 }
 
-// Whether the term is a numeral from 1 times the quotient of the other term by it, and the formula says
-// that the other term is below the next multiple.
+// Decides whether the term is a numeral from 1 times the quotient of the other term by it, and the formula states that
+// the other term is below the next multiple.
 fn are_bounds_of(product: &Term, upper: &Formula, whole: &Term) -> bool
     ensures { IsTrue result
         ↔ ((c : Constant) × IsFromOne c × (product.now ≡ multiple (ConstantTerm c) whole.now) × (upper.now ≡ LeFormula whole.now (SubTerm (AddTerm (multiple (ConstantTerm c) whole.now) (ConstantTerm c)) (number 1)))) }
@@ -94,7 +94,7 @@ fn are_bounds_of(product: &Term, upper: &Formula, whole: &Term) -> bool
     }
 }
 
-// Whether the term is a numeral from 1.
+// Decides whether the term is a numeral from 1.
 fn is_from_one(term: &Term) -> bool
     ensures { IsTrue result ↔ ((c : Constant) × IsFromOne c × (term.now ≡ ConstantTerm c)) }
 {
@@ -115,7 +115,7 @@ fn is_constant_from_one(constant: Constant) -> bool
     }
 }
 
-// Whether the formula says that the term is at most the product and one more factor, less 1.
+// Decides whether the formula states that the term is at most the product plus one more factor, minus 1.
 fn is_upper_bound(formula: &Formula, product: &Term, by: &Term, whole: &Term) -> bool
     ensures { IsTrue result
         ↔ (formula.now ≡ LeFormula whole.now (SubTerm (AddTerm product.now by.now) (number 1))) }
@@ -160,7 +160,7 @@ fn is_whole_by_form(formula: &Formula) -> bool
     }
 }
 
-/// Whether the term is a whole number by its form.
+/// Decides whether the term is a whole number by its form.
 pub fn is_arithmetic(term: &Term) -> bool
     ensures { IsTrue result ↔ IsWhole term.now }
 {
@@ -223,7 +223,7 @@ fn is_truths_differ(formula: &Formula) -> bool
     }
 }
 
-// Whether the formula says that the constant holds.
+// Decides whether the formula states that the constant holds.
 fn is_held(formula: &Formula, constant: Constant) -> bool
     ensures { IsTrue result ↔ (formula.now ≡ HoldsFormula (ConstantTerm constant)) }
 {
@@ -233,7 +233,7 @@ fn is_held(formula: &Formula, constant: Constant) -> bool
     }
 }
 
-// Whether the formula says that the constant does not hold.
+// Decides whether the formula states that the constant does not hold.
 fn is_failed(formula: &Formula, constant: Constant) -> bool
     ensures { IsTrue result ↔ (formula.now ≡ NotFormula (HoldsFormula (ConstantTerm constant))) }
 {

@@ -1,15 +1,15 @@
 //! The fields of struct types, by the shapes of structs.
 
 ghost use Rattle.std.specs.Prelude.{◌≡◌, ◌↔◌, ◌<◌, ℕ, MatchOption, None, Some, slice_get, IsTrue};
-ghost use Rattle.pv_base.specs.TypeData.{TypeData, TypesData, list_of_types, types_of};
+ghost use Rattle.base.specs.TypeData.{TypeData, TypesData, list_of_types, types_of};
 ghost use Rattle.fol.specs.declared.shapes.Shape.{Shape};
 ghost use Rattle.axioms.specs.Fields.{shape_of, IsStruct, HasFields, HasField, HasFieldType, IsPut, ArePut};
 
+use base::same::{same_struct, same_type};
+use base::types::{StructId, TypeList, TypeNode, TypeTerm};
 use fol::shapes::{Shape, Shapes};
-use pv_base::same::{same_struct, same_type};
-use pv_base::types::{StructId, TypeList, TypeNode, TypeTerm};
 
-/// The types of a list.
+/// The list of these types, as one value.
 #[tactic(auto, using(crate::proofs::Shapes::listed))]
 pub fn items(types: &TypeList) -> &[TypeTerm]
     ensures { result.now ≡ list_of_types types.now }
@@ -30,7 +30,7 @@ fn shape_named<'a>(shapes: &'a [Shape], name: &StructId) -> Option<&'a Shape>
     None
 }
 
-/// The shape of the struct that the type is one of, if it has one and as many type arguments as the
+/// The shape of the struct of the type. None if it has no shape, or if the type has not as many type arguments as the
 /// shape has type parameters.
 pub fn struct_shape<'a>(shapes: &'a Shapes, of: &TypeTerm) -> Option<&'a Shape>
     ensures { MatchOption result ((shape : Shape) (args : TypesData) → IsStruct shapes.now of.now shape args → ⊥) (λ found. (args : TypesData) × IsStruct shapes.now of.now found.now args) }
@@ -50,7 +50,7 @@ pub fn struct_shape<'a>(shapes: &'a Shapes, of: &TypeTerm) -> Option<&'a Shape>
     }
 }
 
-/// Whether the type is that of a struct with this many fields.
+/// Decides whether the type is that of a struct with this many fields.
 #[tactic(auto, unfolding(crate::specs::Fields::HasFields))]
 pub fn has_fields(shapes: &Shapes, of: &TypeTerm, count: usize) -> bool
     ensures { IsTrue result ↔ HasFields shapes.now of.now count }
@@ -61,7 +61,7 @@ pub fn has_fields(shapes: &Shapes, of: &TypeTerm, count: usize) -> bool
     }
 }
 
-/// Whether the type is that of a struct with a field of this number.
+/// Decides whether the type is that of a struct with a field of this number.
 #[tactic(auto, unfolding(crate::specs::Fields::HasField))]
 pub fn has_field(shapes: &Shapes, of: &TypeTerm, number: u32) -> bool
     ensures { IsTrue result ↔ HasField shapes.now of.now number }
@@ -72,7 +72,7 @@ pub fn has_field(shapes: &Shapes, of: &TypeTerm, number: u32) -> bool
     }
 }
 
-/// Whether the first type is that of a struct whose field with this number has the second type.
+/// Decides whether the first type is that of a struct whose field with this number has the second type.
 #[tactic(auto, unfolding(crate::specs::Fields::HasFieldType))]
 pub fn has_field_type(shapes: &Shapes, of: &TypeTerm, number: u32, to: &TypeTerm) -> bool
     ensures { IsTrue result ↔ HasFieldType shapes.now of.now number to.now }
@@ -96,8 +96,8 @@ fn is_field_put(args: &[TypeTerm], fields: &[TypeTerm], number: u32, to: &TypeTe
     }
 }
 
-/// Whether the second type is the first with the type arguments in place of its type parameters, each
-/// of which has one.
+/// Decides whether the second type is the first with the type arguments substituted for its type parameters, each of
+/// which has one.
 #[cycle(put)]
 pub fn is_put(args: &[TypeTerm], from: &TypeTerm, to: &TypeTerm) -> bool
     ensures { IsTrue result ↔ IsPut args.now from.now to.now }

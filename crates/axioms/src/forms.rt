@@ -1,18 +1,18 @@
-//! Whether a term or a formula is of a form with given parts.
+//! Tests of the forms of terms and formulas with given parts.
 
 ghost use Rattle.std.specs.Prelude.{◌≡◌, ◌↔◌, IsTrue};
-ghost use Rattle.pv_base.specs.TypeData.{IntType, NumType, VectorType};
+ghost use Rattle.base.specs.TypeData.{IntType, NumType, VectorType};
 ghost use Rattle.fol.specs.FormulaData.{NumTerm, ConstantTerm, UnaryTerm, BinaryTerm, LenTerm, CompareFormula, LeFormula, IsFormula, NotFormula};
 ghost use Rattle.axioms.specs.Forms.{number, LessFormula, WholeFormula};
 ghost use Rattle.axioms.specs.Facts.{multiple};
 
+use base::same::same_type;
+use base::types::{TypeNode, TypeTerm, Width};
 use fol::formula::{Formula, FormulaNode, Term, TermNode};
 use fol::operators::{Binary, Comparison, Constant, Unary};
 use fol::same::same_term;
-use pv_base::same::same_type;
-use pv_base::types::{TypeNode, TypeTerm, Width};
 
-/// Whether the term is the constant.
+/// Decides whether the term is the constant.
 pub fn is_constant(term: &Term, constant: Constant) -> bool
     ensures { IsTrue result ↔ (term.now ≡ ConstantTerm constant) }
 {
@@ -22,7 +22,7 @@ pub fn is_constant(term: &Term, constant: Constant) -> bool
     }
 }
 
-/// Whether the term is the numeral of the number.
+/// Decides whether the term is the numeral of the number.
 pub fn is_numeral(term: &Term, number: i128) -> bool
     ensures { IsTrue result ↔ (term.now ≡ NumTerm number) }
 {
@@ -32,7 +32,7 @@ pub fn is_numeral(term: &Term, number: i128) -> bool
     }
 }
 
-/// Whether the term is the operator of the part.
+/// Decides whether the term is the operator applied to the part.
 pub fn is_unary(term: &Term, operator: Unary, part: &Term) -> bool
     ensures { IsTrue result ↔ (term.now ≡ UnaryTerm operator part.now) }
 {
@@ -42,7 +42,7 @@ pub fn is_unary(term: &Term, operator: Unary, part: &Term) -> bool
     }
 }
 
-/// Whether the term is the operator of the two parts.
+/// Decides whether the term is the operator applied to the two parts.
 pub fn is_binary(term: &Term, operator: Binary, left: &Term, right: &Term) -> bool
     ensures { IsTrue result ↔ (term.now ≡ BinaryTerm operator left.now right.now) }
 {
@@ -54,7 +54,7 @@ pub fn is_binary(term: &Term, operator: Binary, left: &Term, right: &Term) -> bo
     }
 }
 
-/// Whether the formula is the comparison of the two terms.
+/// Decides whether the formula is the comparison of the two terms.
 pub fn is_compare(formula: &Formula, comparison: Comparison, left: &Term, right: &Term) -> bool
     ensures { IsTrue result ↔ (formula.now ≡ CompareFormula comparison left.now right.now) }
 {
@@ -66,7 +66,7 @@ pub fn is_compare(formula: &Formula, comparison: Comparison, left: &Term, right:
     }
 }
 
-/// Whether the formula says that the term has the type.
+/// Decides whether the formula states that the term has the type.
 pub fn is_typed(formula: &Formula, of: &TypeTerm, term: &Term) -> bool
     ensures { IsTrue result ↔ (formula.now ≡ IsFormula of.now term.now) }
 {
@@ -76,7 +76,7 @@ pub fn is_typed(formula: &Formula, of: &TypeTerm, term: &Term) -> bool
     }
 }
 
-/// Whether the formula says that the term is a whole number.
+/// Decides whether the formula states that the term is a whole number.
 pub fn is_whole(formula: &Formula, term: &Term) -> bool
     ensures { IsTrue result ↔ (formula.now ≡ IsFormula NumType term.now) }
 {
@@ -86,7 +86,7 @@ pub fn is_whole(formula: &Formula, term: &Term) -> bool
     }
 }
 
-/// Whether the formula says that the term is a vector of items of the type.
+/// Decides whether the formula states that the term is a vector of items of the type.
 pub fn is_vector(formula: &Formula, item: &TypeTerm, term: &Term) -> bool
     ensures { IsTrue result ↔ (formula.now ≡ IsFormula (VectorType item.now) term.now) }
 {
@@ -105,7 +105,7 @@ fn is_vector_type(of: &TypeTerm, item: &TypeTerm) -> bool
     }
 }
 
-/// Whether the term is the number times the quotient of the other one by it.
+/// Decides whether the term is the number times the quotient of the other one by it.
 pub fn is_multiple(term: &Term, by: &Term, whole: &Term) -> bool
     ensures { IsTrue result ↔ (term.now ≡ multiple by.now whole.now) }
 {
@@ -117,7 +117,7 @@ pub fn is_multiple(term: &Term, by: &Term, whole: &Term) -> bool
     }
 }
 
-/// Whether the type is that of unsigned integers of the width.
+/// Decides whether the type is that of unsigned integers of the width.
 pub fn is_int_type(of: &TypeTerm, width: Width) -> bool
     ensures { IsTrue result ↔ (of.now ≡ IntType width) }
 {
@@ -127,7 +127,7 @@ pub fn is_int_type(of: &TypeTerm, width: Width) -> bool
     }
 }
 
-/// Whether the formula says that the term does not have the type.
+/// Decides whether the formula states that the term does not have the type.
 pub fn is_untyped(formula: &Formula, of: &TypeTerm, term: &Term) -> bool
     ensures { IsTrue result ↔ (formula.now ≡ NotFormula (IsFormula of.now term.now)) }
 {
@@ -137,7 +137,7 @@ pub fn is_untyped(formula: &Formula, of: &TypeTerm, term: &Term) -> bool
     }
 }
 
-/// Whether the formula says that the term is no whole number.
+/// Decides whether the formula states that the term is no whole number.
 pub fn is_no_whole(formula: &Formula, term: &Term) -> bool
     ensures { IsTrue result ↔ (formula.now ≡ NotFormula (WholeFormula term.now)) }
 {
@@ -147,7 +147,7 @@ pub fn is_no_whole(formula: &Formula, term: &Term) -> bool
     }
 }
 
-/// Whether the formulas say that the place is below 0, that it is from the length of the vector on, and
+/// Decides whether the formulas state that the index is below 0, that it is at least the length of the vector, and
 /// that it is no whole number.
 pub fn is_outside(
     below: &Formula,
@@ -171,7 +171,7 @@ fn is_below_zero(formula: &Formula, term: &Term) -> bool
     }
 }
 
-/// Whether the formula says that the term is at least 0.
+/// Decides whether the formula states that the term is at least 0.
 pub fn is_from_zero(formula: &Formula, term: &Term) -> bool
     ensures { IsTrue result ↔ (formula.now ≡ LeFormula (number 0) term.now) }
 {
@@ -183,7 +183,7 @@ pub fn is_from_zero(formula: &Formula, term: &Term) -> bool
     }
 }
 
-/// Whether the formula says that the term is at least the length of the vector.
+/// Decides whether the formula states that the term is at least the length of the vector.
 pub fn is_from_len(formula: &Formula, vector: &Term, term: &Term) -> bool
     ensures { IsTrue result ↔ (formula.now ≡ LeFormula (LenTerm vector.now) term.now) }
 {

@@ -1,5 +1,5 @@
-//! Whether a formula is an instance of an axiom. Nothing is built for it, and the time is that of a
-//! walk along the formula and the shapes.
+//! Decides whether a formula is an instance of an axiom. It builds nothing, and takes the time of a walk along the
+//! formula and the shapes.
 
 ghost use Rattle.std.specs.Prelude.{◌≡◌, ◌↔◌, ◌∷◌, [], IsTrue};
 ghost use Rattle.fol.specs.FormulaData.{TermData, FormulaData, EqFormula};
@@ -19,8 +19,8 @@ use fol::formula::{Formula, FormulaNode};
 use fol::operators::{Comparison, Connective, Junction};
 use fol::shapes::Shapes;
 
-/// Whether the formula is an instance of the axiom over these shapes of structs: `exact`. Then it is
-/// true whatever its variables and type parameters stand for: `valid`.
+/// Decides whether the formula is an instance of the axiom over these shapes of structs: `exact`. If so, it is true
+/// for all values of its variables and all types of its type parameters: `valid`.
 #[tactic(auto, using(crate::proofs::AxiomTruth::axiom_valid))]
 pub fn is_axiom(shapes: &Shapes, name: Axiom, formula: &Formula) -> bool
     ensures exact { IsTrue result ↔ IsAxiom shapes.now name formula.now }

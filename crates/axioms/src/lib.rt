@@ -1,6 +1,6 @@
-//! The axioms of the values that terms have: of memories, vectors, structs, numbers, bits and types.
-//! Each is a statement with letters; a formula is an instance where terms, types and numbers stand for
-//! the letters. `specs/` has the statements, one on a line.
+//! The axioms of the values of terms: of memories, vectors, structs, numbers, bits and types. Each axiom is a schema
+//! over terms, types and numbers; a formula that is obtained by choosing these is an instance. `specs/` has the
+//! schemas, one on a line.
 #![tactic(auto)]
 
 pub mod alternatives;

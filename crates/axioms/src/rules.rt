@@ -1,20 +1,20 @@
 //! The axioms that state an implication.
 
 ghost use Rattle.std.specs.Prelude.{◌≡◌, ◌↔◌, ◌∷◌, [], IsTrue};
-ghost use Rattle.pv_base.specs.TypeData.{TypeData, IntType, VectorType};
+ghost use Rattle.base.specs.TypeData.{TypeData, IntType, VectorType};
 ghost use Rattle.fol.specs.FormulaData.{TermData, LenTerm, AtTerm, LeFormula, IsFormula, NotFormula, AllOfFormula, formulas_of};
-ghost use Rattle.pv_base.specs.declared.types.Width.{Width};
+ghost use Rattle.base.specs.declared.types.Width.{Width};
 ghost use Rattle.axioms.specs.Forms.{number, LessFormula, WholeFormula, VectorFormula};
 ghost use Rattle.axioms.specs.Rules.{IsBitOperator, most_items, IsRule};
 
 use crate::axiom::Rule;
 use crate::forms::{is_int_type, is_numeral, is_outside, is_typed, is_unary, is_vector};
+use base::types::{TypeNode, TypeTerm};
 use fol::formula::{Formula, FormulaNode, Term, TermNode};
 use fol::operators::{Binary, Comparison, Junction, Ternary, Unary};
 use fol::same::same_term;
-use pv_base::types::{TypeNode, TypeTerm};
 
-/// Whether the axiom states that the first formula implies the second.
+/// Decides whether the axiom states that the first formula implies the second.
 pub fn is_rule(name: Rule, premise: &Formula, conclusion: &Formula) -> bool
     ensures { IsTrue result ↔ IsRule name premise.now conclusion.now }
 {
@@ -39,7 +39,7 @@ fn is_item_typed(premise: &Formula, conclusion: &Formula) -> bool
     }
 }
 
-// Whether the formulas are the cases of an item of the vector that the premise speaks of.
+// Decides whether the formulas are the cases of an item of the vector in the premise.
 fn are_item_cases(premise: &Formula, cases: &[Formula]) -> bool
     ensures { IsTrue result
         ↔ ((a : TypeData) × (v : TermData) × (i : TermData) × (premise.now ≡ VectorFormula a v) × (cases.now ≡ LessFormula i (number 0) ∷ LeFormula (LenTerm v) i ∷ NotFormula (WholeFormula i) ∷ IsFormula a (AtTerm v i) ∷ [])) }
@@ -74,7 +74,7 @@ fn is_len_bounded(premise: &Formula, conclusion: &Formula) -> bool
     }
 }
 
-// Whether the formula says that the term is a vector.
+// Decides whether the formula states that the term is a vector.
 fn is_some_vector(formula: &Formula, term: &Term) -> bool
     ensures { IsTrue result ↔ ((a : TypeData) × (formula.now ≡ VectorFormula a term.now)) }
 {
@@ -100,7 +100,7 @@ fn is_set_typed(premise: &Formula, conclusion: &Formula) -> bool
     }
 }
 
-// Whether the formula says that the one term is a vector of this type and the other one an item of it.
+// Decides whether the formula states that the one term is a vector of this type and the other one has its item type.
 #[tactic(auto, using(fol::specs::FormulaData::formulas_of_injective))]
 fn is_vector_and_item(formula: &Formula, of: &TypeTerm, vector: &Term, item: &Term) -> bool
     ensures { IsTrue result
@@ -135,8 +135,8 @@ fn is_push_typed(premise: &Formula, conclusion: &Formula) -> bool
     }
 }
 
-// Whether the formula says that the one term is a vector of this type with room, and the other one an
-// item of it.
+// Decides whether the formula states that the one term is a vector of this type with room, and the other one has its
+// item type.
 #[tactic(auto, using(fol::specs::FormulaData::formulas_of_injective))]
 fn is_vector_with_room(formula: &Formula, of: &TypeTerm, vector: &Term, item: &Term) -> bool
     ensures { IsTrue result
@@ -160,7 +160,7 @@ fn are_vector_with_room(parts: &[Formula], of: &TypeTerm, vector: &Term, item: &
         && is_room(&parts[2], vector)
 }
 
-// Whether the formula says that the vector has fewer items than a vector may have.
+// Decides whether the formula states that the vector has fewer items than a vector may have.
 fn is_room(formula: &Formula, vector: &Term) -> bool
     ensures { IsTrue result
         ↔ (formula.now ≡ LessFormula (LenTerm vector.now) (number most_items)) }
@@ -217,7 +217,7 @@ fn is_bit_operator(operator: Binary) -> bool
     matches!(operator, Binary::And | Binary::Or | Binary::Xor)
 }
 
-// Whether the type is one of unsigned integers, and the formula says that the two terms have it.
+// Decides whether the type is one of unsigned integers, and the formula states that the two terms have it.
 #[tactic(auto, using(fol::specs::FormulaData::formulas_of_injective))]
 fn are_both_int(formula: &Formula, of: &TypeTerm, left: &Term, right: &Term) -> bool
     ensures { IsTrue result

@@ -1,7 +1,7 @@
-//! The axioms on struct types, whose fields their shapes tell.
+//! The axioms on struct types, whose fields are given by their shapes.
 
 ghost use Rattle.std.specs.Prelude.{◌≡◌, ◌↔◌, ◌∷◌, [], ℕ, List, Some, slice_get, length, IsTrue};
-ghost use Rattle.pv_base.specs.TypeData.{TypeData};
+ghost use Rattle.base.specs.TypeData.{TypeData};
 ghost use Rattle.fol.specs.FormulaData.{TermData, FieldTerm, SetFieldTerm, PackTerm, FormulaData, EqFormula, IsFormula, NotFormula, ImpliesFormula, IffFormula, terms_of};
 ghost use Rattle.axioms.specs.Fields.{HasField, HasFields};
 ghost use Rattle.axioms.specs.Structs.{AreFieldsOf, IsFieldTyped, AreFieldsTyped, ArePartsTyped, IsStructAxiom};
@@ -9,14 +9,14 @@ ghost use Rattle.axioms.specs.Structs.{AreFieldsOf, IsFieldTyped, AreFieldsTyped
 use crate::axiom::StructAxiom;
 use crate::fields::{has_field, has_field_type, has_fields, is_put, items, struct_shape};
 use crate::forms::is_untyped;
+use base::same::same_type;
+use base::types::{TypeNode, TypeTerm};
 use fol::formula::{Formula, FormulaNode, Term, TermNode};
 use fol::operators::{Comparison, Connective, Junction};
 use fol::same::same_term;
 use fol::shapes::Shapes;
-use pv_base::same::same_type;
-use pv_base::types::{TypeNode, TypeTerm};
 
-/// Whether the formula is an instance of the axiom over these shapes.
+/// Decides whether the formula is an instance of the axiom over these shapes.
 pub fn is_struct_axiom(shapes: &Shapes, name: StructAxiom, formula: &Formula) -> bool
     ensures { IsTrue result ↔ IsStructAxiom shapes.now name formula.now }
 {
@@ -44,7 +44,7 @@ fn is_field_of_pack(shapes: &Shapes, formula: &Formula) -> bool
     }
 }
 
-// Whether the term is a struct of this type, made of its fields, of which this one has this number.
+// Decides whether the term is a struct of this type, packed from its fields, and this one has this number.
 #[tactic(auto, using(fol::specs::FormulaData::terms_of_injective))]
 fn is_pack_with(shapes: &Shapes, packed: &Term, of: &TypeTerm, field: u32, item: &Term) -> bool
     ensures { IsTrue result
@@ -58,7 +58,7 @@ fn is_pack_with(shapes: &Shapes, packed: &Term, of: &TypeTerm, field: u32, item:
     }
 }
 
-// Whether there are as many terms as the struct has fields, and this one is at this place.
+// Decides whether there are as many terms as the struct has fields, and this one has this index.
 fn are_fields_with(shapes: &Shapes, of: &TypeTerm, terms: &[Term], field: u32, item: &Term) -> bool
     ensures { IsTrue result
         ↔ (HasFields shapes.now of.now (length terms.now) × (slice_get terms.now field ≡ Some item.now)) }
@@ -101,8 +101,8 @@ fn are_field_set(shapes: &Shapes, cases: &[Formula]) -> bool
     }
 }
 
-// Whether the terms are the field of a struct in which it was replaced, and what it was replaced with,
-// and the formula says that the struct is none of its type.
+// Decides whether the terms are a field of a struct in which it was replaced, and its new value, and the formula
+// states that the struct does not have its type.
 fn is_set_field(shapes: &Shapes, unless: &Formula, left: &Term, right: &Term) -> bool
     ensures { IsTrue result
         ↔ ((s : TypeData) × (k : ℕ) × (t : TermData) × HasField shapes.now s k × (unless.now ≡ NotFormula (IsFormula s t)) × (left.now ≡ FieldTerm s k (SetFieldTerm s k t right.now))) }
@@ -150,7 +150,7 @@ fn is_other_field(shapes: &Shapes, left: &Term, right: &Term) -> bool
     }
 }
 
-// Whether the term is the field with this number of the other term, as of a struct of this type.
+// Decides whether the term is the field with this number of the other term, as a struct of this type.
 fn is_field(term: &Term, of: &TypeTerm, number: u32, inner: &Term) -> bool
     ensures { IsTrue result ↔ (term.now ≡ FieldTerm of.now number inner.now) }
 {
@@ -188,8 +188,8 @@ fn are_pack_of_fields(shapes: &Shapes, cases: &[Formula]) -> bool
     }
 }
 
-// Whether the second term is a struct made of the fields of the first, and the formula says that the
-// first is none of its type.
+// Decides whether the second term is a struct packed from the fields of the first, and the formula states that the
+// first does not have its type.
 #[tactic(auto, using(fol::specs::FormulaData::terms_of_injective))]
 fn is_packed_of(shapes: &Shapes, unless: &Formula, term: &Term, packed: &Term) -> bool
     ensures { IsTrue result
@@ -203,7 +203,7 @@ fn is_packed_of(shapes: &Shapes, unless: &Formula, term: &Term, packed: &Term) -
     }
 }
 
-// Whether the terms are all fields of the other term, in order.
+// Decides whether the terms are all fields of the other term, in order.
 fn are_all_fields(shapes: &Shapes, of: &TypeTerm, terms: &[Term], inner: &Term) -> bool
     ensures { IsTrue result
         ↔ (HasFields shapes.now of.now (length terms.now) × AreFieldsOf of.now inner.now terms.now) }
@@ -211,7 +211,7 @@ fn are_all_fields(shapes: &Shapes, of: &TypeTerm, terms: &[Term], inner: &Term) 
     has_fields(shapes, of, terms.len()) && are_fields_of(terms, of, inner)
 }
 
-// Whether the terms are the fields of the other term, in order.
+// Decides whether the terms are the fields of the other term, in order.
 #[tactic(auto, unfolding(crate::specs::Structs::AreFieldsOf))]
 fn are_fields_of(terms: &[Term], of: &TypeTerm, inner: &Term) -> bool
     ensures { IsTrue result ↔ AreFieldsOf of.now inner.now terms.now }
@@ -247,8 +247,7 @@ fn is_pack_typed(shapes: &Shapes, formula: &Formula) -> bool
     }
 }
 
-// Whether the formulas are the two sides of an axiom on the type of a struct that is made of its
-// fields.
+// Decides whether the formulas are the two sides of an axiom on the type of a struct that is packed from its fields.
 #[tactic(auto, using(fol::specs::FormulaData::formulas_of_injective))]
 fn are_pack_and_parts(shapes: &Shapes, left: &Formula, right: &Formula) -> bool
     ensures { IsTrue result
@@ -262,8 +261,8 @@ fn are_pack_and_parts(shapes: &Shapes, left: &Formula, right: &Formula) -> bool
     }
 }
 
-// Whether the term is a struct of this type made of its fields, and the formulas say of each field
-// that it has its type.
+// Decides whether the term is a struct of this type packed from its fields, and the formulas state that each field has
+// its type.
 #[tactic(auto, using(fol::specs::FormulaData::terms_of_injective))]
 fn is_pack_of(shapes: &Shapes, of: &TypeTerm, packed: &Term, parts: &[Formula]) -> bool
     ensures { IsTrue result
@@ -277,7 +276,7 @@ fn is_pack_of(shapes: &Shapes, of: &TypeTerm, packed: &Term, parts: &[Formula]) 
     }
 }
 
-// Whether the formulas say of the terms that they have the types of the fields of this struct type.
+// Decides whether the formulas state that the terms have the types of the fields of this struct type.
 #[tactic(auto, unfolding(crate::specs::Structs::ArePartsTyped))]
 fn are_parts_typed(shapes: &Shapes, of: &TypeTerm, terms: &[Term], parts: &[Formula]) -> bool
     ensures { IsTrue result ↔ ArePartsTyped shapes.now of.now terms.now parts.now }
@@ -311,7 +310,7 @@ fn are_fields_typed(
     true
 }
 
-// Whether the formula says that the term has the type of the field.
+// Decides whether the formula states that the term has the type of the field.
 fn is_typed_by(args: &[TypeTerm], field: &TypeTerm, term: &Term, part: &Formula) -> bool
     ensures { IsTrue result ↔ IsFieldTyped args.now field.now term.now part.now }
 {

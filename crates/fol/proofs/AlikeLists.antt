@@ -1,6 +1,6 @@
 -- A comparison of two lists, item by item from their fronts.
 use Rattle.std.proofs.Common.{◌≡◌, ◌↔◌, ◌⊎◌, inl, inr, ℕ, ◌≤◌, List, [], ◌∷◌, length, sym, ◌∙◌, ap, arith}
-use Rattle.pv_base.proofs.ListEnds.{head_is, tail_is}
+use Rattle.base.proofs.ListEnds.{head_is, tail_is}
 
 -- What a comparison of two lists knows that has xs and ys left of them: xs and ys are equal exactly where the whole
 -- lists are, are as long as each other, and are no larger than the whole

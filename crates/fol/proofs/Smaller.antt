@@ -1,6 +1,6 @@
 -- Each item of a list is smaller than the list.
 use Rattle.std.proofs.Common.{ℕ, zero, suc, ◌<◌, List, [], ◌∷◌, length, get_or, arith}
-use Rattle.pv_base.specs.TypeData.{TypeData, type_size, types_size, types_of}
+use Rattle.base.specs.TypeData.{TypeData, type_size, types_size, types_of}
 use Rattle.fol.specs.FormulaData.{TermData, TermsData, FormulaData, term_size, terms_size, triggers_size, formula_size, formulas_size, terms_of, triggers_of, formulas_of}
 
 pub term_smaller : (ts : List TermData) (i : ℕ) (d : TermData) → i < length ts → term_size (get_or ts i d) < terms_size (terms_of ts)

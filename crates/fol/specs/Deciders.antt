@@ -1,6 +1,6 @@
 -- Why 'for all values' may be read as the answer of a test: to a classical reader there is one such test, and no other.
 use Rattle.std.specs.Prelude.{◌≡◌, ℕ, Bool, ◌⊎◌, IsTrue, IsFalse, List}
-use Rattle.pv_base.specs.TypeData.{TypeData}
+use Rattle.base.specs.TypeData.{TypeData}
 use Rattle.fol.specs.declared.shapes.Shape.{Shape}
 use Rattle.fol.specs.Val.{Val}
 use Rattle.fol.specs.Truth.{Interpretation}

@@ -4,8 +4,8 @@ use denote.Struct.Codes.{itself}
 use Rattle.std.specs.Prelude.{◌≡◌, ℕ, [], ◌∷◌, refl}
 use Rattle.std.specs.Coded.{Coded, code_by}
 use Rattle.std.proofs.Common.{ap}
-use Rattle.pv_base.specs.Codes.{pick}
-use Rattle.pv_base.specs.TypeData.{type_code, type_back, type_back-code}
+use Rattle.base.specs.Codes.{pick}
+use Rattle.base.specs.TypeData.{type_code, type_back, type_back-code}
 use Rattle.fol.specs.OperatorCodes.{head, tail, tree, constant_code, constant_back, constant_back-code, unary_code, unary_back, unary_back-code, binary_code, binary_back, binary_back-code, ternary_code, ternary_back, ternary_back-code, comparison_code, comparison_back, comparison_back-code, junction_code, junction_back, junction_back-code, connective_code, connective_back, connective_back-code, quantifier_code, quantifier_back, quantifier_back-code}
 use Rattle.fol.specs.FormulaData.{TermData, VarTerm, ConstantTerm, UnaryTerm, BinaryTerm, TernaryTerm, NothingTerm, PackTerm, FieldTerm, SetFieldTerm, IfTerm, TermsData, NoTerms, MoreTerms, TriggersData, NoTriggers, MoreTriggers, FormulaData, CompareFormula, IsFormula, HoldsFormula, NotFormula, JoinFormula, ConnectFormula, QuantifyFormula, AllOfFormula, FormulasData, NoFormulas, MoreFormulas}
 

@@ -3,8 +3,8 @@
 -- the number of their parts, with an operator for each.
 use Rattle.std.specs.Prelude.{◌≡◌, ℕ, ◌+◌, ℤ, List, [], ◌∷◌, refl}
 use Rattle.std.proofs.Common.{ap, sym, ◌∙◌}
-use Rattle.pv_base.specs.TypeData.{TypeData}
-use Rattle.pv_base.specs.declared.types.Width.{Width}
+use Rattle.base.specs.TypeData.{TypeData}
+use Rattle.base.specs.declared.types.Width.{Width}
 use Rattle.fol.specs.declared.operators.Constant.{Constant}
 use Rattle.fol.specs.declared.operators.Constant.TheVariants.{Num, Max, True, False, Nothing, Blank, Empty, Wide}
 use Rattle.fol.specs.declared.operators.Unary.{Unary}

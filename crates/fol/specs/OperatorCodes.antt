@@ -2,10 +2,10 @@
 use base.Stored.{Gv, gnil, gnum, gcons, num}
 use Rattle.std.specs.Prelude.{◌≡◌, ℕ, ℤ, pos, negsuc, [], ◌∷◌, refl}
 use Rattle.std.proofs.Common.{ap}
-use Rattle.pv_base.specs.Codes.{pick}
-use Rattle.pv_base.specs.TypeData.{width_back}
-use Rattle.pv_base.specs.declared.types.Width.{Width}
-use Rattle.pv_base.specs.declared.types.Width.TheVariants.{U8, U16, U32, U64, U128}
+use Rattle.base.specs.Codes.{pick}
+use Rattle.base.specs.TypeData.{width_back}
+use Rattle.base.specs.declared.types.Width.{Width}
+use Rattle.base.specs.declared.types.Width.TheVariants.{U8, U16, U32, U64, U128}
 use Rattle.fol.specs.declared.operators.Constant.{Constant}
 use Rattle.fol.specs.declared.operators.Constant.TheVariants.{Num, Max, True, False, Nothing, Blank, Empty, Wide}
 use Rattle.fol.specs.declared.operators.Unary.{Unary}

@@ -2,8 +2,8 @@
 -- arithmetic, what is no vector as the empty one, and what is no memory as the one without entries.
 use Rattle.std.specs.Prelude.{ℕ, ◌-◌, ℤ, pos, negsuc, ◌+ℤ◌, ◌-ℤ◌, ◌*ℤ◌, int_le, Bool, true, false, List, ◌^◌, bit_and, bit_or, bit_xor, [], ◌∷◌, ◌++◌, length, take, slice_index_or, slice_set, if◌then◌else◌}
 use Rattle.std.specs.Ordering.{match_ordering}
-use Rattle.pv_base.specs.TypeData.{TypeData}
-use Rattle.pv_base.specs.declared.types.Width.{Width}
+use Rattle.base.specs.TypeData.{TypeData}
+use Rattle.base.specs.declared.types.Width.{Width}
 use Rattle.fol.specs.declared.operators.Constant.{Constant}
 use Rattle.fol.specs.declared.operators.Constant.TheVariants.{Num, Max, True, False, Nothing, Blank, Empty, Wide}
 use Rattle.fol.specs.declared.operators.Unary.{Unary}

@@ -3,7 +3,7 @@ use base.Stored.{Gv, gnum, gcons, num}
 use denote.Struct.Codes.{itself}
 use Rattle.std.specs.Prelude.{◌≡◌, List}
 use Rattle.std.specs.Coded.{Coded, code_by, coded_list}
-use Rattle.pv_base.specs.TypeData.{struct_code, struct_back, struct_back-code, types_code, types_back, types_back-code}
+use Rattle.base.specs.TypeData.{struct_code, struct_back, struct_back-code, types_code, types_back, types_back-code}
 use Rattle.fol.specs.OperatorCodes.{head, tail}
 use Rattle.fol.specs.declared.shapes.Shape.{Shape}
 

@@ -1,7 +1,7 @@
 -- The value of a term and the truth of a formula, as in first-order logic: under an assignment of values to variables
 -- and an interpretation of what the formula itself does not say.
 use Rattle.std.specs.Prelude.{ℕ, Bool, true, false, not, ◌&&◌, ◌||◌, ◌==◌, List, if◌then◌else◌}
-use Rattle.pv_base.specs.TypeData.{TypeData}
+use Rattle.base.specs.TypeData.{TypeData}
 use Rattle.fol.specs.declared.shapes.Shape.{Shape}
 use Rattle.fol.specs.FormulaData.{TermData, VarTerm, ConstantTerm, UnaryTerm, BinaryTerm, TernaryTerm, PackTerm, FieldTerm, SetFieldTerm, IfTerm, TermsData, NoTerms, MoreTerms, FormulaData, CompareFormula, IsFormula, HoldsFormula, NotFormula, JoinFormula, ConnectFormula, QuantifyFormula, FormulasData, NoFormulas, MoreFormulas}
 use Rattle.fol.specs.Val.{Val, StructValue, Vals, NoValues, MoreValues}

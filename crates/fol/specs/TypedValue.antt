@@ -1,9 +1,9 @@
 -- Which values a type has, under the shapes of structs.
 use Rattle.std.specs.Prelude.{ℕ, ◌-◌, ◌^◌, ℤ, pos, negsuc, Bool, true, false, ◌&&◌, nat_lt, nat_le, ◌==◌, List, [], ◌∷◌, length, map, slice_index_or, Option, Some, None, if◌then◌else◌}
-use Rattle.pv_base.specs.TypeData.{TypeData, TypesData, BoolType, IntType, NumType, AddressType, SignerType, VectorType, StructType, ParamType, SharedType, MutableType, TupleType, NoTypes, MoreTypes, list_of_types, struct_code}
-use Rattle.pv_base.specs.declared.types.StructId.{StructId}
-use Rattle.pv_base.specs.declared.types.Width.{Width}
-use Rattle.pv_base.specs.declared.types.Width.TheVariants.{U128}
+use Rattle.base.specs.TypeData.{TypeData, TypesData, BoolType, IntType, NumType, AddressType, SignerType, VectorType, StructType, ParamType, SharedType, MutableType, TupleType, NoTypes, MoreTypes, list_of_types, struct_code}
+use Rattle.base.specs.declared.types.StructId.{StructId}
+use Rattle.base.specs.declared.types.Width.{Width}
+use Rattle.base.specs.declared.types.Width.TheVariants.{U128}
 use Rattle.fol.specs.declared.shapes.Shape.{Shape}
 use Rattle.fol.specs.Val.{Val, NumberValue, TruthValue, VectorValue, StructValue, Vals, NoValues, MoreValues, list_of_values, same_type}
 use Rattle.fol.specs.TreeOrder.{same_tree}

@@ -9,8 +9,8 @@ use Rattle.std.specs.declared.cmp.Ordering.TheVariants.{Equal}
 use Rattle.std.specs.Coded.{Coded, code_by}
 use Rattle.std.specs.Cmp.{IsTotalOrder, on_total}
 use Rattle.std.proofs.Common.{ap, ◌∙◌, sym}
-use Rattle.pv_base.specs.Codes.{pick}
-use Rattle.pv_base.specs.TypeData.{TypeData, type_code, type_back, type_back-code}
+use Rattle.base.specs.Codes.{pick}
+use Rattle.base.specs.TypeData.{TypeData, type_code, type_back, type_back-code}
 use Rattle.fol.specs.OperatorCodes.{tree, whole_code, whole_back, whole_back-code}
 use Rattle.fol.specs.TreeOrder.{compare_trees, equal_trees, same_tree, same_tree-equal, same_tree_itself, tree_total}
 

@@ -1,7 +1,7 @@
 -- Arithmetic of whole numbers. Each operator has a value for all numbers.
 use Rattle.std.specs.Prelude.{ℕ, zero, suc, ◌*◌, ◌/◌, ◌%◌, ◌^◌, ℤ, pos, negsuc, ◌-ℤ◌, ◌*ℤ◌, nat_lt, if◌then◌else◌}
-use Rattle.pv_base.specs.declared.types.Width.{Width}
-use Rattle.pv_base.specs.declared.types.Width.TheVariants.{U8, U16, U32, U64, U128}
+use Rattle.base.specs.declared.types.Width.{Width}
+use Rattle.base.specs.declared.types.Width.TheVariants.{U8, U16, U32, U64, U128}
 
 -- how many bits a number of the width has
 abbrev pub bits_of : Width → ℕ

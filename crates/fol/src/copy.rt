@@ -6,9 +6,9 @@ ghost use Rattle.fol.specs.FormulaView.{term_of_node, formula_of_node};
 
 use crate::formula::{Formula, FormulaNode, Term, TermNode, Trigger};
 use crate::operators::{Binary, Comparison, Connective, Junction, Quantifier, Ternary, Unary};
-use pv_base::memory::NoMemory;
-use pv_base::same::copy_type;
-use pv_base::types::TypeTerm;
+use base::memory::NoMemory;
+use base::same::copy_type;
+use base::types::TypeTerm;
 use std::alloc::Global;
 
 fn term(node: TermNode) -> Term

@@ -1,12 +1,12 @@
 //! A test of how deep terms and formulas are, which looks no deeper than its limit.
 
 ghost use Rattle.std.specs.Prelude.{◌↔◌, ◌<◌, IsTrue};
-ghost use Rattle.pv_base.specs.TypeData.{types_of};
+ghost use Rattle.base.specs.TypeData.{types_of};
 ghost use Rattle.fol.specs.FormulaData.{terms_of, triggers_of, formulas_of};
 ghost use Rattle.fol.specs.Depth.{type_depth, types_depth, term_depth, terms_depth, triggers_depth, formula_depth, formulas_depth};
 
 use crate::formula::{Formula, FormulaNode, Term, TermNode, Trigger};
-use pv_base::types::{TypeList, TypeNode, TypeTerm};
+use base::types::{TypeList, TypeNode, TypeTerm};
 
 /// Whether the type has more than `limit` types one within another, itself included.
 #[cycle(type_depth)]

@@ -3,7 +3,7 @@
 use crate::operators::{
     Binary, Comparison, Connective, Constant, Junction, Quantifier, Ternary, Unary,
 };
-use pv_base::types::TypeTerm;
+use base::types::TypeTerm;
 use std::marker::Model;
 
 /// A term: it has one value for each choice of values of its variables.

@@ -6,7 +6,7 @@ ghost use Rattle.fol.specs.Numerals.{numeral};
 
 use crate::formula::{Formula, FormulaNode, Term, TermNode, Triggers};
 use crate::operators::{Binary, Comparison, Constant, Junction, Quantifier};
-use pv_base::types::TypeTerm;
+use base::types::TypeTerm;
 
 impl Term {
     /// The variable with this number.

@@ -1,6 +1,6 @@
 //! The operators of terms and formulas, by the number of their parts.
 
-use pv_base::types::Width;
+use base::types::Width;
 
 /// The terms without parts, variables aside.
 #[derive(Clone, Copy, Debug, PartialEq, Eq)]

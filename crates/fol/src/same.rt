@@ -4,7 +4,7 @@ ghost use Rattle.std.specs.Prelude.{◌≡◌, ◌↔◌, IsTrue};
 ghost use Rattle.fol.specs.FormulaData.{terms_of, triggers_of, formulas_of};
 
 use crate::formula::{Formula, FormulaNode, Term, TermNode, Trigger};
-use pv_base::same::same_type;
+use base::same::same_type;
 
 /// Whether two terms are one.
 #[cycle(same)]

@@ -2,8 +2,8 @@
 
 ghost use Rattle.std.specs.Prelude.{◌≡◌, ◌∷◌, ◌++◌, [], OnOk, OnErr};
 
-use pv_base::memory::NoMemory;
-use pv_base::types::{StructId, TypeList};
+use base::memory::NoMemory;
+use base::types::{StructId, TypeList};
 use std::alloc::Global;
 use std::marker::Model;
 

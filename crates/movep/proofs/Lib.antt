@@ -1,2 +1,3 @@
 -- Lemmas of the proofs.
 pub mod ReadLemmas
+pub mod WordLemmas

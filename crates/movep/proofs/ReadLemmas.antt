@@ -1,20 +1,20 @@
--- What has been taken of a reader's bytes, where those are known.
+-- What has been read of a reader's bytes, if they are known.
 use Rattle.std.proofs.Common.{◌≡◌, ℕ, ◌+◌, ◌<◌, ◌≤◌, List, [], ◌++◌, length, take, drop, take-append-drop, Some, None, Option, IfSome, Result, Ok, Err, sym, ap, ◌∙◌, subst, false, append-nil, length-append, arith}
 use Rattle.std.proofs.lemmas.List.{take-append-le, length-take-le}
 use Rattle.std.proofs.KnownBytes.{Consumes-nil, Consumes-trans}
 use Rattle.std.specs.Io.KnownBytes.{Consumes, IsAtEnd}
 use Rattle.std.specs.Result.{OnOk, is_err}
 
--- a call that gave no error kept its promise
+-- a call without an error kept its promise
 pub promise_of_ok : {T E P : Type 0} (result : Result T E) → is_err result ≡ false → OnOk result P → P
 promise_of_ok (Ok x) _ promise = promise
 promise_of_ok (Err e) is_ok _ = cc
 
--- nothing is taken before the first read
+-- nothing is read before the first call
 pub Consumes-first : (known : Option (List ℕ)) (into : List ℕ) → into ≡ [] → Consumes known known into
 Consumes-first known into empty = subst (Consumes known known) (sym empty) (Consumes-nil known)
 
--- the front of a buffer that a read gave is at the end of what was taken
+-- the front of the buffer after a read is the end of what was read
 pub Consumes-next : (first now next : Option (List ℕ)) (into new buffer rest : List ℕ) (count : ℕ)
     → Consumes first now into → Consumes now next (take count buffer) → count ≤ length buffer → new ≡ into ++ take count (buffer ++ rest)
     → Consumes first next new
@@ -29,13 +29,13 @@ length-refilled buffer front size same =
     length-append front (drop size buffer) ∙ ap (λ n. n + length (drop size buffer)) same
     ∙ sym (length-append (take size buffer) (drop size buffer)) ∙ ap length (take-append-drop size buffer)
 
--- how many bytes were taken after a read
+-- how many bytes were read after a call
 pub length-next : (into new buffer rest : List ℕ) (count : ℕ) → count ≤ length buffer → new ≡ into ++ take count (buffer ++ rest) → length new ≡ length into + count
 length-next into new buffer rest count bound grown =
     let piece = take-append-le count buffer rest bound in
     ap length (grown ∙ ap (λ bytes. into ++ bytes) piece) ∙ length-append into (take count buffer) ∙ ap (λ n. length into + n) (length-take-le count buffer bound)
 
--- a reader that gave no more has given all that it had
+-- a reader that gives no more has given all its bytes
 pub Consumes-end : (first now next : Option (List ℕ)) (into buffer : List ℕ) (count : ℕ)
     → Consumes first now into → Consumes now next (take count buffer) → count ≡ 0 → IsAtEnd next
     → IfSome first (λ bytes. into ≡ bytes)
@@ -46,7 +46,7 @@ Consumes-end (Some bytes) (Some rest) (Some left) into buffer count before read 
     let nothing = read ∙ ap (λ n. take n buffer ++ left) none ∙ end in
     sym (before ∙ ap (λ behind. into ++ behind) nothing ∙ append-nil into)
 
--- what was taken is no longer than what there was
+-- what was read is no longer than what there was
 pub Consumes-longer : (first now : Option (List ℕ)) (into : List ℕ) (limit : ℕ) → Consumes first now into → limit < length into → IfSome first (λ bytes. limit < length bytes)
 Consumes-longer None now into limit before long = tt
 Consumes-longer (Some bytes) None into limit before long = absurd before

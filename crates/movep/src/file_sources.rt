@@ -1,20 +1,20 @@
-//! The system's files as a source.
+//! Files of the operating system as a source.
 
 ghost use Rattle.std.specs.Prelude.{◌≡◌, ◌<◌, ◌≤◌, [], length, IfSome};
-ghost use Rattle.outside.specs.Outside.{OnTooLong, OnWhole};
+ghost use Rattle.report.specs.Outside.{OnTooLong, OnWhole};
 
-use outside::handed::HandedLog;
-use outside::outside::{FILE_LIMIT, Fetched, Sources};
-use pv_base::lists::Bytes;
-use pv_base::name::Name;
+use base::lists::Bytes;
+use base::name::Name;
+use report::outside::handed::HandedLog;
+use report::outside::{FILE_LIMIT, Fetched, Sources};
 use std::fs::File;
 use std::io::Read;
 use std::rt::Files;
 
-/// How many bytes one read asks for at most.
+/// The greatest number of bytes that one read requests.
 const READ_SIZE: usize = 16_384;
 
-/// Files of the system. What they hold is not told.
+/// Files of the operating system. Their contents are not known to contracts.
 #[derive(Drop)]
 pub struct FileSources<'a, R> {
     files: &'a R,
@@ -24,7 +24,7 @@ pub struct FileSources<'a, R> {
 }
 
 impl<'a, R> FileSources<'a, R> {
-    /// The files that the system gives by `files`.
+    /// The source of the files in `files`.
     pub fn new(files: &'a R) -> FileSources<'a, R>
         ensures faults { result.faults ≡ 0 }
         ensures taken { result.taken ≡ 0 }
@@ -45,7 +45,7 @@ impl<R: Files> Sources for FileSources<'_, R> {
 
     ghost handed = { λ s. s.handed.files };
 
-    /// Reads a file. It fails where the name is not UTF-8, or the file can't be opened or read.
+    /// Reads a file. It fails if the name is not UTF-8, or if the file cannot be opened or read.
     fn fetch(&mut self, name: &Name, into: &mut Bytes) -> Fetched {
         into.clear();
         let fetched = match open(self.files, name) {
@@ -65,13 +65,13 @@ impl<R: Files> Sources for FileSources<'_, R> {
     }
 }
 
-/// The file of this name, opened, where it can be.
+/// Opens the file with this name; `None` if it cannot be opened.
 fn open<R: Files>(files: &R, name: &Name) -> Option<R::File> {
     let path = str::from_utf8(name.as_slice()).ok()?;
     File::open(files, path).ok()
 }
 
-/// Reads what a reader has left, in place of nothing, up to one byte more than `FILE_LIMIT`.
+/// Reads the rest of a reader into the empty `into`, up to one byte more than `FILE_LIMIT`.
 pub fn read_whole<R: Read>(reader: &mut R, into: &mut Bytes) -> Fetched
     requires { into.old ≡ [] }
     ensures bytes { OnWhole result (IfSome (R.remaining reader.old) (λ bytes. into.new ≡ bytes)) }

@@ -1,30 +1,28 @@
-//! The program: it verifies the files that its words name, and reports to standard output.
+//! The program: it verifies the files named on the command line, and reports to standard output.
 #![tactic(auto)]
 
 mod file_sources;
-#[cfg(test)]
-mod name_rows;
 mod out_sink;
 #[cfg(test)]
-mod rows;
+mod run_tests;
 #[cfg(test)]
 mod tests;
 mod words;
 
 ghost use Rattle.std.specs.Prelude.{◌≡◌, ◌<◌, ◌⊎◌};
 ghost use Rattle.std.specs.Io.KnownBytes.{append_known};
-ghost use Rattle.outside.specs.Outside.{HasFaulted};
+ghost use Rattle.report.specs.Outside.{HasFaulted};
 ghost use Rattle.report.specs.Status.{no_memory_line};
 
 use crate::file_sources::FileSources;
 use crate::out_sink::OutSink;
-use crate::words::collect_words;
-use outside::outside::{Sink, Sources};
-use outside::writing::{SinkFault, write_piece};
-use prove::top::movep;
-use pv_base::lists::Words;
-use pv_base::memory::NoMemory;
-use pv_base::steps::Steps;
+use crate::words::{SystemWords, collect_words};
+use base::lists::Words;
+use base::memory::NoMemory;
+use base::steps::Steps;
+use driver::top::movep;
+use report::outside::writing::{SinkFault, write_piece};
+use report::outside::{Sink, Sources};
 use report::status::{Device, Status};
 use report::status_text::no_memory_line;
 use std::alloc::Global;
@@ -32,7 +30,7 @@ use std::marker::Brand;
 use std::process::ExitCode;
 use std::sync::ledger::{Blank, Ledger};
 
-/// Verifies the files that the words name, with a counter of search steps of its own.
+/// Verifies the files that the words name, with its own counter of search steps.
 fn verify<S: Sources, W: Sink, L: Ledger>(
     alloc: Global,
     words: &Words,
@@ -64,7 +62,7 @@ fn main(rt: HostRuntime) -> ExitCode {
     let alloc = rt.alloc();
     let mut sources = FileSources::new(&rt);
     let mut sink = OutSink::new(&rt);
-    let status = match collect_words(alloc, &rt) {
+    let status = match collect_words(alloc, &SystemWords::new(&rt)) {
         Ok(words) => {
             verify::<_, _, Brand>(alloc, &words, &mut sources, &mut sink, Blank::new(1))
         }

@@ -2,9 +2,9 @@
 
 ghost use Rattle.std.specs.Prelude.{◌≡◌};
 
-use outside::outside::{Sink, Wrote};
+use report::outside::{Sink, Wrote};
 
-/// What prints, as a sink. What was written is not told.
+/// A printing device as a sink. What was written is not known to contracts.
 #[derive(Drop)]
 pub struct OutSink<'a, P> {
     out: &'a P,
@@ -12,7 +12,7 @@ pub struct OutSink<'a, P> {
 }
 
 impl<'a, P> OutSink<'a, P> {
-    /// A sink that passes what it takes on to `out`.
+    /// A sink that passes its bytes on to `out`.
     pub fn new(out: &'a P) -> OutSink<'a, P>
         ensures { result.faults ≡ 0 }
     {
@@ -25,7 +25,7 @@ impl<P: Print> Sink for OutSink<'_, P> {
 
     ghost faults = { λ s. s.faults };
 
-    /// Writes once. A device that takes nothing of a piece that is not empty has failed.
+    /// Writes once. A device that takes nothing of a nonempty piece has failed.
     fn write(&mut self, piece: &[u8]) -> Wrote {
         match self.out.write_some(piece) {
             Ok(count) if count > 0 || piece.is_empty() => Wrote::Taken(count),

@@ -1,14 +1,14 @@
-//! What no clause says: which bytes come from the system and go to it, and that each call succeeds where
-//! memory is ample.
+//! Tests of what no contract states: which bytes come from the system and go to it, and that each call succeeds with
+//! ample memory.
 
 use crate::file_sources::{FileSources, read_whole};
 use crate::give_up;
 use crate::out_sink::OutSink;
-use crate::words::collect_words;
-use outside::memory_sink::VecSink;
-use outside::outside::{Fetched, Sink, Sources, Wrote};
-use pv_base::lists::{Bytes, Calls};
-use pv_base::name::Name;
+use crate::words::{SystemWords, collect_words};
+use base::lists::{Bytes, Calls};
+use base::name::Name;
+use report::outside::memory_sink::VecSink;
+use report::outside::{Fetched, Sink, Sources, Wrote};
 use report::status::{Device, Status};
 use std::env::{Env, FillError};
 use std::fmt::Display;
@@ -43,7 +43,7 @@ impl Env for FixedWords<'_> {
     }
 }
 
-/// A device that gives one byte at a time, and fails after the last where it is told to.
+/// A device that gives one byte at a time, and may fail after the last.
 #[derive(Drop)]
 struct Trickle<'a> {
     rest: &'a [u8],
@@ -64,7 +64,7 @@ impl Read for Trickle<'_> {
     }
 }
 
-/// A device that takes this many bytes of each piece at most, and fails where it has no number.
+/// A device that takes at most this many bytes of each piece, and fails if it has no number.
 #[derive(Drop)]
 struct Narrow(Option<usize>);
 
@@ -93,7 +93,8 @@ impl Print for Narrow {
 fn words_are_the_bytes_that_the_system_gave(rt: HostRuntime) -> Result<(), Fail> {
     let long = [b'x'; 1000];
     let given: [&[u8]; 5] = [b"movep", b"a.move", b"\xff\n", b"", &long];
-    let words = collect_words(rt.alloc(), &FixedWords { words: &given })?;
+    let fixed = FixedWords { words: &given };
+    let words = collect_words(rt.alloc(), &SystemWords::new(&fixed))?;
     assert_eq!(rt; words.as_slice().len(), 4);
     for (word, want) in words.as_slice().iter().zip(&given[1..]) {
         assert_eq!(rt; word.as_slice(), *want);

@@ -1,7 +1,7 @@
 -- Bodies of u64 values: what a run of a body rests on.
 use Rattle.std.specs.Prelude.{◌≡◌, ℕ, ◌^◌, ◌<◌, true, List}
 use Rattle.std.specs.List.{list_any}
-use Rattle.pv_base.specs.Names.{same_name}
+use Rattle.base.specs.Names.{same_name}
 use Rattle.sum_tree.specs.SumData.{SumData, NumberSum, WordSum, JoinedSum}
 use Rattle.sum_tree.specs.SumFunctionData.{SumFunctionData}
 

@@ -6,7 +6,7 @@ use Rattle.std.specs.Prelude.{◌≡◌, ℕ, ◌+◌, ◌-◌, ◌^◌, ◌<◌
 use Rattle.std.specs.List.{list_any}
 use Rattle.fol.specs.Val.{Val}
 use Rattle.fol.specs.Validity.{AnswersRight}
-use Rattle.pv_base.specs.Names.{same_name}
+use Rattle.base.specs.Names.{same_name}
 use Rattle.sum_tree.specs.declared.sum.Operator.{Operator}
 use Rattle.sum_tree.specs.declared.sum.Operator.TheVariants.{Plus, Minus}
 use Rattle.sum_tree.specs.SumData.{SumData, NumberSum, WordSum, JoinedSum}

@@ -1,4 +1,4 @@
--- The digits of a number, as a loop writes them from the last one on.
+-- The digits of a number, as a loop writes them, the last one first.
 use Rattle.std.proofs.Common.{◌≡◌, ℕ, zero, suc, ◌+◌, ◌-◌, ◌/◌, ◌%◌, ◌<◌, ◌≤◌, Bool, true, false, cond, List, ◌∷◌, length, drop, refl, ap, ◌∙◌, arith, drop_of_length-le}
 use Rattle.std.proofs.Math.ListN.{set}
 use Rattle.std.proofs.Math.Dec.{eqb}
@@ -6,7 +6,7 @@ use Rattle.std.proofs.lemmas.Bool.{ne_eqb, eq-eqb}
 use Rattle.std.proofs.lemmas.Grind.{drop-set_at}
 use Rattle.std.specs.Fmt.{digit_glyph, digits, digits_onto}
 
--- the last digits of n, i of them at most, and then those that stand already
+-- the last digits of n, at most i of them, and then those already written
 unfoldable pub hexadecimal_onto : ℕ → ℕ → List ℕ → List ℕ
 hexadecimal_onto i n written = digits_onto i 16 false n written
 

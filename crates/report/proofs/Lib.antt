@@ -4,3 +4,4 @@ pub mod ReportLemmas
 pub mod TakenLemmas
 mod TextLines
 mod ToldLemmas
+pub mod SinkTakenLemmas

@@ -1,4 +1,4 @@
--- Line feeds of a text, as far as a loop has read it, and how many of them stand before a place.
+-- The line feeds of a text read so far by a loop, and how many of them come before an offset.
 use Rattle.std.proofs.Common.{◌≡◌, ℕ, zero, suc, ◌+◌, ◌<◌, ◌≤◌, ◌==◌, Bool, true, false, cond, ltb, List, [], ◌∷◌, ◌++◌, length, take, get_or, count_by, refl, sym, ap, ◌∙◌, arith}
 use Rattle.std.proofs.lemmas.List.{take_more}
 use Rattle.std.proofs.lemmas.List.Sums.{sum_by-cons}
@@ -27,7 +27,7 @@ behind true at feeds d more zero h = omega arith
 behind true at feeds d more (suc k) h = omega (arith, more k (omega arith))
 behind false at feeds d more k h = omega (arith, more k h)
 
--- each feed stands at or behind the start
+-- each feed is at or after the start
 pub feeds_behind : (at : ℕ) (xs : List ℕ) (d : ℕ) (k : ℕ) → k < length (feeds_from at xs) → at ≤ get_or (feeds_from at xs) k d
 feeds_behind at [] d k h = absurd (omega arith)
 feeds_behind at (x ∷ xs) d k h = behind (x == 10) at (feeds_from (at + 1) xs) d (feeds_behind (at + 1) xs d) k h
@@ -59,7 +59,7 @@ before true at k feeds h more =
     omega (arith, one_more (λ f. ltb f k) at feeds false 0 later more)
 before false at k feeds h more = more
 
--- none of the feeds stands before the start
+-- none of the feeds is before the start
 count-before : (at k : ℕ) (xs : List ℕ) → k ≤ at → count_by (λ f. ltb f k) (feeds_from at xs) ≡ 0
 count-before at k [] h = refl
 count-before at k (x ∷ xs) h = before (x == 10) at k (feeds_from (at + 1) xs) h (count-before (at + 1) k xs (omega arith))
@@ -70,7 +70,7 @@ counted true at k n feeds h more =
     one_more (λ f. ltb f k) at feeds true n earlier more
 counted false at k n feeds h more = omega (arith, more)
 
--- as many feeds stand before a place as line feeds are among the bytes before it
+-- as many feeds come before an offset as line feeds are among the bytes before it
 pub count-feeds : (at k to : ℕ) (xs : List ℕ) → to ≡ at + k → count_by (λ f. ltb f to) (feeds_from at xs) ≡ count_by (λ b. b == 10) (take k xs)
 count-feeds at zero to xs e = count-before at to xs (omega arith)
 count-feeds at (suc k) to [] e = refl
@@ -82,7 +82,7 @@ none_pass : (p : ℕ → Bool) (xs : List ℕ) → ((k d : ℕ) → k < length x
 none_pass p [] h = refl
 none_pass p (x ∷ xs) h = omega (arith, one_more p x xs false 0 (h 0 x (omega arith)) (none_pass p xs (λ k d l. h (suc k) d (omega arith))))
 
--- what a binary search by a test finds is how many pass it
+-- a binary search by a test finds how many elements pass it
 pub count-partition : (p : ℕ → Bool) (xs : List ℕ) (i : ℕ) → i ≤ length xs → ((k d : ℕ) → k < i → p (get_or xs k d) ≡ true) → ((k d : ℕ) → i ≤ k → k < length xs → p (get_or xs k d) ≡ false) → count_by p xs ≡ i
 count-partition p [] i h passed failed = omega arith
 count-partition p (x ∷ xs) zero h passed failed = none_pass p (x ∷ xs) (λ k d l. failed k d (omega arith) l)
@@ -90,7 +90,7 @@ count-partition p (x ∷ xs) (suc i) h passed failed =
     let rest : count_by p xs ≡ i = count-partition p xs i (omega arith) (λ k d l. passed (suc k) d (omega arith)) (λ k d g l. failed (suc k) d (omega arith) (omega arith)) in
     omega (arith, one_more p x xs true i (passed 0 x (omega arith)) rest)
 
--- the line of a place, from the search for it among the feeds
+-- the line of an offset, by the search among the feeds
 pub line_from_partition : (bytes : List ℕ) (place i : ℕ) → i ≤ length (line_feeds bytes) → IsPartitionPoint (λ y. ltb y place ≡ true) (λ y. ltb y place ≡ false) (line_feeds bytes) i → i + 1 ≡ line_of bytes place
 line_from_partition bytes place i h point =
     let found : count_by (λ f. ltb f place) (line_feeds bytes) ≡ i = count-partition (λ f. ltb f place) (line_feeds bytes) i h (λ k d l. point.0 k d (omega arith) l) point.1 in

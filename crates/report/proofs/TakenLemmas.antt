@@ -4,8 +4,8 @@ use Rattle.std.specs.Io.KnownBytes.{append_known}
 use Rattle.std.proofs.lemmas.List.{take-append-drop}
 use Rattle.std.proofs.Math.Seq.{drop-cons}
 use Rattle.std.proofs.lemmas.Grind.{flat_map-append}
-use Rattle.outside.specs.Writing.{TakesPrefix}
-use Rattle.outside.proofs.TakenLemmas.{append_known-append}
+use Rattle.report.specs.SinkWriting.{TakesPrefix}
+use Rattle.report.proofs.SinkTakenLemmas.{append_known-append}
 use Rattle.report.specs.Writing.{joined}
 
 -- the lines before one, that line, and those after it

@@ -4,8 +4,8 @@ use Rattle.std.specs.List.{AllByRecursion, list_all}
 use Rattle.std.specs.Fmt.{digit_glyph, digits, digits_onto}
 use Rattle.std.specs.Prelude.{nat_lt}
 use Rattle.std.proofs.lemmas.Bool.{ne_eqb}
-use Rattle.pv_base.proofs.ListEnds.{head_is, tail_is}
-use Rattle.pv_base.proofs.TruthValues.{both_true, true_both}
+use Rattle.base.proofs.ListEnds.{head_is, tail_is}
+use Rattle.base.proofs.TruthValues.{both_true, true_both}
 use Rattle.report.specs.Told.{HoldsNoFeed}
 use Rattle.report.specs.Writing.{joined}
 

@@ -1,4 +1,4 @@
--- What a printed line tells is told by its bytes.
+-- The bytes of a printed line determine what it states.
 use Rattle.std.proofs.Common.{◌≡◌, ℕ, zero, suc, ℤ, pos, negsuc, ◌+◌, ◌-◌, ◌*◌, ◌/◌, ◌%◌, ◌<◌, ◌≤◌, ◌^◌, Bool, true, not, cond, ◌==◌, ◌&&◌, List, [], ◌∷◌, ◌++◌, map, Some, None, Option, refl, sym, ap, subst, ◌∙◌, arith}
 use Rattle.std.specs.Prelude.{codes, nat_lt, slice_index_or, count_by, length}
 use Rattle.std.specs.List.{AllByRecursion, flat_map}
@@ -6,8 +6,8 @@ use Rattle.std.specs.Fmt.{decimal}
 use Rattle.std.proofs.lemmas.Bool.Decides.{nat_tests}
 use Rattle.std.proofs.lemmas.Fmt.{decimal_by_steps}
 use Rattle.std.proofs.lemmas.List.{map-append}
-use Rattle.answers.specs.declared.condition.ConditionKind.{ConditionKind}
-use Rattle.answers.specs.declared.condition.ConditionKind.TheVariants.{Ensures, AbortsIf, Aborts}
+use Rattle.base.specs.declared.condition.ConditionKind.{ConditionKind}
+use Rattle.base.specs.declared.condition.ConditionKind.TheVariants.{Ensures, AbortsIf, Aborts}
 use Rattle.report.specs.ReportData.{ConditionRecordData, FunctionRecordData, ParameterValueData, ReportData}
 use Rattle.report.specs.ReportText.{check_text, condition_line, condition_lines, condition_verdict_text, count_line, function_line, function_lines, function_verdict_text, hexadecimal, is_proved, kind_text, line_feed, lines_of_report, report_text, value_line, whole_text}
 use Rattle.report.specs.Told.{HoldsNoFeed, IsCounted, IsPrintedCondition, IsPrintedFunction, IsPrintedReport, LineVerdict, of_condition, of_function, of_none, told_of_condition, told_of_function, told_of_report}
@@ -19,7 +19,7 @@ use Rattle.report.proofs.TextLines.{EndsOnce, ends_once, none_in, number_holds_n
 
 -- ---- texts backwards
 
--- the text backwards, before another
+-- the reversed text, before another
 abbrev onto_back : List ℕ → List ℕ → List ℕ
 onto_back [] rest = rest
 onto_back (b ∷ bs) rest = onto_back bs (b ∷ rest)
@@ -95,7 +95,7 @@ function_reads : (v : FunctionVerdict) (more : List ℕ) → function_back (onto
 function_reads Proved more = refl
 function_reads Unknown more = refl
 
--- what stands before the line feed, from the end on
+-- the part before the line feed, reversed
 abbrev back : List ℕ → List ℕ
 back line = behind (onto_back line [])
 
@@ -103,7 +103,7 @@ back_is : (front text : List ℕ) → back (((front ++ codes ": ") ++ text) ++ l
 back_is front text =
     ap behind (onto_both ((front ++ codes ": ") ++ text) line_feed []) ∙ onto_both (front ++ codes ": ") text [] ∙ ap (onto_back text) (onto_both front (codes ": ") [])
 
--- ---- what a line tells
+-- ---- the statement of a line
 
 abbrev line_tells : List ℕ → LineVerdict
 line_tells line =
@@ -134,7 +134,7 @@ value_tells v = refl
 count_tells : (fs : List FunctionRecordData) → line_tells (count_line fs) ≡ of_none
 count_tells fs = refl
 
--- ---- what a report tells
+-- ---- the statements of a report
 
 values_tell : (vs : List ParameterValueData) → map line_tells (map value_line vs) ≡ map (λ v. of_none) vs
 values_tell [] = refl

@@ -5,3 +5,8 @@ pub mod Writing
 pub mod Told
 pub mod Status
 pub mod Writes
+pub mod Outside
+pub mod Handed
+pub mod MemorySink
+pub mod MemorySources
+pub mod SinkWriting

@@ -1,7 +1,7 @@
--- The records of verdicts as contracts see them.
+-- Verdicts and reports as contracts see them.
 use Rattle.std.specs.Prelude.{ℕ, ℤ, List, Option}
-use Rattle.answers.specs.declared.condition.ConditionKind.{ConditionKind}
-use Rattle.formula_prover.specs.declared.answer.Answer.{Answer}
+use Rattle.base.specs.declared.condition.ConditionKind.{ConditionKind}
+use Rattle.certificate_text.specs.declared.prover.answer.Answer.{Answer}
 use Rattle.report.specs.declared.report.ConditionVerdict.{ConditionVerdict}
 use Rattle.report.specs.declared.report.FunctionVerdict.{FunctionVerdict}
 
@@ -10,7 +10,8 @@ pub record ParameterValueData : Type 0 where
   pub name : List ℕ
   pub number : ℤ
 
--- a condition by its kind and place, its verdict, what was answered for its formula, and the values that are printed after it
+-- a condition by its kind and position, its verdict, the prover's answer for its formula, and the values printed after
+-- it
 pub record ConditionRecordData : Type 0 where
   pub kind : ConditionKind
   pub file : ℕ
@@ -20,7 +21,7 @@ pub record ConditionRecordData : Type 0 where
   pub answer : Answer
   pub values : List ParameterValueData
 
--- a function's verdict, and those of its conditions in their order
+-- a function's verdict, and those of its conditions in order
 pub record FunctionRecordData : Type 0 where
   pub address : ℕ
   pub module_name : List ℕ
@@ -28,7 +29,7 @@ pub record FunctionRecordData : Type 0 where
   pub verdict : FunctionVerdict
   pub conditions : List ConditionRecordData
 
--- the names of the files, by which conditions are numbered, and the functions in file order
+-- the names of the files, to which the conditions' file numbers refer, and the functions in file order
 pub record ReportData : Type 0 where
   pub files : List (List ℕ)
   pub functions : List FunctionRecordData

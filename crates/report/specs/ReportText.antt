@@ -1,4 +1,4 @@
--- The text of a report, a function of its records. Each line ends with a line feed.
+-- The text of a report as a function of its records. Each line ends with a line feed.
 use Rattle.std.specs.Prelude.{ℕ, suc, ℤ, pos, negsuc, Bool, true, false, List, [], ◌∷◌, ◌++◌, length, count_by, Option, Some, None, codes, map, slice_index_or}
 use Rattle.std.specs.List.{flat_map}
 use Rattle.std.specs.Fmt.{decimal, digits}
@@ -8,13 +8,13 @@ use Rattle.report.specs.declared.report.FunctionVerdict.{FunctionVerdict}
 use Rattle.report.specs.declared.report.FunctionVerdict.TheVariants.{Proved, Unknown}
 use Rattle.report.specs.declared.report.ConditionVerdict.{ConditionVerdict}
 use Rattle.report.specs.declared.report.ConditionVerdict.TheVariants.{Proved as condition_proved, Open, Wide, Rows, Budget, Size}
-use Rattle.answers.specs.declared.condition.ConditionKind.{ConditionKind}
-use Rattle.answers.specs.declared.condition.ConditionKind.TheVariants.{Ensures, AbortsIf, Aborts}
+use Rattle.base.specs.declared.condition.ConditionKind.{ConditionKind}
+use Rattle.base.specs.declared.condition.ConditionKind.TheVariants.{Ensures, AbortsIf, Aborts}
 
 abbrev pub line_feed : List ℕ
 line_feed = 10 ∷ []
 
--- a number in hexadecimal, in lower case with no leading zeros
+-- a number in hexadecimal, in lower case without leading zeros
 abbrev pub hexadecimal : ℕ → List ℕ
 hexadecimal n = digits 16 false n
 
@@ -39,7 +39,7 @@ abbrev pub is_proved : FunctionVerdict → Bool
 is_proved Proved = true
 is_proved Unknown = false
 
--- the line of a check that stands apart from its clause
+-- the line number of a check that is apart from its clause
 abbrev pub check_text : Option ℕ → List ℕ
 check_text None = []
 check_text (Some line) = codes " at " ++ decimal line

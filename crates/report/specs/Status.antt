@@ -1,7 +1,7 @@
--- The numbers of the statuses, and the line that tells of a run without a report.
+-- The exit statuses, and the line printed for a run without a report.
 use Rattle.std.specs.Prelude.{ℕ, List, [], ◌++◌, Option, Some, None, codes}
 use Rattle.std.specs.Fmt.{decimal}
-use Rattle.answers.specs.Rules.{rule_name, rule_number}
+use Rattle.base.specs.Rules.{rule_name, rule_number}
 use Rattle.report.specs.ReportText.{line_feed}
 use Rattle.report.specs.declared.status.Refusal.{Refusal}
 use Rattle.report.specs.declared.status.Status.{Status}
@@ -9,7 +9,7 @@ use Rattle.report.specs.declared.status.Status.TheVariants.{AllProved, NotAllPro
 use Rattle.report.specs.declared.status.LimitKind.{LimitKind}
 use Rattle.report.specs.declared.status.LimitKind.TheVariants.{Files, Bytes, Tokens, Nesting, Locals}
 
--- what the program ends with
+-- the exit status of the program
 abbrev pub code_of : Status → ℕ
 code_of AllProved = 0
 code_of NotAllProved = 1

@@ -1,4 +1,4 @@
--- What each printed line of a report tells: the verdict of a function, that of a condition, or none.
+-- What each printed line of a report states: the verdict on a function, the verdict on a condition, or neither.
 use Rattle.std.specs.Prelude.{◌≡◌, ℕ, ◌^◌, ◌<◌, true, not, ◌==◌, List, [], ◌∷◌, ◌++◌, map}
 use Rattle.std.specs.List.{AllByRecursion, flat_map, list_all}
 use Rattle.report.specs.ReportData.{ConditionRecordData, FunctionRecordData, ParameterValueData, ReportData}
@@ -11,7 +11,7 @@ pub data LineVerdict : Type 0 where
   of_condition : ConditionVerdict → LineVerdict
   of_none : LineVerdict
 
--- ---- what the lines tell, in their order
+-- ---- the statements of the lines, in order
 
 abbrev pub told_of_condition : ConditionRecordData → List LineVerdict
 told_of_condition c = of_condition c.verdict ∷ map (λ v. of_none) c.values
@@ -22,12 +22,12 @@ told_of_function f = of_function f.verdict ∷ flat_map told_of_condition f.cond
 abbrev pub told_of_report : ReportData → List LineVerdict
 told_of_report report = flat_map told_of_function report.functions ++ of_none ∷ []
 
--- ---- names that stand in one line
+-- ---- names on one line
 
 abbrev pub HoldsNoFeed : List ℕ → Type 0
 HoldsNoFeed name = list_all (λ b. not (b == 10)) name ≡ true
 
--- a count of steps fits 64 bits
+-- a count of steps fits in 64 bits
 abbrev pub IsCounted : ConditionVerdict → Type 0
 IsCounted (Budget steps) = steps < 2 ^ 64
 IsCounted _ = Unit {0}
@@ -41,7 +41,7 @@ pub record IsPrintedFunction (f : FunctionRecordData) : Type 0 where
   pub name : HoldsNoFeed f.name
   pub conditions : AllByRecursion IsPrintedCondition f.conditions
 
--- no name of the report holds a line feed
+-- no name of the report contains a line feed
 pub record IsPrintedReport (report : ReportData) : Type 0 where
   pub files : AllByRecursion HoldsNoFeed report.files
   pub functions : AllByRecursion IsPrintedFunction report.functions

@@ -1,12 +1,12 @@
--- What a sink took of a text with its status.
+-- The bytes that a sink took of a text with its status.
 use Rattle.std.specs.Prelude.{◌≡◌, ℕ, List, Option, Result, Ok, Err}
 use Rattle.std.specs.Io.KnownBytes.{append_known}
-use Rattle.outside.specs.Outside.{HasFaulted}
-use Rattle.outside.specs.Writing.{TakesPrefix}
+use Rattle.report.specs.Outside.{HasFaulted}
+use Rattle.report.specs.SinkWriting.{TakesPrefix}
 use Rattle.report.specs.declared.status.Status.{Status}
-use Rattle.outside.specs.declared.writing.SinkFault.{SinkFault}
+use Rattle.report.specs.declared.outside.writing.SinkFault.{SinkFault}
 
--- this status and this text
+-- exactly this status and this text
 abbrev pub IsJust : Status → List ℕ → Status → List ℕ → Type 0
 IsJust status text other_status other_text = (other_status ≡ status) × (other_text ≡ text)
 

@@ -1,7 +1,8 @@
-//! Reports and statuses, their texts, and how they are written.
+//! Reports and statuses, their texts, and the devices that provide sources and take the report.
 #![tactic(auto)]
 
 pub mod lines;
+pub mod outside;
 pub mod report;
 pub mod report_text;
 pub mod status;

@@ -3,12 +3,12 @@
 ghost use Rattle.std.specs.Prelude.{◌≡◌, ◌≤◌, ℕ, List, length, IfOk};
 ghost use Rattle.report.specs.Lines.{line_feeds, line_of};
 
-use outside::outside::FILE_LIMIT;
-use pv_base::memory::NoMemory;
+use crate::outside::FILE_LIMIT;
+use base::memory::NoMemory;
 use std::alloc::Global;
 use std::marker::Model;
 
-/// Where a file has its line feeds, so that the line of a place is found by a binary search.
+/// The line feeds of a file, for finding the line of a byte offset by binary search.
 #[derive(Drop)]
 pub struct LineFeeds {
     places: Vec<u32>,
@@ -25,7 +25,7 @@ impl Model for LineFeeds {
 }
 
 impl LineFeeds {
-    /// The line feeds of a file's bytes.
+    /// The line feeds of a file's bytes. `NoMemory` if memory runs out.
     pub fn new(alloc: Global, bytes: &[u8]) -> Result<LineFeeds, NoMemory>
         requires { length bytes.now ≤ FILE_LIMIT }
         ensures { IfOk result (λ feeds. feeds ≡ line_feeds bytes.now) }
@@ -39,7 +39,7 @@ impl LineFeeds {
         Ok(LineFeeds { places })
     }
 
-    /// The line, counted from 1, of a place of the file, counted from 0.
+    /// The line, counted from 1, of a byte offset in the file, counted from 0.
     pub fn line(&self, place: u32) -> u32
         ensures { (bytes : List ℕ) → self.now ≡ line_feeds bytes → result ≡ line_of bytes place }
     {

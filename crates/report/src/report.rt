@@ -1,36 +1,36 @@
-//! The records of verdicts, and the report that is written of them.
+//! Verdicts, and the report of them.
 
 ghost use Rattle.std.specs.Prelude.{◌≡◌, IfOk};
 ghost use Rattle.report.specs.ReportText.{function_line, condition_line, count_line, lines_of_report};
 
-use answers::condition::ConditionKind;
-use formula_prover::answer::Answer;
-use pv_base::lists::Bytes;
-use pv_base::memory::NoMemory;
-use pv_base::name::Name;
+use base::condition::ConditionKind;
+use base::lists::Bytes;
+use base::memory::NoMemory;
+use base::name::Name;
+use certificate_text::prover::answer::Answer;
 use std::alloc::Global;
 use std::marker::Model;
 
-/// What was found out of a condition.
+/// The verdict on a condition.
 #[derive(Clone, Copy, Debug, PartialEq, Eq)]
 pub enum ConditionVerdict {
-    /// A search tree for it leaves no branch open, and its moves are a certificate that the checker accepts.
+    /// A closed tableau for the condition was found, and it gives a certificate that the checker accepts.
     Proved,
-    /// A search tree for it leaves a branch open on which nothing is due and which nothing closes, and values meet the
-    /// branch's rows, whole ones at numbers.
+    /// A tableau for the condition has an open branch on which nothing is due and which nothing closes, and values
+    /// satisfy the branch's rows, whole ones for numbers.
     Open,
-    /// An elimination of the rows of a branch of a search tree meets two rows whose sum leaves 128 bits; or the formula
-    /// has a numeral from 2^127 on other than 2^128 - 1.
+    /// An elimination of the rows of a branch of a tableau reaches two rows whose sum overflows 128 bits; or the
+    /// formula has a numeral from 2^127 on other than 2^128 - 1.
     Wide,
-    /// An elimination of the rows of a branch of a search tree has 5,000 rows.
+    /// An elimination of the rows of a branch of a tableau reaches 5,000 rows.
     Rows,
-    /// A search tree for it has this many steps, the whole budget.
+    /// A tableau for the condition has this many steps, the whole budget.
     Budget(u64),
-    /// No certificate can go on with a branch of a search tree; or the one that was found has more than 4 MiB.
+    /// No certificate can extend a branch of a tableau; or the certificate found has more than 4 MiB.
     Size,
 }
 
-/// What was found out of a function.
+/// The verdict on a function.
 #[derive(Clone, Copy, Debug, PartialEq, Eq)]
 pub enum FunctionVerdict {
     /// Each of its conditions is proved.
@@ -54,7 +54,7 @@ impl Model for ParameterValue {
     ghost view = { λ v. record { name = v.name; number = v.number } };
 }
 
-/// A condition, by its kind and its place, and its verdict.
+/// A condition, by its kind and its position, and its verdict.
 #[derive(Drop)]
 pub struct ConditionRecord {
     pub kind: ConditionKind,
@@ -62,13 +62,13 @@ pub struct ConditionRecord {
     pub file: u32,
     /// The line of the clause, or for `aborts` of the function, counted from 1.
     pub line: u32,
-    /// The line of the check, where it stands apart from the clause.
+    /// The line of the check, if it is apart from the clause.
     pub check_line: Option<u32>,
     pub verdict: ConditionVerdict,
-    /// What the prover answered for the condition's formula: the text of a search tree, over the pool of its formulas,
-    /// that shows the verdict.
+    /// The prover's answer for the condition's formula: the trace of a tableau, over the pool of its formulas, that
+    /// shows the verdict.
     pub answer: Answer,
-    /// Where the verdict is `Open`, the values of the function's parameters on the branch, in order.
+    /// If the verdict is `Open`, the values of the function's parameters on the branch, in order.
     pub values: Vec<ParameterValue>,
 }
 
@@ -98,7 +98,7 @@ impl Model for FunctionRecord {
     ghost view = { λ f. record { address = f.address; module_name = f.module_name; name = f.name; verdict = f.verdict; conditions = f.conditions.items } };
 }
 
-/// What a run found out.
+/// The result of a run.
 #[derive(Drop)]
 pub struct Report {
     /// The names of the files, in the order of the words that named them.

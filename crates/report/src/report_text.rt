@@ -9,13 +9,13 @@ use crate::report::{
     ConditionRecord, ConditionVerdict, FunctionRecord, FunctionVerdict, ParameterValue, Report,
 };
 use crate::text::{Lines, push_decimal, push_hexadecimal, push_whole};
-use answers::condition::ConditionKind;
-use pv_base::lists::Bytes;
-use pv_base::memory::NoMemory;
-use pv_base::name::Name;
+use base::condition::ConditionKind;
+use base::lists::Bytes;
+use base::memory::NoMemory;
+use base::name::Name;
 use std::alloc::Global;
 
-/// The word that a report has for a kind of condition.
+/// The word in a report for a kind of condition.
 fn kind_text(kind: ConditionKind) -> &'static [u8]
     ensures { result.now ≡ kind_text kind }
 {
@@ -26,7 +26,7 @@ fn kind_text(kind: ConditionKind) -> &'static [u8]
     }
 }
 
-/// Puts the words that a report has for a condition's verdict at the end.
+/// Appends the words in a report for a condition's verdict.
 fn push_verdict(alloc: Global, text: &mut Bytes, verdict: ConditionVerdict) -> Result<(), NoMemory>
     ensures { OnOk result (text.new ≡ text.old ++ condition_verdict_text verdict) }
 {
@@ -44,7 +44,7 @@ fn push_verdict(alloc: Global, text: &mut Bytes, verdict: ConditionVerdict) -> R
 }
 
 impl FunctionVerdict {
-    /// The word that a report has for this verdict.
+    /// The word in a report for this verdict.
     pub fn text(self) -> &'static [u8]
         ensures { result.now ≡ function_verdict_text self }
     {
@@ -72,7 +72,7 @@ fn function_line(alloc: Global, function: &FunctionRecord) -> Result<Bytes, NoMe
     Ok(line)
 }
 
-/// Puts the line of a check that stands apart from its clause at the end.
+/// Appends the line number of a check that is apart from its clause.
 fn push_check_line(alloc: Global, text: &mut Bytes, check_line: Option<u32>) -> Result<(), NoMemory>
     ensures { OnOk result (text.new ≡ text.old ++ check_text check_line) }
 {
@@ -83,7 +83,7 @@ fn push_check_line(alloc: Global, text: &mut Bytes, check_line: Option<u32>) -> 
     Ok(())
 }
 
-/// The name of a file by its number, and no bytes where there is no such file.
+/// The name of the file with this number; no bytes if there is no such file.
 fn file_name(files: &[Name], number: u32) -> &[u8]
     ensures { result.now ≡ slice_index_or files.now number [] }
 {
@@ -128,7 +128,7 @@ fn value_line(alloc: Global, value: &ParameterValue) -> Result<Bytes, NoMemory>
     Ok(line)
 }
 
-/// Puts the line of a condition, and those of its values, at the end.
+/// Appends the line of a condition, and those of its values.
 fn push_condition_lines(
     alloc: Global,
     lines: &mut Lines,
@@ -161,7 +161,7 @@ fn count_line(alloc: Global, functions: &[FunctionRecord]) -> Result<Bytes, NoMe
     Ok(line)
 }
 
-/// Puts the line of a function, and those of its conditions, at the end.
+/// Appends the line of a function, and those of its conditions.
 fn push_function_lines(
     alloc: Global,
     lines: &mut Lines,
@@ -177,7 +177,7 @@ fn push_function_lines(
     Ok(())
 }
 
-/// The lines of a report, each with its line feed.
+/// Returns the lines of a report, each with its line feed. `NoMemory` if memory runs out.
 pub fn report_lines(alloc: Global, report: &Report) -> Result<Lines, NoMemory>
     ensures { IfOk result (λ lines. lines ≡ lines_of_report report.now) }
 {
@@ -189,8 +189,8 @@ pub fn report_lines(alloc: Global, report: &Report) -> Result<Lines, NoMemory>
     Ok(lines)
 }
 
-/// A law: what is printed tells what was found out. Two reports of one text have the same lines, and at each line
-/// the same verdict, where no name in them holds a line feed.
+/// A law: the printed text determines the verdicts. Two reports with the same text have the same lines, and the same
+/// verdict at each line, if no name in them contains a line feed.
 pub fn one_reading()
     ensures lines { (one other : ReportData) → IsPrintedReport one → IsPrintedReport other
         → report_text one ≡ report_text other → lines_of_report one ≡ lines_of_report other }

@@ -3,22 +3,22 @@
 ghost use Rattle.std.specs.Prelude.{◌≡◌};
 ghost use Rattle.report.specs.Status.{code_of, limit_text};
 
-use answers::rule::Rule;
-use pv_base::name::Name;
+use base::name::Name;
+use base::rule::Rule;
 
-/// A file that breaks a rule.
+/// A file that breaks a rule, with the rule.
 #[derive(Drop, PartialEq, Eq)]
 pub struct Refusal {
     pub rule: Rule,
     /// The number of the file, counted from 0 in the order of the words.
     pub file: u32,
-    /// The line on which what breaks the rule begins, counted from 1.
+    /// The line, counted from 1, where the violation begins.
     pub line: u32,
-    /// How the first marker is printed, where the rule is `LeftOut`, and none else.
+    /// The text of the first marker, if the rule is `LeftOut`.
     pub marker: Option<Name>,
 }
 
-/// A device of the outside that can fail.
+/// A device that can fail.
 #[derive(Clone, Copy, Debug, PartialEq, Eq)]
 pub enum Device {
     Source,
@@ -34,7 +34,7 @@ pub enum LimitKind {
     Bytes,
     /// The tokens of a file, 200,000 at most.
     Tokens,
-    /// The weight of a file's nesting, 200 at most.
+    /// The nesting weight of a file, 200 at most.
     Nesting,
     /// The parameters and locals of a function, 256 at most.
     Locals,
@@ -51,16 +51,16 @@ pub enum Status {
     Refused(Refusal),
     /// A device failed.
     Fault(Device),
-    /// The words are no words of this program.
+    /// The words of the command line are not valid for this program.
     BadWords,
-    /// A quantity passed its limit: the count at which this was seen.
+    /// A quantity exceeded its limit, with the count at which this was noticed.
     Limit(LimitKind, u64),
     /// Memory ran out.
     NoMemory,
 }
 
 impl LimitKind {
-    /// The word by which the line of a limit names the quantity.
+    /// The word for the quantity in the line of a limit.
     pub fn text(self) -> &'static [u8]
         ensures { result.now ≡ limit_text self }
     {
@@ -75,7 +75,7 @@ impl LimitKind {
 }
 
 impl Status {
-    /// The status with which the program ends.
+    /// The exit status of the program.
     pub fn code(&self) -> u8
         ensures { result ≡ code_of self.now }
     {

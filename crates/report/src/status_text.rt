@@ -1,30 +1,30 @@
-//! The line that tells of a run without a report.
+//! The line printed for a run without a report.
 
 ghost use Rattle.std.specs.Prelude.{◌≡◌, ◌++◌, IfOk, OnOk};
 ghost use Rattle.report.specs.Status.{files_limit_line, limit_line, marker_prefix, no_memory_line, refusal_line, source_fault_line, usage_line};
 
 use crate::status::{LimitKind, Refusal};
 use crate::text::push_decimal;
-use pv_base::lists::Bytes;
-use pv_base::memory::NoMemory;
-use pv_base::name::Name;
+use base::lists::Bytes;
+use base::memory::NoMemory;
+use base::name::Name;
 use std::alloc::Global;
 
-/// What is written where the words are no words of this program.
+/// The line for words that are not valid for this program.
 pub fn usage_line() -> &'static [u8]
     ensures { result.now ≡ usage_line }
 {
     b"usage: movep [FILE]...\n"
 }
 
-/// What is written where memory ran out.
+/// The line for a run that ran out of memory.
 pub fn no_memory_line() -> &'static [u8]
     ensures { result.now ≡ no_memory_line }
 {
     b"no memory\n"
 }
 
-/// Puts a marker and a blank at the end, where there is one.
+/// Appends a marker and a blank, if there is a marker.
 fn push_marker(text: &mut Bytes, marker: &Option<Name>) -> Result<(), NoMemory>
     ensures { OnOk result (text.new ≡ text.old ++ marker_prefix marker.now) }
 {
@@ -35,7 +35,7 @@ fn push_marker(text: &mut Bytes, marker: &Option<Name>) -> Result<(), NoMemory>
     Ok(())
 }
 
-/// What is written of a file that breaks a rule.
+/// The line for a file that breaks a rule. `NoMemory` if memory runs out.
 pub fn refusal_line(alloc: Global, file: &Name, refusal: &Refusal) -> Result<Bytes, NoMemory>
     ensures { IfOk result (λ text. text ≡ refusal_line file.now refusal.now) }
 {
@@ -53,7 +53,7 @@ pub fn refusal_line(alloc: Global, file: &Name, refusal: &Refusal) -> Result<Byt
     Ok(text)
 }
 
-/// What is written where there are more files than a run may have, which are so many.
+/// The line for a run with more files than allowed: this many. `NoMemory` if memory runs out.
 pub fn files_limit_line(alloc: Global, count: u64) -> Result<Bytes, NoMemory>
     ensures { IfOk result (λ text. text ≡ files_limit_line count) }
 {
@@ -64,7 +64,7 @@ pub fn files_limit_line(alloc: Global, count: u64) -> Result<Bytes, NoMemory>
     Ok(text)
 }
 
-/// What is written of a file that could not be fetched.
+/// The line for a file that could not be fetched. `NoMemory` if memory runs out.
 pub fn source_fault_line(alloc: Global, file: &Name) -> Result<Bytes, NoMemory>
     ensures { IfOk result (λ text. text ≡ source_fault_line file.now) }
 {
@@ -75,7 +75,7 @@ pub fn source_fault_line(alloc: Global, file: &Name) -> Result<Bytes, NoMemory>
     Ok(text)
 }
 
-/// What is written of a file that passes a limit.
+/// The line for a file that exceeds a limit. `NoMemory` if memory runs out.
 pub fn limit_line(alloc: Global, file: &Name, kind: LimitKind) -> Result<Bytes, NoMemory>
     ensures { IfOk result (λ text. text ≡ limit_line file.now kind) }
 {

@@ -1,11 +1,11 @@
-//! Lines of text, and the parts that they are made of.
+//! Lines of text, and their parts.
 
 ghost use Rattle.std.specs.Prelude.{◌≡◌, ◌≤◌, ◌∷◌, ◌++◌, [], drop, false, ◌<◌, OnOk, OnErr};
 ghost use Rattle.std.specs.Fmt.{decimal, digit_glyph};
 ghost use Rattle.report.specs.ReportText.{hexadecimal, whole_text};
 
-use pv_base::lists::Bytes;
-use pv_base::memory::NoMemory;
+use base::lists::Bytes;
+use base::memory::NoMemory;
 use std::alloc::Global;
 use std::marker::Model;
 
@@ -40,7 +40,7 @@ impl Lines {
         self.items.as_slice()
     }
 
-    /// Puts a line at the end. After `NoMemory` the lines are as they were.
+    /// Appends a line. After `NoMemory` the lines are unchanged.
     pub fn push(&mut self, line: Bytes) -> Result<(), NoMemory>
         ensures ok { OnOk result (self.new ≡ self.old ++ line ∷ []) }
         ensures err { OnErr result (self.new ≡ self.old) }
@@ -50,7 +50,7 @@ impl Lines {
     }
 }
 
-/// Puts a number at the end in decimal.
+/// Appends a number in decimal. `NoMemory` if memory runs out.
 pub fn push_decimal(alloc: Global, text: &mut Bytes, number: u64) -> Result<(), NoMemory>
     ensures ok { OnOk result (text.new ≡ text.old ++ decimal number) }
     ensures err { OnErr result (text.new ≡ text.old) }
@@ -59,7 +59,7 @@ pub fn push_decimal(alloc: Global, text: &mut Bytes, number: u64) -> Result<(), 
     text.extend_from_slice(digits.as_bytes())
 }
 
-/// Puts a whole number at the end in decimal, with a sign where it is below 0.
+/// Appends a whole number in decimal, with a sign if it is negative. `NoMemory` if memory runs out.
 pub fn push_whole(alloc: Global, text: &mut Bytes, number: i128) -> Result<(), NoMemory>
     ensures { OnOk result (text.new ≡ text.old ++ whole_text number) }
 {
@@ -82,7 +82,7 @@ fn hexadecimal_digit(digit: u8) -> u8
     }
 }
 
-/// Writes the hexadecimal digits of a number at the end of `out`, and says where they begin.
+/// Writes the hexadecimal digits of a number at the end of `out`, and returns the index of the first one.
 fn encode_hexadecimal(number: u128, out: &mut [u8; 64]) -> usize
     ensures within { result ≤ 64 }
     ensures value { drop result out.new ≡ hexadecimal number }
@@ -100,7 +100,7 @@ fn encode_hexadecimal(number: u128, out: &mut [u8; 64]) -> usize
     start
 }
 
-/// Puts a number at the end in hexadecimal, in lower case with no leading zeros.
+/// Appends a number in hexadecimal, in lower case without leading zeros. `NoMemory` if memory runs out.
 pub fn push_hexadecimal(text: &mut Bytes, number: u128) -> Result<(), NoMemory>
     ensures ok { OnOk result (text.new ≡ text.old ++ hexadecimal number) }
     ensures err { OnErr result (text.new ≡ text.old) }

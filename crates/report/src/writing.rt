@@ -1,18 +1,18 @@
-//! Lines are written to a sink.
+//! Writing of lines to a sink.
 
 ghost use Rattle.std.specs.Prelude.{◌≡◌, OnOk, OnErr};
 ghost use Rattle.std.specs.Io.KnownBytes.{append_known};
-ghost use Rattle.outside.specs.Outside.{HasFaulted};
+ghost use Rattle.report.specs.Outside.{HasFaulted};
 ghost use Rattle.report.specs.Writes.{IsJust, Writes};
-ghost use Rattle.outside.specs.Writing.{TakesPrefix};
+ghost use Rattle.report.specs.SinkWriting.{TakesPrefix};
 ghost use Rattle.report.specs.Writing.{joined};
 
+use crate::outside::Sink;
+use crate::outside::writing::{SinkFault, write_piece};
 use crate::status::Status;
 use crate::text::Lines;
-use outside::outside::Sink;
-use outside::writing::{SinkFault, write_piece};
 
-/// Writes a text, and gives the status that goes with it.
+/// Writes a text, and returns the status. `SinkFault` if the sink fails.
 pub fn write_text<W: Sink>(sink: &mut W, text: &[u8], status: Status) -> Result<Status, SinkFault>
     ensures { Writes (IsJust status text.now) (W.taken sink.old) (W.taken sink.new) (W.faults sink.old) (W.faults sink.new) result }
 {
@@ -20,7 +20,7 @@ pub fn write_text<W: Sink>(sink: &mut W, text: &[u8], status: Status) -> Result<
     Ok(status)
 }
 
-/// Writes lines, one write for each, repeated for what was not taken. After a fault the bytes taken are a
+/// Writes lines, with one write for each, repeated for what was not taken. After a `SinkFault` the bytes taken are a
 /// prefix of the lines.
 pub fn write_lines<W: Sink>(sink: &mut W, lines: &Lines) -> Result<(), SinkFault>
     ensures taken { OnOk result (W.taken sink.new ≡ append_known (W.taken sink.old) (joined lines.now)) }
@@ -34,7 +34,7 @@ pub fn write_lines<W: Sink>(sink: &mut W, lines: &Lines) -> Result<(), SinkFault
     Ok(())
 }
 
-/// Writes lines, and gives the status that goes with them.
+/// Writes lines, and returns the status. `SinkFault` if the sink fails.
 pub fn write_all<W: Sink>(sink: &mut W, lines: &Lines, status: Status) -> Result<Status, SinkFault>
     ensures { Writes (IsJust status (joined lines.now)) (W.taken sink.old) (W.taken sink.new) (W.faults sink.old) (W.faults sink.new) result }
 {

@@ -1,21 +1,21 @@
--- What is made of members is put into tables, with the clauses of its owner.
+-- The declarations of members are added to tables, with the clauses of their owners.
 use Rattle.std.proofs.Common.{◌≡◌, ℕ, ◌+◌, Option, Some, None, List, [], ◌∷◌, ◌++◌, length, refl, sym, ap, subst, ◌∙◌, arith, append-nil, append_assoc, length-append}
-use Rattle.pv_base.specs.Pairs.{Paired}
-use Rattle.clause_tree.specs.declared.clause.Spec.{Spec as SpecTree}
-use Rattle.clause_tree.specs.declared.clause.Spec.TheVariants.{Module as module_spec, Named as named_spec, Schema as schema_spec, Function as function_spec, Loop as loop_spec}
-use Rattle.source_tree.specs.SourceData.{SourceMemberData}
-use Rattle.pv_types.specs.declared.clause.Clause.{Clause}
-use Rattle.pv_types.specs.declared.program.Program.{Program}
-use Rattle.file_tree.specs.declared.member.Constant.{Constant as ConstantTree}
-use Rattle.file_tree.specs.declared.member.Function.{Function as FunctionTree}
-use Rattle.file_tree.specs.declared.member.Struct.{Struct as StructTree}
-use Rattle.clause_tree.specs.declared.clause.Schema.{Schema as SchemaTree}
-use Rattle.clause_tree.specs.declared.clause.SpecFunction.{SpecFunction as SpecFunctionTree}
-use Rattle.source_tree.specs.declared.source.SourceForm.{SourceForm}
-use Rattle.source_tree.specs.declared.source.SourceForm.TheVariants.{Use, Friend, Struct, Constant, Function, Spec}
-use Rattle.clause_names.specs.Pragmas.{pragmas_of}
-use Rattle.clause_names.specs.Clauses.{AreClausesOf}
-use Rattle.clause_names.specs.declared.pragmas.Settings.{Settings}
+use Rattle.base.specs.Pairs.{Paired}
+use Rattle.syntax_tree.specs.declared.clause.Spec.{Spec as SpecTree}
+use Rattle.syntax_tree.specs.declared.clause.Spec.TheVariants.{Module as module_spec, Named as named_spec, Schema as schema_spec, Function as function_spec, Loop as loop_spec}
+use Rattle.syntax_tree.specs.SourceData.{SourceMemberData}
+use Rattle.program.specs.declared.clause.Clause.{Clause}
+use Rattle.program.specs.declared.program.Program.{Program}
+use Rattle.syntax_tree.specs.declared.member.Constant.{Constant as ConstantTree}
+use Rattle.syntax_tree.specs.declared.member.Function.{Function as FunctionTree}
+use Rattle.syntax_tree.specs.declared.member.Struct.{Struct as StructTree}
+use Rattle.syntax_tree.specs.declared.clause.Schema.{Schema as SchemaTree}
+use Rattle.syntax_tree.specs.declared.clause.SpecFunction.{SpecFunction as SpecFunctionTree}
+use Rattle.syntax_tree.specs.declared.source.SourceForm.{SourceForm}
+use Rattle.syntax_tree.specs.declared.source.SourceForm.TheVariants.{Use, Friend, Struct, Constant, Function, Spec}
+use Rattle.resolution.specs.Pragmas.{pragmas_of}
+use Rattle.resolution.specs.Clauses.{AreClausesOf}
+use Rattle.resolution.specs.declared.clauses.pragmas.Settings.{Settings}
 use Rattle.resolution.specs.declared.declared.Declared.{Declared}
 use Rattle.resolution.specs.declared.declared.DeclaredForm.{DeclaredForm}
 use Rattle.resolution.specs.declared.declared.DeclaredForm.TheVariants.{Module, Struct as struct_form, Constant as constant_form, Function as function_form, SpecFunction as spec_function_form, Schema as schema_form}
@@ -27,7 +27,7 @@ use Rattle.resolution.specs.Parts.{ArePartsFrom, Entered, EnteredOf, IsBare, IsB
 use Rattle.resolution.specs.Programs.{AreClausesOfOwner, StructOf, ConstantOf, FunctionOf, SpecFunctionOf, SchemaOf, IsDeclared, IsDeclaredAs, declarations_from, form_declaration, spec_declaration}
 use Rattle.resolution.proofs.TableLaws.{both_entered, nothing_entered}
 
--- what is put into tables so far, and what remains
+-- the additions to tables so far, and those that remain
 pub record PartsSoFar (w : Here) (old now : Program) (parts : List (Option Declared)) (owners : List Owner) : Type 0 where
   pub done : List SourceMemberData
   pub rest : List SourceMemberData
@@ -104,7 +104,7 @@ finished_spec_function w f (constant_form id r) cs own of_module b = absurd b
 finished_spec_function w f (function_form id r) cs own of_module b = absurd b
 finished_spec_function w f (schema_form id r) cs own of_module b = absurd b
 
--- what a spec block declares
+-- the declaration of a spec block
 finished_spec : (w : Here) (s : SpecTree) (d e : Declared) (cs : List Clause) (own of_module : Settings) → e.form ≡ finished d.form cs own of_module → Paired IsBareAs (spec_declaration w s) (d ∷ []) → Paired IsDeclaredAs (spec_declaration w s) (e ∷ [])
 finished_spec w (module_spec place clauses) d e cs own of_module g p = absurd p
 finished_spec w (named_spec place name clauses) d e cs own of_module g p = absurd p
@@ -112,7 +112,7 @@ finished_spec w (schema_spec s) d e cs own of_module g p = (subst (λ form. IsDe
 finished_spec w (function_spec f) d e cs own of_module g p = (subst (λ form. IsDeclared (SpecFunctionOf w f) form) (sym g) (finished_spec_function w f d.form cs own of_module p.0), tt)
 finished_spec w (loop_spec place clauses) d e cs own of_module g p = absurd p
 
--- what a member declares
+-- the declaration of a member
 finished_form : (w : Here) (n : ℕ) (form : SourceForm) (loops : List SpecTree) (d e : Declared) (o : Owner) (of_module : Settings) → e.form ≡ finished d.form o.target.clauses o.settings of_module → IsOwnerAfter (owner_scope w.environment w.schemas form) (blocks_of w.members n) o → of_module ≡ settings_in (blocks_of w.members (length w.members)) → Paired IsBareAs (form_declaration w n form loops) (d ∷ []) → Paired IsDeclaredAs (form_declaration w n form loops) (e ∷ [])
 finished_form w n (Use u) loops d e o of_module g after k p = absurd p
 finished_form w n (Friend f) loops d e o of_module g after k p = absurd p
@@ -145,7 +145,7 @@ declarations-snoc w n (x ∷ ms) m =
     ap (λ ts. form_declaration w n x.form x.loops ++ ts) (declarations-snoc w (n + 1) ms m ∙ ap (λ k. declarations_from w (n + 1) ms ++ form_declaration w k m.form m.loops) e)
     ∙ sym (append_assoc (form_declaration w n x.form x.loops) (declarations_from w (n + 1) ms) (form_declaration w (n + length (x ∷ ms)) m.form m.loops))
 
--- the next member, whose part and owner are the first of those that remain
+-- the next member, whose declaration and owner are the first that remain
 pub parts_next : (w : Here) (old now next : Program) (part : Option Declared) (parts : List (Option Declared)) (o : Owner) (os : List Owner) → ((n : ℕ) (m : SourceMemberData) → IsPartOf w n m part → IsOwnerAfter (owner_scope w.environment w.schemas m.form) (blocks_of w.members n) o → EnteredOf (form_declaration w n m.form m.loops) now next) → PartsSoFar w old now (part ∷ parts) (o ∷ os) → PartsSoFar w old next parts os
 parts_next w old now next part parts o os enter p =
     let cases : (rest : List SourceMemberData) → w.members ≡ p.done ++ rest → ArePartsFrom w (length p.done) rest (part ∷ parts) → AreOwnersFrom (blocks_before w w.members) (length p.done) (owner_scopes w.environment w.schemas rest) (o ∷ os) → PartsSoFar w old next parts os = λ rest. elim rest as (λ rest. w.members ≡ p.done ++ rest → ArePartsFrom w (length p.done) rest (part ∷ parts) → AreOwnersFrom (blocks_before w w.members) (length p.done) (owner_scopes w.environment w.schemas rest) (o ∷ os) → PartsSoFar w old next parts os) [
@@ -165,7 +165,7 @@ parts_next w old now next part parts o os enter p =
     ] in
     cases p.rest p.whole p.parts_are p.owners_are
 
--- no part remains
+-- no member remains
 pub parts_all : (w : Here) (old now : Program) (os : List Owner) → PartsSoFar w old now [] os → EnteredOf (declarations_from w 0 w.members) old now
 parts_all w old now os p =
     let none : (rest : List SourceMemberData) → ArePartsFrom w (length p.done) rest [] → rest ≡ [] = λ rest. elim rest as (λ rest. ArePartsFrom w (length p.done) rest [] → rest ≡ []) [ [] ↦ λ a. refl | m ∷ ms ↦ λ a. absurd a ] in

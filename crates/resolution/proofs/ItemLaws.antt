@@ -1,13 +1,13 @@
 -- Declarations one after another, and the first one with a use that has no meaning.
 use Rattle.std.proofs.Common.{◌≡◌, inl, inr, ℕ, suc, ◌+◌, ◌<◌, List, [], ◌∷◌, ◌++◌, length, get_or, take, drop, zero, sym, ap, subst, ◌∙◌, arith, append_assoc, append-nil, add-one, drop-cons}
 use Rattle.std.proofs.lemmas.List.{take_more}
-use Rattle.pv_base.specs.declared.span.Span.{Span}
-use Rattle.source_tree.specs.SourceData.{SourceMemberData}
+use Rattle.base.specs.declared.span.Span.{Span}
+use Rattle.syntax_tree.specs.SourceData.{SourceMemberData}
 use Rattle.resolution.specs.declared.fault.PlaceFault.{PlaceFault}
 use Rattle.resolution.specs.declared.fault.PlaceFault.TheVariants.{Unknown, NoMemory}
-use Rattle.pv_names.specs.Meanings.{IfUnknown}
-use Rattle.pv_names.specs.declared.fault.NameFault.{NameFault}
-use Rattle.pv_names.specs.declared.fault.NameFault.TheVariants.{Unknown as name_unknown, NoMemory as name_memory}
+use Rattle.scopes.specs.Meanings.{IfUnknown}
+use Rattle.scopes.specs.declared.fault.NameFault.{NameFault}
+use Rattle.scopes.specs.declared.fault.NameFault.TheVariants.{Unknown as name_unknown, NoMemory as name_memory}
 use Rattle.resolution.specs.Faults.{IsFaultAmong, fault_at}
 use Rattle.resolution.specs.Items.{AreKnown, HasUnknown, Here, IsFirstUnknown, Item, item_place, items_behind, member_items}
 
@@ -32,7 +32,7 @@ pub fault_before : (xs ys : List Item) (fault : PlaceFault) → IsFaultAmong xs 
 fault_before xs ys (Unknown place) h = first_before xs ys place h
 fault_before xs ys NoMemory h = tt
 
--- between others
+-- one declaration between others
 pub fault_between : (xs ys zs : List Item) (fault : PlaceFault) → AreKnown xs → IsFaultAmong ys fault → IsFaultAmong (xs ++ (ys ++ zs)) fault
 fault_between xs ys zs fault a h = fault_behind xs (ys ++ zs) fault a (fault_before ys zs fault h)
 
@@ -49,7 +49,7 @@ items-append w before (m ∷ ms) ns =
     ap (λ is. member_items w before m ++ is) (items-append w (before ++ m ∷ []) ms ns ∙ ap (λ b. items_behind w (before ++ m ∷ []) ms ++ items_behind w b ns) (append_assoc before (m ∷ []) ms))
     ∙ sym (append_assoc (member_items w before m) (items_behind w (before ++ m ∷ []) ms) (items_behind w (before ++ m ∷ ms) ns))
 
--- the list is what stands before a place, what stands there, and what stands behind it
+-- the list is the items before an index, the item at it, and those after it
 pub around_place : {A : Type 0} (xs : List A) (i : ℕ) (x : A) → i < length xs → x ≡ get_or xs i x → take i xs ++ x ∷ drop (i + 1) xs ≡ xs
 around_place [] i x h e = absurd (omega (arith, h))
 around_place (y ∷ ys) zero x h e = ap (λ z. z ∷ ys) e
@@ -72,7 +72,7 @@ known_member w ms i m h e a b =
     let all = known_append (items_behind w [] (take i ms)) (items_behind w (take i ms) (m ∷ [])) a one in
     subst (λ is. AreKnown is) (sym (ap (λ xs. items_behind w [] xs) (taken_one ms i m h e) ∙ items-append w [] (take i ms) (m ∷ []))) all
 
--- the first members are known, and in the next one is a fault
+-- the first members are known, and the next one has a fault
 pub fault_member : (w : Here) (ms : List SourceMemberData) (i : ℕ) (m : SourceMemberData) (fault : PlaceFault) → i < length ms → m ≡ get_or ms i m → AreKnown (items_behind w [] (take i ms)) → IsFaultAmong (member_items w (take i ms) m) fault → IsFaultAmong (items_behind w [] ms) fault
 fault_member w ms i m fault h e a b =
     let there = fault_between (items_behind w [] (take i ms)) (member_items w (take i ms) m) (items_behind w (take i ms ++ m ∷ []) (drop (i + 1) ms)) fault a b in

@@ -1,21 +1,21 @@
--- What is resolved has no use without a meaning.
+-- A resolved declaration has no use without a meaning.
 use Rattle.std.proofs.Common.{◌≡◌, inl, inr, ℕ, ◌+◌, List, [], ◌∷◌, ◌++◌, Option, Some, None, subst}
-use Rattle.pv_base.specs.declared.span.Span.{Span}
-use Rattle.pv_types.specs.declared.clause.Clause.{Clause}
-use Rattle.pv_types.specs.declared.clause.ClauseForm.{ClauseForm}
-use Rattle.spec_names.specs.Forms.{SpecTrees}
-use Rattle.spec_names.specs.declared.outer.OuterName.{OuterName}
-use Rattle.clause_names.specs.ClauseForms.{IsMadeOf, IsUnknown}
-use Rattle.clause_names.specs.Clauses.{AreClausesOf, HasUnknownAmong, PlacedClause, entered, placed}
-use Rattle.clause_names.specs.Setting.{ClauseScope}
-use Rattle.file_tree.specs.declared.member.Struct.{Struct as StructTree}
-use Rattle.clause_tree.specs.declared.clause.Schema.{Schema as SchemaTree}
-use Rattle.pv_types.specs.declared.declaration.Schema.{Schema as SchemaData}
-use Rattle.pv_names.specs.EnvironmentData.{EnvironmentData}
-use Rattle.declaration_names.specs.Declarations.{HasUnknownInStruct}
-use Rattle.declaration_names.specs.Parameters.{among, typed_names}
-use Rattle.clause_names.specs.Around.{around_schema}
-use Rattle.clause_names.specs.SpecDeclarations.{HasUnknownInSchema, IsSchemaOf, schema_scope, schema_variables, spec_types, variables_in}
+use Rattle.base.specs.declared.span.Span.{Span}
+use Rattle.program.specs.declared.clause.Clause.{Clause}
+use Rattle.program.specs.declared.clause.ClauseForm.{ClauseForm}
+use Rattle.body_names.specs.SpecForms.{SpecTrees}
+use Rattle.body_names.specs.declared.spec.outer.OuterName.{OuterName}
+use Rattle.resolution.specs.ClauseForms.{IsMadeOf, IsUnknown}
+use Rattle.resolution.specs.Clauses.{AreClausesOf, HasUnknownAmong, PlacedClause, entered, placed}
+use Rattle.resolution.specs.Setting.{ClauseScope}
+use Rattle.syntax_tree.specs.declared.member.Struct.{Struct as StructTree}
+use Rattle.syntax_tree.specs.declared.clause.Schema.{Schema as SchemaTree}
+use Rattle.program.specs.declared.declaration.Schema.{Schema as SchemaData}
+use Rattle.scopes.specs.EnvironmentData.{EnvironmentData}
+use Rattle.resolution.specs.Declarations.{HasUnknownInStruct}
+use Rattle.resolution.specs.Parameters.{among, typed_names}
+use Rattle.resolution.specs.Around.{around_schema}
+use Rattle.resolution.specs.SpecDeclarations.{HasUnknownInSchema, IsSchemaOf, schema_scope, schema_variables, spec_types, variables_in}
 use Rattle.resolution.specs.declared.declared.DeclaredForm.{DeclaredForm}
 use Rattle.resolution.specs.declared.declared.DeclaredForm.TheVariants.{Module, Struct as struct_form, Constant as constant_form, Function as function_form, SpecFunction as spec_function_form, Schema as schema_form}
 use Rattle.resolution.specs.Known.{Schemas}

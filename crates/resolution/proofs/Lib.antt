@@ -7,3 +7,8 @@ pub mod OwnerLaws
 pub mod PartLaws
 pub mod ProgramLaws
 pub mod TableLaws
+pub mod AroundLaws
+pub mod ClauseLaws
+pub mod ListLaws
+pub mod PragmaLaws
+pub mod VariableLaws

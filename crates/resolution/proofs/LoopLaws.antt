@@ -2,29 +2,29 @@
 use Rattle.std.proofs.Common.{◌≡◌, ◌⊎◌, inl, inr, ℕ, ◌+◌, ◌<◌, ◌≤◌, Bool, true, false, List, [], ◌∷◌, ◌++◌, length, map, get_or, take, drop, zip, flat_map, if◌then◌else◌, refl, sym, ap, subst, ◌∙◌, arith, append-nil, append_assoc}
 use Rattle.std.proofs.lemmas.Grind.{flat_map-append}
 use Rattle.std.proofs.lemmas.List.{map-append}
-use Rattle.pv_base.specs.declared.span.Span.{Span}
-use Rattle.pv_base.specs.Pairs.{Paired}
-use Rattle.file_tree.specs.declared.member.Function.{Function as FunctionTree}
-use Rattle.clause_tree.specs.declared.clause.Clause.{Clause as ClauseTree}
-use Rattle.clause_tree.specs.declared.clause.Spec.{Spec as SpecTree}
-use Rattle.pv_base.specs.TypeData.{TypeData}
-use Rattle.pv_types.specs.declared.clause.Clause.{Clause}
-use Rattle.pv_types.specs.declared.clause.LoopClause.{LoopClause}
-use Rattle.spec_names.specs.declared.outer.OuterName.{OuterName}
-use Rattle.clause_names.specs.Around.{around_loop}
-use Rattle.clause_names.specs.ClauseForms.{HasUnknown, IsClauseOf, is_clause}
-use Rattle.clause_names.specs.Clauses.{PlacedClause, placed, placed_one}
-use Rattle.clause_names.specs.Setting.{ClauseScope}
-use Rattle.loop_scopes.specs.declared.scopes.LoopScope.{LoopScope}
+use Rattle.base.specs.declared.span.Span.{Span}
+use Rattle.base.specs.Pairs.{Paired}
+use Rattle.syntax_tree.specs.declared.member.Function.{Function as FunctionTree}
+use Rattle.syntax_tree.specs.declared.clause.Clause.{Clause as ClauseTree}
+use Rattle.syntax_tree.specs.declared.clause.Spec.{Spec as SpecTree}
+use Rattle.base.specs.TypeData.{TypeData}
+use Rattle.program.specs.declared.clause.Clause.{Clause}
+use Rattle.program.specs.declared.clause.LoopClause.{LoopClause}
+use Rattle.body_names.specs.declared.spec.outer.OuterName.{OuterName}
+use Rattle.resolution.specs.Around.{around_loop}
+use Rattle.resolution.specs.ClauseForms.{HasUnknown, IsClauseOf, is_clause}
+use Rattle.resolution.specs.Clauses.{PlacedClause, placed, placed_one}
+use Rattle.resolution.specs.Setting.{ClauseScope}
+use Rattle.body_names.specs.declared.loop_scopes.loop_scope.LoopScope.{LoopScope}
 use Rattle.resolution.specs.Faults.{IsFaultAmong, fault_at}
 use Rattle.resolution.specs.Items.{AreKnown, Here, HasUnknownInOne, LoopItem, around_loop_of, function_scope}
 use Rattle.resolution.specs.LoopParts.{AddedLoops, AddedOne}
 use Rattle.resolution.specs.Owners.{outcome_of, placed_in}
 use Rattle.resolution.specs.Programs.{IsClauseAt, IsLoopClauseOf, loop_source, sources_of_loop}
 use Rattle.std.proofs.Math.ListN.{drop_of_length-le}
-use Rattle.source_tree.specs.Places.{spec_place}
-use Rattle.pv_names.specs.Meanings.{IfUnknown}
-use Rattle.pv_names.specs.declared.fault.NameFault.{NameFault}
+use Rattle.syntax_tree.specs.Places.{spec_place}
+use Rattle.scopes.specs.Meanings.{IfUnknown}
+use Rattle.scopes.specs.declared.fault.NameFault.{NameFault}
 use Rattle.resolution.proofs.ItemLaws.{around_place, drop_one, fault_between, item_fault, known_append, taken_one}
 use Rattle.resolution.proofs.KnownLaws.{known_made}
 use Rattle.resolution.proofs.TableLaws.{paired_append}
@@ -56,7 +56,7 @@ one_both scope outer at ts us a b c e g = record {
   known = λ h. elim (unknown_either scope outer ts us h) [ inl x ↦ e.known x | inr y ↦ g.known y ];
 }
 
--- what is no clause of a program adds nothing
+-- a clause that is not of a program adds nothing
 pub one_skipped : (scope : ClauseScope) (outer : List OuterName) (at : ℕ) (block : Span) (tree : ClauseTree) (now : List LoopClause) → is_clause tree ≡ false → AddedOne scope outer at (placed block (tree ∷ [])) now now
 one_skipped scope outer at block tree now e =
     let one : PlacedClause = record { block = block; tree = tree } in
@@ -80,7 +80,7 @@ one_added scope outer at block tree old new clause e made all =
 pub one_unknown : (scope : ClauseScope) (outer : List OuterName) (block : Span) (tree : ClauseTree) → is_clause tree ≡ true → HasUnknown scope outer tree → HasUnknownInOne scope outer (placed block (tree ∷ []))
 one_unknown scope outer block tree e h = subst (λ ts. HasUnknownInOne scope outer ts) (one_source block tree e) (inl h)
 
--- the clauses of a block, up to a place
+-- the clauses of a block, up to an index
 pub block_next : (scope : ClauseScope) (outer : List OuterName) (at : ℕ) (block : Span) (trees : List ClauseTree) (i : ℕ) (tree : ClauseTree) (a b c : List LoopClause) → i < length trees → tree ≡ get_or trees i tree → AddedOne scope outer at (placed block (take i trees)) a b → AddedOne scope outer at (placed block (tree ∷ [])) b c → AddedOne scope outer at (placed block (take (i + 1) trees)) a c
 block_next scope outer at block trees i tree a b c h e so_far one =
     let both = one_both scope outer at (placed block (take i trees)) (placed block (tree ∷ [])) a b c so_far one in
@@ -96,7 +96,7 @@ block_unknown scope outer block trees i tree h e u =
 
 -- ---- all blocks
 
--- the loops of which the clauses are there, and those that remain
+-- the loops whose clauses are added, and those that remain
 pub record LoopsSoFar (scope : ClauseScope) (outcome : TypeData) (all rest : List (LoopScope × SpecTree)) (old now : List LoopClause) : Type 0 where
   pub done : List (LoopScope × SpecTree)
   pub whole : all ≡ done ++ rest
@@ -141,7 +141,7 @@ pub nothing_zipped : {A B : Type 0} (xs zs : List A) (ys : List B) → length ys
 nothing_zipped xs zs [] h = zip_none xs ∙ sym (zip_none zs)
 nothing_zipped xs zs (y ∷ ys) h = absurd (omega (arith, h))
 
--- the loop at a place, and its spec block
+-- the loop at an index, and its spec block
 pub zip_one : {A B : Type 0} (xs : List A) (ys : List B) (i : ℕ) (x : A) (y : B) → i < length xs → i < length ys → x ≡ get_or xs i x → y ≡ get_or ys i y → zip (drop i xs) (drop i ys) ≡ (x, y) ∷ zip (drop (i + 1) xs) (drop (i + 1) ys)
 zip_one xs ys i x y h k e g = λ j. zip (drop_one xs i x h e j) (drop_one ys i y k g j)
 
@@ -156,7 +156,7 @@ pub loops_end : (scope : ClauseScope) (outcome : TypeData) (all rest : List (Loo
 loops_end scope outcome all rest a b so_far none w f e g =
     subst (λ ls. AddedLoops w f ls a b) (sym (so_far.whole ∙ ap (λ ls. so_far.done ++ ls) none ∙ append-nil so_far.done)) (so_far.added w f e g)
 
--- a use in the first loop that remains has no meaning
+-- a use in the first remaining loop has no meaning
 pub loops_fault : (scope : ClauseScope) (outcome : TypeData) (all rest more : List (LoopScope × SpecTree)) (loop : LoopScope) (spec : SpecTree) (a b : List LoopClause) (fault : NameFault) (place : Span) → LoopsSoFar scope outcome all rest a b → rest ≡ (loop, spec) ∷ more → place ≡ spec_place spec → IfUnknown fault (HasUnknownInOne scope (around_loop outcome loop.names) (placed_in spec)) → (w : Here) (f : FunctionTree) → scope ≡ function_scope w f → outcome ≡ outcome_of w.environment f → IsFaultAmong (map (LoopItem w f) all) (fault_at fault place)
 loops_fault scope outcome all rest more loop spec a b fault place so_far split at u w f e g =
     let there : IfUnknown fault (HasUnknownInOne (function_scope w f) (around_loop_of w f loop) (placed_in spec)) = subst (λ o. IfUnknown fault (HasUnknownInOne (function_scope w f) (around_loop o loop.names) (placed_in spec))) g (subst (λ s. IfUnknown fault (HasUnknownInOne s (around_loop outcome loop.names) (placed_in spec))) e u) in

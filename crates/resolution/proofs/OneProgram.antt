@@ -1,34 +1,34 @@
--- Sources are one program at most: what each declaration is made of is settled by its source.
+-- Sources resolve to at most one program: the source of each declaration determines it.
 use Rattle.std.proofs.Common.{◌≡◌, ℕ, ◌+◌, List, [], ◌∷◌, ◌++◌, Option, Some, refl, sym, ap, subst, ◌∙◌}
-use Rattle.pv_base.proofs.PairLaws.{one_list}
-use Rattle.pv_base.specs.declared.span.Span.{Span}
-use Rattle.pv_base.specs.declared.types.FunctionId.{FunctionId}
-use Rattle.pv_base.specs.declared.types.StructId.{StructId}
-use Rattle.file_tree.specs.declared.member.Constant.{Constant as ConstantTree}
-use Rattle.file_tree.specs.declared.member.Function.{Function as FunctionTree}
-use Rattle.file_tree.specs.declared.member.Struct.{Struct as StructTree}
-use Rattle.clause_tree.specs.declared.clause.Spec.{Spec as SpecTree}
-use Rattle.clause_tree.specs.declared.clause.Schema.{Schema as SchemaTree}
-use Rattle.clause_tree.specs.declared.clause.SpecFunction.{SpecFunction as SpecFunctionTree}
-use Rattle.source_tree.specs.SourceModuleData.{SourceModuleData}
-use Rattle.pv_types.specs.declared.clause.Clause.{Clause}
-use Rattle.pv_types.specs.declared.clause.ClauseForm.{ClauseForm}
-use Rattle.pv_types.specs.declared.clause.LoopClause.{LoopClause}
-use Rattle.pv_types.specs.declared.declaration.Constant.{Constant as ConstantData}
-use Rattle.pv_types.specs.declared.declaration.Function.{Function as FunctionData}
-use Rattle.pv_types.specs.declared.declaration.Module.{Module as ModuleData}
-use Rattle.pv_types.specs.declared.declaration.Schema.{Schema as SchemaData}
-use Rattle.pv_types.specs.declared.declaration.SpecFunction.{SpecFunction as SpecFunctionData}
-use Rattle.pv_types.specs.declared.declaration.Struct.{Struct as StructData}
-use Rattle.pv_types.specs.declared.program.ConstantId.{ConstantId}
-use Rattle.pv_types.specs.declared.program.ModuleId.{ModuleId}
-use Rattle.pv_types.specs.declared.program.Program.{Program}
-use Rattle.pv_types.specs.declared.program.SchemaId.{SchemaId}
-use Rattle.spec_names.specs.Forms.{SpecTrees}
-use Rattle.spec_names.specs.declared.outer.OuterName.{OuterName}
-use Rattle.clause_names.specs.ClauseForms.{IsMadeOf, clause_trees, clause_spans, clause_place, form_of}
-use Rattle.clause_names.specs.Clauses.{AreClausesOf, PlacedClause, entered}
-use Rattle.clause_names.specs.Setting.{ClauseScope}
+use Rattle.base.proofs.PairLaws.{one_list}
+use Rattle.base.specs.declared.span.Span.{Span}
+use Rattle.base.specs.declared.types.FunctionId.{FunctionId}
+use Rattle.base.specs.declared.types.StructId.{StructId}
+use Rattle.syntax_tree.specs.declared.member.Constant.{Constant as ConstantTree}
+use Rattle.syntax_tree.specs.declared.member.Function.{Function as FunctionTree}
+use Rattle.syntax_tree.specs.declared.member.Struct.{Struct as StructTree}
+use Rattle.syntax_tree.specs.declared.clause.Spec.{Spec as SpecTree}
+use Rattle.syntax_tree.specs.declared.clause.Schema.{Schema as SchemaTree}
+use Rattle.syntax_tree.specs.declared.clause.SpecFunction.{SpecFunction as SpecFunctionTree}
+use Rattle.syntax_tree.specs.SourceModuleData.{SourceModuleData}
+use Rattle.program.specs.declared.clause.Clause.{Clause}
+use Rattle.program.specs.declared.clause.ClauseForm.{ClauseForm}
+use Rattle.program.specs.declared.clause.LoopClause.{LoopClause}
+use Rattle.program.specs.declared.declaration.Constant.{Constant as ConstantData}
+use Rattle.program.specs.declared.declaration.Function.{Function as FunctionData}
+use Rattle.program.specs.declared.declaration.Module.{Module as ModuleData}
+use Rattle.program.specs.declared.declaration.Schema.{Schema as SchemaData}
+use Rattle.program.specs.declared.declaration.SpecFunction.{SpecFunction as SpecFunctionData}
+use Rattle.program.specs.declared.declaration.Struct.{Struct as StructData}
+use Rattle.program.specs.declared.program.ConstantId.{ConstantId}
+use Rattle.program.specs.declared.program.ModuleId.{ModuleId}
+use Rattle.program.specs.declared.program.Program.{Program}
+use Rattle.program.specs.declared.program.SchemaId.{SchemaId}
+use Rattle.body_names.specs.SpecForms.{SpecTrees}
+use Rattle.body_names.specs.declared.spec.outer.OuterName.{OuterName}
+use Rattle.resolution.specs.ClauseForms.{IsMadeOf, clause_trees, clause_spans, clause_place, form_of}
+use Rattle.resolution.specs.Clauses.{AreClausesOf, PlacedClause, entered}
+use Rattle.resolution.specs.Setting.{ClauseScope}
 use Rattle.resolution.specs.declared.declared.DeclaredForm.{DeclaredForm}
 use Rattle.resolution.specs.declared.declared.DeclaredForm.TheVariants.{Module, Struct as struct_form, Constant as constant_form, Function as function_form, SpecFunction as spec_function_form, Schema as schema_form}
 use Rattle.resolution.specs.declared.declared.Declared.{Declared}
@@ -219,7 +219,7 @@ one_declared tree x y p q =
     let form_is : x.form ≡ y.form = one_form tree x.form y.form p q in
     λ k. record { form = form_is k }
 
--- ---- the whole
+-- ---- the whole program
 
 one_table : (declared : List Declared) (x y : Program) → AreTablesOf declared x → AreTablesOf declared y → x ≡ y
 one_table declared x y p q =

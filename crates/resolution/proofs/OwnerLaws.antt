@@ -3,14 +3,14 @@ use Rattle.std.proofs.Common.{◌≡◌, ◌≢◌, ℕ, zero, suc, ◌+◌, ◌
 use Rattle.std.specs.List.{flat_map}
 use Rattle.std.specs.Option.{option_or}
 use Rattle.std.proofs.lemmas.Grind.{flat_map-append}
-use Rattle.clause_tree.specs.declared.clause.Spec.{Spec as SpecTree}
-use Rattle.clause_names.specs.declared.clauses.Target.{Target}
-use Rattle.clause_names.specs.declared.pragmas.Settings.{Settings}
-use Rattle.clause_names.specs.Clauses.{AddedClauses, HasUnknownBehind}
-use Rattle.clause_names.specs.Pragmas.{before_others, pragmas_in, settings_of}
-use Rattle.clause_names.specs.Setting.{ClauseScope}
-use Rattle.clause_names.proofs.ClauseLaws.{added_both, added_none, as_many}
-use Rattle.clause_names.proofs.PragmaLaws.{settings_append}
+use Rattle.syntax_tree.specs.declared.clause.Spec.{Spec as SpecTree}
+use Rattle.resolution.specs.declared.clauses.Target.{Target}
+use Rattle.resolution.specs.declared.clauses.pragmas.Settings.{Settings}
+use Rattle.resolution.specs.Clauses.{AddedClauses, HasUnknownBehind}
+use Rattle.resolution.specs.Pragmas.{before_others, pragmas_in, settings_of}
+use Rattle.resolution.specs.Setting.{ClauseScope}
+use Rattle.resolution.proofs.ClauseLaws.{added_both, added_none, as_many}
+use Rattle.resolution.proofs.PragmaLaws.{settings_append}
 use Rattle.resolution.specs.declared.owners.Owner.{Owner}
 use Rattle.resolution.specs.Items.{Here}
 use Rattle.resolution.specs.Owners.{HasUnknownInBlock, OwnerScope, clauses_of_spec, placed_in, settings_in, sources_in}
@@ -44,7 +44,7 @@ settings-snoc bs b =
     ∙ behind_nothing (settings_of (ps ++ qs))
     ∙ ap settings_of (sym (flat_map-append own bs (b ∷ []) ∙ ap (λ xs. ps ++ xs) (append-nil qs)))
 
--- where the code resolves the clauses of an owner with these type parameters
+-- the context in which the code resolves the clauses of an owner with these type parameters
 abbrev pub code_scope : Here → List (List ℕ) → ClauseScope
 code_scope w parameters = record { types = record { environment = w.environment; parameters = parameters; is_spec = true }; schemas = w.schemas }
 
@@ -69,7 +69,7 @@ owner_next w scope bs b old new e after added parameters settings =
       settings = settings ∙ ap (λ s. before_others (settings_of (pragmas_in (clauses_of_spec b))) s) after.settings ∙ settings-snoc bs b;
     }
 
--- how many clauses an owner has
+-- the number of clauses of an owner
 clauses_count : (w : OwnerScope) (bs : List SpecTree) (o : Owner) → IsOwnerAfter w bs o → length o.target.clauses ≡ length (sources_in bs)
 clauses_count w bs o after =
     ap length after.clauses.clauses ∙ sym (as_many w.scope w.around 0 (sources_in bs) after.clauses.more after.clauses.are)
@@ -105,7 +105,7 @@ owners_snoc blocks n (v ∷ ws) (p ∷ os) w o a h =
     let e : n + length (v ∷ ws) ≡ (n + 1) + length ws = omega arith in
     (a.0, owners_snoc blocks (n + 1) ws os w o a.1 (subst (λ m. IsOwnerAfter w (blocks m) o) e h))
 
--- the owner with the number k
+-- the owner with index k
 pub owner_at : (blocks : ℕ → List SpecTree) (n : ℕ) (ws : List OwnerScope) (os : List Owner) (k : ℕ) (d : OwnerScope) (o : Owner) → AreOwnersFrom blocks n ws os → k < length os → o ≡ get_or os k o → IsOwnerAfter (get_or ws k d) (blocks (n + k)) o
 owner_at blocks n ws [] k d o a h e = absurd (omega (arith, h))
 owner_at blocks n [] (p ∷ os) k d o a h e = absurd a
@@ -115,7 +115,7 @@ owner_at blocks n (w ∷ ws) (p ∷ os) (suc k) d o a h e =
     let f : (n + 1) + k ≡ n + suc k = omega arith in
     subst (λ m. IsOwnerAfter (get_or ws k d) (blocks m) o) f (owner_at blocks (n + 1) ws os k d o a.1 (omega (arith, h)) e)
 
--- those behind the number k have no more blocks
+-- the owners after index k have no more blocks
 owners_behind : (blocks others : ℕ → List SpecTree) (n : ℕ) (ws : List OwnerScope) (os : List Owner) (k : ℕ) → k < n → ((m : ℕ) → m ≢ k → blocks m ≡ others m) → AreOwnersFrom blocks n ws os → AreOwnersFrom others n ws os
 owners_behind blocks others n [] [] k h e a = tt
 owners_behind blocks others n [] (o ∷ os) k h e a = a
@@ -123,7 +123,7 @@ owners_behind blocks others n (w ∷ ws) [] k h e a = a
 owners_behind blocks others n (w ∷ ws) (o ∷ os) k h e a =
     (subst (λ bs. IsOwnerAfter w bs o) (e n (λ r. absurd (omega (arith, r)))) a.0, owners_behind blocks others (n + 1) ws os k (omega arith) e a.1)
 
--- only the owner with the number k has one more block
+-- only the owner with index k has one more block
 pub owners_set : (blocks others : ℕ → List SpecTree) (n : ℕ) (ws : List OwnerScope) (os : List Owner) (k : ℕ) (d : OwnerScope) (o : Owner) → AreOwnersFrom blocks n ws os → k < length os → ((m : ℕ) → m ≢ n + k → blocks m ≡ others m) → IsOwnerAfter (get_or ws k d) (others (n + k)) o → AreOwnersFrom others n ws (set os k o)
 owners_set blocks others n ws [] k d o a h e f = absurd (omega (arith, h))
 owners_set blocks others n [] (p ∷ os) k d o a h e f = absurd a

@@ -1,4 +1,4 @@
--- What is made of the members of a module.
+-- The declarations of the members of a module.
 use Rattle.std.proofs.Common.{◌≡◌, ◌≢◌, ℕ, zero, suc, ◌+◌, ◌<◌, ◌≤◌, ◌==◌, is_none, if◌then◌else◌, Bool, true, false, T, Option, Some, None, IfSome, List, [], ◌∷◌, ◌++◌, length, map, get_or, set, All, refl, sym, ap, subst, ◌∙◌, arith, append-nil, length-append}
 use Rattle.std.specs.List.{filter_map}
 use Rattle.std.proofs.Math.Dec.{eqb_refl}
@@ -9,16 +9,16 @@ use Rattle.std.proofs.lemmas.Grind.{flat_map-append}
 use Rattle.std.proofs.lemmas.List.{length-map}
 use Rattle.std.proofs.lemmas.List.Elements.{All-append, All-cons, All-nil, filter_map-append}
 use Rattle.std.proofs.lemmas.Map.Entries.{All-lookup}
-use Rattle.clause_tree.specs.declared.clause.Spec.{Spec as SpecTree}
-use Rattle.clause_tree.specs.declared.clause.Spec.TheVariants.{Module as module_spec, Named as named_spec, Schema as schema_spec, Function as function_spec, Loop as loop_spec}
-use Rattle.source_tree.specs.SourceData.{SourceMemberData}
-use Rattle.source_tree.specs.declared.source.SourceForm.{SourceForm}
-use Rattle.source_tree.specs.declared.source.SourceForm.TheVariants.{Use, Friend, Struct, Constant, Function, Spec}
-use Rattle.pv_names.specs.declared.member.MemberKind.TheVariants.{Struct as a_struct, Function as a_function}
-use Rattle.pv_names.specs.declared.member.NameOfKind.{NameOfKind}
-use Rattle.pv_names.specs.MemberNames.{first_stays, same_name_of_kind}
-use Rattle.module_names.specs.Brings.{firsts}
-use Rattle.module_names.specs.Declares.{form_declares, listed}
+use Rattle.syntax_tree.specs.declared.clause.Spec.{Spec as SpecTree}
+use Rattle.syntax_tree.specs.declared.clause.Spec.TheVariants.{Module as module_spec, Named as named_spec, Schema as schema_spec, Function as function_spec, Loop as loop_spec}
+use Rattle.syntax_tree.specs.SourceData.{SourceMemberData}
+use Rattle.syntax_tree.specs.declared.source.SourceForm.{SourceForm}
+use Rattle.syntax_tree.specs.declared.source.SourceForm.TheVariants.{Use, Friend, Struct, Constant, Function, Spec}
+use Rattle.scopes.specs.declared.member.MemberKind.TheVariants.{Struct as a_struct, Function as a_function}
+use Rattle.scopes.specs.declared.member.NameOfKind.{NameOfKind}
+use Rattle.scopes.specs.MemberNames.{first_stays, same_name_of_kind}
+use Rattle.scopes.specs.Brings.{firsts}
+use Rattle.scopes.specs.Declares.{form_declares, listed}
 use Rattle.resolution.specs.declared.declared.Declared.{Declared}
 use Rattle.resolution.specs.declared.owners.Owner.{Owner}
 use Rattle.resolution.specs.Items.{AreKnown, HasUnknownInForm, Here, form_items}
@@ -38,7 +38,7 @@ true_of : (b : Bool) → T b → b ≡ true
 true_of true h = refl
 true_of false h = absurd h
 
--- ---- numbers of owners
+-- ---- indices of owners
 
 stays_within : (count : ℕ) (es : List (NameOfKind × ℕ)) (name : NameOfKind) (n : ℕ) → All (λ e. e.1 < count) es → n < count → All (λ e. e.1 < count) (first_stays same_name_of_kind es name n)
 stays_within count es name n a h =
@@ -93,19 +93,19 @@ owners_with w first m spec os e a = record {
   are = owners_same (blocks_with w first spec) (blocks_before w (first ++ m ∷ [])) 0 (scopes_of w) os (λ n. sym (blocks-snoc w first m n ∙ ap (λ form. blocks_before w first n ++ block_of (member_numbers w.members) (length w.members) n form) e)) a.are;
 }
 
--- the member is no spec block
+-- the member is not a spec block
 pub owners_without : (w : Here) (first : List SourceMemberData) (m : SourceMemberData) (os : List Owner) → ((n : ℕ) → block_of (member_numbers w.members) (length w.members) n m.form ≡ []) → AreOwners w (blocks_before w first) os → AreOwners w (blocks_before w (first ++ m ∷ [])) os
 owners_without w first m os e a = record {
   are = owners_same (blocks_before w first) (blocks_before w (first ++ m ∷ [])) 0 (scopes_of w) os (λ n. sym (blocks-snoc w first m n ∙ ap (λ bs. blocks_before w first n ++ bs) (e n) ∙ append-nil (blocks_before w first n))) a.are;
 }
 
--- the block is of no owner
+-- the block has no owner
 pub owners_nothing : (w : Here) (first : List SourceMemberData) (spec : SpecTree) (os : List Owner) → owner_of (member_numbers w.members) (length w.members) spec ≡ None → AreOwners w (blocks_before w first) os → AreOwners w (blocks_with w first spec) os
 owners_nothing w first spec os e a = record {
   are = owners_same (blocks_before w first) (blocks_with w first spec) 0 (scopes_of w) os (λ n. sym (ap (λ o. blocks_before w first n ++ if_number n o spec) e ∙ append-nil (blocks_before w first n))) a.are;
 }
 
--- the block is of the owner with the number k
+-- the block belongs to the owner with index k
 pub owners_more : (w : Here) (first : List SourceMemberData) (spec : SpecTree) (os : List Owner) (k : ℕ) (o : Owner) → owner_of (member_numbers w.members) (length w.members) spec ≡ Some k → k < length os → AreOwners w (blocks_before w first) os → IsOwnerAfter (get_or (scopes_of w) k (module_scope w.environment w.schemas)) (blocks_before w first k ++ spec ∷ []) o → AreOwners w (blocks_with w first spec) (set os k o)
 owners_more w first spec os k o e h a after = record {
   are = owners_set (blocks_before w first) (blocks_with w first spec) 0 (scopes_of w) os k (module_scope w.environment w.schemas) o a.are h
@@ -114,7 +114,7 @@ owners_more w first spec os k o e h a after = record {
       (subst (λ bs. IsOwnerAfter (get_or (scopes_of w) k (module_scope w.environment w.schemas)) bs o) (sym (ap (λ n. blocks_before w first k ++ if_number k n spec) e ∙ ap (λ bs. blocks_before w first k ++ bs) (if_same k spec))) after));
 }
 
--- the owner with the number k
+-- the owner with index k
 pub owner_of_number : (w : Here) (first : List SourceMemberData) (os : List Owner) (k : ℕ) (o : Owner) → AreOwners w (blocks_before w first) os → k < length os → o ≡ get_or os k o → IsOwnerAfter (get_or (scopes_of w) k (module_scope w.environment w.schemas)) (blocks_before w first k) o
 owner_of_number w first os k o a h e =
     let z : 0 + k ≡ k = omega arith in
@@ -132,11 +132,11 @@ stands_among w [] (suc k) = record { environment = refl; is_spec = refl; schemas
 stands_among w (m ∷ ms) zero = record { environment = refl; is_spec = refl; schemas = refl }
 stands_among w (m ∷ ms) (suc k) = stands_among w ms k
 
--- every owner of a module stands in it
+-- every owner of a module has the module's context
 pub owner_stands : (w : Here) (k : ℕ) → StandsIn w (get_or (scopes_of w) k (module_scope w.environment w.schemas))
 owner_stands w k = stands_among w w.members k
 
--- ---- what is made of members
+-- ---- the declarations of members
 
 pub parts_snoc : (w : Here) (n : ℕ) (ms : List SourceMemberData) (ps : List (Option Declared)) (m : SourceMemberData) (p : Option Declared) → ArePartsFrom w n ms ps → IsPartOf w (n + length ms) m p → ArePartsFrom w n (ms ++ m ∷ []) (ps ++ p ∷ [])
 parts_snoc w n [] [] m p a h = let e : n + 0 ≡ n = omega arith in (subst (λ k. IsPartOf w k m p) e h, tt)

@@ -3,19 +3,19 @@ use Rattle.std.proofs.Common.{◌≡◌, inl, inr, ℕ, zero, suc, ◌+◌, ◌<
 use Rattle.std.proofs.Common.{Result, Ok, Err, IfErr, OnOk, filter_map, option_map}
 use Rattle.std.specs.FinMap.{get}
 use Rattle.std.proofs.lemmas.Grind.{flat_map-append}
-use Rattle.pv_base.specs.declared.span.Span.{Span}
-use Rattle.source_tree.specs.SourceModuleData.{SourceModuleData}
-use Rattle.pv_types.specs.declared.program.ModuleId.{ModuleId}
-use Rattle.pv_types.specs.declared.program.Program.{Program}
-use Rattle.pv_names.specs.EnvironmentData.{EnvironmentData, entered}
-use Rattle.move_tree.specs.declared.path.Address.{Address}
-use Rattle.move_tree.specs.declared.path.Address.TheVariants.{Number as number_address, Name as named_address}
-use Rattle.move_tree.specs.declared.path.ModuleName.{ModuleName}
-use Rattle.pv_names.specs.MemberNames.{same_module}
-use Rattle.pv_names.specs.Meanings.{address_meaning, module_meaning}
-use Rattle.module_names.specs.Brings.{environment_of, firsts}
-use Rattle.module_names.specs.Program.{declaring}
-use Rattle.clause_names.specs.Setting.{same_schema}
+use Rattle.base.specs.declared.span.Span.{Span}
+use Rattle.syntax_tree.specs.SourceModuleData.{SourceModuleData}
+use Rattle.program.specs.declared.program.ModuleId.{ModuleId}
+use Rattle.program.specs.declared.program.Program.{Program}
+use Rattle.scopes.specs.EnvironmentData.{EnvironmentData, entered}
+use Rattle.syntax_tree.specs.declared.path.Address.{Address}
+use Rattle.syntax_tree.specs.declared.path.Address.TheVariants.{Number as number_address, Name as named_address}
+use Rattle.syntax_tree.specs.declared.path.ModuleName.{ModuleName}
+use Rattle.scopes.specs.MemberNames.{same_module}
+use Rattle.scopes.specs.Meanings.{address_meaning, module_meaning}
+use Rattle.scopes.specs.Brings.{environment_of, firsts}
+use Rattle.scopes.specs.Program.{declaring}
+use Rattle.resolution.specs.Setting.{same_schema}
 use Rattle.resolution.specs.declared.fault.PlaceFault.{PlaceFault}
 use Rattle.resolution.specs.declared.fault.PlaceFault.TheVariants.{Unknown, NoMemory}
 use Rattle.resolution.specs.declared.known.Known.{Known}
@@ -78,7 +78,7 @@ source_fault k ss i s (Unknown place) h e before one =
     subst (λ f. IsFirstUnknownIn k 0 ss f place) z (first_of_all k 0 ss i s place h e before one)
 source_fault k ss i s NoMemory h e before one = tt
 
--- ---- going into a module
+-- ---- entering a module
 
 pub inside_is : (k : KnownData) (env : EnvironmentData) (own : ModuleId) (m : SourceModuleData) → IsWithin k env → environment_of (entered env own) m.members ≡ inside k own m.members
 inside_is k env own m within = λ i. environment_of (record { addresses = within.addresses i; declared = within.declared i; own = own; modules = []; names = [] }) m.members
@@ -86,7 +86,7 @@ inside_is k env own m within = λ i. environment_of (record { addresses = within
 pub here_is : (k : KnownData) (code : Known) (env : EnvironmentData) (own : ModuleId) (m : SourceModuleData) (w : Here) → IsKnown k code → w.environment ≡ inside k own m.members → w.modules ≡ code.modules.keys → w.schemas ≡ code.schemas → w.members ≡ m.members → w ≡ here k own m.members
 here_is k code env own m w known e f g h = λ i. record { environment = e i; modules = (f ∙ known.modules) i; schemas = (g ∙ known.schemas) i; members = h i }
 
--- ---- what is said of one outcome
+-- ---- several clauses about one result
 
 pub if_err : {A E : Type 0} (r : Result A E) (P Q : E → Type 0) → ((e : E) → P e → Q e) → IfErr r P → IfErr r Q
 if_err (Ok x) P Q f h = h
@@ -102,7 +102,7 @@ same_address : (k : KnownData) (env : EnvironmentData) → IsWithin k env → (a
 same_address k env within (number_address n) = refl
 same_address k env within (named_address name) = λ i. get (within.addresses i) name.text
 
--- the address and the name of a module mean the same in all modules
+-- the address and the name of a module have the same meaning in all modules
 pub same_module_meaning : (k : KnownData) (env : EnvironmentData) (name : ModuleName) → IsWithin k env → module_meaning env name ≡ module_meaning k.environment name
 same_module_meaning k env name within = ap (λ o. option_map (λ (a : ℕ). let id : ModuleId = record { address = a; name = name.name.text } in id) o) (same_address k env within name.address)
 

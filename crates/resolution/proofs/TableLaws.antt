@@ -1,14 +1,14 @@
--- Declarations that are put into tables.
+-- Declarations added to tables.
 use Rattle.std.proofs.Common.{◌≡◌, ◌↔◌, Bool, true, false, IsTrue, Option, Some, None, is_none, List, [], ◌∷◌, ◌++◌, if◌then◌else◌, refl, sym, ap, ◌∙◌}
 use Rattle.std.specs.List.{filter_map}
 use Rattle.std.specs.Map.{lookup}
 use Rattle.std.proofs.lemmas.List.Elements.{filter_map-append}
 use Rattle.std.proofs.lemmas.Grind.{fold-append}
-use Rattle.pv_base.specs.Pairs.{Paired}
-use Rattle.pv_types.specs.declared.program.Program.{Program}
-use Rattle.pv_names.specs.MemberNames.{first_stays, same_module}
-use Rattle.module_names.specs.Brings.{firsts}
-use Rattle.clause_names.specs.Setting.{same_schema}
+use Rattle.base.specs.Pairs.{Paired}
+use Rattle.program.specs.declared.program.Program.{Program}
+use Rattle.scopes.specs.MemberNames.{first_stays, same_module}
+use Rattle.scopes.specs.Brings.{firsts}
+use Rattle.resolution.specs.Setting.{same_schema}
 use Rattle.resolution.specs.declared.declared.Declared.{Declared}
 use Rattle.resolution.specs.Parts.{Entered, EnteredOf}
 use Rattle.resolution.specs.Programs.{DeclarationTree, IsDeclaredAs, constant_in, function_in, module_in, same_constant, same_function, same_struct, schema_in, spec_function_in, struct_in}
@@ -28,7 +28,7 @@ stays-cases es k v true (Some x) q = absurd (some_is_none x (q.0 true_is_true))
 stays-cases es k v false None q = absurd (false_is_true (q.1 refl))
 stays-cases es k v false (Some x) q = refl
 
--- one more in a table
+-- one more declaration in a table
 pub put_stays : {K V : Type 0} (same : K → K → Bool) (es new : List (K × V)) (k : K) (v : V) (is_new : Bool) → (IsTrue is_new ↔ (lookup (same k) es ≡ None)) → new ≡ (if is_new then es ++ (k, v) ∷ [] else es) → new ≡ first_stays same es k v
 put_stays same es new k v is_new h e = e ∙ stays-cases es k v is_new (lookup (same k) es) h
 

@@ -1,9 +1,9 @@
--- Uses that mean nothing, by the declaration in which they stand.
+-- Uses without a meaning, by the declaration that contains them.
 use Rattle.std.specs.Prelude.{ℕ, List}
-use Rattle.pv_base.specs.declared.span.Span.{Span}
-use Rattle.source_tree.specs.SourceModuleData.{SourceModuleData}
-use Rattle.pv_names.specs.declared.fault.NameFault.{NameFault}
-use Rattle.pv_names.specs.declared.fault.NameFault.TheVariants.{Unknown as unknown, NoMemory as no_memory}
+use Rattle.base.specs.declared.span.Span.{Span}
+use Rattle.syntax_tree.specs.SourceModuleData.{SourceModuleData}
+use Rattle.scopes.specs.declared.fault.NameFault.{NameFault}
+use Rattle.scopes.specs.declared.fault.NameFault.TheVariants.{Unknown as unknown, NoMemory as no_memory}
 use Rattle.resolution.specs.declared.fault.PlaceFault.{PlaceFault}
 use Rattle.resolution.specs.declared.fault.PlaceFault.TheVariants.{Unknown as unknown_at, NoMemory as no_memory_at}
 use Rattle.resolution.specs.declared.fault.ResolveFault.{ResolveFault}
@@ -15,7 +15,7 @@ abbrev pub fault_at : NameFault → Span → PlaceFault
 fault_at unknown place = unknown_at place
 fault_at no_memory place = no_memory_at
 
--- of these declarations the first one with a use that means nothing begins there
+-- the first of these declarations with a use that has no meaning begins there
 abbrev pub IsFaultAmong : List Item → PlaceFault → Type 0
 IsFaultAmong items (unknown_at place) = IsFirstUnknown items place
 IsFaultAmong items no_memory_at = Unit {0}

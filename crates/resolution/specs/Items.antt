@@ -1,38 +1,38 @@
--- The declarations of files, in the order of the files and of their texts, and the first of them with a use that has no meaning.
--- A declaration is a member of a module, or the spec block of a loop, which comes behind its function; a module whose address is
--- not known comes alone.
+-- The declarations of files, in the order of the files and of their texts, and the first of them with a use that has no
+-- meaning. A declaration is a member of a module, or the spec block of a loop, which comes after its function; a module
+-- with an unknown address comes alone.
 use Rattle.std.specs.Prelude.{◌≡◌, ◌⊎◌, ℕ, ◌+◌, false, List, [], ◌∷◌, ◌++◌, length, map, Option, Some, None, slice_index_or}
 use Rattle.std.specs.List.{flat_map, zip}
-use Rattle.pv_base.specs.declared.span.Span.{Span}
-use Rattle.file_tree.specs.declared.member.Function.{Function as FunctionTree}
-use Rattle.clause_tree.specs.declared.clause.Spec.{Spec as SpecTree}
-use Rattle.clause_tree.specs.declared.clause.Spec.TheVariants.{Module as module_spec, Named as named_spec, Schema as schema_spec, Function as function_spec, Loop as loop_spec}
-use Rattle.source_tree.specs.SourceData.{SourceMemberData}
-use Rattle.source_tree.specs.SourceModuleData.{SourceModuleData}
-use Rattle.source_tree.specs.Places.{form_place, spec_place}
-use Rattle.source_tree.specs.declared.source.SourceForm.{SourceForm}
-use Rattle.source_tree.specs.declared.source.SourceForm.TheVariants.{Use, Friend, Struct, Constant, Function, Spec}
-use Rattle.pv_types.specs.declared.program.ModuleId.{ModuleId}
-use Rattle.pv_names.specs.EnvironmentData.{EnvironmentData}
-use Rattle.pv_names.specs.Meanings.{module_meaning}
-use Rattle.declaration_names.specs.Declarations.{HasUnknownInConstant, HasUnknownInFunction, HasUnknownInStruct, parameter_names_of}
-use Rattle.declaration_names.specs.Imports.{among_these, use_is_known}
-use Rattle.clause_names.specs.Around.{around_loop}
-use Rattle.spec_names.specs.declared.outer.OuterName.{OuterName}
-use Rattle.clause_names.specs.ClauseForms.{HasUnknown as ClauseUnknown}
-use Rattle.clause_names.specs.Clauses.{PlacedClause}
-use Rattle.clause_names.specs.Setting.{ClauseScope}
-use Rattle.clause_names.specs.SpecDeclarations.{HasUnknownInSchema, HasUnknownInSpecFunction}
-use Rattle.loop_scopes.specs.declared.scopes.LoopScope.{LoopScope}
-use Rattle.loop_scopes.specs.LoopScopes.{loops_of_body}
+use Rattle.base.specs.declared.span.Span.{Span}
+use Rattle.syntax_tree.specs.declared.member.Function.{Function as FunctionTree}
+use Rattle.syntax_tree.specs.declared.clause.Spec.{Spec as SpecTree}
+use Rattle.syntax_tree.specs.declared.clause.Spec.TheVariants.{Module as module_spec, Named as named_spec, Schema as schema_spec, Function as function_spec, Loop as loop_spec}
+use Rattle.syntax_tree.specs.SourceData.{SourceMemberData}
+use Rattle.syntax_tree.specs.SourceModuleData.{SourceModuleData}
+use Rattle.syntax_tree.specs.Places.{form_place, spec_place}
+use Rattle.syntax_tree.specs.declared.source.SourceForm.{SourceForm}
+use Rattle.syntax_tree.specs.declared.source.SourceForm.TheVariants.{Use, Friend, Struct, Constant, Function, Spec}
+use Rattle.program.specs.declared.program.ModuleId.{ModuleId}
+use Rattle.scopes.specs.EnvironmentData.{EnvironmentData}
+use Rattle.scopes.specs.Meanings.{module_meaning}
+use Rattle.resolution.specs.Declarations.{HasUnknownInConstant, HasUnknownInFunction, HasUnknownInStruct, parameter_names_of}
+use Rattle.resolution.specs.Imports.{among_these, use_is_known}
+use Rattle.resolution.specs.Around.{around_loop}
+use Rattle.body_names.specs.declared.spec.outer.OuterName.{OuterName}
+use Rattle.resolution.specs.ClauseForms.{HasUnknown as ClauseUnknown}
+use Rattle.resolution.specs.Clauses.{PlacedClause}
+use Rattle.resolution.specs.Setting.{ClauseScope}
+use Rattle.resolution.specs.SpecDeclarations.{HasUnknownInSchema, HasUnknownInSpecFunction}
+use Rattle.body_names.specs.declared.loop_scopes.loop_scope.LoopScope.{LoopScope}
+use Rattle.body_names.specs.LoopScopes.{loops_of_body}
 use Rattle.resolution.specs.Known.{KnownData, Schemas, inside}
 use Rattle.resolution.specs.Owners.{HasUnknownInBlock, blocks_among, clause_scope, member_numbers, module_scope, outcome_of, owner_of, owner_scopes, placed_in}
 
 -- ---- modules
 
--- a module, seen from within
+-- a module from within
 pub record Here : Type 0 where
-  -- what names mean in it
+  -- the meaning of names in it
   pub environment : EnvironmentData
   -- all modules, and the variables of all schemas
   pub modules : List ModuleId
@@ -48,7 +48,7 @@ here known own members = record { environment = inside known own members; module
 abbrev pub loops_of : FunctionTree → List SpecTree → List (LoopScope × SpecTree)
 loops_of f loops = zip (loops_of_body (parameter_names_of f) f.body) loops
 
--- where the clauses of a function stand
+-- the context of the clauses of a function
 abbrev pub function_scope : Here → FunctionTree → ClauseScope
 function_scope w f = clause_scope w.environment w.schemas f.parameters
 
@@ -66,7 +66,7 @@ HasUnknownInLoop w f loop = HasUnknownInOne (function_scope w f) (around_loop_of
 
 -- ---- members
 
--- the owner of a spec block that is behind these members
+-- the owner of a spec block after these members
 abbrev pub HasUnknownOf : Here → List SourceMemberData → SpecTree → Option ℕ → Type 0
 HasUnknownOf w before block None = Unit {0}
 HasUnknownOf w before block (Some n) =
@@ -76,7 +76,7 @@ HasUnknownOf w before block (Some n) =
 abbrev pub HasUnknownInOwned : Here → List SourceMemberData → SpecTree → Type 0
 HasUnknownInOwned w before block = HasUnknownOf w before block (owner_of (member_numbers w.members) (length w.members) block)
 
--- a block without an owner is unknown where it has a name; a loop's block is no member
+-- a named block without an owner has no meaning; a loop's block is not a member
 abbrev pub HasUnknownInSpec : Here → List SourceMemberData → SpecTree → Type 0
 HasUnknownInSpec w before (module_spec place clauses) = HasUnknownInOwned w before (module_spec place clauses)
 HasUnknownInSpec w before (named_spec place name clauses) = HasUnknownInOwned w before (named_spec place name clauses)
@@ -84,7 +84,7 @@ HasUnknownInSpec w before (schema_spec s) = HasUnknownInSchema w.environment w.s
 HasUnknownInSpec w before (function_spec f) = HasUnknownInSpecFunction w.environment f
 HasUnknownInSpec w before (loop_spec place clauses) = ⊥
 
--- some use in a member behind these has no meaning, those in its loops aside
+-- some use in a member after these has no meaning, apart from those in its loops
 abbrev pub HasUnknownInForm : Here → List SourceMemberData → SourceForm → Type 0
 HasUnknownInForm w before (Use u) = use_is_known w.environment w.modules u ≡ false
 HasUnknownInForm w before (Friend f) = among_these w.modules (module_meaning w.environment f.owner) ≡ None
@@ -96,9 +96,9 @@ HasUnknownInForm w before (Spec s) = HasUnknownInSpec w before s
 -- ---- all declarations
 
 pub data Item : Type 0 where
-  -- a module whose address is not known, by the place of its word `module`
+  -- a module with an unknown address, by the span of its keyword `module`
   NoModule : Span → Item
-  -- a member of a module behind others, its loops aside
+  -- a member of a module after others, apart from its loops
   MemberItem : Here → List SourceMemberData → SourceForm → Item
   -- a loop of a function
   LoopItem : Here → FunctionTree → LoopScope × SpecTree → Item
@@ -117,14 +117,14 @@ abbrev pub loop_items : Here → SourceForm → List SpecTree → List Item
 loop_items w (Function f) loops = map (LoopItem w f) (loops_of f loops)
 loop_items w _ loops = []
 
--- a member behind others, and its loops
+-- a member after others, and its loops
 abbrev pub form_items : Here → List SourceMemberData → SourceForm → List SpecTree → List Item
 form_items w before form loops = MemberItem w before form ∷ loop_items w form loops
 
 abbrev pub member_items : Here → List SourceMemberData → SourceMemberData → List Item
 member_items w before m = form_items w before m.form m.loops
 
--- of members behind others
+-- members after others
 abbrev pub items_behind : Here → List SourceMemberData → List SourceMemberData → List Item
 items_behind w before [] = []
 items_behind w before (m ∷ ms) = member_items w before m ++ items_behind w (before ++ m ∷ []) ms
@@ -139,14 +139,14 @@ module_items known m = items_in known m (module_meaning known.environment m.name
 abbrev pub source_items : KnownData → List SourceModuleData → List Item
 source_items known source = flat_map (module_items known) source
 
--- ---- the first that is unknown
+-- ---- the first declaration with a use that has no meaning
 
 -- each use has a meaning
 abbrev pub AreKnown : List Item → Type 0
 AreKnown [] = Unit {0}
 AreKnown (x ∷ xs) = (HasUnknown x → ⊥) × AreKnown xs
 
--- the first one in which a use has none begins here
+-- the first one in which some use has no meaning begins here
 abbrev pub IsFirstUnknown : List Item → Span → Type 0
 IsFirstUnknown [] place = ⊥
 IsFirstUnknown (x ∷ xs) place = (HasUnknown x × (place ≡ item_place x)) ⊎ ((HasUnknown x → ⊥) × IsFirstUnknown xs place)
@@ -156,8 +156,8 @@ abbrev pub AreKnownIn : KnownData → List (List SourceModuleData) → Type 0
 AreKnownIn known [] = Unit {0}
 AreKnownIn known (s ∷ ss) = AreKnown (source_items known s) × AreKnownIn known ss
 
--- of sources, the first of which has the number n: the number of the file, and where the first declaration begins in which a use
--- has no meaning
+-- for sources the first of which has index n: the index of the file, and the span where the first declaration begins in
+-- which some use has no meaning
 abbrev pub IsFirstUnknownIn : KnownData → ℕ → List (List SourceModuleData) → ℕ → Span → Type 0
 IsFirstUnknownIn known n [] file place = ⊥
 IsFirstUnknownIn known n (s ∷ ss) file place =

@@ -1,32 +1,32 @@
--- What the names in all modules of a program rest on. Source: The Move Book, "Modules and Scripts" and "Uses and Aliases"; the
--- Move Specification Language reference, "Schemas".
+-- The declarations of all modules that the meaning of names depends on. Source: The Move Book, "Modules and Scripts"
+-- and "Uses and Aliases"; the Move Specification Language reference, "Schemas".
 use Rattle.std.specs.Prelude.{ℕ, List, [], ◌∷◌}
 use Rattle.std.specs.List.{flat_map}
 use Rattle.indexmap.specs.IndexSet.{insert_all}
-use Rattle.clause_tree.specs.declared.clause.Spec.{Spec as SpecTree}
-use Rattle.clause_tree.specs.declared.clause.Spec.TheVariants.{Module as module_spec, Named as named_spec, Schema as schema_spec, Function as function_spec, Loop as loop_spec}
-use Rattle.source_tree.specs.SourceData.{SourceMemberData}
-use Rattle.source_tree.specs.SourceModuleData.{SourceModuleData}
-use Rattle.source_tree.specs.declared.source.SourceForm.{SourceForm}
-use Rattle.source_tree.specs.declared.source.SourceForm.TheVariants.{Spec}
-use Rattle.pv_types.specs.declared.program.ModuleId.{ModuleId}
-use Rattle.pv_types.specs.declared.program.SchemaId.{SchemaId}
-use Rattle.pv_names.specs.MemberNames.{same_module}
-use Rattle.pv_names.specs.EnvironmentData.{EnvironmentData, entered}
-use Rattle.pv_names.specs.Meanings.{schema_of}
-use Rattle.module_names.specs.Brings.{environment_of, firsts}
-use Rattle.module_names.specs.Program.{builtin_modules, declaring, module_of, modules_of}
-use Rattle.clause_names.specs.Setting.{same_schema}
-use Rattle.clause_names.specs.SpecDeclarations.{schema_variables}
+use Rattle.syntax_tree.specs.declared.clause.Spec.{Spec as SpecTree}
+use Rattle.syntax_tree.specs.declared.clause.Spec.TheVariants.{Module as module_spec, Named as named_spec, Schema as schema_spec, Function as function_spec, Loop as loop_spec}
+use Rattle.syntax_tree.specs.SourceData.{SourceMemberData}
+use Rattle.syntax_tree.specs.SourceModuleData.{SourceModuleData}
+use Rattle.syntax_tree.specs.declared.source.SourceForm.{SourceForm}
+use Rattle.syntax_tree.specs.declared.source.SourceForm.TheVariants.{Spec}
+use Rattle.program.specs.declared.program.ModuleId.{ModuleId}
+use Rattle.program.specs.declared.program.SchemaId.{SchemaId}
+use Rattle.scopes.specs.MemberNames.{same_module}
+use Rattle.scopes.specs.EnvironmentData.{EnvironmentData, entered}
+use Rattle.scopes.specs.Meanings.{schema_of}
+use Rattle.scopes.specs.Brings.{environment_of, firsts}
+use Rattle.scopes.specs.Program.{builtin_modules, declaring, module_of, modules_of}
+use Rattle.resolution.specs.Setting.{same_schema}
+use Rattle.resolution.specs.SpecDeclarations.{schema_variables}
 
--- the variables of schemas, in their order
+-- the variables of schemas, in order
 abbrev pub Schemas : Type 0
 Schemas = List (SchemaId × List (List ℕ))
 
 pub record KnownData : Type 0 where
-  -- what all modules declare
+  -- the declarations of all modules
   pub environment : EnvironmentData
-  -- all modules, those of the language included
+  -- all modules, including the builtin ones
   pub modules : List ModuleId
   pub schemas : Schemas
 
@@ -50,7 +50,7 @@ abbrev pub schemas_among : List ModuleId → List SourceMemberData → Schemas
 schemas_among [] members = []
 schemas_among (own ∷ others) members = flat_map (schema_of_member own) members
 
--- those of a module, where its address is known
+-- the schemas of a module, if its address is known
 abbrev pub schemas_of_module : EnvironmentData → SourceModuleData → Schemas
 schemas_of_module env m = schemas_among (module_of env m) m.members
 
@@ -63,7 +63,7 @@ schemas_of env source = flat_map (schemas_of_module env) source
 abbrev pub all_modules : EnvironmentData → List (List SourceModuleData) → List ModuleId
 all_modules env sources = insert_all same_module builtin_modules (flat_map (modules_of env) sources)
 
--- of two schemas of one name the first
+-- of two schemas with the same name, the first counts
 abbrev pub all_schemas : EnvironmentData → List (List SourceModuleData) → Schemas
 all_schemas env sources = firsts same_schema [] (flat_map (schemas_of env) sources)
 
@@ -73,6 +73,6 @@ known_in env sources = record { environment = env; modules = all_modules env sou
 abbrev pub known_of : List (List SourceModuleData) → KnownData
 known_of sources = known_in (declaring sources) sources
 
--- what names mean in a module of this address and name with these members
+-- the meaning of names in a module with this address and name and these members
 abbrev pub inside : KnownData → ModuleId → List SourceMemberData → EnvironmentData
 inside known own members = environment_of (entered known.environment own) members

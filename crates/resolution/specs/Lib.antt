@@ -7,3 +7,14 @@ pub mod LoopParts
 pub mod OwnersSoFar
 pub mod Parts
 pub mod Programs
+pub mod Imports
+pub mod Parameters
+pub mod Declarations
+pub mod Around
+pub mod ClauseForms
+pub mod Clauses
+pub mod Includes
+pub mod Pragmas
+pub mod Setting
+pub mod SpecDeclarations
+pub mod SpecTargets

@@ -1,6 +1,6 @@
--- What holds while the modules of a program are gone through.
+-- The invariant of the loop over the modules of a program.
 use Rattle.std.specs.Prelude.{◌≡◌}
-use Rattle.pv_names.specs.EnvironmentData.{EnvironmentData}
+use Rattle.scopes.specs.EnvironmentData.{EnvironmentData}
 use Rattle.resolution.specs.declared.known.Known.{Known}
 use Rattle.resolution.specs.Known.{KnownData}
 

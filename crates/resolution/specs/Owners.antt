@@ -1,49 +1,49 @@
--- What the spec blocks of a module are of: the clauses of an owner are those of all its blocks, in the order of the text. Source:
--- the Move Specification Language reference, "Spec Blocks and Conditions" and "Let Bindings".
+-- The owners of the spec blocks of a module: the clauses of an owner are those of all its blocks, in source order.
+-- Source: the Move Specification Language reference, "Spec Blocks and Conditions" and "Let Bindings".
 use Rattle.std.specs.Prelude.{ℕ, ◌+◌, ◌==◌, List, [], ◌∷◌, ◌++◌, length, map, Option, Some, None, if◌then◌else◌}
 use Rattle.std.specs.List.{flat_map}
 use Rattle.std.specs.Map.{lookup}
 use Rattle.std.specs.Option.{option_or}
-use Rattle.pv_base.specs.TypeData.{TypeData, TupleType, NoTypes}
-use Rattle.file_tree.specs.MemberData.{TypeParametersData}
-use Rattle.file_tree.specs.declared.member.Function.{Function as FunctionTree}
-use Rattle.clause_tree.specs.declared.clause.Clause.{Clause as ClauseTree}
-use Rattle.clause_tree.specs.declared.clause.Spec.{Spec as SpecTree}
-use Rattle.clause_tree.specs.declared.clause.Spec.TheVariants.{Module as module_spec, Named as named_spec, Schema as schema_spec, Function as function_spec, Loop as loop_spec}
-use Rattle.source_tree.specs.SourceData.{SourceMemberData}
-use Rattle.source_tree.specs.Places.{spec_place}
-use Rattle.source_tree.specs.declared.source.SourceForm.{SourceForm}
-use Rattle.source_tree.specs.declared.source.SourceForm.TheVariants.{Use, Friend, Struct, Constant, Function, Spec}
-use Rattle.pv_names.specs.declared.member.MemberKind.{MemberKind}
-use Rattle.pv_names.specs.declared.member.MemberKind.TheVariants.{Struct as a_struct, Function as a_function}
-use Rattle.pv_names.specs.declared.member.NameOfKind.{NameOfKind}
-use Rattle.pv_names.specs.MemberNames.{same_name_of_kind}
-use Rattle.pv_names.specs.EnvironmentData.{EnvironmentData}
-use Rattle.pv_names.specs.TypeMeanings.{or_type}
-use Rattle.module_names.specs.Declares.{form_declares, listed}
-use Rattle.module_names.specs.Brings.{firsts}
-use Rattle.declaration_names.specs.Parameters.{among}
-use Rattle.declaration_names.specs.Declarations.{result_meaning}
-use Rattle.spec_names.specs.declared.outer.OuterName.{OuterName}
-use Rattle.clause_names.specs.Around.{around_function, around_struct}
-use Rattle.clause_names.specs.Clauses.{PlacedClause, lets_from, placed, HasUnknownAmong}
-use Rattle.clause_names.specs.Pragmas.{pragmas_in, settings_of}
-use Rattle.clause_names.specs.Setting.{ClauseScope}
-use Rattle.clause_names.specs.SpecDeclarations.{spec_types}
-use Rattle.clause_names.specs.declared.pragmas.Settings.{Settings}
+use Rattle.base.specs.TypeData.{TypeData, TupleType, NoTypes}
+use Rattle.syntax_tree.specs.MemberData.{TypeParametersData}
+use Rattle.syntax_tree.specs.declared.member.Function.{Function as FunctionTree}
+use Rattle.syntax_tree.specs.declared.clause.Clause.{Clause as ClauseTree}
+use Rattle.syntax_tree.specs.declared.clause.Spec.{Spec as SpecTree}
+use Rattle.syntax_tree.specs.declared.clause.Spec.TheVariants.{Module as module_spec, Named as named_spec, Schema as schema_spec, Function as function_spec, Loop as loop_spec}
+use Rattle.syntax_tree.specs.SourceData.{SourceMemberData}
+use Rattle.syntax_tree.specs.Places.{spec_place}
+use Rattle.syntax_tree.specs.declared.source.SourceForm.{SourceForm}
+use Rattle.syntax_tree.specs.declared.source.SourceForm.TheVariants.{Use, Friend, Struct, Constant, Function, Spec}
+use Rattle.scopes.specs.declared.member.MemberKind.{MemberKind}
+use Rattle.scopes.specs.declared.member.MemberKind.TheVariants.{Struct as a_struct, Function as a_function}
+use Rattle.scopes.specs.declared.member.NameOfKind.{NameOfKind}
+use Rattle.scopes.specs.MemberNames.{same_name_of_kind}
+use Rattle.scopes.specs.EnvironmentData.{EnvironmentData}
+use Rattle.scopes.specs.TypeMeanings.{or_type}
+use Rattle.scopes.specs.Declares.{form_declares, listed}
+use Rattle.scopes.specs.Brings.{firsts}
+use Rattle.resolution.specs.Parameters.{among}
+use Rattle.resolution.specs.Declarations.{result_meaning}
+use Rattle.body_names.specs.declared.spec.outer.OuterName.{OuterName}
+use Rattle.resolution.specs.Around.{around_function, around_struct}
+use Rattle.resolution.specs.Clauses.{PlacedClause, lets_from, placed, HasUnknownAmong}
+use Rattle.resolution.specs.Pragmas.{pragmas_in, settings_of}
+use Rattle.resolution.specs.Setting.{ClauseScope}
+use Rattle.resolution.specs.SpecDeclarations.{spec_types}
+use Rattle.resolution.specs.declared.clauses.pragmas.Settings.{Settings}
 use Rattle.resolution.specs.Known.{Schemas}
 
--- ---- by number: a member by its own, and the module itself by the number of its members
+-- ---- by index: a member by its own, and the module itself by the number of its members
 
 abbrev pub with_number : ℕ → NameOfKind → NameOfKind × ℕ
 with_number n name = (name, n)
 
--- the names that members declare, each with the number of its member, the first of which is n
+-- the names that members declare, each with the index of its member, the first of which is n
 abbrev pub numbered_names : ℕ → List SourceMemberData → List (NameOfKind × ℕ)
 numbered_names n [] = []
 numbered_names n (m ∷ ms) = map (with_number n) (listed (form_declares m.form)) ++ numbered_names (n + 1) ms
 
--- of two members of one name the first
+-- of two members with the same name, the first counts
 abbrev pub member_numbers : List SourceMemberData → List (NameOfKind × ℕ)
 member_numbers members = firsts same_name_of_kind [] (numbered_names 0 members)
 
@@ -54,7 +54,7 @@ numbered_as numbers kind name = lookup (same_name_of_kind (record { kind = kind;
 abbrev pub owner_named : List (NameOfKind × ℕ) → List ℕ → Option ℕ
 owner_named numbers name = option_or (numbered_as numbers a_function name) (numbered_as numbers a_struct name)
 
--- what a spec block is of, where so many members have these numbers
+-- the owner of a spec block, given the indices and the number of the members
 abbrev pub owner_of : List (NameOfKind × ℕ) → ℕ → SpecTree → Option ℕ
 owner_of numbers count (module_spec place clauses) = Some count
 owner_of numbers count (named_spec place name clauses) = owner_named numbers name.text
@@ -75,12 +75,12 @@ abbrev pub if_number : ℕ → Option ℕ → SpecTree → List SpecTree
 if_number n None s = []
 if_number n (Some m) s = if n == m then s ∷ [] else []
 
--- the spec block that a member is, where it is of the owner with the number n
+-- the spec block that a member is, if it belongs to the owner with index n
 abbrev pub block_of : List (NameOfKind × ℕ) → ℕ → ℕ → SourceForm → List SpecTree
 block_of numbers count n (Spec s) = if_number n (owner_of numbers count s) s
 block_of numbers count n _ = []
 
--- among the first of so many members
+-- among the first members
 abbrev pub blocks_among : List (NameOfKind × ℕ) → ℕ → ℕ → List SourceMemberData → List SpecTree
 blocks_among numbers count n first = flat_map (λ m. block_of numbers count n m.form) first
 
@@ -91,15 +91,15 @@ blocks_of members n = blocks_among (member_numbers members) (length members) n m
 abbrev pub placed_in : SpecTree → List PlacedClause
 placed_in s = placed (spec_place s) (clauses_of_spec s)
 
--- the clauses in blocks
+-- the clauses in blocks, with the spans of the blocks
 abbrev pub sources_in : List SpecTree → List PlacedClause
 sources_in blocks = flat_map placed_in blocks
 
--- what the pragmas in blocks set
+-- the settings of the pragmas in blocks
 abbrev pub settings_in : List SpecTree → Settings
 settings_in blocks = settings_of (flat_map (λ s. pragmas_in (clauses_of_spec s)) blocks)
 
--- ---- where the clauses of an owner stand
+-- ---- the contexts of the clauses of an owner
 
 pub record OwnerScope : Type 0 where
   pub scope : ClauseScope
@@ -114,7 +114,8 @@ type_parameters_of_form (Constant c) = None
 type_parameters_of_form (Function f) = f.parameters
 type_parameters_of_form (Spec s) = None
 
--- The type of a function's result. Where it has no meaning, the function has none either, and its blocks see no result.
+-- The type of a function's result. If it has no meaning, the function has none either, and its blocks have no result in
+-- scope.
 abbrev pub outcome_of : EnvironmentData → FunctionTree → TypeData
 outcome_of env f = or_type (result_meaning (among env f.parameters) f.result) (TupleType NoTypes)
 
@@ -138,11 +139,11 @@ member_scope env schemas m = owner_scope env schemas m.form
 abbrev pub module_scope : EnvironmentData → Schemas → OwnerScope
 module_scope env schemas = record { scope = clause_scope env schemas None; around = [] }
 
--- of each member, and of the module itself
+-- the contexts of each member, and of the module itself
 abbrev pub owner_scopes : EnvironmentData → Schemas → List SourceMemberData → List OwnerScope
 owner_scopes env schemas members = map (member_scope env schemas) members ++ module_scope env schemas ∷ []
 
--- some use in a block behind others of its owner has no meaning
+-- some use in a block, after the other blocks of its owner, has no meaning
 abbrev pub HasUnknownInBlock : OwnerScope → List SpecTree → SpecTree → Type 0
 HasUnknownInBlock w before block =
     HasUnknownAmong w.scope (w.around ++ lets_from 0 (sources_in before)) (length (sources_in before)) (placed_in block)

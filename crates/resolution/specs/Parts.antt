@@ -1,33 +1,33 @@
--- Declarations whose owners do not have all their clauses yet, and what is put into the tables of a program.
+-- Declarations whose owners do not have all their clauses yet, and additions to the tables of a program.
 use Rattle.std.specs.Prelude.{◌≡◌, ℕ, ◌+◌, List, [], ◌∷◌, ◌++◌, Option}
 use Rattle.std.specs.List.{filter_map}
-use Rattle.pv_base.specs.Pairs.{Paired}
-use Rattle.pv_base.specs.declared.types.FunctionId.{FunctionId}
-use Rattle.pv_base.specs.declared.types.StructId.{StructId}
-use Rattle.file_tree.specs.declared.member.Function.{Function as FunctionTree}
-use Rattle.file_tree.specs.declared.member.Struct.{Struct as StructTree}
-use Rattle.clause_tree.specs.declared.clause.Spec.{Spec as SpecTree}
-use Rattle.source_tree.specs.SourceData.{SourceMemberData}
-use Rattle.source_tree.specs.declared.source.SourceForm.{SourceForm}
-use Rattle.source_tree.specs.declared.source.SourceForm.TheVariants.{Use, Friend, Struct, Constant, Function, Spec}
-use Rattle.source_tree.specs.Places.{function_place}
-use Rattle.pv_types.specs.declared.declaration.Function.{Function as FunctionData}
-use Rattle.pv_types.specs.declared.declaration.Struct.{Struct as StructData}
-use Rattle.pv_types.specs.declared.program.ModuleId.{ModuleId}
-use Rattle.pv_types.specs.declared.program.Program.{Program}
-use Rattle.pv_names.specs.MemberNames.{same_module}
-use Rattle.pv_names.specs.Meanings.{function_of, struct_of}
-use Rattle.module_names.specs.Declares.{listed}
-use Rattle.module_names.specs.Brings.{firsts}
-use Rattle.code_names.specs.CodeNames.{names_of_block}
-use Rattle.code_names.specs.CodeSpans.{spans_of_block}
-use Rattle.code_names.specs.Resolved.{IsResolved}
-use Rattle.declaration_names.specs.Declarations.{IsHeadOf, IsStructOf, body_of, parameter_names_of}
-use Rattle.clause_names.specs.Pragmas.{pragmas_of}
-use Rattle.clause_names.specs.Setting.{same_schema}
-use Rattle.clause_names.specs.declared.pragmas.Settings.{Settings}
-use Rattle.pv_types.specs.declared.clause.Clause.{Clause}
-use Rattle.pv_types.specs.declared.declaration.Pragmas.{Pragmas}
+use Rattle.base.specs.Pairs.{Paired}
+use Rattle.base.specs.declared.types.FunctionId.{FunctionId}
+use Rattle.base.specs.declared.types.StructId.{StructId}
+use Rattle.syntax_tree.specs.declared.member.Function.{Function as FunctionTree}
+use Rattle.syntax_tree.specs.declared.member.Struct.{Struct as StructTree}
+use Rattle.syntax_tree.specs.declared.clause.Spec.{Spec as SpecTree}
+use Rattle.syntax_tree.specs.SourceData.{SourceMemberData}
+use Rattle.syntax_tree.specs.declared.source.SourceForm.{SourceForm}
+use Rattle.syntax_tree.specs.declared.source.SourceForm.TheVariants.{Use, Friend, Struct, Constant, Function, Spec}
+use Rattle.syntax_tree.specs.Places.{function_place}
+use Rattle.program.specs.declared.declaration.Function.{Function as FunctionData}
+use Rattle.program.specs.declared.declaration.Struct.{Struct as StructData}
+use Rattle.program.specs.declared.program.ModuleId.{ModuleId}
+use Rattle.program.specs.declared.program.Program.{Program}
+use Rattle.scopes.specs.MemberNames.{same_module}
+use Rattle.scopes.specs.Meanings.{function_of, struct_of}
+use Rattle.scopes.specs.Declares.{listed}
+use Rattle.scopes.specs.Brings.{firsts}
+use Rattle.body_names.specs.CodeNames.{names_of_block}
+use Rattle.body_names.specs.CodeSpans.{spans_of_block}
+use Rattle.body_names.specs.CodeResolved.{IsResolved}
+use Rattle.resolution.specs.Declarations.{IsHeadOf, IsStructOf, body_of, parameter_names_of}
+use Rattle.resolution.specs.Pragmas.{pragmas_of}
+use Rattle.resolution.specs.Setting.{same_schema}
+use Rattle.resolution.specs.declared.clauses.pragmas.Settings.{Settings}
+use Rattle.program.specs.declared.clause.Clause.{Clause}
+use Rattle.program.specs.declared.declaration.Pragmas.{Pragmas}
 use Rattle.resolution.specs.declared.declared.Declared.{Declared}
 use Rattle.resolution.specs.declared.declared.DeclaredForm.{DeclaredForm}
 use Rattle.resolution.specs.declared.declared.DeclaredForm.TheVariants.{Module, Struct as struct_form, Constant as constant_form, Function as function_form, SpecFunction as spec_function_form, Schema as schema_form}
@@ -35,7 +35,7 @@ use Rattle.resolution.specs.declared.members.ModulePlace.{ModulePlace}
 use Rattle.resolution.specs.Items.{AreKnown, Here, form_items}
 use Rattle.resolution.specs.Programs.{AreLoopsOf, DeclarationTree, StructOf, ConstantOf, FunctionOf, SpecFunctionOf, SchemaOf, IsDeclaredAs, IsOwnConstant, IsOwnSchema, IsOwnSpecFunction, constant_in, form_declaration, friend_of_form, function_in, module_in, own_member, same_constant, same_function, same_struct, schema_in, spec_function_in, struct_in}
 
--- the module that the code looks at
+-- the module in which the code resolves names
 abbrev pub here_of : ModulePlace → Here
 here_of p = record { environment = p.environment.now; modules = p.modules.now.keys; schemas = p.schemas.now; members = p.members.now }
 
@@ -63,11 +63,11 @@ IsBare _ _ = ⊥
 abbrev pub IsBareAs : DeclarationTree → Declared → Type 0
 IsBareAs tree d = IsBare tree d.form
 
--- what is made of the member with the number n
+-- the declaration of the member with index n, if it has one
 abbrev pub IsPartOf : Here → ℕ → SourceMemberData → Option Declared → Type 0
 IsPartOf w n m part = Paired IsBareAs (form_declaration w n m.form m.loops) (listed part)
 
--- what is made of members, the first of which has the number n
+-- the declarations of members, the first of which has index n
 abbrev pub ArePartsFrom : Here → ℕ → List SourceMemberData → List (Option Declared) → Type 0
 ArePartsFrom w n [] [] = Unit {0}
 ArePartsFrom w n [] (p ∷ ps) = ⊥
@@ -82,7 +82,7 @@ struct_with s clauses = record { place = s.place; type_parameters = s.type_param
 abbrev pub function_with : FunctionData → Pragmas → List Clause → FunctionData
 function_with f pragmas clauses = record { place = f.place; visibility = f.visibility; type_parameters = f.type_parameters; parameters = f.parameters; result = f.result; acquires = f.acquires; locals = f.locals; body = f.body; pragmas = pragmas; clauses = clauses; loop_clauses = f.loop_clauses }
 
--- a declaration with the clauses of its owner, and what its pragmas and those of its module set
+-- a declaration with the clauses of its owner, the settings of its pragmas and those of its module
 abbrev pub finished : DeclaredForm → List Clause → Settings → Settings → DeclaredForm
 finished (Module id m) clauses own of_module = Module id m
 finished (struct_form id r) clauses own of_module = struct_form id (struct_with r clauses)
@@ -102,7 +102,7 @@ IsSimple (Constant c) = Unit {0}
 IsSimple (Function f) = ⊥
 IsSimple (Spec s) = ⊥
 
--- what is made of a member of this form with the number n behind others, and the module that it lets be a friend
+-- the declaration of a member of this form with index n after others, and the friend module that it names
 pub record IsMade (w : Here) (n : ℕ) (before : List SourceMemberData) (form : SourceForm) (loops : List SpecTree) (old new : List ModuleId) (part : Option Declared) : Type 0 where
   pub known : AreKnown (form_items w before form loops)
   pub part_is : Paired IsBareAs (form_declaration w n form loops) (listed part)
@@ -110,7 +110,7 @@ pub record IsMade (w : Here) (n : ℕ) (before : List SourceMemberData) (form : 
 
 -- ---- tables
 
--- these are put into tables, of two of one name the first
+-- these are added to tables; of two with the same name, the first counts
 pub record Entered (more : List Declared) (old new : Program) : Type 0 where
   pub modules : new.modules ≡ firsts same_module old.modules (filter_map (λ d. module_in d.form) more)
   pub structs : new.structs ≡ firsts same_struct old.structs (filter_map (λ d. struct_in d.form) more)
@@ -119,7 +119,7 @@ pub record Entered (more : List Declared) (old new : Program) : Type 0 where
   pub spec_functions : new.spec_functions ≡ firsts same_function old.spec_functions (filter_map (λ d. spec_function_in d.form) more)
   pub schemas : new.schemas ≡ firsts same_schema old.schemas (filter_map (λ d. schema_in d.form) more)
 
--- the declarations of these sources are put into tables
+-- the declarations of these sources are added to tables
 pub record EnteredOf (trees : List DeclarationTree) (old new : Program) : Type 0 where
   pub more : List Declared
   pub are : Paired IsDeclaredAs trees more

@@ -1,52 +1,52 @@
--- The program that sources are: each declaration with what its names mean, in the order of the files and of their texts, and in
--- each table the first one of each name.
+-- The program of sources: each declaration with its names resolved, in the order of the files and of their texts, and
+-- in each table the first one with each name.
 use Rattle.std.specs.Prelude.{◌≡◌, ℕ, ◌+◌, Bool, ◌&&◌, ◌==◌, List, [], ◌∷◌, ◌++◌, length, map, Option, Some, None}
 use Rattle.std.specs.List.{filter_map, flat_map}
-use Rattle.pv_base.specs.Pairs.{Paired}
-use Rattle.pv_base.specs.Names.{same_name}
-use Rattle.pv_base.specs.declared.span.Span.{Span}
-use Rattle.pv_base.specs.declared.types.FunctionId.{FunctionId}
-use Rattle.pv_base.specs.declared.types.StructId.{StructId}
-use Rattle.file_tree.specs.declared.member.Constant.{Constant as ConstantTree}
-use Rattle.file_tree.specs.declared.member.Function.{Function as FunctionTree}
-use Rattle.file_tree.specs.declared.member.Struct.{Struct as StructTree}
-use Rattle.clause_tree.specs.declared.clause.Spec.{Spec as SpecTree}
-use Rattle.clause_tree.specs.declared.clause.Spec.TheVariants.{Module as module_spec, Named as named_spec, Schema as schema_spec, Function as function_spec, Loop as loop_spec}
-use Rattle.source_tree.specs.SourceData.{SourceMemberData}
-use Rattle.source_tree.specs.SourceModuleData.{SourceModuleData}
-use Rattle.source_tree.specs.Places.{function_place}
-use Rattle.source_tree.specs.declared.source.SourceForm.{SourceForm}
-use Rattle.source_tree.specs.declared.source.SourceForm.TheVariants.{Use, Friend, Struct, Constant, Function, Spec}
-use Rattle.pv_types.specs.declared.clause.Clause.{Clause}
-use Rattle.pv_types.specs.declared.clause.LoopClause.{LoopClause}
-use Rattle.pv_types.specs.declared.declaration.Constant.{Constant as ConstantData}
-use Rattle.pv_types.specs.declared.declaration.Function.{Function as FunctionData}
-use Rattle.pv_types.specs.declared.declaration.Module.{Module as ModuleData}
-use Rattle.pv_types.specs.declared.declaration.Schema.{Schema as SchemaData}
-use Rattle.pv_types.specs.declared.declaration.SpecFunction.{SpecFunction as SpecFunctionData}
-use Rattle.pv_types.specs.declared.declaration.Struct.{Struct as StructData}
-use Rattle.pv_types.specs.declared.program.ConstantId.{ConstantId}
-use Rattle.pv_types.specs.declared.program.ModuleId.{ModuleId}
-use Rattle.pv_types.specs.declared.program.Program.{Program}
-use Rattle.pv_types.specs.declared.program.SchemaId.{SchemaId}
-use Rattle.pv_names.specs.declared.member.MemberId.{MemberId}
-use Rattle.pv_names.specs.MemberNames.{same_module}
-use Rattle.pv_names.specs.Meanings.{constant_of, function_of, module_meaning, schema_of, struct_of}
-use Rattle.code_names.specs.CodeNames.{names_of_block}
-use Rattle.code_names.specs.CodeSpans.{spans_of_block}
-use Rattle.code_names.specs.Resolved.{IsResolved}
-use Rattle.declaration_names.specs.Declarations.{IsConstantOf, IsHeadOf, IsStructOf, body_of, parameter_names_of}
-use Rattle.declaration_names.specs.Imports.{among_these}
-use Rattle.module_names.specs.Brings.{firsts}
-use Rattle.clause_tree.specs.declared.clause.Schema.{Schema as SchemaTree}
-use Rattle.clause_tree.specs.declared.clause.SpecFunction.{SpecFunction as SpecFunctionTree}
-use Rattle.spec_names.specs.declared.outer.OuterName.{OuterName}
-use Rattle.clause_names.specs.ClauseForms.{IsClauseOf}
-use Rattle.clause_names.specs.Clauses.{AreClausesOf, PlacedClause}
-use Rattle.clause_names.specs.Pragmas.{pragmas_of}
-use Rattle.clause_names.specs.Setting.{ClauseScope, same_schema}
-use Rattle.clause_names.specs.SpecDeclarations.{IsSchemaOf, IsSpecFunctionOf}
-use Rattle.loop_scopes.specs.declared.scopes.LoopScope.{LoopScope}
+use Rattle.base.specs.Pairs.{Paired}
+use Rattle.base.specs.Names.{same_name}
+use Rattle.base.specs.declared.span.Span.{Span}
+use Rattle.base.specs.declared.types.FunctionId.{FunctionId}
+use Rattle.base.specs.declared.types.StructId.{StructId}
+use Rattle.syntax_tree.specs.declared.member.Constant.{Constant as ConstantTree}
+use Rattle.syntax_tree.specs.declared.member.Function.{Function as FunctionTree}
+use Rattle.syntax_tree.specs.declared.member.Struct.{Struct as StructTree}
+use Rattle.syntax_tree.specs.declared.clause.Spec.{Spec as SpecTree}
+use Rattle.syntax_tree.specs.declared.clause.Spec.TheVariants.{Module as module_spec, Named as named_spec, Schema as schema_spec, Function as function_spec, Loop as loop_spec}
+use Rattle.syntax_tree.specs.SourceData.{SourceMemberData}
+use Rattle.syntax_tree.specs.SourceModuleData.{SourceModuleData}
+use Rattle.syntax_tree.specs.Places.{function_place}
+use Rattle.syntax_tree.specs.declared.source.SourceForm.{SourceForm}
+use Rattle.syntax_tree.specs.declared.source.SourceForm.TheVariants.{Use, Friend, Struct, Constant, Function, Spec}
+use Rattle.program.specs.declared.clause.Clause.{Clause}
+use Rattle.program.specs.declared.clause.LoopClause.{LoopClause}
+use Rattle.program.specs.declared.declaration.Constant.{Constant as ConstantData}
+use Rattle.program.specs.declared.declaration.Function.{Function as FunctionData}
+use Rattle.program.specs.declared.declaration.Module.{Module as ModuleData}
+use Rattle.program.specs.declared.declaration.Schema.{Schema as SchemaData}
+use Rattle.program.specs.declared.declaration.SpecFunction.{SpecFunction as SpecFunctionData}
+use Rattle.program.specs.declared.declaration.Struct.{Struct as StructData}
+use Rattle.program.specs.declared.program.ConstantId.{ConstantId}
+use Rattle.program.specs.declared.program.ModuleId.{ModuleId}
+use Rattle.program.specs.declared.program.Program.{Program}
+use Rattle.program.specs.declared.program.SchemaId.{SchemaId}
+use Rattle.scopes.specs.declared.member.MemberId.{MemberId}
+use Rattle.scopes.specs.MemberNames.{same_module}
+use Rattle.scopes.specs.Meanings.{constant_of, function_of, module_meaning, schema_of, struct_of}
+use Rattle.body_names.specs.CodeNames.{names_of_block}
+use Rattle.body_names.specs.CodeSpans.{spans_of_block}
+use Rattle.body_names.specs.CodeResolved.{IsResolved}
+use Rattle.resolution.specs.Declarations.{IsConstantOf, IsHeadOf, IsStructOf, body_of, parameter_names_of}
+use Rattle.resolution.specs.Imports.{among_these}
+use Rattle.scopes.specs.Brings.{firsts}
+use Rattle.syntax_tree.specs.declared.clause.Schema.{Schema as SchemaTree}
+use Rattle.syntax_tree.specs.declared.clause.SpecFunction.{SpecFunction as SpecFunctionTree}
+use Rattle.body_names.specs.declared.spec.outer.OuterName.{OuterName}
+use Rattle.resolution.specs.ClauseForms.{IsClauseOf}
+use Rattle.resolution.specs.Clauses.{AreClausesOf, PlacedClause}
+use Rattle.resolution.specs.Pragmas.{pragmas_of}
+use Rattle.resolution.specs.Setting.{ClauseScope, same_schema}
+use Rattle.resolution.specs.SpecDeclarations.{IsSchemaOf, IsSpecFunctionOf}
+use Rattle.body_names.specs.declared.loop_scopes.loop_scope.LoopScope.{LoopScope}
 use Rattle.resolution.specs.declared.declared.DeclaredForm.{DeclaredForm}
 use Rattle.resolution.specs.declared.declared.DeclaredForm.TheVariants.{Module, Struct as struct_form, Constant as constant_form, Function as function_form, SpecFunction as spec_function_form, Schema as schema_form}
 use Rattle.resolution.specs.declared.declared.Declared.{Declared}
@@ -54,11 +54,11 @@ use Rattle.resolution.specs.Known.{KnownData, known_of}
 use Rattle.resolution.specs.Owners.{OwnerScope, blocks_of, module_scope, owner_scope, placed_in, settings_in, sources_in}
 use Rattle.resolution.specs.Items.{Here, around_loop_of, function_scope, here, loops_of}
 
--- ---- what there is to declare
+-- ---- the trees of declarations
 
 pub data DeclarationTree : Type 0 where
   ModuleTree : Here → Span → DeclarationTree
-  -- a struct and a function with the number of their member, a function with the spec blocks of its loops
+  -- a struct and a function with the index of their member, a function with the spec blocks of its loops
   StructOf : Here → ℕ → StructTree → DeclarationTree
   ConstantOf : Here → ConstantTree → DeclarationTree
   FunctionOf : Here → ℕ → FunctionTree → List SpecTree → DeclarationTree
@@ -80,7 +80,7 @@ form_declaration w n (Constant c) loops = ConstantOf w c ∷ []
 form_declaration w n (Function f) loops = FunctionOf w n f loops ∷ []
 form_declaration w n (Spec s) loops = spec_declaration w s
 
--- of members, the first of which has the number n
+-- the declarations of members, the first of which has index n
 abbrev pub declarations_from : Here → ℕ → List SourceMemberData → List DeclarationTree
 declarations_from w n [] = []
 declarations_from w n (m ∷ ms) = form_declaration w n m.form m.loops ++ declarations_from w (n + 1) ms
@@ -99,12 +99,12 @@ source_declarations known source = flat_map (module_declarations known) source
 abbrev pub declarations_of : KnownData → List (List SourceModuleData) → List DeclarationTree
 declarations_of known sources = flat_map (source_declarations known) sources
 
--- ---- what each is
+-- ---- the meaning of each declaration
 
 abbrev pub own_member : Here → List ℕ → MemberId
 own_member w name = record { owner = w.environment.own; name = name }
 
--- all clauses of the owner with the number n
+-- all clauses of the owner with index n
 abbrev pub AreClausesOfOwner : Here → OwnerScope → ℕ → List Clause → Type 0
 AreClausesOfOwner w owner n clauses = AreClausesOf owner.scope owner.around 0 (sources_in (blocks_of w.members n)) clauses
 
@@ -124,7 +124,7 @@ pub record IsModuleOf (w : Here) (place : Span) (id : ModuleId) (resolved : Modu
 abbrev pub without_clauses : StructData → StructData
 without_clauses s = record { place = s.place; type_parameters = s.type_parameters; abilities = s.abilities; fields = s.fields; clauses = [] }
 
--- where the clauses of a member with this form stand
+-- the context of the clauses of a member with this form
 abbrev pub form_scope : Here → SourceForm → OwnerScope
 form_scope w form = owner_scope w.environment w.schemas form
 
@@ -148,7 +148,7 @@ loop_source loop source = record { loop = loop; source = source }
 abbrev pub sources_of_loop : LoopScope × SpecTree → List LoopSource
 sources_of_loop loop = map (loop_source loop.0) (placed_in loop.1)
 
--- the clause of this source, with the number of the loop's node
+-- the clause of this source, with the index of the loop's node
 pub record IsClauseAt (scope : ClauseScope) (outer : List OuterName) (at : ℕ) (source : PlacedClause) (resolved : LoopClause) : Type 0 where
   pub at_is : resolved.at ≡ at
   pub is_clause : IsClauseOf scope outer source.block source.tree resolved.clause
@@ -224,7 +224,7 @@ same_constant x y = (x.address == y.address) && (same_name x.«module» y.«modu
 abbrev pub same_function : FunctionId → FunctionId → Bool
 same_function x y = (x.address == y.address) && (same_name x.«module» y.«module» && same_name x.name y.name)
 
--- in each table, of two declarations of one name the first
+-- in each table, of two declarations with the same name, the first counts
 pub record AreTablesOf (declared : List Declared) (program : Program) : Type 0 where
   pub modules : program.modules ≡ firsts same_module [] (filter_map (λ d. module_in d.form) declared)
   pub structs : program.structs ≡ firsts same_struct [] (filter_map (λ d. struct_in d.form) declared)

@@ -1,15 +1,15 @@
-//! Declarations, each under its name.
+//! Declarations with their names.
 
 ghost use Rattle.std.specs.Prelude.{◌≡◌, [], ◌∷◌, OnOk};
 ghost use Rattle.resolution.specs.Parts.{Entered, finished};
 
+use crate::clauses::pragmas::{Settings, pragmas_of};
 use crate::first::put_first;
 use crate::tables::{Owned, function_with, struct_with};
-use clause_names::pragmas::{Settings, pragmas_of};
-use pv_base::memory::NoMemory;
-use pv_base::types::{FunctionId, StructId};
-use pv_types::declaration::{Constant, Function, Module, Schema, SpecFunction, Struct};
-use pv_types::program::{ConstantId, ModuleId, Program, SchemaId};
+use base::memory::NoMemory;
+use base::types::{FunctionId, StructId};
+use program::declaration::{Constant, Function, Module, Schema, SpecFunction, Struct};
+use program::program::{ConstantId, ModuleId, Program, SchemaId};
 
 /// The kinds of a declaration.
 #[derive(Drop)]
@@ -22,12 +22,12 @@ pub enum DeclaredForm {
     Schema(SchemaId, Schema),
 }
 
-/// A declaration under its name.
+/// A declaration with its name.
 pub struct Declared {
     pub form: DeclaredForm,
 }
 
-// Its own, so that letting one go is a call wherever it is done, and not the cases of all forms below it.
+// A separate implementation, so that dropping a value is one call and does not inline the cases of nested forms.
 impl Drop for Declared {
     fn drop(self) {
         let Declared { form } = self;
@@ -36,7 +36,7 @@ impl Drop for Declared {
 }
 
 impl Declared {
-    /// A declaration with the clauses of its owner, and what its pragmas and those of its module set.
+    /// Completes a declaration with the clauses of its owner and with the pragmas of the owner and of its module.
     pub fn finished(self, owned: Owned, of_module: Settings) -> Declared
         ensures { result.form ≡ finished self.form owned.clauses owned.settings of_module }
     {
@@ -70,7 +70,7 @@ impl Declared {
         Declared { form }
     }
 
-    /// Puts a declaration into its table, unless one of its name is there.
+    /// Adds a declaration to its table, unless its name is taken.
     pub fn put_into(self, program: &mut Program) -> Result<(), NoMemory>
         ensures { OnOk result (Entered (self ∷ []) program.old program.new) }
     {

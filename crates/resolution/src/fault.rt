@@ -1,26 +1,26 @@
-//! Uses that mean nothing, by the declaration in which they stand.
+//! Uses without a meaning, by the declaration that contains them.
 
 ghost use Rattle.std.specs.Prelude.{◌≡◌};
 ghost use Rattle.resolution.specs.Faults.{fault_at};
 
-use pv_base::memory::NoMemory;
-use pv_base::span::Span;
-use pv_names::fault::NameFault;
+use base::memory::NoMemory;
+use base::span::Span;
+use scopes::fault::NameFault;
 use std::alloc::AllocFailed;
 
-/// Why a declaration has no names resolved.
+/// The reason why a declaration is not resolved.
 #[derive(Clone, Copy, Debug, PartialEq, Eq)]
 pub enum PlaceFault {
-    /// Some use in the declaration that begins here means nothing.
+    /// Some use in the declaration that begins here has no meaning.
     Unknown(Span),
     NoMemory,
 }
 
-/// Why sources are no program.
+/// The reason why sources do not resolve to a program.
 #[derive(Clone, Copy, Debug, PartialEq, Eq)]
 pub enum ResolveFault {
-    /// The first declaration with a use that means nothing: the number of its file, and the place of its first token,
-    /// attributes aside.
+    /// The first declaration with a use that has no meaning: the index of its file, and the span of its first token,
+    /// attributes excluded.
     Unknown { file: usize, place: Span },
     NoMemory,
 }
@@ -55,7 +55,7 @@ impl From<NoMemory> for ResolveFault {
     }
 }
 
-/// What a fault is in the declaration that begins here.
+/// Returns the fault of the declaration that begins here.
 pub fn fault_at(fault: NameFault, place: Span) -> PlaceFault
     ensures { result ≡ fault_at fault place }
 {

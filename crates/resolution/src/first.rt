@@ -1,13 +1,13 @@
-//! Tables in which the first one of a name stays.
+//! Tables that keep the first declaration of each name.
 
 ghost use Rattle.std.specs.Prelude.{◌≡◌, OnOk};
-ghost use Rattle.pv_names.specs.MemberNames.{first_stays};
+ghost use Rattle.scopes.specs.MemberNames.{first_stays};
 
-use pv_base::memory::NoMemory;
-use pv_types::table::Table;
+use base::memory::NoMemory;
+use program::table::Table;
 use std::hash::Hash;
 
-/// Puts a declaration behind the others, unless one of them has its name.
+/// Appends a declaration, unless its name is taken.
 pub fn put_first<K: Eq + Hash + Drop, T: Drop>(
     table: &mut Table<K, T>,
     name: K,

@@ -2,16 +2,16 @@
 
 ghost use Rattle.std.specs.Prelude.{◌≡◌, ℕ, ◌<◌, ◌^◌, List, [], ◌∷◌, length, map, IfOk, IfErr, OnOk};
 ghost use Rattle.std.specs.List.{zip};
-ghost use Rattle.file_tree.specs.declared.member.Function.{Function as FunctionTree};
-ghost use Rattle.source_tree.specs.Places.{function_place};
-ghost use Rattle.source_tree.specs.SourceData.{SourceMemberData};
-ghost use Rattle.source_tree.specs.declared.source.SourceForm.{SourceForm};
-ghost use Rattle.pv_names.specs.Meanings.{IfUnknown};
-ghost use Rattle.declaration_names.specs.Parameters.{type_names_of};
-ghost use Rattle.declaration_names.specs.Declarations.{HasUnknownInFunction, parameter_name_of};
-ghost use Rattle.clause_names.specs.Around.{around_loop};
-ghost use Rattle.clause_names.specs.Clauses.{placed};
-ghost use Rattle.clause_names.specs.Setting.{scope_of};
+ghost use Rattle.syntax_tree.specs.declared.member.Function.{Function as FunctionTree};
+ghost use Rattle.syntax_tree.specs.Places.{function_place};
+ghost use Rattle.syntax_tree.specs.SourceData.{SourceMemberData};
+ghost use Rattle.syntax_tree.specs.declared.source.SourceForm.{SourceForm};
+ghost use Rattle.scopes.specs.Meanings.{IfUnknown};
+ghost use Rattle.resolution.specs.Parameters.{type_names_of};
+ghost use Rattle.resolution.specs.Declarations.{HasUnknownInFunction, parameter_name_of};
+ghost use Rattle.resolution.specs.Around.{around_loop};
+ghost use Rattle.resolution.specs.Clauses.{placed};
+ghost use Rattle.resolution.specs.Setting.{scope_of};
 ghost use Rattle.resolution.specs.Faults.{IsFaultAmong};
 ghost use Rattle.resolution.specs.Items.{AreKnown, HasUnknownInOne, Here, LoopItem, MemberItem, function_scope, loops_of};
 ghost use Rattle.resolution.specs.Owners.{outcome_of, placed_in};
@@ -19,34 +19,34 @@ ghost use Rattle.resolution.specs.LoopParts.{AddedLoops, AddedOne};
 ghost use Rattle.resolution.specs.Parts.{IsBareAs, here_of};
 ghost use Rattle.resolution.specs.Programs.{FunctionOf};
 
+use crate::clauses::around::around_loop;
+use crate::clauses::clause::{is_clause, resolve_clause};
+use crate::clauses::place::ClausePlace;
+use crate::declarations::functions::{Head, ResolvedFunction, resolve_function};
+use crate::declarations::parameters::type_names_of;
 use crate::declared::{Declared, DeclaredForm};
 use crate::fault::{PlaceFault, fault_at};
 use crate::members::{
     ModulePlace, clauses_of_spec, few_parameters, function_place, own_member, spec_place,
 };
-use clause_names::around::around_loop;
-use clause_names::clause::{is_clause, resolve_clause};
-use clause_names::place::ClausePlace;
-use clause_tree::clause::{Clause as ClauseTree, Spec};
-use code_names::body::ResolvedBody;
-use declaration_names::functions::{Head, ResolvedFunction, resolve_function};
-use declaration_names::parameters::type_names_of;
-use file_tree::member::{Function as FunctionTree, TypedName};
-use loop_scopes::code::loops_of_body;
-use loop_scopes::scopes::LoopScope;
-use pv_base::memory::NoMemory;
-use pv_base::name::Name;
-use pv_base::span::Span;
-use pv_base::types::TypeTerm;
-use pv_names::fault::NameFault;
-use pv_names::types::TypePlace;
-use pv_types::clause::LoopClause;
-use pv_types::declaration::{Function, Pragmas};
-use pv_types::sequence::Sequence;
-use spec_names::outer::Outer;
+use base::memory::NoMemory;
+use base::name::Name;
+use base::span::Span;
+use base::types::TypeTerm;
+use body_names::code::body::ResolvedBody;
+use body_names::loop_scopes::code::loops_of_body;
+use body_names::loop_scopes::loop_scope::LoopScope;
+use body_names::spec::outer::Outer;
+use program::clause::LoopClause;
+use program::declaration::{Function, Pragmas};
+use program::sequence::Sequence;
+use scopes::fault::NameFault;
+use scopes::types::TypePlace;
 use std::alloc::Global;
+use syntax_tree::clause::{Clause as ClauseTree, Spec};
+use syntax_tree::member::{Function as FunctionTree, TypedName};
 
-/// One more clause of a loop, where it is a clause of a program.
+/// Adds one more clause of a loop, if it is a clause of a program.
 fn add_clause(
     place: &ClausePlace<'_>,
     outer: &Outer,
@@ -66,7 +66,7 @@ fn add_clause(
     Ok(())
 }
 
-/// The clauses of the spec block of a loop.
+/// Adds the clauses of the spec block of a loop.
 fn add_block(
     place: &ClausePlace<'_>,
     outer: &Outer,
@@ -84,7 +84,7 @@ fn add_block(
     Ok(())
 }
 
-/// The clauses of a loop.
+/// Adds the clauses of a loop.
 fn add_loop(
     place: &ClausePlace<'_>,
     outcome: &TypeTerm,
@@ -106,7 +106,7 @@ fn add_loop(
     )
 }
 
-/// The clauses of loops, each with its spec block.
+/// Adds the clauses of loops, each with its spec block.
 fn add_loops(
     place: &ClausePlace<'_>,
     outcome: &TypeTerm,
@@ -139,7 +139,7 @@ fn parameter_names(alloc: Global, names: &[TypedName]) -> Result<Sequence<Name>,
     Ok(found)
 }
 
-/// The loops of a function, where it has such with spec blocks.
+/// Returns the loops of a function, if some of them have spec blocks.
 fn scopes_of(alloc: Global, tree: &FunctionTree, loops: &[Spec]) -> Result<Vec<LoopScope>, NoMemory>
     ensures { IfOk result (λ scopes. zip scopes.items loops.now ≡ loops_of tree.now loops.now) }
 {
@@ -150,7 +150,7 @@ fn scopes_of(alloc: Global, tree: &FunctionTree, loops: &[Spec]) -> Result<Vec<L
     loops_of_body(alloc, parameters.as_slice(), &tree.body)
 }
 
-/// The clauses of all loops of a function, whose result has this type.
+/// Resolves the clauses of all loops of a function, whose result has this type.
 fn loop_clauses(
     place: &ModulePlace<'_>,
     tree: &FunctionTree,
@@ -178,7 +178,7 @@ fn loop_clauses(
     Ok(found)
 }
 
-/// What holds of a function without pragmas.
+/// Returns the pragmas in force for a function without pragmas.
 fn plain_pragmas() -> Pragmas {
     Pragmas {
         verify: true,
@@ -188,7 +188,7 @@ fn plain_pragmas() -> Pragmas {
     }
 }
 
-/// A function with its loops, without the clauses of its own spec blocks.
+/// Resolves a function with its loops, without the clauses of its own spec blocks.
 pub fn own_function(
     place: &ModulePlace<'_>,
     tree: &FunctionTree,

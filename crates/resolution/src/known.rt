@@ -1,30 +1,30 @@
-//! What the names in all modules of a program rest on.
+//! The declarations of all modules that the meaning of names depends on.
 
 ghost use Rattle.std.specs.Prelude.{◌≡◌, IfOk, OnOk};
 ghost use Rattle.std.specs.List.{flat_map};
 ghost use Rattle.indexmap.specs.IndexSet.{insert_all};
-ghost use Rattle.pv_names.specs.MemberNames.{first_stays, same_module};
-ghost use Rattle.pv_names.specs.Meanings.{schema_of};
-ghost use Rattle.module_names.specs.Brings.{firsts};
-ghost use Rattle.module_names.specs.Program.{builtin_modules, module_of, modules_of};
-ghost use Rattle.clause_names.specs.Setting.{same_schema};
-ghost use Rattle.clause_names.specs.SpecDeclarations.{schema_variables};
+ghost use Rattle.scopes.specs.MemberNames.{first_stays, same_module};
+ghost use Rattle.scopes.specs.Meanings.{schema_of};
+ghost use Rattle.scopes.specs.Brings.{firsts};
+ghost use Rattle.scopes.specs.Program.{builtin_modules, module_of, modules_of};
+ghost use Rattle.resolution.specs.Setting.{same_schema};
+ghost use Rattle.resolution.specs.SpecDeclarations.{schema_variables};
 ghost use Rattle.resolution.specs.Known.{all_modules, all_schemas, schema_of_form, schema_of_member, schema_of_spec, schemas_of, schemas_of_module};
 
+use crate::clauses::schemas::schema_variables;
 use crate::first::put_first;
-use clause_names::schemas::schema_variables;
-use clause_tree::clause::{Schema, Spec};
+use base::memory::NoMemory;
+use base::name::Name;
+use body_names::spec::name_list::NameList;
 use indexmap::IndexSet;
-use pv_base::memory::NoMemory;
-use pv_base::name::Name;
-use pv_names::environment::Environment;
-use pv_names::fault::NameFault;
-use pv_names::member::MemberId;
-use pv_types::program::{ModuleId, SchemaId};
-use pv_types::table::Table;
-use source_tree::source::{Source, SourceForm, SourceMember, SourceModule};
-use spec_names::name_list::NameList;
+use program::program::{ModuleId, SchemaId};
+use program::table::Table;
+use scopes::environment::Environment;
+use scopes::fault::NameFault;
+use scopes::member::MemberId;
 use std::alloc::Global;
+use syntax_tree::clause::{Schema, Spec};
+use syntax_tree::source::{Source, SourceForm, SourceMember, SourceModule};
 
 /// All modules of a program, and the variables of all schemas.
 #[derive(Drop)]
@@ -35,7 +35,7 @@ pub struct Known {
 
 // ---- modules
 
-/// The modules that the language has by itself.
+/// Returns the builtin modules.
 fn builtin_modules(alloc: Global) -> Result<IndexSet<ModuleId>, NoMemory>
     ensures { IfOk result (λ modules. modules.keys ≡ builtin_modules) }
 {
@@ -51,7 +51,7 @@ fn builtin_modules(alloc: Global) -> Result<IndexSet<ModuleId>, NoMemory>
     Ok(modules)
 }
 
-/// Notes a module, where its address is known.
+/// Adds a module, if its address is known.
 fn note_module(
     alloc: Global,
     environment: &Environment,
@@ -100,7 +100,7 @@ fn all_modules(
 
 // ---- schemas
 
-/// Notes the variables of a schema, unless one of its name is noted.
+/// Adds the variables of a schema, unless its name is taken.
 fn note_schema(
     alloc: Global,
     own: &ModuleId,
@@ -117,7 +117,7 @@ fn note_schema(
     put_first(schemas, member.into_schema(), variables)
 }
 
-/// Notes the variables of the schema that a spec block is.
+/// Adds the variables of a spec block, if it is a schema.
 fn note_spec(
     alloc: Global,
     own: &ModuleId,
@@ -132,7 +132,7 @@ fn note_spec(
     }
 }
 
-/// Notes the variables of the schema that a member is.
+/// Adds the variables of a member, if it is a schema.
 fn note_form(
     alloc: Global,
     own: &ModuleId,
@@ -204,7 +204,7 @@ fn all_schemas(
     Ok(schemas)
 }
 
-/// All modules of sources, and the variables of all their schemas, where this is what all modules declare.
+/// Returns all modules of sources, and the variables of all their schemas, given the declarations of all modules.
 pub fn known_in(
     alloc: Global,
     environment: &Environment,

@@ -1,6 +1,9 @@
-//! A program of all sources: each declaration with what its names mean, or the first one with a use that means nothing.
+//! Resolution of whole programs: puts the resolved declarations and clauses together, or finds the first declaration
+//! with a use that has no meaning.
 #![tactic(auto)]
 
+pub mod clauses;
+pub mod declarations;
 pub mod declared;
 pub mod fault;
 mod first;
@@ -11,5 +14,5 @@ mod members;
 mod modules;
 pub mod owners;
 mod parts;
-pub mod program;
+pub mod resolve;
 pub mod tables;

@@ -1,40 +1,40 @@
-//! Members of a module whose names are resolved, each by itself.
+//! Resolution of the single members of a module.
 
 ghost use Rattle.std.specs.Prelude.{◌≡◌, ℕ, ◌<◌, ◌^◌, length, IfOk, IfErr, OnOk};
-ghost use Rattle.source_tree.specs.Places.{function_place, spec_place};
-ghost use Rattle.pv_names.specs.Meanings.{IfUnknown};
-ghost use Rattle.declaration_names.specs.Parameters.{type_names_of};
-ghost use Rattle.declaration_names.specs.Declarations.{HasUnknownInConstant, HasUnknownInStruct};
-ghost use Rattle.clause_names.specs.SpecDeclarations.{HasUnknownInSchema, HasUnknownInSpecFunction};
+ghost use Rattle.syntax_tree.specs.Places.{function_place, spec_place};
+ghost use Rattle.scopes.specs.Meanings.{IfUnknown};
+ghost use Rattle.resolution.specs.Parameters.{type_names_of};
+ghost use Rattle.resolution.specs.Declarations.{HasUnknownInConstant, HasUnknownInStruct};
+ghost use Rattle.resolution.specs.SpecDeclarations.{HasUnknownInSchema, HasUnknownInSpecFunction};
 ghost use Rattle.resolution.specs.Owners.{clauses_of_spec};
 ghost use Rattle.resolution.specs.Parts.{IsBareAs, here_of};
 ghost use Rattle.resolution.specs.Programs.{ConstantOf, SchemaOf, SpecFunctionOf, StructOf, own_member};
 
+use crate::clauses::schemas::resolve_schema;
+use crate::clauses::spec_functions::resolve_spec_function;
+use crate::declarations::constants::resolve_constant;
+use crate::declarations::structs::resolve_struct;
 use crate::declared::{Declared, DeclaredForm};
-use clause_names::schemas::resolve_schema;
-use clause_names::spec_functions::resolve_spec_function;
-use clause_tree::clause::{Clause, Schema as SchemaTree, Spec, SpecFunction as SpecFunctionTree};
-use declaration_names::constants::resolve_constant;
-use declaration_names::structs::resolve_struct;
-use file_tree::member::{
+use base::memory::NoMemory;
+use base::name::Name;
+use base::span::Span;
+use body_names::spec::name_list::NameList;
+use indexmap::IndexSet;
+use program::program::{ModuleId, SchemaId};
+use program::table::Table;
+use scopes::environment::Environment;
+use scopes::fault::NameFault;
+use scopes::member::{MemberId, NameOfKind};
+use std::alloc::Global;
+use syntax_tree::clause::{Clause, Schema as SchemaTree, Spec, SpecFunction as SpecFunctionTree};
+use syntax_tree::member::{
     Constant as ConstantTree, Function as FunctionTree, Struct as StructTree, TypeParameters,
     Visibility,
 };
-use indexmap::IndexSet;
-use pv_base::memory::NoMemory;
-use pv_base::name::Name;
-use pv_base::span::Span;
-use pv_names::environment::Environment;
-use pv_names::fault::NameFault;
-use pv_names::member::{MemberId, NameOfKind};
-use pv_types::program::{ModuleId, SchemaId};
-use pv_types::table::Table;
-use source_tree::source::SourceMember;
-use spec_names::name_list::NameList;
-use std::alloc::Global;
+use syntax_tree::source::SourceMember;
 
-/// A module, seen from within: what names mean in it, all modules, the variables of all schemas, its members, and the numbers of
-/// the members by their names.
+/// A module from within: the meaning of names in it, all modules, the variables of all schemas, its members, and the
+/// indices of the members by name.
 #[derive(Clone, Copy)]
 pub struct ModulePlace<'a> {
     pub alloc: Global,
@@ -45,7 +45,7 @@ pub struct ModulePlace<'a> {
     pub numbers: &'a Table<NameOfKind, usize>,
 }
 
-/// The place of a spec block's word.
+/// Returns the span of a spec block's keyword.
 pub fn spec_place(spec: &Spec) -> Span
     ensures { result ≡ spec_place spec.now }
 {
@@ -58,7 +58,7 @@ pub fn spec_place(spec: &Spec) -> Span
     }
 }
 
-/// The place of a function's first token, attributes aside.
+/// Returns the span of a function's first token, attributes excluded.
 pub fn function_place(tree: &FunctionTree) -> Span
     ensures { result ≡ function_place tree.now }
 {
@@ -73,7 +73,7 @@ pub fn function_place(tree: &FunctionTree) -> Span
     }
 }
 
-/// The clauses of a spec block.
+/// Returns the clauses of a spec block.
 pub fn clauses_of_spec(spec: &Spec) -> &[Clause]
     ensures { result.now ≡ clauses_of_spec spec.now }
 {
@@ -86,7 +86,7 @@ pub fn clauses_of_spec(spec: &Spec) -> &[Clause]
     }
 }
 
-/// A member of the module by its name.
+/// Returns the member of the module with this name.
 pub fn own_member(place: &ModulePlace<'_>, name: &Name) -> Result<MemberId, NoMemory>
     ensures { IfOk result (λ member. member ≡ own_member (here_of place.now) name.now) }
 {
@@ -96,7 +96,7 @@ pub fn own_member(place: &ModulePlace<'_>, name: &Name) -> Result<MemberId, NoMe
     })
 }
 
-/// So many type parameters that their numbers leave 32 bits no memory holds.
+/// Checks that the type parameters can be numbered with 32 bits. No memory holds more.
 pub fn few_parameters(parameters: &Option<TypeParameters>) -> Result<(), NoMemory>
     ensures { OnOk result (length (type_names_of parameters.now) < 2 ^ 32) }
 {
@@ -111,7 +111,7 @@ pub fn few_parameters(parameters: &Option<TypeParameters>) -> Result<(), NoMemor
     }
 }
 
-/// A struct, without the clauses of its spec blocks.
+/// Resolves a struct, without the clauses of its spec blocks.
 pub fn own_struct(place: &ModulePlace<'_>, tree: &StructTree) -> Result<Declared, NameFault>
     ensures resolved { IfOk result (λ declared. (n : ℕ) → IsBareAs (StructOf (here_of place.now) n tree.now) declared) }
     ensures unknown { IfErr result (λ fault. IfUnknown fault (HasUnknownInStruct place.now.environment.now tree.now)) }

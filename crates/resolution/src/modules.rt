@@ -1,4 +1,4 @@
-//! Modules whose names are resolved.
+//! Resolution of modules.
 
 ghost use Rattle.std.specs.Prelude.{◌≡◌, [], ◌∷◌, ◌++◌, length, Some, IfErr, OnOk};
 ghost use Rattle.resolution.specs.Faults.{IsFaultAmong};
@@ -10,6 +10,7 @@ ghost use Rattle.resolution.specs.OwnersSoFar.{AreNumbers, AreOwners, blocks_bef
 ghost use Rattle.resolution.specs.Parts.{EnteredOf, here_of};
 ghost use Rattle.resolution.specs.Programs.{ModuleTree, declarations_from, declarations_in, module_declarations, source_declarations};
 
+use crate::clauses::pragmas::Settings;
 use crate::declared::{Declared, DeclaredForm};
 use crate::fault::PlaceFault;
 use crate::known::Known;
@@ -17,18 +18,17 @@ use crate::members::ModulePlace;
 use crate::owners::{Owner, fresh_owners, member_numbers};
 use crate::parts::own_members;
 use crate::tables::enter_parts;
-use clause_names::pragmas::Settings;
-use module_names::brings::enter_module;
-use pv_base::span::Span;
-use pv_names::environment::Environment;
-use pv_names::fault::NameFault;
-use pv_types::declaration::Module;
-use pv_types::program::{ModuleId, Program};
-use pv_types::sequence::Sequence;
-use source_tree::source::SourceModule;
+use base::span::Span;
+use program::declaration::Module;
+use program::program::{ModuleId, Program};
+use program::sequence::Sequence;
+use scopes::environment::Environment;
+use scopes::fault::NameFault;
+use scopes::modules::brings::enter_module;
 use std::alloc::Global;
+use syntax_tree::source::SourceModule;
 
-/// What the pragmas of a module set, which is the last of its owners.
+/// Returns the settings of the pragmas of a module, which is the last of its owners.
 fn settings_of_module(place: &ModulePlace<'_>, owners: &[Owner]) -> Settings
     requires { AreOwners (here_of place.now) (blocks_before (here_of place.now) place.now.members.now) owners.now }
     ensures { result ≡ settings_in (blocks_of place.now.members.now (length place.now.members.now)) }
@@ -36,7 +36,7 @@ fn settings_of_module(place: &ModulePlace<'_>, owners: &[Owner]) -> Settings
     owners[place.members.len()].settings
 }
 
-/// Puts the declarations of a module into their tables, the module itself last.
+/// Adds the declarations of a module to their tables, the module itself last.
 fn own_module(place: &ModulePlace<'_>, at: Span, program: &mut Program) -> Result<(), PlaceFault>
     requires { AreNumbers (here_of place.now) place.now.numbers.now }
     ensures entered { OnOk result (EnteredOf (declarations_from (here_of place.now) 0 place.now.members.now ++ ModuleTree (here_of place.now) at ∷ []) program.old program.new) }
@@ -61,7 +61,7 @@ fn own_module(place: &ModulePlace<'_>, at: Span, program: &mut Program) -> Resul
     Ok(())
 }
 
-/// Puts the declarations of a module of this address and name into their tables.
+/// Adds the declarations of a module with this address and name to their tables.
 fn enter_own(
     alloc: Global,
     environment: &mut Environment,
@@ -88,7 +88,7 @@ fn enter_own(
     own_module(&place, tree.place, program)
 }
 
-/// Puts the declarations of a module into their tables.
+/// Adds the declarations of a module to their tables.
 fn enter_tree(
     alloc: Global,
     environment: &mut Environment,
@@ -108,7 +108,7 @@ fn enter_tree(
     }
 }
 
-/// Puts the declarations of a source into their tables.
+/// Adds the declarations of a source to their tables.
 pub fn enter_source(
     alloc: Global,
     environment: &mut Environment,

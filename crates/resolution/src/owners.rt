@@ -1,50 +1,50 @@
-//! What the spec blocks of a module are of.
+//! The owners of the spec blocks of a module.
 
 ghost use Rattle.std.specs.Prelude.{◌≡◌, ◌<◌, ◌^◌, [], length, map, IfOk, OnOk};
-ghost use Rattle.pv_names.specs.MemberNames.{same_name_of_kind};
-ghost use Rattle.module_names.specs.Brings.{firsts};
-ghost use Rattle.module_names.specs.Declares.{form_declares, listed};
-ghost use Rattle.declaration_names.specs.Parameters.{type_names_of};
-ghost use Rattle.clause_names.specs.Around.{around_function, around_struct};
-ghost use Rattle.clause_names.specs.Pragmas.{settings_of};
+ghost use Rattle.scopes.specs.MemberNames.{same_name_of_kind};
+ghost use Rattle.scopes.specs.Brings.{firsts};
+ghost use Rattle.scopes.specs.Declares.{form_declares, listed};
+ghost use Rattle.resolution.specs.Parameters.{type_names_of};
+ghost use Rattle.resolution.specs.Around.{around_function, around_struct};
+ghost use Rattle.resolution.specs.Pragmas.{settings_of};
 ghost use Rattle.resolution.specs.Known.{Schemas};
 ghost use Rattle.resolution.specs.Owners.{member_numbers, numbered_as, outcome_of, owner_named, owner_of, owner_scope, owner_scopes, with_number};
 ghost use Rattle.resolution.specs.OwnersSoFar.{AreOwnersFrom, IsOwnerAfter, fresh};
 
+use crate::clauses::Target;
+use crate::clauses::around::{around_function, around_struct};
+use crate::clauses::pragmas::Settings;
+use crate::declarations::parameters::type_names_of;
 use crate::first::put_first;
-use clause_names::around::{around_function, around_struct};
-use clause_names::clauses::Target;
-use clause_names::pragmas::Settings;
-use clause_tree::clause::Spec;
-use declaration_names::parameters::type_names_of;
-use file_tree::member::{Function, Struct};
-use module_names::declares::form_declares;
-use pv_base::memory::NoMemory;
-use pv_base::name::Name;
-use pv_base::types::{TypeList, TypeNode, TypeTerm};
-use pv_names::environment::Environment;
-use pv_names::fault::NameFault;
-use pv_names::member::{MemberKind, NameOfKind};
-use pv_names::types::{TypePlace, type_named};
-use pv_types::table::Table;
-use source_tree::source::{SourceForm, SourceMember};
-use spec_names::outer::Outer;
+use base::memory::NoMemory;
+use base::name::Name;
+use base::types::{TypeList, TypeNode, TypeTerm};
+use body_names::spec::outer::Outer;
+use program::table::Table;
+use scopes::environment::Environment;
+use scopes::fault::NameFault;
+use scopes::member::{MemberKind, NameOfKind};
+use scopes::modules::declares::form_declares;
+use scopes::types::{TypePlace, type_named};
 use std::alloc::Global;
+use syntax_tree::clause::Spec;
+use syntax_tree::member::{Function, Struct};
+use syntax_tree::source::{SourceForm, SourceMember};
 
-/// What a spec block can be of: a member of its module, or the module itself. Most members own none.
+/// A possible target of spec blocks: a member of the module, or the module itself. Most members own no block.
 #[derive(Drop)]
 pub struct Owner {
     /// The names of its type parameters.
     pub parameters: Vec<Name>,
-    /// Its clauses so far, and what the next one sees.
+    /// Its clauses so far, and the names in scope in the next one.
     pub target: Target,
-    /// What its pragmas set so far.
+    /// The settings of its pragmas so far.
     pub settings: Settings,
 }
 
-// ---- by number
+// ---- by index
 
-/// Lets the name that a member declares stand for its number, unless it stands for one.
+/// Maps the name that a member declares to the member's index, unless the name is taken.
 fn number_form(
     alloc: Global,
     numbers: &mut Table<NameOfKind, usize>,
@@ -59,7 +59,8 @@ fn number_form(
     }
 }
 
-/// The names that members declare, with the numbers of the members: of two members of one name the first.
+/// Returns the names that members declare, with the indices of the members. Of two members with the same name the first
+/// counts.
 pub fn member_numbers(
     alloc: Global,
     members: &[SourceMember],
@@ -88,7 +89,7 @@ fn numbered_as(
     Ok(numbers.get(&name).copied())
 }
 
-/// The number of what a spec block with this name is of.
+/// Returns the index of the owner that a spec block with this name has.
 fn owner_named(
     alloc: Global,
     numbers: &Table<NameOfKind, usize>,
@@ -102,7 +103,7 @@ fn owner_named(
     }
 }
 
-/// The number of what a spec block is of, in a module of so many members.
+/// Returns the index of the owner of a spec block, in a module with `count` members.
 pub fn owner_of(
     alloc: Global,
     numbers: &Table<NameOfKind, usize>,
@@ -122,7 +123,7 @@ pub fn owner_of(
 
 // ---- owners without clauses
 
-/// The type of a function's result, and the empty tuple where it has no meaning.
+/// Returns the type of a function's result, or the empty tuple if it has no meaning.
 pub fn outcome_of(
     alloc: Global,
     environment: &Environment,
@@ -152,7 +153,7 @@ pub fn outcome_of(
     })
 }
 
-/// An owner without clauses, with these type parameters and these names around it.
+/// Returns an owner without clauses, with these type parameters and these names around it.
 fn fresh_owner(alloc: Global, parameters: Vec<Name>, around: Outer) -> Owner
     ensures parameters { result.parameters ≡ parameters }
     ensures outer { result.target.outer ≡ around }
@@ -166,7 +167,7 @@ fn fresh_owner(alloc: Global, parameters: Vec<Name>, around: Outer) -> Owner
     }
 }
 
-/// The module itself, or a member that owns no spec blocks, without clauses.
+/// Returns the owner, without clauses, for the module itself or for a member that owns no spec blocks.
 pub fn plain_owner(alloc: Global) -> Owner
     ensures parameters { result.parameters.items ≡ [] }
     ensures target { result.target ≡ fresh [] }
@@ -175,7 +176,7 @@ pub fn plain_owner(alloc: Global) -> Owner
     fresh_owner(alloc, Vec::new(alloc), Outer::new(alloc))
 }
 
-/// A struct without clauses.
+/// Returns the owner of a struct, without clauses.
 fn struct_owner(alloc: Global, tree: &Struct) -> Result<Owner, NoMemory>
     ensures parameters { IfOk result (λ owner. owner.parameters.items ≡ type_names_of tree.now.parameters) }
     ensures target { IfOk result (λ owner. owner.target ≡ fresh (around_struct tree.now.fields.items)) }
@@ -186,7 +187,7 @@ fn struct_owner(alloc: Global, tree: &Struct) -> Result<Owner, NoMemory>
     Ok(fresh_owner(alloc, parameters, around))
 }
 
-/// A function without clauses. So many type parameters that their numbers leave 32 bits no memory holds.
+/// Returns the owner of a function, without clauses. No memory holds more type parameters than 32 bits can number.
 fn function_owner(
     alloc: Global,
     environment: &Environment,
@@ -205,7 +206,7 @@ fn function_owner(
     Ok(fresh_owner(alloc, parameters, around))
 }
 
-/// A member without clauses, in a module where names mean this.
+/// Returns the owner of a member, without clauses, in a module with this meaning of names.
 fn member_owner(
     alloc: Global,
     environment: &Environment,
@@ -223,7 +224,7 @@ fn member_owner(
     }
 }
 
-/// The members of a module and the module itself, without clauses.
+/// Returns the owners of the members of a module and of the module itself, without clauses.
 pub fn fresh_owners(
     alloc: Global,
     environment: &Environment,

@@ -1,20 +1,24 @@
-//! What is made of the members of a module, in their order.
+//! Resolution of the members of a module, in order.
 
 ghost use Rattle.std.specs.Prelude.{◌≡◌, ℕ, ◌++◌, [], ◌∷◌, List, true, false, None, take, IfOk, IfErr, OnOk};
 ghost use Rattle.std.specs.List.{filter_map};
-ghost use Rattle.clause_tree.specs.declared.clause.Spec.{Spec as SpecTree};
-ghost use Rattle.source_tree.specs.SourceData.{SourceMemberData};
-ghost use Rattle.pv_names.specs.Meanings.{IfUnknown, module_meaning};
-ghost use Rattle.module_names.specs.Declares.{listed};
-ghost use Rattle.declaration_names.specs.Imports.{among_these, use_is_known};
+ghost use Rattle.syntax_tree.specs.declared.clause.Spec.{Spec as SpecTree};
+ghost use Rattle.syntax_tree.specs.SourceData.{SourceMemberData};
+ghost use Rattle.scopes.specs.Meanings.{IfUnknown, module_meaning};
+ghost use Rattle.scopes.specs.Declares.{listed};
+ghost use Rattle.resolution.specs.Imports.{among_these, use_is_known};
 ghost use Rattle.resolution.specs.Faults.{IsFaultAmong};
 ghost use Rattle.resolution.specs.Items.{AreKnown, HasUnknownInForm, HasUnknownInOwned, HasUnknownInSpec, form_items, items_behind};
 ghost use Rattle.resolution.specs.Owners.{HasUnknownInBlock, OwnerScope};
 ghost use Rattle.resolution.specs.OwnersSoFar.{AreNumbers, AreOwners, IsOwnerAfter, StandsIn, blocks_before, blocks_with};
 ghost use Rattle.resolution.specs.Parts.{ArePartsFrom, IsBareAs, IsMade, IsSimple, here_of};
 ghost use Rattle.resolution.specs.Programs.{form_declaration, friend_of_form, friend_of_member, spec_declaration};
-ghost use Rattle.pv_base.specs.Pairs.{Paired};
+ghost use Rattle.base.specs.Pairs.{Paired};
 
+use crate::clauses::place::ClausePlace;
+use crate::clauses::pragmas::with_block;
+use crate::clauses::resolve_block;
+use crate::declarations::imports::{resolve_friend, use_is_known};
 use crate::declared::Declared;
 use crate::fault::{PlaceFault, fault_at};
 use crate::functions::own_function;
@@ -23,23 +27,19 @@ use crate::members::{
     spec_place,
 };
 use crate::owners::{Owner, owner_of};
-use clause_names::clauses::resolve_block;
-use clause_names::place::ClausePlace;
-use clause_names::pragmas::with_block;
-use clause_tree::clause::Spec;
-use declaration_names::imports::{resolve_friend, use_is_known};
-use file_tree::member::{Friend, Use};
-use pv_base::memory::NoMemory;
-use pv_names::fault::NameFault;
-use pv_names::types::TypePlace;
-use pv_types::program::ModuleId;
-use pv_types::sequence::Sequence;
-use source_tree::places::form_place;
-use source_tree::source::SourceForm;
+use base::memory::NoMemory;
+use program::program::ModuleId;
+use program::sequence::Sequence;
+use scopes::fault::NameFault;
+use scopes::types::TypePlace;
+use syntax_tree::clause::Spec;
+use syntax_tree::member::{Friend, Use};
+use syntax_tree::source::SourceForm;
+use syntax_tree::source::places::form_place;
 
 // ---- spec blocks
 
-/// One more spec block of an owner.
+/// Resolves one more spec block of an owner.
 fn add_to_owner(place: &ModulePlace<'_>, owner: &mut Owner, spec: &Spec) -> Result<(), NameFault>
     ensures added { OnOk result ((w : OwnerScope) (blocks : List SpecTree) → StandsIn (here_of place.now) w → IsOwnerAfter w blocks owner.old → IsOwnerAfter w (blocks ++ spec.now ∷ []) owner.new) }
     ensures known { OnOk result ((w : OwnerScope) (blocks : List SpecTree) → StandsIn (here_of place.now) w → IsOwnerAfter w blocks owner.old → HasUnknownInBlock w blocks spec.now → ⊥) }
@@ -63,7 +63,7 @@ fn add_to_owner(place: &ModulePlace<'_>, owner: &mut Owner, spec: &Spec) -> Resu
     Ok(())
 }
 
-/// A spec block of a member, or of the module itself.
+/// Resolves a spec block of a member or of the module itself.
 fn add_owned(
     place: &ModulePlace<'_>,
     number: usize,
@@ -85,7 +85,7 @@ fn add_owned(
     Ok(())
 }
 
-/// A spec block.
+/// Resolves a spec block.
 fn own_spec(
     place: &ModulePlace<'_>,
     number: usize,
@@ -112,7 +112,7 @@ fn own_spec(
 
 // ---- members
 
-/// A `use`.
+/// Checks a `use`.
 fn own_use(place: &ModulePlace<'_>, tree: &Use) -> Result<(), NameFault>
     ensures known { OnOk result (use_is_known place.now.environment.now place.now.modules.now.keys tree.now ≡ true) }
     ensures unknown { IfErr result (λ fault. IfUnknown fault (use_is_known place.now.environment.now place.now.modules.now.keys tree.now ≡ false)) }
@@ -123,7 +123,7 @@ fn own_use(place: &ModulePlace<'_>, tree: &Use) -> Result<(), NameFault>
     Err(NameFault::Unknown)
 }
 
-/// A friend, which is put behind others.
+/// Resolves a friend and appends it.
 fn own_friend(
     place: &ModulePlace<'_>,
     tree: &Friend,
@@ -138,7 +138,7 @@ fn own_friend(
     Ok(())
 }
 
-/// A member that is no function, with the friend that it names behind others.
+/// Resolves a member that is neither a function nor a spec block. Appends the friend that it names, if any.
 fn own_simple(
     place: &ModulePlace<'_>,
     form: &SourceForm,
@@ -166,7 +166,7 @@ fn own_simple(
     }
 }
 
-/// A member of this form with the number `number`, behind the others.
+/// Resolves a member of this form with the index `number`, after the members before it.
 fn own_form(
     place: &ModulePlace<'_>,
     number: usize,
@@ -194,7 +194,7 @@ fn own_form(
     }
 }
 
-/// What is made of all members of a module, in their order.
+/// Resolves all members of a module, in order.
 pub fn own_members(
     place: &ModulePlace<'_>,
     owners: &mut Vec<Owner>,

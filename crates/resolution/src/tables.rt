@@ -1,31 +1,31 @@
-//! The tables of a program, and what is put into them.
+//! The tables of a program, and additions to them.
 
 ghost use Rattle.std.specs.Prelude.{◌≡◌, ℕ, length, IfOk, OnOk};
-ghost use Rattle.source_tree.specs.SourceData.{SourceMemberData};
+ghost use Rattle.syntax_tree.specs.SourceData.{SourceMemberData};
 ghost use Rattle.resolution.specs.Items.{Here};
 ghost use Rattle.resolution.specs.Owners.{blocks_of, module_scope, owner_scope, settings_in};
 ghost use Rattle.resolution.specs.OwnersSoFar.{AreOwners, IsOwnerAfter, blocks_before};
 ghost use Rattle.resolution.specs.Parts.{ArePartsFrom, EnteredOf, IsPartOf, function_with, struct_with};
 ghost use Rattle.resolution.specs.Programs.{AreClausesOfOwner, declarations_from, form_declaration};
 
+use crate::clauses::Target;
+use crate::clauses::pragmas::Settings;
 use crate::declared::Declared;
 use crate::owners::Owner;
-use clause_names::clauses::Target;
-use clause_names::pragmas::Settings;
-use pv_base::memory::NoMemory;
-use pv_types::clause::Clause;
-use pv_types::declaration::{Function, Pragmas, Struct};
-use pv_types::program::Program;
-use pv_types::sequence::Sequence;
+use base::memory::NoMemory;
+use program::clause::Clause;
+use program::declaration::{Function, Pragmas, Struct};
+use program::program::Program;
+use program::sequence::Sequence;
 
-/// The clauses of an owner, and what its pragmas set.
+/// The clauses of an owner, and the settings of its pragmas.
 #[derive(Drop)]
 pub struct Owned {
     pub clauses: Sequence<Clause>,
     pub settings: Settings,
 }
 
-/// The clauses of an owner, and what its pragmas set.
+/// Returns the clauses of an owner, and the settings of its pragmas.
 pub fn take_owned(owner: Owner) -> Owned
     ensures clauses { result.clauses ≡ owner.target.clauses }
     ensures settings { result.settings ≡ owner.settings }
@@ -41,7 +41,7 @@ pub fn take_owned(owner: Owner) -> Owned
     Owned { clauses, settings }
 }
 
-/// A struct with its clauses.
+/// Returns a struct with its clauses.
 pub fn struct_with(resolved: Struct, clauses: Sequence<Clause>) -> Struct
     ensures { result ≡ struct_with resolved clauses }
 {
@@ -62,7 +62,7 @@ pub fn struct_with(resolved: Struct, clauses: Sequence<Clause>) -> Struct
     }
 }
 
-/// A function with its pragmas and its clauses.
+/// Returns a function with its pragmas and its clauses.
 pub fn function_with(resolved: Function, pragmas: Pragmas, clauses: Sequence<Clause>) -> Function
     ensures { result ≡ function_with resolved pragmas clauses }
 {
@@ -95,7 +95,7 @@ pub fn function_with(resolved: Function, pragmas: Pragmas, clauses: Sequence<Cla
     }
 }
 
-/// Puts what is made of a member into its table, with the clauses of its owner.
+/// Adds the declaration of a member to its table, with the clauses of its owner.
 fn enter_part(
     program: &mut Program,
     part: Option<Declared>,
@@ -118,8 +118,8 @@ fn enter_part(
     }
 }
 
-/// Puts what is made of the members of a module into their tables, each with the clauses of its owner. Answers the module itself,
-/// which is the last of the owners.
+/// Adds the declarations of the members of a module to their tables, each with the clauses of its owner. Returns the
+/// owner for the module itself, which is the last of the owners.
 pub fn enter_parts(
     program: &mut Program,
     parts: Vec<Option<Declared>>,

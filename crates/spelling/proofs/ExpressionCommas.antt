@@ -1,9 +1,9 @@
--- Things with commas between them, as a walk from the first to the last spells them.
+-- Comma lists, as a loop from the first item to the last spells them.
 use Rattle.std.proofs.Common.{◌≤◌, ℕ, zero, suc, length, take, arith, ◌≡◌, List, [], ◌∷◌, ◌++◌, refl, ap, Bool, ◌∙◌}
 use Rattle.std.specs.List.{flat_map}
-use Rattle.move_tree.specs.Lexemes.{after_commas, comma_list, last_comma}
-use Rattle.expression_tree.specs.ExpressionData.{ExpressionData, expressions_of, FieldValueData, field_values_of, ItemData, items_of}
-use Rattle.expression_tree.specs.ExpressionSpelling.{items_spelling, item_spelling, expression_spelling, expression_spellings, expression_after_comma, field_value_spelling, field_value_spellings, field_value_after_comma}
+use Rattle.syntax_tree.specs.Lexemes.{after_commas, comma_list, last_comma}
+use Rattle.syntax_tree.specs.ExpressionData.{ExpressionData, expressions_of, FieldValueData, field_values_of, ItemData, items_of}
+use Rattle.syntax_tree.specs.ExpressionSpelling.{items_spelling, item_spelling, expression_spelling, expression_spellings, expression_after_comma, field_value_spelling, field_value_spellings, field_value_after_comma}
 
 pub expressions_after_commas : (xs : List ExpressionData) → after_commas (expression_spellings (expressions_of xs)) ≡ flat_map expression_after_comma xs
 expressions_after_commas [] = refl
@@ -19,7 +19,7 @@ field_values_after_commas (x ∷ xs) = ap (λ more. field_value_after_comma x ++
 pub field_values_comma_list : (all : List FieldValueData) (x : FieldValueData) (xs : List FieldValueData) (last : Bool) → all ≡ x ∷ xs → comma_list (field_value_spellings (field_values_of all)) last ≡ field_value_spelling x ++ flat_map field_value_after_comma xs ++ last_comma last
 field_values_comma_list all x xs last e = ap (λ ys. comma_list (field_value_spellings (field_values_of ys)) last) e ∙ ap (λ more. field_value_spelling x ++ more ++ last_comma last) (field_values_after_commas xs)
 
--- ---- items, one behind the other
+-- ---- items, one after another
 
 pub items_taken : (xs : List ItemData) (i : ℕ) → length xs ≤ i → flat_map item_spelling (take i xs) ≡ items_spelling (items_of xs)
 items_taken [] zero h = refl

@@ -1,9 +1,9 @@
--- Things with commas between them, as a walk from the first to the last spells them.
-use Rattle.move_tokens.specs.declared.token.Punctuation.TheVariants.{Comma}
-use Rattle.move_tree.specs.declared.lexeme.Lexeme.{Lexeme}
+-- Comma lists, as a loop from the first item to the last spells them.
+use Rattle.tokens.specs.declared.token.Punctuation.TheVariants.{Comma}
+use Rattle.syntax_tree.specs.declared.lexeme.Lexeme.{Lexeme}
 use Rattle.std.proofs.Common.{map, ◌≡◌, List, [], ◌∷◌, ◌++◌, refl, ap, sym, Bool, ◌∙◌, append_assoc}
 use Rattle.std.specs.List.{flat_map}
-use Rattle.move_tree.specs.Lexemes.{sign, after_commas, comma_list, last_comma}
+use Rattle.syntax_tree.specs.Lexemes.{sign, after_commas, comma_list, last_comma}
 
 mapped_after_commas : {A : Type 0} (f : A → List Lexeme) (xs : List A) → after_commas (map f xs) ≡ flat_map (λ x. sign Comma ∷ f x) xs
 mapped_after_commas f [] = refl

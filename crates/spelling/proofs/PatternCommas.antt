@@ -1,11 +1,11 @@
--- Things with commas between them, as a walk from the first to the last spells them.
+-- Comma lists, as a loop from the first item to the last spells them.
 use Rattle.std.proofs.Common.{◌≡◌, List, [], ◌∷◌, ◌++◌, refl, ap, sym, Bool, ◌∙◌, append_assoc}
 use Rattle.std.specs.List.{flat_map}
-use Rattle.move_tree.specs.Lexemes.{after_commas, comma_list, last_comma}
-use Rattle.move_tree.specs.TypeTreeData.{SourceTypeData, source_types_of}
-use Rattle.move_tree.specs.PatternData.{PatternData, patterns_of, FieldPatternData, field_patterns_of}
-use Rattle.move_tree.specs.TypeSpelling.{type_spelling, type_spellings, type_after_comma}
-use Rattle.move_tree.specs.PatternSpelling.{pattern_spelling, pattern_spellings, pattern_after_comma, field_pattern_spelling, field_pattern_spellings, field_pattern_after_comma}
+use Rattle.syntax_tree.specs.Lexemes.{after_commas, comma_list, last_comma}
+use Rattle.syntax_tree.specs.TypeTreeData.{SourceTypeData, source_types_of}
+use Rattle.syntax_tree.specs.PatternData.{PatternData, patterns_of, FieldPatternData, field_patterns_of}
+use Rattle.syntax_tree.specs.TypeSpelling.{type_spelling, type_spellings, type_after_comma}
+use Rattle.syntax_tree.specs.PatternSpelling.{pattern_spelling, pattern_spellings, pattern_after_comma, field_pattern_spelling, field_pattern_spellings, field_pattern_after_comma}
 
 pub types_after_commas : (xs : List SourceTypeData) → after_commas (type_spellings (source_types_of xs)) ≡ flat_map type_after_comma xs
 types_after_commas [] = refl

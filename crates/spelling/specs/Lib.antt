@@ -1,1 +1,2 @@
 pub mod MemberAfterCommas
+pub mod ClauseAfterCommas

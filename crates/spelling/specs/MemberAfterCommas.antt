@@ -1,15 +1,15 @@
--- The parts of members with a comma before each, as they stand in a list behind the first.
+-- The parts of members, each after a comma, as in a list after the first.
 use Rattle.std.specs.Prelude.{List, ◌∷◌}
-use Rattle.move_tokens.specs.declared.token.Punctuation.TheVariants.{Comma}
-use Rattle.move_tree.specs.declared.lexeme.Lexeme.{Lexeme}
-use Rattle.move_tree.specs.declared.path.Path.{Path}
-use Rattle.file_tree.specs.declared.member.Import.{Import}
-use Rattle.file_tree.specs.declared.member.Ability.{Ability}
-use Rattle.file_tree.specs.declared.member.TypedName.{TypedName}
-use Rattle.file_tree.specs.MemberData.{TypeParameterData}
-use Rattle.move_tree.specs.Lexemes.{sign}
-use Rattle.move_tree.specs.PathSpelling.{path_spelling}
-use Rattle.file_tree.specs.MemberSpelling.{import_spelling, ability_spelling, parameter_spelling, typed_name_spelling}
+use Rattle.tokens.specs.declared.token.Punctuation.TheVariants.{Comma}
+use Rattle.syntax_tree.specs.declared.lexeme.Lexeme.{Lexeme}
+use Rattle.syntax_tree.specs.declared.path.Path.{Path}
+use Rattle.syntax_tree.specs.declared.member.Import.{Import}
+use Rattle.syntax_tree.specs.declared.member.Ability.{Ability}
+use Rattle.syntax_tree.specs.declared.member.TypedName.{TypedName}
+use Rattle.syntax_tree.specs.MemberData.{TypeParameterData}
+use Rattle.syntax_tree.specs.Lexemes.{sign}
+use Rattle.syntax_tree.specs.PathSpelling.{path_spelling}
+use Rattle.syntax_tree.specs.MemberSpelling.{import_spelling, ability_spelling, parameter_spelling, typed_name_spelling}
 
 abbrev pub import_after_comma : Import → List Lexeme
 import_after_comma one = sign Comma ∷ import_spelling one

@@ -1,15 +1,15 @@
-//! The tokens of expressions, blocks and items.
+//! Writers of expressions, blocks and items.
 
 ghost use Rattle.std.specs.Prelude.{◌≡◌, [], ◌∷◌, ◌++◌, None, Some, true, codes, OnOk};
 ghost use Rattle.std.specs.List.{flat_map};
-ghost use Rattle.move_tokens.specs.declared.token.Punctuation.TheVariants.{LeftParenthesis, RightParenthesis, LeftBracket, RightBrace, Exclaim, Period};
-ghost use Rattle.move_tree.specs.Lexemes.{word, identifier, sign, comma_list};
-ghost use Rattle.move_tree.specs.PathSpelling.{path_spelling};
-ghost use Rattle.move_tree.specs.TypeTreeData.{maybe_arguments_of};
-ghost use Rattle.move_tree.specs.TypeSpelling.{type_spelling, maybe_arguments_spelling};
-ghost use Rattle.expression_tree.specs.ExpressionView.{unboxed};
-ghost use Rattle.expression_tree.specs.ExpressionData.{IfExpression, maybe_expression_of, expressions_of, items_of, field_values_of};
-ghost use Rattle.expression_tree.specs.ExpressionSpelling.{annotation_spelling, maybe_loop_spec_spelling, expression_spelling, maybe_expression_spelling, else_spelling, block_spelling, items_spelling, item_spelling, initial_spelling, field_value_spelling, expression_spellings, field_value_spellings, expression_after_comma, field_value_after_comma};
+ghost use Rattle.tokens.specs.declared.token.Punctuation.TheVariants.{LeftParenthesis, RightParenthesis, LeftBracket, RightBrace, Exclaim, Period};
+ghost use Rattle.syntax_tree.specs.Lexemes.{word, identifier, sign, comma_list};
+ghost use Rattle.syntax_tree.specs.PathSpelling.{path_spelling};
+ghost use Rattle.syntax_tree.specs.TypeTreeData.{maybe_arguments_of};
+ghost use Rattle.syntax_tree.specs.TypeSpelling.{type_spelling, maybe_arguments_spelling};
+ghost use Rattle.syntax_tree.specs.ExpressionView.{unboxed};
+ghost use Rattle.syntax_tree.specs.ExpressionData.{IfExpression, maybe_expression_of, expressions_of, items_of, field_values_of};
+ghost use Rattle.syntax_tree.specs.ExpressionSpelling.{annotation_spelling, maybe_loop_spec_spelling, expression_spelling, maybe_expression_spelling, else_spelling, block_spelling, items_spelling, item_spelling, initial_spelling, field_value_spelling, expression_spellings, field_value_spellings, expression_after_comma, field_value_after_comma};
 
 use crate::spell_literal::spell_literal;
 use crate::spell_operator::{spell_operator, spell_unary, spell_use};
@@ -17,18 +17,18 @@ use crate::spell_path::{spell_identifier, spell_path};
 use crate::spell_pattern::spell_pattern;
 use crate::spell_tokens::spell_kept_spec;
 use crate::spell_type::{spell_maybe_arguments, spell_type};
-use expression_tree::ending::is_path_last;
-use expression_tree::expression::{Block, Expression, ExpressionNode, FieldValue, Item, ItemNode};
-use move_tokens::token::Punctuation;
-use move_tree::lexeme::{Identifier, Lexemes};
-use move_tree::path::Path;
-use move_tree::spec_tokens::KeptSpec;
-use move_tree::types::{SourceType, TypeArguments};
-use pv_base::memory::NoMemory;
-use pv_base::span::Span;
+use base::memory::NoMemory;
+use base::span::Span;
 use std::alloc::Global;
+use syntax_tree::expression::ending::is_path_last;
+use syntax_tree::expression::{Block, Expression, ExpressionNode, FieldValue, Item, ItemNode};
+use syntax_tree::lexeme::{Identifier, Lexemes};
+use syntax_tree::path::Path;
+use syntax_tree::spec_tokens::KeptSpec;
+use syntax_tree::types::{SourceType, TypeArguments};
+use tokens::token::Punctuation;
 
-/// The tokens of a type behind its colon, where there is one.
+/// Appends the tokens of a type after its colon, if there is one.
 pub fn spell_annotation(
     alloc: Global,
     annotation: &Option<SourceType>,
@@ -61,7 +61,7 @@ fn spell_maybe_loop_spec(
     }
 }
 
-/// The tokens of a path with its type arguments, and of the bracket behind them.
+/// Appends the tokens of a path with its type arguments, and of the bracket after them.
 fn spell_head(
     alloc: Global,
     path: &Path,
@@ -76,7 +76,7 @@ fn spell_head(
     into.push_sign(bracket)
 }
 
-/// The tokens of a vector up to its items.
+/// Appends the tokens of a vector up to its items.
 fn spell_vector_head(
     alloc: Global,
     place: Span,
@@ -90,7 +90,7 @@ fn spell_vector_head(
     into.push_sign(Punctuation::LeftBracket)
 }
 
-/// The tokens of an assertion up to its condition.
+/// Appends the tokens of an assertion up to its condition.
 fn spell_assert_head(alloc: Global, place: Span, into: &mut Lexemes) -> Result<(), NoMemory>
     ensures { OnOk result (into.new ≡ into.old ++ word (codes "assert") (Some place) ∷ sign Exclaim ∷ sign LeftParenthesis ∷ []) }
 {
@@ -99,7 +99,7 @@ fn spell_assert_head(alloc: Global, place: Span, into: &mut Lexemes) -> Result<(
     into.push_sign(Punctuation::LeftParenthesis)
 }
 
-/// The tokens of a cast behind its value.
+/// Appends the tokens of a cast after its value.
 fn spell_cast_target(alloc: Global, target: &SourceType, into: &mut Lexemes) -> Result<(), NoMemory>
     ensures { OnOk result (into.new ≡ into.old ++ word (codes "as") None ∷ type_spelling target.now ++ sign RightParenthesis ∷ []) }
 {
@@ -108,7 +108,7 @@ fn spell_cast_target(alloc: Global, target: &SourceType, into: &mut Lexemes) -> 
     into.push_sign(Punctuation::RightParenthesis)
 }
 
-/// The tokens of a field behind its base.
+/// Appends the tokens of a field after its base.
 fn spell_field_name(alloc: Global, field: &Identifier, into: &mut Lexemes) -> Result<(), NoMemory>
     ensures { OnOk result (into.new ≡ into.old ++ sign Period ∷ identifier field.now ∷ []) }
 {
@@ -116,7 +116,7 @@ fn spell_field_name(alloc: Global, field: &Identifier, into: &mut Lexemes) -> Re
     spell_identifier(alloc, field, into)
 }
 
-/// The tokens of an expression.
+/// Appends the tokens of an expression.
 #[cycle(spell_expression)]
 pub fn spell_expression(
     alloc: Global,
@@ -266,7 +266,7 @@ pub fn spell_expression(
     }
 }
 
-/// The tokens of an `if` with its branches.
+/// Appends the tokens of an `if` with its branches.
 #[cycle(spell_expression)]
 fn spell_if(
     alloc: Global,
@@ -283,7 +283,7 @@ fn spell_if(
     spell_else(alloc, else_branch, into)
 }
 
-/// The tokens of an expression and the sign behind it.
+/// Appends the tokens of an expression and the sign after it.
 #[cycle(spell_expression)]
 fn spell_before(
     alloc: Global,
@@ -297,7 +297,7 @@ fn spell_before(
     into.push_sign(behind)
 }
 
-/// The tokens of a condition behind its word, in its parentheses.
+/// Appends the tokens of a condition after its word, in its parentheses.
 #[cycle(spell_expression)]
 fn spell_condition(
     alloc: Global,
@@ -344,7 +344,7 @@ fn spell_returned(
     }
 }
 
-/// The tokens of a list and of the bracket that closes it.
+/// Appends the tokens of a list and of the closing bracket.
 #[cycle(spell_expression)]
 fn spell_listed(
     alloc: Global,
@@ -359,7 +359,7 @@ fn spell_listed(
     into.push_sign(bracket)
 }
 
-/// The tokens of fields and of the brace that closes them.
+/// Appends the tokens of fields and of the closing brace.
 #[cycle(spell_expression)]
 fn spell_fields(
     alloc: Global,
@@ -392,7 +392,7 @@ fn spell_expressions(
 }
 
 #[cycle(spell_expression)]
-#[tactic(auto, using(expression_tree::proofs::Smaller::expression_smaller))]
+#[tactic(auto, using(syntax_tree::proofs::SmallerExpressions::expression_smaller))]
 fn spell_more_expressions(
     alloc: Global,
     expressions: &[Expression],
@@ -440,7 +440,7 @@ fn spell_field_values(
 }
 
 #[cycle(spell_expression)]
-#[tactic(auto, using(expression_tree::proofs::Smaller::field_value_smaller))]
+#[tactic(auto, using(syntax_tree::proofs::SmallerExpressions::field_value_smaller))]
 fn spell_more_field_values(
     alloc: Global,
     fields: &[FieldValue],
@@ -455,7 +455,7 @@ fn spell_more_field_values(
     Ok(())
 }
 
-/// The tokens of a block.
+/// Appends the tokens of a block.
 #[cycle(spell_expression)]
 pub fn spell_block(alloc: Global, block: &Block, into: &mut Lexemes) -> Result<(), NoMemory>
     ensures { OnOk result (into.new ≡ into.old ++ block_spelling block.now) }
@@ -482,7 +482,7 @@ fn spell_value(
 }
 
 #[cycle(spell_expression)]
-#[tactic(auto, using(expression_tree::proofs::Smaller::item_smaller))]
+#[tactic(auto, using(syntax_tree::proofs::SmallerExpressions::item_smaller))]
 fn spell_items(alloc: Global, items: &[Item], into: &mut Lexemes) -> Result<(), NoMemory>
     ensures { OnOk result (into.new ≡ into.old ++ items_spelling (items_of items.now)) }
 {
@@ -492,7 +492,7 @@ fn spell_items(alloc: Global, items: &[Item], into: &mut Lexemes) -> Result<(), 
     Ok(())
 }
 
-/// The tokens of an item, with its semicolon.
+/// Appends the tokens of an item, with its semicolon.
 #[cycle(spell_expression)]
 pub fn spell_item(alloc: Global, item: &Item, into: &mut Lexemes) -> Result<(), NoMemory>
     ensures { OnOk result (into.new ≡ into.old ++ item_spelling item.now) }

@@ -1,16 +1,16 @@
-//! The tokens of literals.
+//! Writers of literals.
 
 ghost use Rattle.std.specs.Prelude.{◌≡◌, ◌++◌, OnOk};
-ghost use Rattle.move_tree.specs.LiteralSpelling.{literal_spelling};
+ghost use Rattle.syntax_tree.specs.LiteralSpelling.{literal_spelling};
 
 use crate::spell_path::{spell_address, spell_numeral};
-use move_tokens::token::Punctuation;
-use move_tree::lexeme::Lexemes;
-use move_tree::literal::Literal;
-use pv_base::memory::NoMemory;
+use base::memory::NoMemory;
 use std::alloc::Global;
+use syntax_tree::lexeme::Lexemes;
+use syntax_tree::literal::Literal;
+use tokens::token::Punctuation;
 
-/// The tokens of a literal.
+/// Appends the tokens of a literal.
 pub fn spell_literal(alloc: Global, literal: &Literal, into: &mut Lexemes) -> Result<(), NoMemory>
     ensures { OnOk result (into.new ≡ into.old ++ literal_spelling literal.now) }
 {

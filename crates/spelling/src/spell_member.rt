@@ -1,27 +1,27 @@
-//! The tokens of files, modules and their members.
+//! Writers of files, modules and their members.
 
 ghost use Rattle.std.specs.Prelude.{◌≡◌, [], ◌∷◌, ◌++◌, None, Some, OnOk, IfOk, map};
 ghost use Rattle.std.specs.List.{flat_map};
-ghost use Rattle.move_tree.specs.Lexemes.{comma_list};
-ghost use Rattle.move_tree.specs.PathSpelling.{path_spelling};
-ghost use Rattle.file_tree.specs.MemberSpelling.{attribute_spelling, alias_spelling, import_spelling, imported_spelling, use_member_spelling, friend_spelling, ability_spelling, abilities_spelling, more_ability_spelling, constraint_spelling, phantom_spelling, parameter_spelling, parameters_spelling, typed_name_spelling, typed_names_spelling, struct_spelling, constant_spelling, visibility_spelling, entry_spelling, of_friends, acquires_word, acquires_spelling, function_name_spelling, inputs_spelling, function_spelling, form_spelling, member_spelling, module_tree_spelling, file_spelling};
+ghost use Rattle.syntax_tree.specs.Lexemes.{comma_list};
+ghost use Rattle.syntax_tree.specs.PathSpelling.{path_spelling};
+ghost use Rattle.syntax_tree.specs.MemberSpelling.{attribute_spelling, alias_spelling, import_spelling, imported_spelling, use_member_spelling, friend_spelling, ability_spelling, abilities_spelling, more_ability_spelling, constraint_spelling, phantom_spelling, parameter_spelling, parameters_spelling, typed_name_spelling, typed_names_spelling, struct_spelling, constant_spelling, visibility_spelling, entry_spelling, of_friends, acquires_word, acquires_spelling, function_name_spelling, inputs_spelling, function_spelling, form_spelling, member_spelling, module_tree_spelling, file_spelling};
 ghost use Rattle.spelling.specs.MemberAfterCommas.{import_after_comma, ability_after_comma, parameter_after_comma, typed_name_after_comma, path_after_comma};
 
 use crate::spell_expression::{spell_annotation, spell_block, spell_expression};
 use crate::spell_path::{spell_identifier, spell_module_name, spell_path};
 use crate::spell_tokens::{spell_kept_spec, spell_tokens};
 use crate::spell_type::spell_type;
-use file_tree::member::{
+use base::memory::NoMemory;
+use base::span::Span;
+use std::alloc::Global;
+use syntax_tree::lexeme::{Identifier, Lexemes};
+use syntax_tree::member::{
     Abilities, Ability, Attribute, Constant, File, Friend, Function, Import, Imported, Imports,
     Member, MemberForm, Module, Paths, Struct, TypeParameter, TypeParameters, TypedName,
     TypedNames, Use, Visibility,
 };
-use move_tokens::token::Punctuation;
-use move_tree::lexeme::{Identifier, Lexemes};
-use move_tree::path::Path;
-use pv_base::memory::NoMemory;
-use pv_base::span::Span;
-use std::alloc::Global;
+use syntax_tree::path::Path;
+use tokens::token::Punctuation;
 
 fn spell_attribute(alloc: Global, attribute: &Attribute, into: &mut Lexemes) -> Result<(), NoMemory>
     ensures { OnOk result (into.new ≡ into.old ++ attribute_spelling attribute.now) }
@@ -269,7 +269,7 @@ fn spell_more_parameter_list(
     Ok(())
 }
 
-/// The tokens of the type parameters that a declaration has.
+/// Appends the tokens of the type parameters of a declaration.
 pub fn spell_parameters(
     alloc: Global,
     parameters: &Option<TypeParameters>,
@@ -287,7 +287,7 @@ pub fn spell_parameters(
     }
 }
 
-/// The tokens of a name with its type.
+/// Appends the tokens of a name with its type.
 pub fn spell_typed_name(alloc: Global, name: &TypedName, into: &mut Lexemes) -> Result<(), NoMemory>
     ensures { OnOk result (into.new ≡ into.old ++ typed_name_spelling name.now) }
 {
@@ -357,7 +357,7 @@ fn spell_constant(alloc: Global, constant: &Constant, into: &mut Lexemes) -> Res
     into.push_sign(Punctuation::Semicolon)
 }
 
-#[tactic(auto, unfolding(file_tree::specs::MemberSpelling::of_friends))]
+#[tactic(auto, unfolding(syntax_tree::specs::MemberSpelling::of_friends))]
 fn spell_of_friends(alloc: Global, into: &mut Lexemes) -> Result<(), NoMemory>
     ensures { OnOk result (into.new ≡ into.old ++ of_friends) }
 {
@@ -392,7 +392,7 @@ fn spell_entry(alloc: Global, entry: Option<Span>, into: &mut Lexemes) -> Result
     }
 }
 
-#[tactic(auto, unfolding(file_tree::specs::MemberSpelling::acquires_word))]
+#[tactic(auto, unfolding(syntax_tree::specs::MemberSpelling::acquires_word))]
 fn spell_acquires_word(alloc: Global, into: &mut Lexemes) -> Result<(), NoMemory>
     ensures { OnOk result (into.new ≡ into.old ++ acquires_word ∷ []) }
 {
@@ -456,7 +456,7 @@ fn spell_function_name(
     spell_parameters(alloc, &function.parameters, into)
 }
 
-/// The tokens of the parameters of a function, with their parentheses.
+/// Appends the tokens of the parameters of a function, with their parentheses.
 pub fn spell_inputs(alloc: Global, inputs: &TypedNames, into: &mut Lexemes) -> Result<(), NoMemory>
     ensures { OnOk result (into.new ≡ into.old ++ inputs_spelling inputs.now) }
 {
@@ -488,7 +488,7 @@ fn spell_form(alloc: Global, form: &MemberForm, into: &mut Lexemes) -> Result<()
     }
 }
 
-/// The tokens of a member.
+/// Appends the tokens of a member.
 pub fn spell_member(alloc: Global, member: &Member, into: &mut Lexemes) -> Result<(), NoMemory>
     ensures { OnOk result (into.new ≡ into.old ++ member_spelling member.now) }
 {
@@ -505,7 +505,7 @@ fn spell_members(alloc: Global, members: &[Member], into: &mut Lexemes) -> Resul
     Ok(())
 }
 
-/// The tokens of a module.
+/// Appends the tokens of a module.
 pub fn spell_module(alloc: Global, tree: &Module, into: &mut Lexemes) -> Result<(), NoMemory>
     ensures { OnOk result (into.new ≡ into.old ++ module_tree_spelling tree.now) }
 {
@@ -526,7 +526,7 @@ fn spell_modules(alloc: Global, modules: &[Module], into: &mut Lexemes) -> Resul
     Ok(())
 }
 
-/// What the tree of a file says of the tokens that spell it.
+/// Returns the tokens that spell a file, as far as its tree determines them.
 pub fn spell(alloc: Global, file: &File) -> Result<Lexemes, NoMemory>
     ensures { IfOk result (λ spelled. spelled ≡ file_spelling file.now) }
 {

@@ -1,14 +1,14 @@
-//! The tokens of operators.
+//! Writers of operators.
 
 ghost use Rattle.std.specs.Prelude.{◌≡◌, [], ◌∷◌, ◌++◌, OnOk};
-ghost use Rattle.move_tree.specs.OperatorSpelling.{sign_of, operator_spelling, unary_spelling, use_spelling};
+ghost use Rattle.syntax_tree.specs.OperatorSpelling.{sign_of, operator_spelling, unary_spelling, use_spelling};
 
-use move_tokens::token::{Punctuation, TokenKind};
-use move_tree::lexeme::{Lexeme, Lexemes};
-use move_tree::operator::{BinaryOperator, UnaryOperator, UseKind};
-use pv_base::memory::NoMemory;
-use pv_base::span::Span;
+use base::memory::NoMemory;
+use base::span::Span;
 use std::alloc::Global;
+use syntax_tree::lexeme::{Lexeme, Lexemes};
+use syntax_tree::operator::{BinaryOperator, UnaryOperator, UseKind};
+use tokens::token::{Punctuation, TokenKind};
 
 fn operator_sign(operator: BinaryOperator) -> Punctuation
     ensures { result ≡ sign_of operator }
@@ -34,8 +34,8 @@ fn operator_sign(operator: BinaryOperator) -> Punctuation
     }
 }
 
-/// The tokens of an operator between two expressions. `after_path` says whether the first one ends in
-/// a path, behind which a glued `<` would open type arguments.
+/// Appends the tokens of a binary operator. `after_path` says whether its left operand ends in a path, after which a
+/// glued `<` would open type arguments.
 pub fn spell_operator(
     operator: BinaryOperator,
     place: Span,
@@ -61,7 +61,7 @@ pub fn spell_operator(
     }
 }
 
-/// The tokens of an operator before an expression.
+/// Appends the tokens of a unary operator.
 pub fn spell_unary(
     alloc: Global,
     operator: UnaryOperator,
@@ -81,7 +81,7 @@ pub fn spell_unary(
     }
 }
 
-/// The word before the local whose value is taken.
+/// Appends the word before a local that is moved or copied.
 pub fn spell_use(
     alloc: Global,
     kind: UseKind,

@@ -1,16 +1,16 @@
-//! The tokens of addresses, names of modules, and paths.
+//! Writers of addresses, module names and paths.
 
 ghost use Rattle.std.specs.Prelude.{◌≡◌, [], ◌∷◌, ◌++◌, None, Some, OnOk};
-ghost use Rattle.move_tree.specs.Lexemes.{identifier, numeral};
-ghost use Rattle.move_tree.specs.PathSpelling.{address_spelling, module_spelling, path_spelling};
+ghost use Rattle.syntax_tree.specs.Lexemes.{identifier, numeral};
+ghost use Rattle.syntax_tree.specs.PathSpelling.{address_spelling, module_spelling, path_spelling};
 
-use move_tokens::token::{NumberLiteral, Punctuation, TokenKind};
-use move_tree::lexeme::{Identifier, Lexeme, Lexemes, Numeral};
-use move_tree::path::{Address, ModuleName, Path};
-use pv_base::memory::NoMemory;
+use base::memory::NoMemory;
 use std::alloc::Global;
+use syntax_tree::lexeme::{Identifier, Lexeme, Lexemes, Numeral};
+use syntax_tree::path::{Address, ModuleName, Path};
+use tokens::token::{NumberLiteral, Punctuation, TokenKind};
 
-/// The token of a name.
+/// Appends the token of a name.
 pub fn spell_identifier(
     alloc: Global,
     name: &Identifier,
@@ -21,7 +21,7 @@ pub fn spell_identifier(
     into.push_word(alloc, name.text.as_slice(), Some(name.place))
 }
 
-/// The token of a number.
+/// Appends the token of a number.
 pub fn spell_numeral(alloc: Global, number: &Numeral, into: &mut Lexemes) -> Result<(), NoMemory>
     ensures { OnOk result (into.new ≡ into.old ++ numeral number.now ∷ []) }
 {
@@ -37,7 +37,7 @@ pub fn spell_numeral(alloc: Global, number: &Numeral, into: &mut Lexemes) -> Res
     })
 }
 
-/// The tokens of an address.
+/// Appends the tokens of an address.
 pub fn spell_address(alloc: Global, address: &Address, into: &mut Lexemes) -> Result<(), NoMemory>
     ensures { OnOk result (into.new ≡ into.old ++ address_spelling address.now) }
 {
@@ -47,7 +47,7 @@ pub fn spell_address(alloc: Global, address: &Address, into: &mut Lexemes) -> Re
     }
 }
 
-/// The tokens of a module's full name.
+/// Appends the tokens of a module's full name.
 pub fn spell_module_name(
     alloc: Global,
     owner: &ModuleName,
@@ -60,7 +60,7 @@ pub fn spell_module_name(
     spell_identifier(alloc, &owner.name, into)
 }
 
-/// The tokens of a path.
+/// Appends the tokens of a path.
 pub fn spell_path(alloc: Global, path: &Path, into: &mut Lexemes) -> Result<(), NoMemory>
     ensures { OnOk result (into.new ≡ into.old ++ path_spelling path.now) }
 {

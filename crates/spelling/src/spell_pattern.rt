@@ -1,20 +1,20 @@
-//! The tokens of patterns.
+//! Writers of patterns.
 
 ghost use Rattle.std.specs.Prelude.{◌≡◌, [], ◌∷◌, ◌++◌, None, OnOk, IfOk};
 ghost use Rattle.std.specs.List.{flat_map};
-ghost use Rattle.move_tree.specs.Lexemes.{comma_list};
-ghost use Rattle.move_tree.specs.PatternData.{patterns_of, field_patterns_of};
-ghost use Rattle.move_tree.specs.PatternSpelling.{pattern_spelling, field_pattern_spelling, pattern_spellings, field_pattern_spellings, pattern_after_comma, field_pattern_after_comma};
+ghost use Rattle.syntax_tree.specs.Lexemes.{comma_list};
+ghost use Rattle.syntax_tree.specs.PatternData.{patterns_of, field_patterns_of};
+ghost use Rattle.syntax_tree.specs.PatternSpelling.{pattern_spelling, field_pattern_spelling, pattern_spellings, field_pattern_spellings, pattern_after_comma, field_pattern_after_comma};
 
 use crate::spell_path::{spell_identifier, spell_path};
 use crate::spell_type::spell_maybe_arguments;
-use move_tokens::token::Punctuation;
-use move_tree::lexeme::Lexemes;
-use move_tree::pattern::{FieldPattern, Pattern, PatternNode};
-use pv_base::memory::NoMemory;
+use base::memory::NoMemory;
 use std::alloc::Global;
+use syntax_tree::lexeme::Lexemes;
+use syntax_tree::pattern::{FieldPattern, Pattern, PatternNode};
+use tokens::token::Punctuation;
 
-/// The tokens of a pattern.
+/// Appends the tokens of a pattern.
 #[cycle(spell_pattern)]
 pub fn spell_pattern(alloc: Global, pattern: &Pattern, into: &mut Lexemes) -> Result<(), NoMemory>
     ensures { OnOk result (into.new ≡ into.old ++ pattern_spelling pattern.now) }
@@ -83,7 +83,7 @@ fn spell_patterns(
 }
 
 #[cycle(spell_pattern)]
-#[tactic(auto, using(move_tree::proofs::Smaller::pattern_smaller))]
+#[tactic(auto, using(syntax_tree::proofs::Smaller::pattern_smaller))]
 fn spell_more_patterns(
     alloc: Global,
     patterns: &[Pattern],
@@ -117,7 +117,7 @@ fn spell_field_patterns(
 }
 
 #[cycle(spell_pattern)]
-#[tactic(auto, using(move_tree::proofs::Smaller::field_pattern_smaller))]
+#[tactic(auto, using(syntax_tree::proofs::Smaller::field_pattern_smaller))]
 fn spell_more_fields(
     alloc: Global,
     fields: &[FieldPattern],

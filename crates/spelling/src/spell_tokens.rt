@@ -1,13 +1,13 @@
-//! The tokens that trees keep as they are.
+//! Writers of the tokens that trees keep.
 
 ghost use Rattle.std.specs.Prelude.{◌≡◌, [], ◌∷◌, ◌++◌, Some, OnOk, map};
-ghost use Rattle.move_tree.specs.SpecTokenSpelling.{kept, kept_spelling};
+ghost use Rattle.syntax_tree.specs.SpecTokenSpelling.{kept, kept_spelling};
 
-use move_tokens::token::Token;
-use move_tree::lexeme::{Lexeme, Lexemes};
-use move_tree::spec_tokens::{KeptSpec, copy_kind};
-use pv_base::memory::NoMemory;
+use base::memory::NoMemory;
 use std::alloc::Global;
+use syntax_tree::lexeme::{Lexeme, Lexemes};
+use syntax_tree::spec_tokens::{KeptSpec, copy_kind};
+use tokens::token::Token;
 
 fn spell_kept(alloc: Global, token: &Token, into: &mut Lexemes) -> Result<(), NoMemory>
     ensures { OnOk result (into.new ≡ into.old ++ kept token.now ∷ []) }
@@ -20,7 +20,7 @@ fn spell_kept(alloc: Global, token: &Token, into: &mut Lexemes) -> Result<(), No
     })
 }
 
-/// Tokens that a tree keeps as they are.
+/// Appends tokens that a tree keeps, unchanged.
 pub fn spell_tokens(alloc: Global, tokens: &[Token], into: &mut Lexemes) -> Result<(), NoMemory>
     ensures { OnOk result (into.new ≡ into.old ++ map kept tokens.now) }
 {
@@ -30,7 +30,7 @@ pub fn spell_tokens(alloc: Global, tokens: &[Token], into: &mut Lexemes) -> Resu
     Ok(())
 }
 
-/// The tokens of a spec block that a tree keeps.
+/// Appends the tokens of a spec block that a tree keeps.
 pub fn spell_kept_spec(alloc: Global, spec: &KeptSpec, into: &mut Lexemes) -> Result<(), NoMemory>
     ensures { OnOk result (into.new ≡ into.old ++ kept_spelling spec.now) }
 {

@@ -1,19 +1,19 @@
-//! The tokens of types.
+//! Writers of types.
 
 ghost use Rattle.std.specs.Prelude.{◌≡◌, [], ◌∷◌, ◌++◌, None, OnOk, IfOk};
 ghost use Rattle.std.specs.List.{flat_map};
-ghost use Rattle.move_tree.specs.Lexemes.{comma_list};
-ghost use Rattle.move_tree.specs.TypeTreeData.{source_types_of, maybe_arguments_of};
-ghost use Rattle.move_tree.specs.TypeSpelling.{type_spelling, type_spellings, arguments_spelling, maybe_arguments_spelling, type_after_comma};
+ghost use Rattle.syntax_tree.specs.Lexemes.{comma_list};
+ghost use Rattle.syntax_tree.specs.TypeTreeData.{source_types_of, maybe_arguments_of};
+ghost use Rattle.syntax_tree.specs.TypeSpelling.{type_spelling, type_spellings, arguments_spelling, maybe_arguments_spelling, type_after_comma};
 
 use crate::spell_path::spell_path;
-use move_tokens::token::Punctuation;
-use move_tree::lexeme::Lexemes;
-use move_tree::types::{SourceType, SourceTypeNode, TypeArguments};
-use pv_base::memory::NoMemory;
+use base::memory::NoMemory;
 use std::alloc::Global;
+use syntax_tree::lexeme::Lexemes;
+use syntax_tree::types::{SourceType, SourceTypeNode, TypeArguments};
+use tokens::token::Punctuation;
 
-/// The tokens of a type.
+/// Appends the tokens of a type.
 #[cycle(spell_type)]
 pub fn spell_type(
     alloc: Global,
@@ -48,7 +48,7 @@ pub fn spell_type(
     }
 }
 
-/// The tokens of type arguments, where there are any. `glued` says whether their `<` has to be glued.
+/// Appends the tokens of type arguments, if there are any. `glued` says whether their `<` must be glued.
 #[cycle(spell_type)]
 pub fn spell_maybe_arguments(
     alloc: Global,
@@ -64,7 +64,7 @@ pub fn spell_maybe_arguments(
     }
 }
 
-/// The tokens of type arguments.
+/// Appends the tokens of type arguments.
 #[cycle(spell_type)]
 pub fn spell_arguments(
     alloc: Global,
@@ -99,7 +99,7 @@ fn spell_types(
 }
 
 #[cycle(spell_type)]
-#[tactic(auto, using(move_tree::proofs::Smaller::source_type_smaller))]
+#[tactic(auto, using(syntax_tree::proofs::Smaller::source_type_smaller))]
 fn spell_more_types(alloc: Global, types: &[SourceType], into: &mut Lexemes) -> Result<(), NoMemory>
     ensures { OnOk result (into.new ≡ into.old ++ flat_map type_after_comma types.now) }
 {

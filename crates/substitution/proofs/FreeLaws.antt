@@ -1,5 +1,5 @@
--- A list holds a variable where its first item or the rest does. What a term or a formula gives hangs on its free
--- variables alone.
+-- A variable occurs free in a list if it does in its first item or in the rest. The value of a term and the truth of a
+-- formula depend on its free variables alone.
 use Rattle.std.proofs.Common.{◌≡◌, ℕ, ◌+◌, ◌<◌, Bool, true, false, not, cond, ◌&&◌, ◌||◌, ◌==◌, List, length, get_or, drop, refl, sym, ap, ◌∙◌, add-one, drop-cons}
 use mathlib.Core.Path.{fun_ext}
 use Rattle.std.proofs.lemmas.Bool.{eqb-true, eq-eqb}
@@ -9,7 +9,7 @@ use Rattle.fol.specs.Operators.{unary_value, binary_value, ternary_value, field_
 use Rattle.fol.specs.TypedValue.{put_types, has_type}
 use Rattle.fol.specs.Val.{Val, StructValue, MoreValues}
 use Rattle.fol.specs.Truth.{Interpretation, Assignment, set_var, value_of, values_of_terms, truth_of, all_true, any_true, connected, quantified}
-use Rattle.pv_base.proofs.TruthValues.{apart}
+use Rattle.base.proofs.TruthValues.{apart}
 use Rattle.substitution.specs.Free.{free_in_term, free_in_terms, free_in_triggers, free_in, free_in_formulas}
 
 pub free_in_terms_drop : (n : ℕ) (xs : List TermData) (i : ℕ) (d : TermData) → i < length xs → free_in_terms n (terms_of (drop i xs)) ≡ free_in_term n (get_or xs i d) || free_in_terms n (terms_of (drop (i + 1) xs))
@@ -26,7 +26,7 @@ free_in_formulas_drop n xs i d h = rw (add-one, drop-cons xs i d)
 pub eqb_itself : (n : ℕ) → n == n ≡ true
 eqb_itself n = eq-eqb n n refl
 
--- the assignments agree on the variables of which the test holds
+-- the assignments agree on the variables that satisfy the test
 abbrev pub Agree : (ℕ → Bool) → Assignment → Assignment → Type 0
 Agree test s r = (n : ℕ) → test n ≡ true → s n ≡ r n
 
@@ -40,7 +40,7 @@ second_of f g s r h n e = h n (go (f n) (g n) e)
     go true b e = refl
     go false b e = e
 
--- with one value for the variable that is bound, they agree on it too
+-- with the same value for the bound variable, the assignments agree on it too
 inside : (f g : ℕ → Bool) (s r : Assignment) (k : ℕ) → Agree (λ n. not (n == k) && (f n || g n)) s r → (v : Val) → Agree g (set_var s k v) (set_var r k v)
 inside f g s r k h v n e = go (n == k) refl
   where
@@ -91,7 +91,7 @@ module _ (m : Interpretation) where
     same_any_true NoFormulas s r h = refl
     same_any_true (MoreFormulas p ps) s r h = λ i. same_truth_of p s r (first_of (λ n. free_in n p) (λ n. free_in_formulas n ps) s r h) i || same_any_true ps s r (second_of (λ n. free_in n p) (λ n. free_in_formulas n ps) s r h) i
 
-  -- another value for a variable that is not free changes nothing
+  -- a change of the value of a variable that is not free changes nothing
   pub same_without : (t : TermData) (s : Assignment) (k : ℕ) (v : Val) → free_in_term k t ≡ false → value_of m t (set_var s k v) ≡ value_of m t s
   same_without t s k v fresh = same_value_of t (set_var s k v) s (λ n e. go n e (n == k) refl)
     where

@@ -1,4 +1,4 @@
--- An instance is true exactly where the body is true with the term's value for the variable.
+-- An instance is true exactly when the body is true with the term's value for the variable.
 use Rattle.std.proofs.Common.{◌≡◌, ℕ, Bool, true, false, not, cond, ◌&&◌, ◌||◌, ◌==◌, List, [], ◌∷◌, refl, sym, ap, ◌∙◌, subst}
 use mathlib.Core.Path.{fun_ext}
 use Rattle.fol.specs.declared.operators.Junction.TheVariants.{AllOf, AnyOf}
@@ -12,7 +12,7 @@ use Rattle.substitution.specs.Instances.{Either, StandsFor, IsTermInstance, AreT
 use Rattle.substitution.proofs.FreeLaws.{same_without, eqb_itself}
 
 module _ (m : Interpretation) (x : ℕ) (t : TermData) where
-  -- each variable of the body has the value of what stands for it
+  -- each variable of the body has the value of the term that replaces it
   abbrev Fit : List (ℕ × ℕ) → Assignment → Assignment → Type 0
   Fit bs s r = (n : ℕ) (u : TermData) → StandsFor bs x t n u → value_of m u r ≡ s n
 

@@ -2,18 +2,18 @@
 use Rattle.std.proofs.Common.{◌≡◌, ◌↔◌, ℕ, suc, ◌+◌, ◌<◌, ◌≤◌, List, [], ◌∷◌, length, get_or, drop, Bool, true, false, refl, sym, ap, ◌∙◌, subst, arith, add-one, drop-cons}
 use Rattle.std.specs.Prelude.{IsTrue}
 use Rattle.std.proofs.Math.ListN.{drop_of_length-le}
-use Rattle.pv_base.proofs.TruthValues.{true_is, not_true, holds, fails}
+use Rattle.base.proofs.TruthValues.{true_is, not_true, holds, fails}
 use Rattle.fol.specs.FormulaData.{TermData, TermsData, FormulaData, terms_of, triggers_of, formulas_of}
 use Rattle.substitution.specs.Instances.{IsTermInstance, AreTermInstances, AreTriggerInstances, IsInstanceUnder, AreInstances}
 
 module _ {A B : Type 0} (Whole : List A → List B → Type 0) (R : A → B → Type 0) where
-  -- how a relation of lists goes by their items
+  -- a relation of lists is determined by their items
   pub record ByItems : Type 0 where
     pub none : Whole [] []
     pub more : (x : A) (y : B) (xs : List A) (ys : List B) → Whole (x ∷ xs) (y ∷ ys) ↔ (R x y × Whole xs ys)
     pub same_length : (xs : List A) (ys : List B) → Whole xs ys → length xs ≡ length ys
 
-  -- what is left of the lists is related exactly where the lists are
+  -- the rests of the lists are related exactly when the lists are
   pub record From (i : ℕ) (xs : List A) (ys : List B) : Type 0 where
     pub rest : Whole (drop i xs) (drop i ys) ↔ Whole xs ys
 

@@ -1,5 +1,5 @@
--- Where a variable stands free: outside the quantifiers that bind it. A quantifier binds its variable in its triggers
--- and in its body.
+-- Free occurrences of a variable: those outside the quantifiers that bind it. A quantifier binds its variable in its
+-- triggers and in its body.
 use Rattle.std.specs.Prelude.{ℕ, Bool, false, not, ◌&&◌, ◌||◌, ◌==◌}
 use Rattle.fol.specs.FormulaData.{TermData, VarTerm, ConstantTerm, UnaryTerm, BinaryTerm, TernaryTerm, PackTerm, FieldTerm, SetFieldTerm, IfTerm, TermsData, NoTerms, MoreTerms, TriggersData, NoTriggers, MoreTriggers, FormulaData, CompareFormula, IsFormula, HoldsFormula, NotFormula, JoinFormula, ConnectFormula, QuantifyFormula, FormulasData, NoFormulas, MoreFormulas}
 

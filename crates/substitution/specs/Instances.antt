@@ -1,13 +1,14 @@
--- Substitution, up to the numbers of bound variables: a formula in which a term stands for each free place of a
--- variable, and in which no variable of the term is bound there (A. Church, Introduction to Mathematical Logic,
--- section 35; equal but for the numbers of bound variables is alpha equivalence).
+-- Substitution, up to alpha equivalence: a formula in which a term replaces each free occurrence of a variable, and in
+-- which no variable of the term is captured (A. Church, Introduction to Mathematical Logic, section 35; two formulas
+-- are alpha equivalent if they differ only in the numbers of bound variables).
 use Rattle.std.specs.Prelude.{◌≡◌, ℕ, Bool, true, false, ◌==◌, List, [], ◌∷◌, if◌then◌else◌}
 use Rattle.fol.specs.FormulaData.{TermData, VarTerm, ConstantTerm, UnaryTerm, BinaryTerm, TernaryTerm, PackTerm, FieldTerm, SetFieldTerm, IfTerm, TermsData, NoTerms, MoreTerms, TriggersData, NoTriggers, MoreTriggers, FormulaData, CompareFormula, IsFormula, HoldsFormula, NotFormula, JoinFormula, ConnectFormula, QuantifyFormula, FormulasData, NoFormulas, MoreFormulas}
 use Rattle.fol.specs.Truth.{Interpretation, Assignment, set_var, value_of, truth_of}
 use Rattle.substitution.specs.Free.{free_in_term}
 use Rattle.substitution.specs.declared.binders.Binders.{Binders, Top, Inside'}
 
--- the binders around a place, innermost first: the number that each binds in the body, and the one in the instance
+-- the binders around an occurrence, innermost first: the number that each binds in the body, and the one in the
+-- instance
 abbrev pub binders_of : Binders → List (ℕ × ℕ)
 binders_of Top = []
 binders_of (Inside' at outer from to) = (from, to) ∷ binders_of outer
@@ -16,8 +17,9 @@ abbrev pub Either : Bool → Type 0 → Type 0 → Type 0
 Either true P Q = P
 Either false P Q = Q
 
--- the term u stands for the variable n under these binders, where t is put in for x: what a binder binds goes by the
--- number that the instance's binder has, and in what stands for any other variable that number is not free
+-- the term u replaces the variable n under these binders, in the substitution of t for x: if the innermost binder
+-- binds n, u is the variable of that binder in the instance; otherwise that variable is not free in u, and the outer
+-- binders decide
 abbrev pub StandsFor : List (ℕ × ℕ) → ℕ → TermData → ℕ → TermData → Type 0
 StandsFor [] x t n u = u ≡ (if n == x then t else VarTerm n)
 StandsFor (b ∷ bs) x t n u = Either (n == b.0) (u ≡ VarTerm b.1) ((free_in_term b.1 u ≡ false) × StandsFor bs x t n u)
@@ -68,10 +70,10 @@ abbrev mutual
   AreInstances bs x t (MoreFormulas p ps) (MoreFormulas q qs) = IsInstanceUnder bs x t p q × AreInstances bs x t ps qs
   AreInstances bs x t _ _ = ⊥
 
--- q is p with t for x
+-- q is p with t substituted for x, up to alpha equivalence
 abbrev pub IsInstance : ℕ → TermData → FormulaData → FormulaData → Type 0
 IsInstance x t p q = IsInstanceUnder [] x t p q
 
--- q is true exactly where p is true with the value of t for x
+-- q is true exactly when p is true with the value of t for x
 pub record IsTrueAlike (x : ℕ) (t : TermData) (p q : FormulaData) : Type 0 where
   pub truth : (m : Interpretation) (s : Assignment) → truth_of m q s ≡ truth_of m p (set_var s x (value_of m t s))

@@ -1,11 +1,10 @@
-//! The binders around a place, as a chain on the stack: the tests take no memory.
+//! The binders around an occurrence, as a linked list on the stack, so that the tests allocate no memory.
 
-/// The binders around a place in a formula and in its instance.
+/// The binders around an occurrence in a formula and in its instance.
 #[derive(Clone, Copy)]
 pub enum Binders<'a> {
     /// No binder.
     Top,
-    /// Inside these, the innermost: the number that it binds in the formula, and the one in the
-    /// instance.
+    /// Within these binders, the innermost one: the number that it binds in the formula, and the one in the instance.
     Inside(&'a Binders<'a>, u32, u32),
 }

@@ -1,4 +1,4 @@
-//! Where variables stand free.
+//! Free occurrences of variables.
 
 ghost use Rattle.std.specs.Prelude.{◌≡◌};
 ghost use Rattle.fol.specs.FormulaData.{terms_of, triggers_of, formulas_of};
@@ -6,7 +6,7 @@ ghost use Rattle.substitution.specs.Free.{free_in_term, free_in_terms, free_in_t
 
 use fol::formula::{Formula, FormulaNode, Term, TermNode, Trigger};
 
-/// Whether the variable stands free in the term.
+/// Decides whether the variable occurs free in the term.
 #[cycle(free)]
 pub fn is_free_in_term(variable: u32, term: &Term) -> bool
     ensures { result ≡ free_in_term variable term.now }
@@ -63,7 +63,7 @@ fn is_free_in_triggers(variable: u32, triggers: &[Trigger]) -> bool
     false
 }
 
-/// Whether the variable stands free in the formula.
+/// Decides whether the variable occurs free in the formula.
 #[cycle(free)]
 pub fn is_free_in(variable: u32, formula: &Formula) -> bool
     ensures { result ≡ free_in variable formula.now }

@@ -1,6 +1,5 @@
-//! Whether a formula is another one with a term put in for a variable, up to the numbers of bound
-//! variables. Nothing is built for it. The time is that of a walk along both formulas, times the
-//! depth of their quantifiers.
+//! Decides whether a formula is another one with a term substituted for a variable, up to alpha equivalence. It builds
+//! nothing. It takes the time of a walk along both formulas, times the depth of their quantifiers.
 
 ghost use Rattle.std.specs.Prelude.{◌≡◌, ◌↔◌, IsTrue};
 ghost use Rattle.fol.specs.FormulaData.{VarTerm, terms_of, triggers_of, formulas_of};
@@ -8,19 +7,19 @@ ghost use Rattle.substitution.specs.Instances.{binders_of, StandsFor, IsTermInst
 
 use crate::binders::Binders;
 use crate::free::is_free_in_term;
+use base::same::same_type;
 use fol::formula::{Formula, FormulaNode, Term, TermNode, Trigger};
 use fol::same::same_term;
-use pv_base::same::same_type;
 
-/// What is put in: the term, for the free places of the variable.
+/// A substitution: the term for the free occurrences of the variable.
 #[derive(Clone, Copy)]
 pub struct Replacement<'a> {
     pub variable: u32,
     pub term: &'a Term,
 }
 
-/// Whether the formula is the body with the term for the variable: `exact`. Then it is true exactly
-/// where the body is true with the term's value for the variable: `truth`.
+/// Decides whether the formula is the body with the term substituted for the variable: `exact`. If so, it is true
+/// exactly when the body is true with the term's value for the variable: `truth`.
 #[tactic(auto, using(crate::proofs::InstanceTruth::instance_truth))]
 pub fn is_instance(body: &Formula, variable: u32, term: &Term, formula: &Formula) -> bool
     ensures exact { IsTrue result ↔ IsInstance variable term.now body.now formula.now }
@@ -29,7 +28,7 @@ pub fn is_instance(body: &Formula, variable: u32, term: &Term, formula: &Formula
     is_instance_under(&Binders::Top, Replacement { variable, term }, body, formula)
 }
 
-// Whether the term that was found stands for the variable with this number.
+// Decides whether the found term is the right one for the variable with this number.
 fn stands_for<'a>(binders: &'a Binders<'a>, put: Replacement<'_>, number: u32, found: &Term) -> bool
     ensures { IsTrue result ↔ StandsFor (binders_of binders.now) put.entry.variable put.entry.term.now number found.now }
 {

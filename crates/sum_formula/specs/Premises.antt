@@ -3,8 +3,8 @@
 -- Source: D. Dill et al., Fast and Reliable Formal Verification of Smart Contracts with the Move Prover, TACAS 2022.
 use Rattle.std.specs.Prelude.{ℕ, Bool, true, false, List, [], ◌∷◌, ◌++◌, map, if◌then◌else◌}
 use Rattle.std.specs.List.{flat_map}
-use Rattle.pv_base.specs.TypeData.{IntType}
-use Rattle.pv_base.specs.declared.types.Width.TheVariants.{U64}
+use Rattle.base.specs.TypeData.{IntType}
+use Rattle.base.specs.declared.types.Width.TheVariants.{U64}
 use Rattle.fol.specs.FormulaData.{TermData, FormulaData, LeFormula, IsFormula, NotFormula, AllOfFormula, NoFormulas, MoreFormulas, formulas_of}
 use Rattle.sum_tree.specs.declared.sum.Operator.{Operator}
 use Rattle.sum_tree.specs.declared.sum.Operator.TheVariants.{Plus, Minus}

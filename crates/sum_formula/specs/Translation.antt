@@ -10,7 +10,7 @@ use Rattle.sum_tree.specs.declared.clause.Comparison.TheVariants.{Equal, Less, G
 use Rattle.sum_tree.specs.declared.clause.Condition.{Condition}
 use Rattle.sum_tree.specs.declared.clause.Condition.TheVariants.{True, False, Compares}
 use Rattle.sum_tree.specs.SumData.{SumData, NumberSum, WordSum, JoinedSum}
-use Rattle.pv_base.specs.Names.{same_name}
+use Rattle.base.specs.Names.{same_name}
 
 abbrev pub zero_term : TermData
 zero_term = NumTerm (pos 0)

@@ -10,12 +10,12 @@ ghost use Rattle.sum_formula.specs.Translation.{sum_term, zero_term};
 ghost use Rattle.sum_formula.specs.Premises.{all_three, argument_formula, arguments_formula, at_return, entry_formulas, formula_if, range_formula, range_formulas, requires_formula, returned_term, returns_formula};
 
 use crate::translation::{condition, greatest, join, sum, word, zero};
+use base::memory::NoMemory;
+use base::name::Name;
+use base::types::{TypeNode, TypeTerm, Width};
 use fol::copy::{copy_formula, copy_term};
 use fol::formula::{Formula, FormulaNode, Term};
 use fol::operators::Connective;
-use pv_base::memory::NoMemory;
-use pv_base::name::Name;
-use pv_base::types::{TypeNode, TypeTerm, Width};
 use std::alloc::Global;
 use sum_tree::clause::{ClauseKind, SumClause};
 use sum_tree::function::SumFunction;

@@ -6,12 +6,12 @@
 ghost use Rattle.std.specs.Prelude.{◌≡◌, ◌^◌, ◌≤◌, IfOk, length};
 ghost use Rattle.std.specs.List.{position};
 ghost use Rattle.fol.specs.FormulaData.{LeFormula, NotFormula};
-ghost use Rattle.pv_base.specs.Names.{same_name};
+ghost use Rattle.base.specs.Names.{same_name};
 ghost use Rattle.sum_formula.specs.Translation.{comparison_formula, condition_formula, free_term, greatest_term, operator_term, sum_term, word_term, zero_term};
 
+use base::memory::NoMemory;
+use base::name::Name;
 use fol::formula::{Formula, Term};
-use pv_base::memory::NoMemory;
-use pv_base::name::Name;
 use std::alloc::Global;
 use sum_tree::clause::{Comparison, Condition};
 use sum_tree::sum::{Operator, Sum, SumNode};

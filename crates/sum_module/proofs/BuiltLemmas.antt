@@ -1,13 +1,13 @@
--- The functions of a module that is built have different names.
+-- The functions of a built module have different names.
 use Rattle.std.proofs.Common.{◌≡◌, ℕ, Bool, true, false, cond, List, [], ◌∷◌, ◌++◌, Option, Some, None, refl, sym, ap, ◌∙◌, append_assoc, append-nil}
 use Rattle.std.specs.Prelude.{option_and_then}
 use Rattle.std.specs.Option.{option_map}
 use Rattle.std.proofs.lemmas.Grind.{flat_map-append}
-use Rattle.file_tree.specs.declared.member.Function.{Function as FunctionTree}
-use Rattle.source_tree.specs.declared.source.SourceForm.{SourceForm}
-use Rattle.source_tree.specs.declared.source.SourceForm.TheVariants.{Use, Friend, Struct, Constant, Function, Spec}
-use Rattle.source_tree.specs.SourceData.{SourceMemberData}
-use Rattle.source_tree.specs.SourceModuleData.{SourceModuleData}
+use Rattle.syntax_tree.specs.declared.member.Function.{Function as FunctionTree}
+use Rattle.syntax_tree.specs.declared.source.SourceForm.{SourceForm}
+use Rattle.syntax_tree.specs.declared.source.SourceForm.TheVariants.{Use, Friend, Struct, Constant, Function, Spec}
+use Rattle.syntax_tree.specs.SourceData.{SourceMemberData}
+use Rattle.syntax_tree.specs.SourceModuleData.{SourceModuleData}
 use Rattle.sum_tree.specs.SumData.{SumData}
 use Rattle.sum_tree.specs.SumFunctionData.{SumFunctionData}
 use Rattle.sum_read.specs.Functions.{is_plain, inputs_of, value_of, function_of}

@@ -5,14 +5,14 @@ use Rattle.std.specs.Ordering.{nat_cmp, is_eq}
 use Rattle.std.specs.Cmp.Lexicographic.{slice_cmp}
 use Rattle.std.proofs.lemmas.Bool.{cases_Bool}
 use Rattle.std.proofs.lemmas.List.{map-append}
-use Rattle.pv_base.specs.Names.{same_name}
-use Rattle.pv_base.proofs.NameLaws.{is_eq-same_name, is_one_of-push}
+use Rattle.base.specs.Names.{same_name}
+use Rattle.base.proofs.NameLaws.{is_eq-same_name, is_one_of-push}
 use Rattle.sum_tree.specs.declared.clause.SumClause.{SumClause}
 use Rattle.sum_tree.specs.SumFunctionData.{SumFunctionData}
 use Rattle.sum_tree.specs.SpecifiedData.{SpecifiedFunctionData}
 use Rattle.sum_module.specs.SumSpecData.{SumSpecData}
 use Rattle.sum_module.specs.Scope.{all_differ}
-use Rattle.pv_base.specs.Names.{is_one_of}
+use Rattle.base.specs.Names.{is_one_of}
 use Rattle.sum_module.specs.Joined.{clauses_of_spec, clauses_among}
 use Rattle.sum_module.specs.ClauseTable.{names_among}
 use Rattle.sum_module.proofs.NameLemmas.{same_name-symm, same_name-is, not_before}
@@ -29,7 +29,7 @@ nil_of_length (x ∷ xs) e = absurd (cc)
 
 -- ---- spec blocks
 
--- the clauses at a name are taken out, and are put back with those of a spec block behind them
+-- the clauses of a name are removed, and put back followed by those of a spec block
 pub spec_writes : (s : SumSpecData) (q : List ℕ) (v : List SumClause) (old mid new : Table) → mid q ≡ cond (same_name s.target q) None (old q) → new q ≡ cond (is_eq (slice_cmp nat_cmp s.target q)) (Some v) (mid q) → v ≡ at old s.target ++ s.clauses
     → at new q ≡ at old q ++ clauses_of_spec q s
 spec_writes s q v old mid new out into is =

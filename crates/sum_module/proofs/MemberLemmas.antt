@@ -3,11 +3,11 @@ use Rattle.std.proofs.Common.{◌≡◌, ℕ, zero, suc, ◌+◌, ◌<◌, ◌�
 use Rattle.std.specs.BTreeSet.{BTreeSet}
 use Rattle.std.proofs.lemmas.Grind.{flat_map-append}
 use Rattle.std.proofs.lemmas.List.{take_more}
-use Rattle.source_tree.specs.SourceData.{SourceMemberData}
+use Rattle.syntax_tree.specs.SourceData.{SourceMemberData}
 use Rattle.sum_module.specs.declared.member.SumMember.{SumMember}
 use Rattle.sum_module.specs.Parameters.{Table, IsTableOf}
-use Rattle.pv_base.specs.Names.{IsSetOf}
-use Rattle.source_tree.specs.Places.{form_place}
+use Rattle.base.specs.Names.{IsSetOf}
+use Rattle.syntax_tree.specs.Places.{form_place}
 use Rattle.sum_module.specs.Members.{name_of_form, name_of_member, functions_of, IsMember, IsUnbuilt, AreMembers}
 use Rattle.sum_module.specs.Built.{IsFirstUnbuilt}
 
@@ -47,7 +47,7 @@ reading_over members table i seen found h r = subst (λ front. AreMembers member
     all (x ∷ xs) zero h = absurd (omega (arith, h))
     all (x ∷ xs) (suc i) h = ap (λ ys. x ∷ ys) (all xs i (omega (arith, h)))
 
--- what stands behind an item
+-- the items after an item
 abbrev behind : List SourceMemberData → ℕ → List SourceMemberData
 behind [] i = []
 behind (x ∷ xs) zero = xs

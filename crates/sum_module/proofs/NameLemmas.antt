@@ -3,10 +3,10 @@ use Rattle.std.proofs.Common.{◌≡◌, ℕ, true, false, not, ◌||◌, List, 
 use Rattle.std.specs.Cmp.Lexicographic.{same_text, nat_list_eq_equiv}
 use Rattle.std.proofs.lemmas.Bool.{cases_Bool, both_ways, and_parts, and_from, or_parts, or_from, or_left, or_right, not-true, not_from_true, not_from_false, and_left, and_right}
 use Rattle.std.proofs.lemmas.List.Folds.{list_any-append}
-use Rattle.pv_base.specs.Names.{same_name}
-use Rattle.pv_base.proofs.NameLaws.{is_one_of-push}
+use Rattle.base.specs.Names.{same_name}
+use Rattle.base.proofs.NameLaws.{is_one_of-push}
 use Rattle.sum_module.specs.Scope.{all_differ}
-use Rattle.pv_base.specs.Names.{is_one_of}
+use Rattle.base.specs.Names.{is_one_of}
 
 pub same_name-refl : (a : List ℕ) → same_name a a ≡ true
 same_name-refl a = nat_list_eq_equiv.refl a
@@ -20,7 +20,7 @@ same_name-is a b e = same_text a b (sym e)
 pub is_one_of-middle : (front : List (List ℕ)) (n : List ℕ) (back : List (List ℕ)) → is_one_of (front ++ n ∷ back) n ≡ true
 is_one_of-middle front n back = list_any-append (same_name n) front (n ∷ back) ∙ or_right (is_one_of front n) _ (or_left (same_name n n) _ (same_name-refl n))
 
--- the first of two equal names is told by the second
+-- a name that occurs before is found twice
 pub all_differ-again : (front : List (List ℕ)) (n : List ℕ) (back : List (List ℕ)) → is_one_of front n ≡ true → all_differ (front ++ n ∷ back) ≡ false
 all_differ-again [] n back e = absurd (cc)
 all_differ-again (a ∷ front) n back e = elim (cases_Bool (same_name n a)) [
@@ -35,7 +35,7 @@ all_differ-push (a ∷ front) n d e =
     let q = or_parts (same_name n a) (is_one_of front n) e in
     and_from _ _ (not_from_false _ (is_one_of-push front n a ∙ or_from _ _ (not-true _ p.0) (or_from _ _ (same_name-symm a n ∙ q.0) refl))) (all_differ-push front n p.1 q.1)
 
--- where all names differ, one is none of those before it
+-- if all names differ, one is none of those before it
 pub not_before : (front : List (List ℕ)) (n : List ℕ) (back : List (List ℕ)) → all_differ (front ++ n ∷ back) ≡ true → is_one_of front n ≡ false
 not_before front n back d = elim (cases_Bool (is_one_of front n)) [
   | inl y ↦ absurd (both_ways _ (all_differ-again front n back y) d)

@@ -4,12 +4,12 @@ use Rattle.std.specs.Ordering.{nat_cmp, is_eq}
 use Rattle.std.specs.Cmp.Lexicographic.{slice_cmp, same_text, nat_list_eq_equiv}
 use Rattle.std.specs.Option.{option_or}
 use Rattle.std.proofs.lemmas.List.{take_more}
-use Rattle.file_tree.specs.declared.member.Function.{Function as FunctionTree}
-use Rattle.pv_base.specs.Names.{same_name}
-use Rattle.pv_base.proofs.NameLaws.{is_eq-same_name}
-use Rattle.source_tree.specs.declared.source.SourceForm.{SourceForm}
-use Rattle.source_tree.specs.declared.source.SourceForm.TheVariants.{Use, Friend, Struct, Constant, Function, Spec}
-use Rattle.source_tree.specs.SourceData.{SourceMemberData}
+use Rattle.syntax_tree.specs.declared.member.Function.{Function as FunctionTree}
+use Rattle.base.specs.Names.{same_name}
+use Rattle.base.proofs.NameLaws.{is_eq-same_name}
+use Rattle.syntax_tree.specs.declared.source.SourceForm.{SourceForm}
+use Rattle.syntax_tree.specs.declared.source.SourceForm.TheVariants.{Use, Friend, Struct, Constant, Function, Spec}
+use Rattle.syntax_tree.specs.SourceData.{SourceMemberData}
 use Rattle.sum_module.specs.Parameters.{Table, parameters_of, parameters_in, parameters_at, IsTableOf, IsAdded}
 
 or_none : {A : Type 0} (x : Option A) → option_or x None ≡ x
@@ -20,7 +20,7 @@ or_assoc : {A : Type 0} (x y z : Option A) → option_or x (option_or y z) ≡ o
 or_assoc None y z = refl
 or_assoc (Some a) y z = refl
 
--- a name that the table lacked has its parameters now
+-- a name that was not in the table has its parameters now
 pub is_added : (old new : Table) (key : List ℕ) (names : List (List ℕ)) → parameters_at old key ≡ None → ((q : List ℕ) → parameters_at new q ≡ cond (is_eq (slice_cmp nat_cmp key q)) (Some names) (parameters_at old q))
     → (q : List ℕ) → parameters_at new q ≡ option_or (parameters_at old q) (cond (same_name q key) (Some names) None)
 is_added old new key names none more q = more q ∙ ap (λ b. cond b (Some names) (parameters_at old q)) (is_eq-same_name key q ∙ nat_list_eq_equiv.symm key q) ∙ go (same_name q key) refl
@@ -29,7 +29,7 @@ is_added old new key names none more q = more q ∙ ap (λ b. cond b (Some names
     go true e = ap (λ o. option_or o (Some names)) (sym none ∙ ap (parameters_at old) (sym (same_text q key (sym e))))
     go false e = sym (or_none (parameters_at old q))
 
--- a name that the table had keeps its parameters
+-- a name that was in the table keeps its parameters
 pub is_kept : (old : Table) (key : List ℕ) (had names : List (List ℕ)) → parameters_at old key ≡ Some had → (q : List ℕ) → parameters_at old q ≡ option_or (parameters_at old q) (cond (same_name q key) (Some names) None)
 is_kept old key had names some q = go (same_name q key) refl
   where

@@ -1,4 +1,4 @@
--- A module whose members are built, as contracts see it.
+-- A module whose members are built, as pure data.
 use Rattle.std.specs.Prelude.{ℕ, List}
 use Rattle.sum_module.specs.declared.member.SumMember.{SumMember}
 

@@ -12,7 +12,7 @@ use Rattle.sum_tree.specs.SpecifiedData.{SpecifiedFunctionData}
 abbrev pub entry_at : BTreeMap (List ℕ) (List SumClause) → List ℕ → Option (List SumClause)
 entry_at table name = tree.get (slice_cmp nat_cmp) table name
 
--- the clauses at a name: none where the table lacks it
+-- the clauses of a name; none if it is not in the table
 abbrev pub clauses_at : BTreeMap (List ℕ) (List SumClause) → List ℕ → List SumClause
 clauses_at table name = unwrap_or (entry_at table name) []
 

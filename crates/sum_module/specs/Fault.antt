@@ -1,9 +1,9 @@
--- Why a module was not read, or a member of one.
+-- Why a module, or a member of one, is not read.
 use Rattle.std.specs.Prelude.{ℕ}
 use Rattle.sum_module.specs.declared.fault.ModuleFault.{ModuleFault}
 use Rattle.sum_module.specs.declared.fault.ModuleFault.TheVariants.{NotBuilt, NoMemory}
 
--- a fact about the place at which what is not built begins
+-- a property of the offset at which what is not built begins
 abbrev pub IfNotBuiltAt : ModuleFault → (ℕ → Type 0) → Type 0
 IfNotBuiltAt (NotBuilt place) P = P place
 IfNotBuiltAt NoMemory P = Unit {0}

@@ -1,8 +1,9 @@
 -- The functions of a module whose members are built, each with the clauses of its spec blocks in their order.
--- Source: the Move Specification Language reference, "Spec Blocks and Conditions": several blocks for one function add up.
+-- Source: the Move Specification Language reference, "Spec Blocks and Conditions": several blocks for one function are
+-- joined.
 use Rattle.std.specs.Prelude.{ℕ, if◌then◌else◌, List, [], ◌∷◌, map}
 use Rattle.std.specs.List.{flat_map}
-use Rattle.pv_base.specs.Names.{same_name}
+use Rattle.base.specs.Names.{same_name}
 use Rattle.sum_tree.specs.declared.clause.SumClause.{SumClause}
 use Rattle.sum_tree.specs.SumFunctionData.{SumFunctionData}
 use Rattle.sum_tree.specs.SpecifiedData.{SpecifiedFunctionData}
@@ -27,7 +28,7 @@ functions_in members = flat_map functions_of_member members
 abbrev pub specs_in : List SumMember → List SumSpecData
 specs_in members = flat_map specs_of_member members
 
--- the clauses of a spec block, where it is of the function of this name
+-- the clauses of a spec block, if it is of the function of this name
 abbrev pub clauses_of_spec : List ℕ → SumSpecData → List SumClause
 clauses_of_spec name s = if same_name s.target name then s.clauses else []
 

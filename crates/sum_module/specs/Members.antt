@@ -1,14 +1,14 @@
--- Which members of a module are built, and what each is: a function over sums, or clauses over sums of a function of the
--- module. Source: this project's profile.
+-- Which members of a module are built (of the supported form), and what each is: a function over sums, or clauses over
+-- sums of a function of the module. Source: this project's profile.
 use Rattle.std.specs.Prelude.{◌≡◌, ℕ, true, false, List, [], ◌∷◌, ◌++◌, Option, Some, None}
 use Rattle.std.specs.Option.{option_map}
 use Rattle.std.specs.List.{flat_map, list_all}
-use Rattle.clause_tree.specs.declared.clause.Spec.{Spec as SpecTree}
-use Rattle.clause_tree.specs.declared.clause.Spec.TheVariants.{Named}
-use Rattle.file_tree.specs.declared.member.Function.{Function as FunctionTree}
-use Rattle.source_tree.specs.declared.source.SourceForm.{SourceForm}
-use Rattle.source_tree.specs.declared.source.SourceForm.TheVariants.{Use, Friend, Struct, Constant, Function, Spec}
-use Rattle.source_tree.specs.SourceData.{SourceMemberData}
+use Rattle.syntax_tree.specs.declared.clause.Spec.{Spec as SpecTree}
+use Rattle.syntax_tree.specs.declared.clause.Spec.TheVariants.{Named}
+use Rattle.syntax_tree.specs.declared.member.Function.{Function as FunctionTree}
+use Rattle.syntax_tree.specs.declared.source.SourceForm.{SourceForm}
+use Rattle.syntax_tree.specs.declared.source.SourceForm.TheVariants.{Use, Friend, Struct, Constant, Function, Spec}
+use Rattle.syntax_tree.specs.SourceData.{SourceMemberData}
 use Rattle.sum_tree.specs.SumFunctionData.{SumFunctionData}
 use Rattle.sum_read.specs.Clauses.{clauses_of}
 use Rattle.sum_read.specs.Functions.{function_of}
@@ -16,7 +16,7 @@ use Rattle.sum_module.specs.declared.member.SumMember.{SumMember}
 use Rattle.sum_module.specs.declared.member.SumMember.TheVariants.{Function as function_member, Spec as spec_member}
 use Rattle.sum_module.specs.SumSpecData.{SumSpecData}
 use Rattle.sum_module.specs.Scope.{is_closed, knows_clause}
-use Rattle.pv_base.specs.Names.{is_one_of}
+use Rattle.base.specs.Names.{is_one_of}
 use Rattle.sum_module.specs.Parameters.{parameters_in}
 
 -- ---- functions
@@ -36,7 +36,7 @@ name_of_member m = name_of_form m.form
 abbrev pub functions_of : List SourceMemberData → List (List ℕ)
 functions_of members = flat_map name_of_member members
 
--- the function is this one over sums, its words are its parameters, and no function before it has its name
+-- the function is this one over sums, the words in its body are its parameters, and no function before it has its name
 pub record IsFunction (before : List SourceMemberData) (f : FunctionTree) (found : SumMember) : Type 0 where
   pub function : SumFunctionData
   pub found_is : found ≡ function_member function
@@ -50,8 +50,8 @@ abbrev pub spec_of : SpecTree → Option SumSpecData
 spec_of (Named place name clauses) = option_map (λ cs. record { target = name.text; clauses = cs }) (clauses_of clauses)
 spec_of _ = None
 
--- the block is one of these clauses over sums, its name is that of a function of the module, and their words are that
--- function's parameters, or stand for something else
+-- the block has these clauses over sums, its name is that of a function of the module, and the words of its clauses are
+-- in scope with that function's parameters
 pub record IsSpec (members : List SourceMemberData) (tree : SpecTree) (found : SumMember) : Type 0 where
   pub spec : SumSpecData
   pub found_is : found ≡ spec_member spec
@@ -62,7 +62,7 @@ pub record IsSpec (members : List SourceMemberData) (tree : SpecTree) (found : S
 
 -- ---- members
 
--- in a module with these members, behind those before it, a member of this form is this
+-- in a module with these members, after those before it, a member of this form is this one
 abbrev pub IsMember : List SourceMemberData → List SourceMemberData → SourceForm → SumMember → Type 0
 IsMember members before (Use u) found = ⊥
 IsMember members before (Friend f) found = ⊥
@@ -75,7 +75,7 @@ IsMember members before (Spec tree) found = IsSpec members tree found
 abbrev pub IsUnbuilt : List SourceMemberData → List SourceMemberData → SourceForm → Type 0
 IsUnbuilt members before form = (found : SumMember) → IsMember members before form found → ⊥
 
--- members behind others, and what they are
+-- members after others, and what they are
 abbrev pub AreMembers : List SourceMemberData → List SourceMemberData → List SourceMemberData → List SumMember → Type 0
 AreMembers members before [] [] = Unit {0}
 AreMembers members before [] (x ∷ xs) = ⊥

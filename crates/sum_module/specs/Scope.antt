@@ -1,4 +1,4 @@
--- Which words stand for something, and which names a function may give its parameters.
+-- Which words are in scope, and which names a function may give its parameters.
 use Rattle.std.specs.Prelude.{ℕ, Bool, true, false, not, ◌&&◌, ◌||◌, nat_le, List, [], ◌∷◌, length, codes}
 use Rattle.sum_tree.specs.declared.clause.Condition.{Condition}
 use Rattle.sum_tree.specs.declared.clause.Condition.TheVariants.{True, False, Compares}
@@ -7,11 +7,11 @@ use Rattle.sum_tree.specs.declared.clause.ClauseKind.TheVariants.{Requires, Ensu
 use Rattle.sum_tree.specs.declared.clause.SumClause.{SumClause}
 use Rattle.sum_module.specs.declared.scope.Place.{Place}
 use Rattle.sum_module.specs.declared.scope.Place.TheVariants.{Body, InClause}
-use Rattle.pv_base.specs.Names.{same_name, is_one_of}
+use Rattle.base.specs.Names.{same_name, is_one_of}
 use Rattle.sum_tree.specs.SumData.{SumData, NumberSum, WordSum, JoinedSum}
 use Rattle.sum_tree.specs.SumFunctionData.{SumFunctionData}
 
--- no name stands twice
+-- no name occurs twice
 abbrev pub all_differ : List (List ℕ) → Bool
 all_differ [] = true
 all_differ (name ∷ names) = not (is_one_of names name) && all_differ names
@@ -27,7 +27,7 @@ is_known parameters Body word = is_one_of parameters word
 is_known parameters (InClause kind) word =
     is_one_of parameters word || (same_name word (codes "MAX_U64") || (speaks_of_result kind && same_name word (codes "result")))
 
--- each word of the sum is known
+-- each word of the sum is in scope
 abbrev pub knows_sum : List (List ℕ) → Place → SumData → Bool
 knows_sum parameters place (NumberSum n) = true
 knows_sum parameters place (WordSum word) = is_known parameters place word
@@ -38,7 +38,7 @@ knows_condition parameters place True = true
 knows_condition parameters place False = true
 knows_condition parameters place (Compares left comparison right) = knows_sum parameters place left && knows_sum parameters place right
 
--- the clause may stand in a spec of a function with these parameters
+-- a spec of a function with these parameters may have this clause
 abbrev pub knows_clause : List (List ℕ) → SumClause → Bool
 knows_clause parameters c = knows_condition parameters (InClause c.kind) c.condition
 

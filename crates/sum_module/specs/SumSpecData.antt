@@ -1,4 +1,4 @@
--- A spec block of a function, with clauses over sums, as contracts see it.
+-- A spec block of a function, with clauses over sums, as pure data.
 use Rattle.std.specs.Prelude.{ℕ, List}
 use Rattle.sum_tree.specs.declared.clause.SumClause.{SumClause}
 

@@ -1,14 +1,14 @@
-//! Why no module was read.
+//! Why a module is not read.
 
 ghost use Rattle.std.specs.Prelude.{◌≡◌};
 
-use pv_base::memory::NoMemory;
+use base::memory::NoMemory;
 use std::alloc::AllocFailed;
 
-/// Why no module was read.
+/// Why a module is not read.
 #[derive(Clone, Copy, Debug, PartialEq, Eq)]
 pub enum ModuleFault {
-    /// It is not built, or a member of it is not: the first of these begins at this byte.
+    /// The module or a member of it is not of the supported form: the first of these begins at this byte.
     NotBuilt(u32),
     /// Memory ran out.
     NoMemory,

@@ -1,16 +1,16 @@
-//! Spec blocks are joined to their functions.
+//! Joins spec blocks to their functions.
 
 ghost use Rattle.std.specs.Prelude.{◌≡◌, ◌++◌, ℕ, List, [], None, true, map, if◌then◌else◌, IfOk, OnOk};
 ghost use Rattle.std.specs.List.{flat_map};
-ghost use Rattle.pv_base.specs.Names.{same_name};
+ghost use Rattle.base.specs.Names.{same_name};
 ghost use Rattle.sum_module.specs.Scope.{all_differ};
 ghost use Rattle.sum_module.specs.ClauseTable.{clauses_at, entry_at, names_among, with_clauses};
 ghost use Rattle.sum_module.specs.Joined.{clauses_among, clauses_of_spec, functions_in, module_of, specs_in};
 
 use crate::member::{SumMember, SumSpec};
 use crate::module::BuiltModule;
-use pv_base::memory::NoMemory;
-use pv_base::name::Name;
+use base::memory::NoMemory;
+use base::name::Name;
 use std::alloc::Global;
 use std::collections::BTreeMap;
 use std::marker::Model;
@@ -37,7 +37,7 @@ impl Model for Clauses {
 }
 
 impl Clauses {
-    /// No clauses.
+    /// Returns no clauses.
     fn new(alloc: Global) -> Clauses
         ensures { result ≡ [] }
     {
@@ -46,7 +46,7 @@ impl Clauses {
         }
     }
 
-    /// Puts these clauses at the end.
+    /// Appends these clauses.
     fn add(&mut self, more: Vec<SumClause>) -> Result<(), NoMemory>
         ensures { OnOk result (self.new ≡ self.old ++ more.items) }
     {
@@ -63,7 +63,7 @@ impl Clauses {
     }
 }
 
-/// The functions and the spec blocks among the members, each in their order.
+/// Splits members into the functions and the spec blocks, each in their order.
 fn take_apart(
     alloc: Global,
     members: Vec<SumMember>,
@@ -82,7 +82,7 @@ fn take_apart(
     Ok((functions, specs))
 }
 
-/// Takes the clauses at a name out of the table.
+/// Removes the clauses of a name from the table, and returns them.
 fn take_clauses(alloc: Global, name: &Name, table: &mut BTreeMap<Name, Clauses>) -> Clauses
     ensures taken { result ≡ clauses_at table.old name.now }
     ensures left { (other : List ℕ) → entry_at table.new other ≡ (if same_name name.now other then None else entry_at table.old other) }
@@ -93,7 +93,7 @@ fn take_clauses(alloc: Global, name: &Name, table: &mut BTreeMap<Name, Clauses>)
     }
 }
 
-/// Puts the clauses of a spec block behind those that the table has at its name.
+/// Appends the clauses of a spec block to those that the table has for its name.
 fn add_spec(
     alloc: Global,
     spec: SumSpec,
@@ -107,7 +107,7 @@ fn add_spec(
     Ok(())
 }
 
-/// The clauses of spec blocks by the names of their functions.
+/// Returns the clauses of spec blocks by the names of their functions.
 fn table_of(alloc: Global, specs: Vec<SumSpec>) -> Result<BTreeMap<Name, Clauses>, NoMemory>
     ensures { IfOk result (λ table. (name : List ℕ) → clauses_at table name ≡ clauses_among name specs.items) }
 {
@@ -118,7 +118,7 @@ fn table_of(alloc: Global, specs: Vec<SumSpec>) -> Result<BTreeMap<Name, Clauses
     Ok(table)
 }
 
-/// Each function with the clauses that the table has at its name.
+/// Returns each function with the clauses that the table has for its name.
 fn specify_each(
     alloc: Global,
     functions: Vec<SumFunction>,
@@ -136,7 +136,8 @@ fn specify_each(
     Ok(made)
 }
 
-/// The functions of a module, each with the clauses of its spec blocks. The number is that of the module's file.
+/// Returns the functions of a module, each with the clauses of its spec blocks. The number is that of the module's
+/// file.
 pub fn join(alloc: Global, file: u32, module: BuiltModule) -> Result<SumModule, NoMemory>
     requires { all_differ (names_among (functions_in «module».members)) ≡ true }
     ensures { IfOk result (λ joined. joined ≡ module_of file «module») }

@@ -1,5 +1,5 @@
-//! Modules of functions over sums, read off sources: each member is built, or the first that is not is named; the
-//! functions come with the clauses of their spec blocks.
+//! Reads modules of functions over sums from source trees, with the clauses of the functions' spec blocks, or finds the
+//! first member that is not of the supported form.
 #![tactic(auto)]
 
 pub mod fault;

@@ -1,20 +1,17 @@
-//! Members that are built.
+//! Members of the supported form.
 
 ghost use Rattle.std.specs.Prelude.{◌≡◌, List, None, Some, MatchResult};
 ghost use Rattle.sum_module.specs.Members.{IsFunction, IsMember, IsSpec, IsUnbuilt, functions_of, spec_of};
 ghost use Rattle.sum_module.specs.Built.{IsNoFunction, IsNoSpec};
 ghost use Rattle.sum_module.specs.Parameters.{IsTableOf};
-ghost use Rattle.pv_base.specs.Names.{IsSetOf};
+ghost use Rattle.base.specs.Names.{IsSetOf};
 ghost use Rattle.sum_read.specs.FormFault.{IfNotBuilt};
-ghost use Rattle.source_tree.specs.SourceData.{SourceMemberData};
+ghost use Rattle.syntax_tree.specs.SourceData.{SourceMemberData};
 
 use crate::parameters::Parameters;
 use crate::scope::{is_closed, knows_clauses};
 use crate::seen::Seen;
-use clause_tree::clause::Spec as SpecTree;
-use file_tree::member::Function as FunctionTree;
-use pv_base::name::Name;
-use source_tree::source::SourceForm;
+use base::name::Name;
 use std::alloc::Global;
 use std::marker::Model;
 use sum_read::clause::read_clauses;
@@ -22,6 +19,9 @@ use sum_read::fault::FormFault;
 use sum_read::function::read_function;
 use sum_tree::clause::SumClause;
 use sum_tree::function::SumFunction;
+use syntax_tree::clause::Spec as SpecTree;
+use syntax_tree::member::Function as FunctionTree;
+use syntax_tree::source::SourceForm;
 
 /// Clauses over sums of a function, by its name.
 #[derive(Drop)]
@@ -42,14 +42,14 @@ impl Model for SumSpec {
     ghost view = { λ s. record { target = s.target; clauses = s.clauses.items } };
 }
 
-/// A member that is built.
+/// A member of the supported form.
 #[derive(Drop)]
 pub enum SumMember {
     Function(SumFunction),
     Spec(SumSpec),
 }
 
-/// The function over sums that a function is, behind functions with the names that were seen.
+/// Reads a function as a function over sums, after functions with the names that were seen.
 fn read_function_member(
     alloc: Global,
     seen: &Seen,
@@ -68,7 +68,7 @@ fn read_function_member(
     }
 }
 
-/// The clauses over sums that a spec block has, and the name of what it is of.
+/// Reads the clauses over sums of a spec block, and the name of its function.
 fn read_spec(alloc: Global, tree: &SpecTree) -> Result<SumSpec, FormFault>
     ensures { MatchResult result (λ spec. spec_of tree.now ≡ Some spec) (λ fault. IfNotBuilt fault (spec_of tree.now ≡ None)) }
 {
@@ -87,7 +87,7 @@ fn read_spec(alloc: Global, tree: &SpecTree) -> Result<SumSpec, FormFault>
     }
 }
 
-/// The clauses over sums that a spec block of a function is, in a module whose functions have these parameters.
+/// Reads the clauses over sums of a spec block of a function, in a module whose functions have these parameters.
 fn read_spec_member(
     alloc: Global,
     parameters: &Parameters,
@@ -106,12 +106,11 @@ fn read_spec_member(
     }
 }
 
-/// What a member is, in a module whose functions have these parameters, behind functions with the names that
-/// were seen.
+/// Reads a member, in a module whose functions have these parameters, after functions with the names that were seen.
 ///
 /// # Errors
 ///
-/// `NotBuilt` exactly where it is not built.
+/// `NotBuilt` if and only if it is not of the supported form.
 pub fn read_member(
     alloc: Global,
     parameters: &Parameters,

@@ -1,4 +1,4 @@
-//! Modules whose members are built.
+//! Modules whose members are all of the supported form.
 
 ghost use Rattle.std.specs.Prelude.{◌≡◌, [], None, Some, MatchResult};
 ghost use Rattle.sum_module.specs.Built.{IsBuilt, IsFirstUnbuilt, IsUnbuiltAt, address_of};
@@ -9,15 +9,15 @@ use crate::fault::ModuleFault;
 use crate::member::{SumMember, read_member};
 use crate::parameters::parameters_in;
 use crate::seen::Seen;
-use move_tree::path::Address;
-use pv_base::name::Name;
-use source_tree::places::{form_place, module_place};
-use source_tree::source::{SourceMember, SourceModule};
+use base::name::Name;
 use std::alloc::Global;
 use std::marker::Model;
 use sum_read::fault::FormFault;
+use syntax_tree::path::Address;
+use syntax_tree::source::places::{form_place, module_place};
+use syntax_tree::source::{SourceMember, SourceModule};
 
-/// A module whose members are built.
+/// A module whose members are all of the supported form.
 #[derive(Drop)]
 pub struct BuiltModule {
     pub address: u128,
@@ -37,7 +37,7 @@ impl Model for BuiltModule {
     ghost view = { λ m. record { address = m.address; name = m.name; members = m.members.items } };
 }
 
-/// What the members of a module are.
+/// Reads the members of a module.
 fn read_members(alloc: Global, members: &[SourceMember]) -> Result<Vec<SumMember>, ModuleFault>
     ensures { MatchResult result (λ found. AreMembers members.now [] members.now found.items) (λ fault. IfNotBuiltAt fault (IsFirstUnbuilt members.now)) }
 {
@@ -57,7 +57,7 @@ fn read_members(alloc: Global, members: &[SourceMember]) -> Result<Vec<SumMember
     Ok(found)
 }
 
-/// The address of a module, where it is a number.
+/// The address of a module, if it is a number.
 fn address_of(address: &Address) -> Option<u128>
     ensures { result ≡ address_of address.now }
 {
@@ -67,12 +67,12 @@ fn address_of(address: &Address) -> Option<u128>
     }
 }
 
-/// What a module is.
+/// Reads a module.
 ///
 /// # Errors
 ///
-/// `NotBuilt` exactly where the module is not built, with the place of its own first token where its address is
-/// no number, and else with that of the first member that is not built.
+/// `NotBuilt` if and only if the module is not of the supported form, with the offset of its own first token if its
+/// address is no number, and otherwise with that of the first member that is not.
 pub fn read_module(alloc: Global, source_module: &SourceModule) -> Result<BuiltModule, ModuleFault>
     ensures { MatchResult result (IsBuilt source_module.now) (λ fault. IfNotBuiltAt fault (IsUnbuiltAt source_module.now)) }
 {

@@ -4,13 +4,13 @@ ghost use Rattle.std.specs.Prelude.{◌≡◌, IfOk, OnOk};
 ghost use Rattle.std.specs.Option.{option_map};
 ghost use Rattle.sum_module.specs.Parameters.{IsAdded, IsTableOf, names_of, parameters_at};
 
-use file_tree::member::{Function, TypedName};
-use pv_base::memory::NoMemory;
-use pv_base::name::Name;
-use source_tree::source::{SourceForm, SourceMember};
+use base::memory::NoMemory;
+use base::name::Name;
 use std::alloc::Global;
 use std::collections::BTreeMap;
 use std::marker::Model;
+use syntax_tree::member::{Function, TypedName};
+use syntax_tree::source::{SourceForm, SourceMember};
 
 /// Names, in order.
 #[derive(Drop)]
@@ -55,7 +55,7 @@ fn names_of(alloc: Global, inputs: &[TypedName]) -> Result<Names, NoMemory>
     Ok(Names { items })
 }
 
-/// Puts the parameters of a function into the table, unless a function of its name is there.
+/// Adds the parameters of a function to the table, unless it has a function of that name.
 fn add_function(
     alloc: Global,
     function: &Function,
@@ -73,7 +73,7 @@ fn add_function(
     }
 }
 
-/// The parameters of the functions among the members: of two of one name, those of the first.
+/// Returns the parameters of the functions among the members: of two of the same name, those of the first.
 pub fn parameters_in(alloc: Global, members: &[SourceMember]) -> Result<Parameters, NoMemory>
     ensures { IfOk result (λ found. IsTableOf found.table members.now) }
 {

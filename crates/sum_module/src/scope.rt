@@ -1,16 +1,16 @@
-//! Which words of a function and of its clauses stand for something.
+//! Which words of a function and of its clauses are in scope.
 
 ghost use Rattle.std.specs.Prelude.{◌≡◌};
 ghost use Rattle.std.specs.List.{list_all};
 ghost use Rattle.sum_module.specs.Scope.{all_differ, are_parameters, is_closed, is_known, knows_clause, knows_condition, knows_sum};
-ghost use Rattle.pv_base.specs.Names.{is_one_of};
+ghost use Rattle.base.specs.Names.{is_one_of};
 
-use pv_base::name::Name;
+use base::name::Name;
 use sum_tree::clause::{ClauseKind, Condition, SumClause};
 use sum_tree::function::SumFunction;
 use sum_tree::sum::{Sum, SumNode};
 
-/// Where a word stands.
+/// Where a word occurs.
 #[derive(Clone, Copy, Debug, PartialEq, Eq)]
 pub enum Place {
     /// In the body of a function.
@@ -19,17 +19,17 @@ pub enum Place {
     InClause(ClauseKind),
 }
 
-/// The greatest number of parameters of a function.
+/// The maximal number of parameters of a function.
 const PARAMETER_LIMIT: usize = 8;
 
-/// Whether a word is one of these names.
+/// Decides whether a word is one of these names.
 fn is_one_of(names: &[Name], word: &[u8]) -> bool
     ensures { result ≡ is_one_of names.now word.now }
 {
     names.iter().any(|name| word == name.as_slice())
 }
 
-/// Whether no name stands twice. The time grows with the square of their number.
+/// Decides whether no name occurs twice. The time is quadratic in their number.
 fn all_differ(names: &[Name]) -> bool
     ensures { result ≡ all_differ names.now }
 {
@@ -43,7 +43,7 @@ fn all_differ(names: &[Name]) -> bool
     true
 }
 
-/// Whether a word stands for something at its place.
+/// Decides whether a word is in scope where it occurs.
 fn is_known(parameters: &[Name], place: Place, word: &[u8]) -> bool
     ensures { result ≡ is_known parameters.now place word.now }
 {
@@ -58,7 +58,7 @@ fn is_known(parameters: &[Name], place: Place, word: &[u8]) -> bool
     }
 }
 
-/// Whether each word of a sum stands for something.
+/// Decides whether each word of a sum is in scope.
 #[cycle(knows_sum)]
 fn knows_sum(parameters: &[Name], place: Place, sum: &Sum) -> bool
     ensures { result ≡ knows_sum parameters.now place sum.now }
@@ -72,7 +72,7 @@ fn knows_sum(parameters: &[Name], place: Place, sum: &Sum) -> bool
     }
 }
 
-/// Whether each word of a condition stands for something.
+/// Decides whether each word of a condition is in scope.
 fn knows_condition(parameters: &[Name], place: Place, condition: &Condition) -> bool
     ensures { result ≡ knows_condition parameters.now place condition.now }
 {
@@ -84,8 +84,8 @@ fn knows_condition(parameters: &[Name], place: Place, condition: &Condition) -> 
     }
 }
 
-/// Whether a clause may stand in a spec of a function with these parameters: whether each of its words is a
-/// parameter or `MAX_U64`, or in an `ensures` `result`.
+/// Decides whether a spec of a function with these parameters may have this clause: each of its words is a parameter or
+/// `MAX_U64`, or in an `ensures` `result`.
 pub fn knows_clause(parameters: &[Name], clause: &SumClause) -> bool
     ensures { result ≡ knows_clause parameters.now clause.now }
 {
@@ -93,7 +93,7 @@ pub fn knows_clause(parameters: &[Name], clause: &SumClause) -> bool
     knows_condition(parameters, place, &clause.condition)
 }
 
-/// Whether each clause may stand in a spec of a function with these parameters.
+/// Decides whether a spec of a function with these parameters may have each of these clauses.
 pub fn knows_clauses(parameters: &[Name], clauses: &[SumClause]) -> bool
     ensures { result ≡ list_all (knows_clause parameters.now) clauses.now }
 {
@@ -102,14 +102,14 @@ pub fn knows_clauses(parameters: &[Name], clauses: &[SumClause]) -> bool
         .all(|clause| knows_clause(parameters, clause))
 }
 
-/// Whether there are at most 8 parameters, each with a name of its own.
+/// Decides whether there are at most 8 parameters, each with a name of its own.
 fn are_parameters(parameters: &[Name]) -> bool
     ensures { result ≡ are_parameters parameters.now }
 {
     parameters.len() <= PARAMETER_LIMIT && all_differ(parameters)
 }
 
-/// Whether a function has at most 8 parameters, each with a name of its own, and no other words in its body.
+/// Decides whether a function has at most 8 parameters, each with a name of its own, and no other words in its body.
 pub fn is_closed(function: &SumFunction) -> bool
     ensures { result ≡ is_closed function.now }
 {

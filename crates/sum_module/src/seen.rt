@@ -1,17 +1,17 @@
-//! The names of the functions that stand before a member.
+//! The names of the functions before a member.
 
 ghost use Rattle.std.specs.Prelude.{◌≡◌, ℕ, List, [], ◌++◌, OnOk};
 ghost use Rattle.sum_module.specs.Members.{name_of_form};
-ghost use Rattle.pv_base.specs.Names.{IsSetOf, has};
+ghost use Rattle.base.specs.Names.{IsSetOf, has};
 
-use pv_base::memory::NoMemory;
-use pv_base::name::Name;
-use source_tree::source::SourceForm;
+use base::memory::NoMemory;
+use base::name::Name;
 use std::alloc::Global;
 use std::collections::BTreeSet;
 use std::marker::Model;
+use syntax_tree::source::SourceForm;
 
-/// The names of the functions that stand before a member.
+/// The names of the functions before a member.
 #[derive(Drop)]
 pub struct Seen {
     names: BTreeSet<Name>,
@@ -27,7 +27,7 @@ impl Model for Seen {
 }
 
 impl Seen {
-    /// No names.
+    /// Returns no names.
     pub fn new(alloc: Global) -> Seen
         ensures { IsSetOf result [] }
     {
@@ -36,14 +36,14 @@ impl Seen {
         }
     }
 
-    /// Whether a function of this name stands before.
+    /// Decides whether a function of this name comes before.
     pub fn contains(&self, name: &Name) -> bool
         ensures { result ≡ has self.now name.now }
     {
         self.names.contains(name)
     }
 
-    /// Goes on behind a member.
+    /// Adds the name of the member, if it is a function.
     pub fn add(&mut self, alloc: Global, form: &SourceForm) -> Result<(), NoMemory>
         ensures { OnOk result ((names : List (List ℕ)) → IsSetOf self.old names → IsSetOf self.new (names ++ name_of_form form.now)) }
     {

@@ -1,4 +1,4 @@
-//! Modules of sums, read off sources.
+//! Reads modules of sums from source trees.
 
 ghost use Rattle.std.specs.Prelude.{MatchResult};
 ghost use Rattle.sum_module.specs.Built.{IsUnbuiltAt};
@@ -8,16 +8,16 @@ ghost use Rattle.sum_module.specs.Program.{IsSumModule};
 use crate::fault::ModuleFault;
 use crate::join::join;
 use crate::module::read_module;
-use source_tree::source::SourceModule;
 use std::alloc::Global;
 use sum_tree::function::SumModule;
+use syntax_tree::source::SourceModule;
 
-/// The module of sums that a module is, in the file with this number.
+/// Reads a module as a module of sums, in the file with this number.
 ///
 /// # Errors
 ///
-/// `NotBuilt` exactly where the module or a member of it is not built, with the place at which the first of
-/// these begins.
+/// `NotBuilt` if and only if the module or a member of it is not of the supported form, with the offset at which the
+/// first of these begins.
 pub fn read_sum_module(
     alloc: Global,
     file: u32,

@@ -1,4 +1,4 @@
--- A walk over a list, in which each thing has to give something.
+-- A traversal of a list, in which each item must give a result.
 use Rattle.std.proofs.Common.{◌≡◌, ℕ, zero, suc, ◌+◌, ◌<◌, ◌≤◌, List, [], ◌∷◌, ◌++◌, Option, Some, None, length, take, get_or, refl, sym, ap, subst, ◌∙◌, arith}
 use Rattle.std.specs.Prelude.{Result, Ok, Err, IsErrAnd, MatchResult, option_and_then}
 use Rattle.std.specs.Option.{option_map}
@@ -8,7 +8,7 @@ use Rattle.sum_read.specs.declared.fault.FormFault.TheVariants.{NotBuilt, NoMemo
 use Rattle.sum_read.specs.FormFault.{IfNotBuilt}
 use Rattle.sum_read.specs.Each.{each}
 
--- one more thing that gives something
+-- one more item with a result
 each_append : {A B : Type 0} (f : A → Option B) (xs : List A) (x : A) (ys : List B) (y : B) → each f xs ≡ Some ys → f x ≡ Some y → each f (xs ++ x ∷ []) ≡ Some (ys ++ y ∷ [])
 each_append f [] x [] y e g = ap (λ o. option_and_then (λ one. Some (one ∷ [])) o) g
 each_append f [] x (z ∷ ys) y e g = absurd (cc)
@@ -30,7 +30,7 @@ each_append {B = B} f (v ∷ xs) x ys y e g = go (f v) (each f xs) refl refl ys 
 pub each_more : {A B : Type 0} (f : A → Option B) (xs : List A) (i : ℕ) (d : A) (ys : List B) (y : B) → i < length xs → each f (take i xs) ≡ Some ys → f (get_or xs i d) ≡ Some y → each f (take (i + 1) xs) ≡ Some (ys ++ y ∷ [])
 each_more f xs i d ys y h e g = ap (each f) (take_more xs i d h) ∙ each_append f (take i xs) (get_or xs i d) ys y e g
 
--- one thing that gives nothing
+-- an item without a result
 pub each_none : {A B : Type 0} (f : A → Option B) (xs : List A) (i : ℕ) (d : A) → i < length xs → f (get_or xs i d) ≡ None → each f xs ≡ None
 each_none f [] i d h e = absurd (omega arith)
 each_none f (x ∷ xs) zero d h e = ap (λ o. option_and_then (λ one. option_map (λ more. one ∷ more) (each f xs)) o) e
@@ -40,7 +40,7 @@ each_none {B = B} f (x ∷ xs) (suc i) d h e = ap (λ p. option_and_then (λ one
     go None = refl
     go (Some y) = refl
 
--- the walk is over
+-- the end of the traversal
 pub each_over : {A B : Type 0} (f : A → Option B) (xs : List A) (i : ℕ) (ys : List B) → length xs ≤ i → each f (take i xs) ≡ Some ys → each f xs ≡ Some ys
 each_over {A = A} f xs i ys h e = ap (each f) (sym (all xs i h)) ∙ e
   where

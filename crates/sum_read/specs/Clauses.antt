@@ -1,18 +1,19 @@
--- Which clauses claim something of sums, and what: `true`, `false`, or how two sums compare. Parentheses round a condition
--- stand for it. Source: the Move Specification Language reference, "Requires", "Ensures" and "AbortsIf Condition".
+-- Which clauses are conditions over sums, and which: `true`, `false`, or a comparison of two sums. Parentheses around a
+-- condition are ignored. Source: the Move Specification Language reference, "Requires", "Ensures" and "AbortsIf
+-- Condition".
 use Rattle.std.specs.Prelude.{ℕ, true, false, List, Option, Some, None, option_and_then}
 use Rattle.std.specs.Option.{option_map}
-use Rattle.move_tree.specs.declared.literal.Literal.{Literal}
-use Rattle.move_tree.specs.declared.literal.Literal.TheVariants.{Number, Truth, Address}
-use Rattle.move_tree.specs.declared.operator.BinaryOperator.{BinaryOperator}
-use Rattle.move_tree.specs.declared.operator.BinaryOperator.TheVariants.{Equal as equal_sign, Less as less_sign, Greater as greater_sign, LessEqual as less_equal_sign, GreaterEqual as greater_equal_sign}
-use Rattle.spec_tree.specs.declared.spec_operator.SpecOperator.{SpecOperator}
-use Rattle.spec_tree.specs.declared.spec_operator.SpecOperator.TheVariants.{Equivalent, Implies, Range, Common}
-use Rattle.spec_tree.specs.SpecExpressionData.{SpecExpressionData, SpecBinary, SpecLiteral, SpecParenthesized}
-use Rattle.clause_tree.specs.declared.clause.AbortCode.{AbortCode}
-use Rattle.clause_tree.specs.declared.clause.AbortCode.TheVariants.{Bare, Failure, Code}
-use Rattle.clause_tree.specs.declared.clause.Clause.{Clause as ClauseTree}
-use Rattle.clause_tree.specs.declared.clause.Clause.TheVariants.{Requires as requires_clause, Ensures as ensures_clause, AbortsIf as aborts_if_clause}
+use Rattle.syntax_tree.specs.declared.literal.Literal.{Literal}
+use Rattle.syntax_tree.specs.declared.literal.Literal.TheVariants.{Number, Truth, Address}
+use Rattle.syntax_tree.specs.declared.operator.BinaryOperator.{BinaryOperator}
+use Rattle.syntax_tree.specs.declared.operator.BinaryOperator.TheVariants.{Equal as equal_sign, Less as less_sign, Greater as greater_sign, LessEqual as less_equal_sign, GreaterEqual as greater_equal_sign}
+use Rattle.syntax_tree.specs.declared.spec_expression.operator.SpecOperator.{SpecOperator}
+use Rattle.syntax_tree.specs.declared.spec_expression.operator.SpecOperator.TheVariants.{Equivalent, Implies, Range, Common}
+use Rattle.syntax_tree.specs.SpecExpressionData.{SpecExpressionData, SpecBinary, SpecLiteral, SpecParenthesized}
+use Rattle.syntax_tree.specs.declared.clause.AbortCode.{AbortCode}
+use Rattle.syntax_tree.specs.declared.clause.AbortCode.TheVariants.{Bare, Failure, Code}
+use Rattle.syntax_tree.specs.declared.clause.Clause.{Clause as ClauseTree}
+use Rattle.syntax_tree.specs.declared.clause.Clause.TheVariants.{Requires as requires_clause, Ensures as ensures_clause, AbortsIf as aborts_if_clause}
 use Rattle.sum_tree.specs.SumData.{SumData}
 use Rattle.sum_tree.specs.declared.clause.Comparison.{Comparison}
 use Rattle.sum_tree.specs.declared.clause.Comparison.TheVariants.{Equal, Less, Greater, LessEqual, GreaterEqual}
@@ -58,7 +59,7 @@ condition_of _ = None
 
 -- ---- clauses
 
--- a clause of this kind, whose first byte is at this place
+-- a clause of this kind, whose first byte is at this offset
 abbrev pub clause_at : ClauseKind → ℕ → SpecExpressionData → Option SumClause
 clause_at kind start e = option_map (λ c. record { kind = kind; condition = c; start = start }) (condition_of e)
 
@@ -73,6 +74,6 @@ clause_of (ensures_clause place e) = clause_at Ensures place.start e
 clause_of (aborts_if_clause place e code) = bare_clause code (clause_at AbortsIf place.start e)
 clause_of _ = None
 
--- all of them, where each is one
+-- all of them, if each is one
 abbrev pub clauses_of : List ClauseTree → Option (List SumClause)
 clauses_of clauses = each clause_of clauses

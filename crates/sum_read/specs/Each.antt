@@ -1,4 +1,4 @@
--- What each thing of a list gives, where each gives something.
+-- The results for the items of a list, if each has one.
 use Rattle.std.specs.Prelude.{List, [], ◌∷◌, Option, Some, option_and_then}
 use Rattle.std.specs.Option.{option_map}
 

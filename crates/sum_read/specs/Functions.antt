@@ -1,16 +1,16 @@
--- Which functions are of the form: of its module alone, of u64 parameters, with a sum as the body.
+-- Which functions are of the supported form: private to their module, of u64 parameters, with a sum as the body.
 -- Source: The Move Book, "Functions".
 use Rattle.std.specs.Prelude.{ℕ, Bool, true, false, ◌&&◌, is_none, if◌then◌else◌, List, Option, Some, None, option_and_then, codes}
 use Rattle.std.specs.Option.{option_map}
-use Rattle.move_tree.specs.declared.path.Path.TheVariants.{Name as name_path}
-use Rattle.move_tree.specs.TypeTreeData.{SourceTypeData, NamedSourceType, NoArguments}
-use Rattle.expression_tree.specs.ExpressionData.{SomeExpression, BlockData, BlockOf, NoItems}
-use Rattle.file_tree.specs.MemberData.{TypedNamesData}
-use Rattle.file_tree.specs.declared.member.TypedName.{TypedName}
-use Rattle.file_tree.specs.declared.member.Visibility.{Visibility}
-use Rattle.file_tree.specs.declared.member.Visibility.TheVariants.{Module, Public, Friends}
-use Rattle.file_tree.specs.declared.member.Function.{Function}
-use Rattle.pv_base.specs.Names.{same_name}
+use Rattle.syntax_tree.specs.declared.path.Path.TheVariants.{Name as name_path}
+use Rattle.syntax_tree.specs.TypeTreeData.{SourceTypeData, NamedSourceType, NoArguments}
+use Rattle.syntax_tree.specs.ExpressionData.{SomeExpression, BlockData, BlockOf, NoItems}
+use Rattle.syntax_tree.specs.MemberData.{TypedNamesData}
+use Rattle.syntax_tree.specs.declared.member.TypedName.{TypedName}
+use Rattle.syntax_tree.specs.declared.member.Visibility.{Visibility}
+use Rattle.syntax_tree.specs.declared.member.Visibility.TheVariants.{Module, Public, Friends}
+use Rattle.syntax_tree.specs.declared.member.Function.{Function}
+use Rattle.base.specs.Names.{same_name}
 use Rattle.sum_tree.specs.SumData.{SumData}
 use Rattle.sum_tree.specs.SumFunctionData.{SumFunctionData}
 use Rattle.sum_read.specs.Each.{each}
@@ -31,7 +31,7 @@ parameter_names parameters = each parameter_name parameters
 abbrev pub inputs_of : TypedNamesData → Option (List (List ℕ))
 inputs_of inputs = if inputs.last_comma then None else parameter_names inputs.items
 
--- a body that is a value alone
+-- a body that consists of a value alone
 abbrev pub value_of : BlockData → Option SumData
 value_of (BlockOf place None NoItems (SomeExpression e)) = sum_of e
 value_of _ = None
@@ -40,7 +40,7 @@ abbrev pub is_result : Option SourceTypeData → Bool
 is_result None = false
 is_result (Some t) = is_u64 t
 
--- of its module alone
+-- private to its module
 abbrev pub is_private : Visibility → Bool
 is_private Module = true
 is_private (Public place) = false

@@ -1,20 +1,20 @@
--- Which expressions are sums of u64 values, in code and in specs, and which sum each is. Parentheses round a part stand for
--- it. Source: The Move Book, "Integers"; the Move Specification Language reference, "Expressions".
+-- Which expressions are sums of u64 values, in code and in specs, and which sum each is. Parentheses around a part are
+-- ignored. Source: The Move Book, "Integers"; the Move Specification Language reference, "Expressions".
 use Rattle.std.specs.Prelude.{◌^◌, Bool, true, false, ◌&&◌, nat_lt, if◌then◌else◌, Option, Some, None, option_and_then}
 use Rattle.std.specs.Option.{option_map}
-use Rattle.move_tokens.specs.declared.token.NumberSuffix.{NumberSuffix}
-use Rattle.move_tokens.specs.declared.token.NumberSuffix.TheVariants.{Absent}
-use Rattle.move_tree.specs.declared.lexeme.Numeral.{Numeral}
-use Rattle.move_tree.specs.declared.literal.Literal.{Literal}
-use Rattle.move_tree.specs.declared.literal.Literal.TheVariants.{Number, Truth, Address}
-use Rattle.move_tree.specs.declared.path.Path.{Path}
-use Rattle.move_tree.specs.declared.path.Path.TheVariants.{Name as name_path, Member as member_path, Full as full_path}
-use Rattle.move_tree.specs.declared.operator.BinaryOperator.{BinaryOperator}
-use Rattle.move_tree.specs.declared.operator.BinaryOperator.TheVariants.{Add, Subtract}
-use Rattle.expression_tree.specs.ExpressionData.{ExpressionData, BinaryExpression, LiteralExpression, PathExpression, TupleExpression, ExpressionsData, NoExpressions, MoreExpressions}
-use Rattle.spec_tree.specs.declared.spec_operator.SpecOperator.{SpecOperator}
-use Rattle.spec_tree.specs.declared.spec_operator.SpecOperator.TheVariants.{Equivalent, Implies, Range, Common}
-use Rattle.spec_tree.specs.SpecExpressionData.{SpecExpressionData, SpecBinary, SpecLiteral, SpecPath, SpecParenthesized}
+use Rattle.tokens.specs.declared.token.NumberSuffix.{NumberSuffix}
+use Rattle.tokens.specs.declared.token.NumberSuffix.TheVariants.{Absent}
+use Rattle.syntax_tree.specs.declared.lexeme.Numeral.{Numeral}
+use Rattle.syntax_tree.specs.declared.literal.Literal.{Literal}
+use Rattle.syntax_tree.specs.declared.literal.Literal.TheVariants.{Number, Truth, Address}
+use Rattle.syntax_tree.specs.declared.path.Path.{Path}
+use Rattle.syntax_tree.specs.declared.path.Path.TheVariants.{Name as name_path, Member as member_path, Full as full_path}
+use Rattle.syntax_tree.specs.declared.operator.BinaryOperator.{BinaryOperator}
+use Rattle.syntax_tree.specs.declared.operator.BinaryOperator.TheVariants.{Add, Subtract}
+use Rattle.syntax_tree.specs.ExpressionData.{ExpressionData, BinaryExpression, LiteralExpression, PathExpression, TupleExpression, ExpressionsData, NoExpressions, MoreExpressions}
+use Rattle.syntax_tree.specs.declared.spec_expression.operator.SpecOperator.{SpecOperator}
+use Rattle.syntax_tree.specs.declared.spec_expression.operator.SpecOperator.TheVariants.{Equivalent, Implies, Range, Common}
+use Rattle.syntax_tree.specs.SpecExpressionData.{SpecExpressionData, SpecBinary, SpecLiteral, SpecPath, SpecParenthesized}
 use Rattle.sum_tree.specs.declared.sum.Operator.{Operator}
 use Rattle.sum_tree.specs.declared.sum.Operator.TheVariants.{Plus, Minus}
 use Rattle.sum_tree.specs.SumData.{SumData, NumberSum, WordSum, JoinedSum}
@@ -25,7 +25,7 @@ abbrev pub is_absent : NumberSuffix → Bool
 is_absent Absent = true
 is_absent _ = false
 
--- a number that names no type and is a u64
+-- a number without a suffix that is a u64
 abbrev pub number_sum : Numeral → Option SumData
 number_sum n = if is_absent n.literal.suffix && nat_lt n.literal.value (2 ^ 64) then Some (NumberSum n.literal.value) else None
 
@@ -58,7 +58,7 @@ abbrev mutual
   sum_of (TupleExpression place items last) = if last then None else only_sum items
   sum_of _ = None
 
-  -- the sum of the one expression
+  -- the sum of the only expression
   pub only_sum : ExpressionsData → Option SumData
   only_sum NoExpressions = None
   only_sum (MoreExpressions one NoExpressions) = sum_of one

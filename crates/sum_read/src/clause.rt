@@ -6,13 +6,13 @@ ghost use Rattle.sum_read.specs.Clauses.{clause_at, clause_of, clauses_of};
 
 use crate::condition::read_condition;
 use crate::fault::FormFault;
-use clause_tree::clause::{AbortCode, Clause as ClauseTree};
-use pv_base::span::Span;
-use spec_tree::spec_expression::SpecExpression;
+use base::span::Span;
 use std::alloc::Global;
 use sum_tree::clause::{ClauseKind, SumClause};
+use syntax_tree::clause::{AbortCode, Clause as ClauseTree};
+use syntax_tree::spec_expression::SpecExpression;
 
-/// A clause of this kind at this place.
+/// Reads a clause of this kind at this offset.
 fn read_at(
     alloc: Global,
     kind: ClauseKind,
@@ -29,7 +29,7 @@ fn read_at(
     })
 }
 
-/// The clause over sums that a clause is.
+/// Reads a clause as a clause over sums.
 fn read_clause(alloc: Global, clause: &ClauseTree) -> Result<SumClause, FormFault>
     ensures { MatchResult result (λ read. clause_of clause.now ≡ Some read) (λ fault. IfNotBuilt fault (clause_of clause.now ≡ None)) }
 {
@@ -58,11 +58,11 @@ fn read_clause(alloc: Global, clause: &ClauseTree) -> Result<SumClause, FormFaul
     }
 }
 
-/// The clauses over sums that clauses are.
+/// Reads clauses as clauses over sums.
 ///
 /// # Errors
 ///
-/// `NotBuilt` exactly where one of them is none.
+/// `NotBuilt` if and only if one of them is not one.
 pub fn read_clauses(alloc: Global, clauses: &[ClauseTree]) -> Result<Vec<SumClause>, FormFault>
     ensures { MatchResult result (λ read. clauses_of clauses.now ≡ Some read.items) (λ fault. IfNotBuilt fault (clauses_of clauses.now ≡ None)) }
 {

@@ -7,14 +7,14 @@ ghost use Rattle.sum_read.specs.Sums.{spec_sum_of};
 
 use crate::fault::FormFault;
 use crate::spec_sum::read_spec_sum;
-use move_tree::literal::Literal;
-use move_tree::operator::BinaryOperator;
-use spec_tree::spec_expression::{SpecExpression, SpecNode};
-use spec_tree::spec_operator::SpecOperator;
 use std::alloc::Global;
 use sum_tree::clause::{Comparison, Condition};
+use syntax_tree::literal::Literal;
+use syntax_tree::operator::BinaryOperator;
+use syntax_tree::spec_expression::operator::SpecOperator;
+use syntax_tree::spec_expression::{SpecExpression, SpecNode};
 
-/// The condition that a literal is: `true` or `false`.
+/// Reads a literal as a condition: `true` or `false`.
 fn read_truth(literal: &Literal) -> Result<Condition, FormFault>
     ensures { MatchResult result (λ condition. truth_condition literal.now ≡ Some condition) (λ fault. IfNotBuilt fault (truth_condition literal.now ≡ None)) }
 {
@@ -31,7 +31,7 @@ fn read_truth(literal: &Literal) -> Result<Condition, FormFault>
     }
 }
 
-/// How an operator that code has too compares sums, if it does.
+/// The comparison for an operator that code has too, if there is one.
 fn common_comparison(operator: BinaryOperator) -> Option<Comparison>
     ensures { result ≡ common_comparison operator }
 {
@@ -45,7 +45,7 @@ fn common_comparison(operator: BinaryOperator) -> Option<Comparison>
     }
 }
 
-/// How an operator compares sums, if it does.
+/// The comparison for an operator of specs, if there is one.
 fn comparison_of(operator: SpecOperator) -> Option<Comparison>
     ensures { result ≡ comparison_of operator }
 {
@@ -57,7 +57,7 @@ fn comparison_of(operator: SpecOperator) -> Option<Comparison>
     }
 }
 
-/// Two sums that are compared.
+/// Reads the comparison of two sums.
 fn read_compared(
     alloc: Global,
     left: &SpecExpression,
@@ -74,11 +74,11 @@ fn read_compared(
     Ok(Condition::Compares(Box::into_inner(left), comparison, Box::into_inner(right)))
 }
 
-/// The condition that a spec expression is.
+/// Reads a spec expression as a condition over sums.
 ///
 /// # Errors
 ///
-/// `NotBuilt` exactly where it is none.
+/// `NotBuilt` if and only if it is not one.
 #[cycle(read_condition)]
 pub fn read_condition(alloc: Global, expression: &SpecExpression) -> Result<Condition, FormFault>
     ensures { MatchResult result (λ condition. condition_of expression.now ≡ Some condition) (λ fault. IfNotBuilt fault (condition_of expression.now ≡ None)) }

@@ -1,14 +1,14 @@
-//! Why no form was read.
+//! Why a tree is not read.
 
 ghost use Rattle.std.specs.Prelude.{◌≡◌};
 
-use pv_base::memory::NoMemory;
+use base::memory::NoMemory;
 use std::alloc::AllocFailed;
 
-/// Why no form was read.
+/// Why a tree is not read.
 #[derive(Clone, Copy, Debug, PartialEq, Eq)]
 pub enum FormFault {
-    /// The tree is of no form that is built.
+    /// The tree is not of the supported form.
     NotBuilt,
     /// Memory ran out.
     NoMemory,

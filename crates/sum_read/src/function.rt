@@ -6,16 +6,16 @@ ghost use Rattle.sum_read.specs.Functions.{function_of, inputs_of, is_plain, is_
 
 use crate::fault::FormFault;
 use crate::sum::read_sum;
-use expression_tree::expression::Block;
-use file_tree::member::{Function as FunctionTree, TypedName, TypedNames, Visibility};
-use move_tree::path::Path;
-use move_tree::types::{SourceType, SourceTypeNode};
-use pv_base::name::Name;
+use base::name::Name;
 use std::alloc::Global;
 use sum_tree::function::SumFunction;
 use sum_tree::sum::Sum;
+use syntax_tree::expression::Block;
+use syntax_tree::member::{Function as FunctionTree, TypedName, TypedNames, Visibility};
+use syntax_tree::path::Path;
+use syntax_tree::types::{SourceType, SourceTypeNode};
 
-/// Whether a type is `u64`.
+/// Decides whether a type is `u64`.
 fn is_u64(annotation: &SourceType) -> bool
     ensures { result ≡ is_u64 annotation.now }
 {
@@ -31,7 +31,7 @@ fn is_u64(annotation: &SourceType) -> bool
     }
 }
 
-/// The name of a parameter, which has to be a u64.
+/// The name of a parameter, which must be a u64.
 fn parameter_name(alloc: Global, parameter: &TypedName) -> Result<Name, FormFault>
     ensures { MatchResult result (λ name. parameter_name parameter.now ≡ Some name) (λ fault. IfNotBuilt fault (parameter_name parameter.now ≡ None)) }
 {
@@ -42,7 +42,7 @@ fn parameter_name(alloc: Global, parameter: &TypedName) -> Result<Name, FormFaul
     }
 }
 
-/// The names of parameters, each of which has to be a u64.
+/// The names of parameters, each of which must be a u64.
 fn parameter_names(alloc: Global, parameters: &[TypedName]) -> Result<Vec<Name>, FormFault>
     ensures { MatchResult result (λ names. parameter_names parameters.now ≡ Some names.items) (λ fault. IfNotBuilt fault (parameter_names parameters.now ≡ None)) }
 {
@@ -53,7 +53,7 @@ fn parameter_names(alloc: Global, parameters: &[TypedName]) -> Result<Vec<Name>,
     Ok(names)
 }
 
-/// The names of the inputs of a function, behind the last of which no comma stands.
+/// The names of the inputs of a function, which must have no trailing comma.
 fn inputs_of(alloc: Global, inputs: &TypedNames) -> Result<Vec<Name>, FormFault>
     ensures { MatchResult result (λ names. inputs_of inputs.now ≡ Some names.items) (λ fault. IfNotBuilt fault (inputs_of inputs.now ≡ None)) }
 {
@@ -64,7 +64,7 @@ fn inputs_of(alloc: Global, inputs: &TypedNames) -> Result<Vec<Name>, FormFault>
     }
 }
 
-/// The sum that the value of a body is, which has nothing else.
+/// Reads a body as a sum: it must consist of a value alone.
 fn value_of(alloc: Global, body: &Block) -> Result<Box<Sum>, FormFault>
     ensures { MatchResult result (λ sum. value_of body.now ≡ Some sum.value) (λ fault. IfNotBuilt fault (value_of body.now ≡ None)) }
 {
@@ -80,7 +80,7 @@ fn value_of(alloc: Global, body: &Block) -> Result<Box<Sum>, FormFault>
     }
 }
 
-/// Whether only the functions of its module may call a function.
+/// Decides whether a function is private to its module.
 fn is_private(visibility: Visibility) -> bool
     ensures { result ≡ is_private visibility }
 {
@@ -91,7 +91,7 @@ fn is_private(visibility: Visibility) -> bool
     }
 }
 
-/// Whether a function returns a u64.
+/// Decides whether a function returns a u64.
 fn is_result(annotation: &Option<SourceType>) -> bool
     ensures { result ≡ is_result annotation.now }
 {
@@ -101,7 +101,8 @@ fn is_result(annotation: &Option<SourceType>) -> bool
     }
 }
 
-/// Whether a function is of its module alone, has no type parameters and no `acquires`, and returns a u64.
+/// Decides whether a function is private to its module, has no `entry`, no type parameters and no `acquires`, and
+/// returns a u64.
 fn is_plain(function: &FunctionTree) -> bool
     ensures { result ≡ is_plain function.now }
 {
@@ -112,11 +113,11 @@ fn is_plain(function: &FunctionTree) -> bool
         && is_result(&function.result)
 }
 
-/// The function over sums that a function is.
+/// Reads a function as a function over sums.
 ///
 /// # Errors
 ///
-/// `NotBuilt` exactly where it is none.
+/// `NotBuilt` if and only if it is not one.
 pub fn read_function(alloc: Global, function: &FunctionTree) -> Result<SumFunction, FormFault>
     ensures { MatchResult result (λ read. function_of function.now ≡ Some read) (λ fault. IfNotBuilt fault (function_of function.now ≡ None)) }
 {

@@ -1,4 +1,4 @@
-//! Sums, clauses and functions of the form that is built, read off source trees.
+//! Reads sums, clauses and functions of the supported form from source trees.
 #![tactic(auto)]
 
 pub mod clause;

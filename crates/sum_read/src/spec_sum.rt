@@ -6,15 +6,15 @@ ghost use Rattle.sum_read.specs.Sums.{spec_sum_of};
 
 use crate::fault::FormFault;
 use crate::term::{join, read_literal, read_word, spec_operator_of};
-use spec_tree::spec_expression::{SpecExpression, SpecNode};
 use std::alloc::Global;
 use sum_tree::sum::Sum;
+use syntax_tree::spec_expression::{SpecExpression, SpecNode};
 
-/// The sum that a spec expression is.
+/// Reads a spec expression as a sum.
 ///
 /// # Errors
 ///
-/// `NotBuilt` exactly where it is none.
+/// `NotBuilt` if and only if it is not one.
 #[cycle(read_spec_sum)]
 pub fn read_spec_sum(alloc: Global, expression: &SpecExpression) -> Result<Box<Sum>, FormFault>
     ensures { MatchResult result (λ sum. spec_sum_of expression.now ≡ Some sum.value) (λ fault. IfNotBuilt fault (spec_sum_of expression.now ≡ None)) }

@@ -6,15 +6,15 @@ ghost use Rattle.sum_read.specs.Sums.{sum_of};
 
 use crate::fault::FormFault;
 use crate::term::{join, operator_of, read_literal, read_word};
-use expression_tree::expression::{Expression, ExpressionNode};
 use std::alloc::Global;
 use sum_tree::sum::Sum;
+use syntax_tree::expression::{Expression, ExpressionNode};
 
-/// The sum that an expression is.
+/// Reads an expression as a sum.
 ///
 /// # Errors
 ///
-/// `NotBuilt` exactly where it is none.
+/// `NotBuilt` if and only if it is not one.
 #[cycle(read_sum)]
 pub fn read_sum(alloc: Global, expression: &Expression) -> Result<Box<Sum>, FormFault>
     ensures { MatchResult result (λ sum. sum_of expression.now ≡ Some sum.value) (λ fault. IfNotBuilt fault (sum_of expression.now ≡ None)) }

@@ -6,17 +6,17 @@ ghost use Rattle.sum_read.specs.Sums.{literal_sum, number_sum, operator_of, spec
 ghost use Rattle.sum_tree.specs.SumData.{JoinedSum};
 
 use crate::fault::FormFault;
-use move_tokens::token::NumberSuffix;
-use move_tree::lexeme::Numeral;
-use move_tree::literal::Literal;
-use move_tree::operator::BinaryOperator;
-use move_tree::path::Path;
-use pv_base::memory::NoMemory;
-use spec_tree::spec_operator::SpecOperator;
+use base::memory::NoMemory;
 use std::alloc::Global;
 use sum_tree::sum::{Operator, Sum, SumNode};
+use syntax_tree::lexeme::Numeral;
+use syntax_tree::literal::Literal;
+use syntax_tree::operator::BinaryOperator;
+use syntax_tree::path::Path;
+use syntax_tree::spec_expression::operator::SpecOperator;
+use tokens::token::NumberSuffix;
 
-/// The sum that is a number: one that names no type, and is a u64.
+/// Reads a number as a sum: it must have no suffix, and be a u64.
 fn read_number(alloc: Global, number: &Numeral) -> Result<Box<Sum>, FormFault>
     ensures { MatchResult result (λ sum. number_sum number.now ≡ Some sum.value) (λ fault. IfNotBuilt fault (number_sum number.now ≡ None)) }
 {
@@ -34,7 +34,7 @@ fn read_number(alloc: Global, number: &Numeral) -> Result<Box<Sum>, FormFault>
     }
 }
 
-/// The sum that is a literal.
+/// Reads a literal as a sum.
 pub fn read_literal(alloc: Global, literal: &Literal) -> Result<Box<Sum>, FormFault>
     ensures { MatchResult result (λ sum. literal_sum literal.now ≡ Some sum.value) (λ fault. IfNotBuilt fault (literal_sum literal.now ≡ None)) }
 {
@@ -45,7 +45,7 @@ pub fn read_literal(alloc: Global, literal: &Literal) -> Result<Box<Sum>, FormFa
     }
 }
 
-/// The sum that is a name.
+/// Reads a name as a sum.
 pub fn read_word(alloc: Global, path: &Path) -> Result<Box<Sum>, FormFault>
     ensures { MatchResult result (λ sum. word_sum path.now ≡ Some sum.value) (λ fault. IfNotBuilt fault (word_sum path.now ≡ None)) }
 {
@@ -59,7 +59,7 @@ pub fn read_word(alloc: Global, path: &Path) -> Result<Box<Sum>, FormFault>
     }
 }
 
-/// How an operator of code joins sums, if it does.
+/// The operator of sums for an operator of code, if there is one.
 pub fn operator_of(operator: BinaryOperator) -> Option<Operator>
     ensures { result ≡ operator_of operator }
 {
@@ -70,7 +70,7 @@ pub fn operator_of(operator: BinaryOperator) -> Option<Operator>
     }
 }
 
-/// How an operator of specs joins sums, if it does.
+/// The operator of sums for an operator of specs, if there is one.
 pub fn spec_operator_of(operator: SpecOperator) -> Option<Operator>
     ensures { result ≡ spec_operator_of operator }
 {
@@ -82,7 +82,7 @@ pub fn spec_operator_of(operator: SpecOperator) -> Option<Operator>
     }
 }
 
-/// Two sums that are joined.
+/// The sum of two sums with this operator.
 pub fn join(
     alloc: Global,
     left: Box<Sum>,

@@ -4,7 +4,7 @@ use Rattle.std.specs.Prelude.{◌≡◌, ℕ, ◌+◌, List, [], ◌∷◌, refl
 use Rattle.std.specs.Coded.{Coded, code_by}
 use denote.Struct.Codes.{itself}
 use Rattle.std.proofs.Common.{ap}
-use Rattle.pv_base.specs.Codes.{pick, numbers_code, numbers_back, numbers_back-code}
+use Rattle.base.specs.Codes.{pick, numbers_code, numbers_back, numbers_back-code}
 use Rattle.sum_tree.specs.declared.sum.Operator.{Operator}
 use Rattle.sum_tree.specs.declared.sum.Operator.TheVariants.{Plus, Minus}
 

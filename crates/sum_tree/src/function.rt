@@ -2,7 +2,7 @@
 
 use crate::clause::SumClause;
 use crate::sum::Sum;
-use pv_base::name::Name;
+use base::name::Name;
 use std::marker::Model;
 
 /// A function of u64 parameters that returns a sum.

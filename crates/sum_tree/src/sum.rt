@@ -1,6 +1,6 @@
 //! Sums of u64 values.
 
-use pv_base::name::Name;
+use base::name::Name;
 use std::marker::Model;
 
 /// How two sums are joined.

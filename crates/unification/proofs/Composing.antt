@@ -1,15 +1,15 @@
--- Unifiers made of unifiers: a substitution after one, and two of them mixed.
+-- Unifiers made of unifiers: the composition of substitutions, and two of them mixed.
 use Rattle.std.proofs.Common.{◌≡◌, ℕ, suc, ◌+◌, ◌<◌, ◌≤◌, List, [], ◌∷◌, refl, sym, ap, ◌∙◌, inl, inr, arith}
 use Rattle.std.proofs.lemmas.Bool.Decides.{leb_tells}
-use Rattle.pv_base.specs.TypeData.{TypeData, BoolType, IntType, NumType, AddressType, SignerType, VectorType, StructType, ParamType, SharedType, MutableType, TupleType, TypesData, NoTypes, MoreTypes}
-use Rattle.pv_base.specs.declared.types.Width.{Width}
-use Rattle.pv_base.specs.declared.types.Width.TheVariants.{U8, U16, U32, U64, U128}
-use Rattle.type_places.specs.Slots.{Typing}
-use Rattle.type_places.specs.Instances.{instance, instances, arguments}
+use Rattle.base.specs.TypeData.{TypeData, BoolType, IntType, NumType, AddressType, SignerType, VectorType, StructType, ParamType, SharedType, MutableType, TupleType, TypesData, NoTypes, MoreTypes}
+use Rattle.base.specs.declared.types.Width.{Width}
+use Rattle.base.specs.declared.types.Width.TheVariants.{U8, U16, U32, U64, U128}
+use Rattle.unification.specs.Slots.{Typing}
+use Rattle.unification.specs.Instances.{instance, instances, arguments}
 use Rattle.unification.specs.declared.pairs.TypePair.{TypePair}
 use Rattle.unification.specs.Unifiers.{apply, Unifies}
 
--- ---- variables and names
+-- ---- variables and constants
 
 pub variable : (n : ℕ) (s : Typing) (k : ℕ) → k < n → arguments s 0 n k ≡ s k
 variable n s k lt = elim (leb_tells (suc k) n) [
@@ -23,7 +23,7 @@ name n s k le = elim (leb_tells (suc k) n) [
   | inr e ↦ simp e.0 refl
 ]
 
--- ---- one substitution after another
+-- ---- composition of substitutions
 
 mutual
   instance_twice : (s t : ℕ → TypeData) (a : TypeData) → instance s (instance t a) ≡ instance (λ k. instance s (t k)) a
@@ -43,7 +43,7 @@ mutual
   instances_twice s t NoTypes = refl
   instances_twice s t (MoreTypes a ts) = λ i. MoreTypes (instance_twice s t a i) (instances_twice s t ts i)
 
--- the second substitution after the first
+-- the composition: the second substitution after the first
 abbrev pub after : ℕ → Typing → Typing → Typing
 after n s m k = apply n s (m k)
 

@@ -1,16 +1,16 @@
--- Ranks that are given, and what is left without.
+-- Ranks that are given, and variables without one.
 use Rattle.std.proofs.Common.{◌≡◌, ◌≢◌, ℕ, zero, suc, ◌+◌, ◌<◌, ◌≤◌, List, [], ◌∷◌, length, length-append, replicate, ◌++◌, refl, sym, ap, subst, ◌∙◌, inl, inr, arith, get_or-set_other, get_or-set_same}
 use Rattle.std.proofs.lemmas.Bool.Decides.{eqb_tells}
 use Rattle.std.proofs.lemmas.List.Sums.{sum_by-set}
 use Rattle.std.proofs.lemmas.List.{get_or_push, get_or_append_left}
 use Rattle.std.proofs.Math.ListN.{set, length-set}
 use Rattle.std.specs.Prelude.{slice_index}
-use Rattle.type_places.specs.Slots.{Fits, SlotFits, slot_at}
-use Rattle.type_places.specs.Ranks.{EachIn, EachLed, Lower, IsRank}
-use Rattle.type_places.specs.declared.slots.Term.{Term}
-use Rattle.type_places.specs.declared.slots.Term.TheVariants.{Place, Closed, Made, Grouped}
-use Rattle.type_places.specs.declared.slots.Slot.{Slot}
-use Rattle.type_places.specs.declared.slots.Slot.TheVariants.{Open, Bound}
+use Rattle.unification.specs.Slots.{Fits, SlotFits, slot_at}
+use Rattle.unification.specs.Ranks.{EachIn, EachLed, Lower, IsRank}
+use Rattle.unification.specs.declared.type_variables.slots.Term.{Term}
+use Rattle.unification.specs.declared.type_variables.slots.Term.TheVariants.{Place, Closed, Made, Grouped}
+use Rattle.unification.specs.declared.type_variables.slots.Slot.{Slot}
+use Rattle.unification.specs.declared.type_variables.slots.Slot.TheVariants.{Open, Bound}
 use Rattle.unification.specs.Ranked.{rank_at, HasLower, IsRanked, IsRanking, left, unranked}
 
 pub zeros : (n p : ℕ) → rank_at (replicate n zero) p ≡ zero
@@ -39,7 +39,7 @@ pub each_led : (P Q : ℕ → Type 0) (s : Slot) → ((q : ℕ) → P q → Q q)
 each_led P Q (Open s) f h = tt
 each_led P Q (Bound x) f h = each_in P Q x f h
 
--- both hold of the places of a slot
+-- both hold of the variables of a slot
 both_in : (P Q : ℕ → Type 0) (x : Term) → EachIn P x → EachIn Q x → EachIn (λ q. P q × Q q) x
 both_in P Q (Place q) h g = (h, g)
 both_in P Q (Closed of) h g = tt
@@ -50,7 +50,7 @@ both_led : (P Q : ℕ → Type 0) (s : Slot) → EachLed P s → EachLed Q s →
 both_led P Q (Open s) h g = tt
 both_led P Q (Bound x) h g = both_in P Q x h g
 
--- the places of a slot that fits are there
+-- the variables of a slot that fits exist
 fits_in : (n p : ℕ) (s : Slot) → p < n → SlotFits n p s → EachLed (λ q. q < n) s
 fits_in n p (Open s) lt h = tt
 fits_in n p (Bound (Place q)) lt h = omega (arith, lt, h)
@@ -64,7 +64,7 @@ other ranks i p r ne = get_or-set_other ranks i p r _ ne
 pub here : (ranks : List ℕ) (i r : ℕ) → i < length ranks → rank_at (set ranks i r) i ≡ r
 here ranks i r h = get_or-set_same ranks i r _ h
 
--- a place with a rank keeps it where another gets one
+-- a variable with a rank keeps it where another gets one
 kept_lower : (ranks : List ℕ) (i r k q : ℕ) → rank_at ranks i ≡ 0 → HasLower ranks k q → HasLower (set ranks i r) k q
 kept_lower ranks i r k q none h =
     let ne : q ≢ i = λ e. (let z : rank_at ranks q ≡ 0 = ap (rank_at ranks) e ∙ none in absurd (let a = h.1 in omega (arith, z, a))) in
@@ -121,7 +121,7 @@ settled_less ranks i r lt none pos =
     left_none zero h = absurd (omega (arith, h))
     left_none (suc n) h = refl
 
--- where each place has a rank, the ranks are ranks
+-- if each variable has a rank, the ranks are ranks
 is_rank : (slots : List Slot) (ranks order : List ℕ) → IsRanked slots ranks order → ((p : ℕ) → p < length ranks → 0 < rank_at ranks p) → IsRank slots (rank_at ranks)
 is_rank slots ranks order is all = record {
   each = λ p lt.

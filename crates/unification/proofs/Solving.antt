@@ -1,18 +1,18 @@
--- Slots that say of substitutions that they are unifiers.
+-- Slots that describe the unifiers of pairs.
 use Rattle.std.proofs.Common.{◌≡◌, ℕ, zero, suc, ◌+◌, ◌<◌, ◌≤◌, ◌++◌, true, false, IsTrue, List, [], ◌∷◌, length, take, get_or, refl, sym, ap, subst, ◌∙◌, arith}
-use Rattle.pv_base.specs.TypeData.{TypeData, BoolType, IntType, ParamType}
-use Rattle.pv_base.specs.declared.types.Width.TheVariants.{U8, U16}
-use Rattle.type_places.specs.Sorts.{is_of}
-use Rattle.type_places.specs.Slots.{Typing, Meets, Fits, IsOpen, SlotMeets, slot_at}
-use Rattle.type_places.specs.Grown.{Grows}
-use Rattle.type_places.specs.Ranks.{EachLed, Lower, IsRank, refill_by}
-use Rattle.type_places.specs.declared.slots.Sort.{Sort}
-use Rattle.type_places.specs.declared.slots.Sort.TheVariants.{Any, Single, Value, Integer}
-use Rattle.type_places.specs.declared.slots.Slot.{Slot}
-use Rattle.type_places.specs.declared.slots.Slot.TheVariants.{Open, Bound}
-use Rattle.type_places.proofs.Growing.{instance_kept}
-use Rattle.type_places.proofs.Becoming.{open_says}
-use Rattle.type_places.proofs.Refill.{value-same, refill_by-meets, refill_by-open}
+use Rattle.base.specs.TypeData.{TypeData, BoolType, IntType, ParamType}
+use Rattle.base.specs.declared.types.Width.TheVariants.{U8, U16}
+use Rattle.unification.specs.Sorts.{is_of}
+use Rattle.unification.specs.Slots.{Typing, Meets, Fits, IsOpen, SlotMeets, slot_at}
+use Rattle.unification.specs.Grown.{Grows}
+use Rattle.unification.specs.Ranks.{EachLed, Lower, IsRank, refill_by}
+use Rattle.unification.specs.declared.type_variables.slots.Sort.{Sort}
+use Rattle.unification.specs.declared.type_variables.slots.Sort.TheVariants.{Any, Single, Value, Integer}
+use Rattle.unification.specs.declared.type_variables.slots.Slot.{Slot}
+use Rattle.unification.specs.declared.type_variables.slots.Slot.TheVariants.{Open, Bound}
+use Rattle.unification.proofs.Growing.{instance_kept}
+use Rattle.unification.proofs.Becoming.{open_says}
+use Rattle.unification.proofs.Refill.{value-same, refill_by-meets, refill_by-open}
 use Rattle.unification.specs.declared.pairs.TypePair.{TypePair}
 use Rattle.unification.specs.Unifiers.{apply, Joins, Unifies, IsMostGeneral, HasNoUnifier, HasUnifier}
 use Rattle.unification.specs.Solved.{Solves, own, unifier}
@@ -70,7 +70,7 @@ pub clash_at : (n : ℕ) (pairs : List TypePair) (i j : ℕ) (p : TypePair) (slo
 clash_at n pairs i j p slots new lt le e s g t h = clashes n (take i pairs) p slots new s g t
     (subst (λ (ps : List TypePair). Unifies n t ps) (take_more pairs i p lt ∙ ap (λ (q : TypePair). take i pairs ++ q ∷ []) (sym e)) (fewer n t pairs (i + 1) j le h))
 
--- ---- what is open is no integer type
+-- ---- an open variable is of no integer sort
 
 small_is : (s : Sort) → IsTrue (is_of s (IntType U8))
 small_is Any = refl
@@ -103,7 +103,7 @@ no_open_integer n pairs slots r solves rank p lt e =
 
 -- ---- the unifier is most general
 
--- typings that give the open places the same types are one
+-- typings that give the open variables the same types are equal
 same_slot : (t u : Typing) (P : ℕ → Type 0) (p : ℕ) (x : Slot) → SlotMeets t p x → SlotMeets u p x → EachLed P x → (IsOpen x → t p ≡ u p) → ((q : ℕ) → P q → t q ≡ u q) → t p ≡ u p
 same_slot t u P p (Open s) mt mu led free e = free tt
 same_slot t u P p (Bound x) mt mu led free e = mt ∙ value-same P t u x led e ∙ sym mu
@@ -131,7 +131,7 @@ open_sort : (x : Slot) → IsOpen x → (s : Sort) × (x ≡ Open s)
 open_sort (Open s) h = (s, refl)
 open_sort (Bound y) h = absurd h
 
--- the unifier with another one after it is that one
+-- the unifier followed by another unifier is the latter
 own_after : (n : ℕ) (pairs : List TypePair) (slots : List Slot) (r : ℕ → ℕ) → Solves n pairs slots → IsRank slots r → (s : Typing) (p : ℕ) → p < length slots → IsOpen (slot_at slots p) →
     apply n s (refill_by slots own r p) ≡ s p
 own_after n pairs slots r solves rank s p lt o =

@@ -1,4 +1,4 @@
--- Steps of a walk along the places to which places lead.
+-- Steps of the depth-first traversal of type variables.
 use Rattle.std.proofs.Common.{◌≡◌, ◌≢◌, ℕ, zero, suc, ◌+◌, ◌-◌, ◌*◌, ◌<◌, ◌≤◌, Bool, true, false, List, [], ◌∷◌, ◌++◌, length, reverse, replicate, refl, sym, ap, subst, ◌∙◌, inl, inr, arith, get_or-set_other, get_or-set_same}
 use Rattle.std.specs.Prelude.{eqb, ◌||◌, slice_index}
 use Rattle.std.specs.List.{list_any, IsDistinct, AllByRecursion}
@@ -7,12 +7,12 @@ use Rattle.std.proofs.lemmas.Map.Steps.{length-le_from_distinct_below}
 use Rattle.std.proofs.lemmas.Bool.Decides.{eqb_tells, leb_tells}
 use Rattle.std.proofs.Math.Nat.{mul-le-mul_right}
 use Rattle.std.proofs.Math.ListN.{set, length-set}
-use Rattle.type_places.specs.Slots.{Typing, Meets, Fits, SlotFits, slot_at}
-use Rattle.type_places.specs.Ranks.{EachLed, Lower, IsRank, rank_by}
-use Rattle.type_places.specs.declared.slots.Term.TheVariants.{Place, Closed, Made, Grouped}
-use Rattle.type_places.specs.declared.slots.Slot.{Slot}
-use Rattle.type_places.specs.declared.slots.Slot.TheVariants.{Open, Bound}
-use Rattle.type_places.proofs.Refill.{ranked}
+use Rattle.unification.specs.Slots.{Typing, Meets, Fits, SlotFits, slot_at}
+use Rattle.unification.specs.Ranks.{EachLed, Lower, IsRank, rank_by}
+use Rattle.unification.specs.declared.type_variables.slots.Term.TheVariants.{Place, Closed, Made, Grouped}
+use Rattle.unification.specs.declared.type_variables.slots.Slot.{Slot}
+use Rattle.unification.specs.declared.type_variables.slots.Slot.TheVariants.{Open, Bound}
+use Rattle.unification.proofs.Refill.{ranked}
 use Rattle.unification.specs.Ranked.{rank_at, unranked}
 use Rattle.unification.specs.Walking.{first_part, part_count, IsPart, IsWalk, LedTo, IsWay, BeginsAt, IsOnWay, KeepsRanks, steps_left, Goes}
 use Rattle.unification.specs.declared.walk.Walk.{Walk}
@@ -34,7 +34,7 @@ led_part P (Bound (Closed of)) h = tt
 led_part P (Bound (Made w p)) h = h p (omega arith, omega arith)
 led_part P (Bound (Grouped g first count)) h = λ q a b. h q (a, b)
 
--- the places of a slot that fits are there
+-- the variables of a slot that fits exist
 pub parts_within : (slots : List Slot) (p : ℕ) → Fits slots → p < length slots → first_part (slot_at slots p) + part_count (slot_at slots p) ≤ length slots
 parts_within slots p fits lt = go (slot_at slots p) (fits.each p lt)
   where
@@ -52,9 +52,9 @@ all_ranked slots ranks p h q is =
     let e : first + (q - first) ≡ q = (let a = is.0 in omega (arith, a)) in
     subst (λ (x : ℕ). 0 < rank_at ranks x) e (h (q - first) (let a = is.0 in let b = is.1 in omega (arith, a, b)))
 
--- ---- a place gets a rank
+-- ---- a variable gets a rank
 
--- a place that leads to one without a rank is not this one, all of whose parts have ranks
+-- a variable that refers to one without a rank is not this one, all of whose parts have ranks
 leads_on : (slots : List Slot) (ranks : List ℕ) (at p q : ℕ) → ((x : ℕ) → IsPart (slot_at slots at) x → 0 < rank_at ranks x) → rank_at ranks q ≡ 0 → IsPart (slot_at slots p) q → p ≢ at
 leads_on slots ranks at p q all none is e =
     let h = all q (subst (λ (x : ℕ). IsPart (slot_at slots x) q) e is) in absurd (omega (arith, h, none))
@@ -81,7 +81,7 @@ keeps_set ranks at r lt pos p h = elim (eqb_tells p at) [
   | inr e ↦ (let same = other ranks at p r e.1 in omega (arith, same, h))
 ]
 
--- what is left to do
+-- the termination measure
 less_by : (a b m x y : ℕ) → a + 1 ≤ b → x < m → a * m + x < b * m + y
 less_by a b m x y h lt = let le : (1 + a) * m ≤ b * m = mul-le-mul_right m (omega (arith, h)) in omega (arith, le, lt)
 
@@ -107,7 +107,7 @@ seen_more slots ranks seen at k h lt more p i lp li = elim (eqb_tells p at) [
   | inr e ↦ h p i lp (let same : slice_index (set seen at k) p ≡ slice_index seen p = get_or-set_other seen at p k 0 e.1 in omega (arith, li, same))
 ]
 
--- the walk, where more parts of a place are seen to have ranks
+-- the invariant, where more parts of a variable are known to have ranks
 pub walk_seen : (slots : List Slot) (ranks order seen : List ℕ) (at k : ℕ) → IsWalk slots ranks order seen → at < length slots → k ≤ part_count (slot_at slots at) →
     ((i : ℕ) → slice_index seen at ≤ i → i < k → 0 < rank_at ranks (first_part (slot_at slots at) + i)) → IsWalk slots ranks order (set seen at k)
 walk_seen slots ranks order seen at k w lt most more =
@@ -122,7 +122,7 @@ walk_seen slots ranks order seen at k w lt most more =
       seen_ranked = seen_more slots ranks seen at k w.seen_ranked inside more;
     }
 
--- the walk, where a place gets a rank
+-- the invariant, where a variable gets a rank
 walk_settled : (slots : List Slot) (ranks order seen : List ℕ) (at r : ℕ) → Fits slots → IsWalk slots ranks order seen → at < length slots → rank_at ranks at ≡ 0 → r ≡ length order + 1 →
     ((q : ℕ) → IsPart (slot_at slots at) q → 0 < rank_at ranks q) → IsWalk slots (set ranks at r) (order ++ at ∷ []) seen
 walk_settled slots ranks order seen at r fits w lt none is all = record {
@@ -132,7 +132,7 @@ walk_settled slots ranks order seen at r fits w lt none is all = record {
   seen_ranked = λ p i lp li. keeps_set ranks at r (subst (λ (n : ℕ). at < n) (sym w.ranked.same_length) lt) (omega (arith, is)) (first_part (slot_at slots p) + i) (w.seen_ranked p i lp li);
 }
 
--- ---- a way that is too long
+-- ---- a path that is too long
 
 above : (slots : List Slot) (ranks : List ℕ) (r : ℕ → ℕ) → IsRank slots r → (k q : ℕ) (way : List ℕ) → r k ≤ r q → LedTo slots q way → IsWay slots ranks way → AllByRecursion (λ y. eqb k y ≡ false) way
 above slots ranks r rank k q [] le led is = tt
@@ -164,7 +164,7 @@ too_long slots ranks way fits is long t m =
     let h = length-le_from_distinct_below way (length slots) (distinct slots ranks (rank_by slots t) (ranked slots t fits m) way is) (below slots ranks way is) in
     omega (arith, h, long)
 
--- what was read of the parts of a place
+-- the ranks that were read of the parts of a variable
 pub parts_read : (slots : List Slot) (at first k known : ℕ) (ranks seen read : List ℕ) → read ≡ ranks → first ≡ first_part (slot_at slots at) → known ≡ slice_index seen at →
     ((i : ℕ) → known ≤ i → i < k → 0 < rank_at read (first + i)) → (i : ℕ) → slice_index seen at ≤ i → i < k → 0 < rank_at ranks (first_part (slot_at slots at) + i)
 parts_read slots at first k known ranks seen read er ef ek h i a b =
@@ -181,7 +181,7 @@ walk_is slots r s o p e f a b c w = subst (λ (x : List ℕ). IsWalk slots x p f
 on_way_is : (slots : List Slot) (start : ℕ) (r s v w : List ℕ) → s ≡ r → w ≡ v → IsOnWay slots start r v → IsOnWay slots start s w
 on_way_is slots start r s v w a b h = subst (λ (x : List ℕ). IsOnWay slots start x w) (sym a) (subst (λ (x : List ℕ). IsOnWay slots start r x) (sym b) h)
 
--- the place at which the walk is gets a rank
+-- the last variable of the path gets a rank
 pub goes_settled : (slots : List Slot) (start at k : ℕ) (ranks order seen way : List ℕ) (new : Walk) → Fits slots → IsWalk slots ranks order seen → IsOnWay slots start ranks (at ∷ way) →
     k ≡ part_count (slot_at slots at) → ((i : ℕ) → slice_index seen at ≤ i → i < k → 0 < rank_at ranks (first_part (slot_at slots at) + i)) →
     new.ranks.items ≡ set ranks at (length order + 1) → new.order.items ≡ order ++ at ∷ [] → new.seen.items ≡ set seen at k → reverse new.way.items ≡ way →
@@ -209,7 +209,7 @@ goes_settled slots start at k ranks order seen way new fits w on all more er eo 
           (less_ranks (length slots) ranks (set ranks at r) (at ∷ way) way (settled_less ranks at r inside none pos)));
     }
 
--- the walk goes to a part without a rank
+-- the traversal goes on to a part without a rank
 pub goes_further : (slots : List Slot) (start at k : ℕ) (ranks order seen way : List ℕ) (new : Walk) → Fits slots → IsWalk slots ranks order seen → IsOnWay slots start ranks (at ∷ way) →
     k < part_count (slot_at slots at) → ((i : ℕ) → slice_index seen at ≤ i → i < k → 0 < rank_at ranks (first_part (slot_at slots at) + i)) →
     rank_at ranks (first_part (slot_at slots at) + k) ≡ 0 → length way < length slots →
@@ -232,16 +232,16 @@ goes_further slots start at k ranks order seen way new fits w on less more none 
           (less_way (length slots) ranks (at ∷ way) (part ∷ at ∷ way) (omega arith) (omega (arith, short))));
     }
 
--- the way is longer than there are places
+-- the path is longer than the number of type variables
 pub goes_round : (slots : List Slot) (start at : ℕ) (ranks way : List ℕ) → Fits slots → IsOnWay slots start ranks (at ∷ way) → length slots ≤ length way → (t : Typing) → Meets slots t → ⊥
 goes_round slots start at ranks way fits on long = too_long slots ranks (at ∷ way) fits on.places (omega (arith, long))
 
--- ---- the whole walk
+-- ---- the whole traversal
 
 pub reverse_push : (xs more : List ℕ) (x : ℕ) → more ≡ xs ++ x ∷ [] → reverse more ≡ x ∷ reverse xs
 reverse_push xs more x e = ap reverse e ∙ reverse-append xs (x ∷ [])
 
--- no place has a rank yet
+-- no variable has a rank yet
 pub walk_start : (slots : List Slot) (ranks seen : List ℕ) (n m : ℕ) → ranks ≡ replicate n zero → seen ≡ replicate m zero → length ranks ≡ length slots → length seen ≡ length slots → IsWalk slots ranks [] seen
 walk_start slots ranks seen n m er es lr ls =
     let none : (p : ℕ) → slice_index seen p ≡ 0 = λ p. ap (λ (xs : List ℕ). slice_index xs p) es ∙ zeros m p in
@@ -252,7 +252,7 @@ walk_start slots ranks seen n m er es lr ls =
       seen_ranked = λ p i lt li. absurd (let e = none p in omega (arith, li, e));
     }
 
--- the way before the first step
+-- the path before the first step
 pub way_start : (slots : List Slot) (start : ℕ) (ranks way : List ℕ) → way ≡ start ∷ [] → start < length slots → rank_at ranks start ≡ 0 → IsOnWay slots start ranks way
 way_start slots start ranks way e lt none = subst (λ (w : List ℕ). IsOnWay slots start ranks w) (sym e) (record {
   places = (lt, none, tt, tt);
@@ -262,7 +262,7 @@ way_start slots start ranks way e lt none = subst (λ (w : List ℕ). IsOnWay sl
 pub keeps_then : (a b c : List ℕ) → KeepsRanks a b → KeepsRanks b c → KeepsRanks a c
 keeps_then a b c f g p h = g p (f p h)
 
--- one place more has a rank
+-- one more variable has a rank
 pub ranked_more : (old new : List ℕ) (start : ℕ) → ((p : ℕ) → p < start → 0 < rank_at old p) → KeepsRanks old new → 0 < rank_at new start → (p : ℕ) → p < start + 1 → 0 < rank_at new p
 ranked_more old new start all keeps here p lt = elim (eqb_tells p start) [
   | inl e ↦ subst (λ (x : ℕ). 0 < rank_at new x) (sym e.1) here

@@ -1,4 +1,4 @@
--- What the answers over the first so many pairs say.
+-- The results of functions over the first so many pairs.
 use Rattle.std.specs.Prelude.{ℕ, Bool, true, false, List}
 use Rattle.unification.specs.declared.pairs.TypePair.{TypePair}
 use Rattle.unification.specs.Unifiers.{HasUnifier, HasNoUnifier}

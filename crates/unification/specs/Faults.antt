@@ -1,4 +1,4 @@
--- What the faults of unification say.
+-- The faults of unification.
 use Rattle.std.specs.Prelude.{ℕ, List}
 use Rattle.unification.specs.declared.pairs.TypePair.{TypePair}
 use Rattle.unification.specs.declared.unify.UnifyFault.{UnifyFault}

@@ -1,13 +1,13 @@
--- A walk along the places to which places lead, depth first.
+-- The depth-first traversal of the type variables that type variables refer to.
 use Rattle.std.specs.Prelude.{◌≡◌, ℕ, ◌+◌, ◌-◌, ◌*◌, ◌<◌, ◌≤◌, Bool, true, false, List, [], ◌∷◌, length, reverse, slice_index}
-use Rattle.type_places.specs.Slots.{Typing, Meets, slot_at}
-use Rattle.type_places.specs.declared.slots.Term.TheVariants.{Place, Closed, Made, Grouped}
-use Rattle.type_places.specs.declared.slots.Slot.{Slot}
-use Rattle.type_places.specs.declared.slots.Slot.TheVariants.{Open, Bound}
+use Rattle.unification.specs.Slots.{Typing, Meets, slot_at}
+use Rattle.unification.specs.declared.type_variables.slots.Term.TheVariants.{Place, Closed, Made, Grouped}
+use Rattle.unification.specs.declared.type_variables.slots.Slot.{Slot}
+use Rattle.unification.specs.declared.type_variables.slots.Slot.TheVariants.{Open, Bound}
 use Rattle.unification.specs.Ranked.{rank_at, IsRanked, unranked}
 use Rattle.unification.specs.declared.walk.Walk.{Walk}
 
--- a slot leads to consecutive places: the first of them, and how many
+-- a slot refers to consecutive type variables: the first of them, and how many
 abbrev pub first_part : Slot → ℕ
 first_part (Open s) = 0
 first_part (Bound (Place q)) = q
@@ -22,28 +22,28 @@ part_count (Bound (Closed of)) = 0
 part_count (Bound (Made w q)) = 1
 part_count (Bound (Grouped g first count)) = count
 
--- the slot leads to the place
+-- the slot refers to the type variable
 abbrev pub IsPart : Slot → ℕ → Type 0
 IsPart slot q = (first_part slot ≤ q) × (q < first_part slot + part_count slot)
 
--- what holds throughout a walk
+-- the invariant of the traversal
 pub record IsWalk (slots : List Slot) (ranks order seen : List ℕ) : Type 0 where
   pub ranked : IsRanked slots ranks order
   pub long : length seen ≡ length slots
   pub most : (p : ℕ) → p < length slots → slice_index seen p ≤ part_count (slot_at slots p)
   pub seen_ranked : (p i : ℕ) → p < length slots → i < slice_index seen p → 0 < rank_at ranks (first_part (slot_at slots p) + i)
 
--- a way is listed from its end: the place before leads to this one
+-- a path is listed from its end: the variable before refers to this one
 abbrev pub LedTo : List Slot → ℕ → List ℕ → Type 0
 LedTo slots q [] = Unit {0}
 LedTo slots q (p ∷ way) = IsPart (slot_at slots p) q
 
--- each place on the way has no rank, and leads to the next one
+-- each variable of the path has no rank, and refers to the next one
 abbrev pub IsWay : List Slot → List ℕ → List ℕ → Type 0
 IsWay slots ranks [] = Unit {0}
 IsWay slots ranks (p ∷ way) = (p < length slots) × (rank_at ranks p ≡ 0) × LedTo slots p way × IsWay slots ranks way
 
--- the way begins at this place, or the place has a rank
+-- the path begins at this variable, or it is empty and the variable has a rank
 abbrev pub BeginsAt : ℕ → List ℕ → List ℕ → Type 0
 BeginsAt start ranks [] = 0 < rank_at ranks start
 BeginsAt start ranks (p ∷ []) = p ≡ start
@@ -57,7 +57,7 @@ pub record IsOnWay (slots : List Slot) (start : ℕ) (ranks way : List ℕ) : Ty
 abbrev pub KeepsRanks : List ℕ → List ℕ → Type 0
 KeepsRanks old new = (p : ℕ) → 0 < rank_at old p → 0 < rank_at new p
 
--- what is left to do: ranks that are not given, and steps until the way is too long
+-- the termination measure: ranks that are not given, and steps until the path is too long
 abbrev pub steps_left : ℕ → List ℕ → List ℕ → ℕ
 steps_left n ranks way = unranked ranks * (n + 3) + ((n + 2) - length way)
 
@@ -67,7 +67,7 @@ pub record Goes (slots : List Slot) (start : ℕ) (ranks way : List ℕ) (new : 
   pub keeps : KeepsRanks ranks new.ranks.items
   pub less : steps_left (length slots) new.ranks.items (reverse new.way.items) < steps_left (length slots) ranks way
 
--- a step: it goes on, or there is no typing
+-- the result of a step: the traversal goes on, or there is no typing
 abbrev pub GoesOn : List Slot → ℕ → List ℕ → List ℕ → Walk → Bool → Type 0
 GoesOn slots start ranks way new true = Goes slots start ranks way new
 GoesOn slots start ranks way new false = (t : Typing) → Meets slots t → ⊥
@@ -78,7 +78,7 @@ pub record Ends (slots : List Slot) (start : ℕ) (ranks : List ℕ) (new : Walk
   pub keeps : KeepsRanks ranks new.ranks.items
   pub start_ranked : 0 < rank_at new.ranks.items start
 
--- a walk from one place: it comes to its end, or there is no typing
+-- the result of a traversal from one variable: it ends, or there is no typing
 abbrev pub EndsWell : List Slot → ℕ → List ℕ → Walk → Bool → Type 0
 EndsWell slots start ranks new true = Ends slots start ranks new
 EndsWell slots start ranks new false = (t : Typing) → Meets slots t → ⊥

@@ -1,34 +1,34 @@
-//! Pairs of types that are to be made one.
+//! Pairs of types to unify.
 
 ghost use Rattle.std.specs.Prelude.{◌≡◌, ◌≤◌, IsTrue, IfOk, MatchOption, length, take};
-ghost use Rattle.type_places.specs.Slots.{Fits};
-ghost use Rattle.type_places.specs.Grown.{Grows};
+ghost use Rattle.unification.specs.Slots.{Fits};
+ghost use Rattle.unification.specs.Grown.{Grows};
 ghost use Rattle.unification.specs.Unifiers.{apply, HasNoUnifier};
 ghost use Rattle.unification.specs.Solved.{Solves};
 
-use pv_base::types::TypeTerm;
+use crate::type_variables::open::open_slots;
+use crate::type_variables::places::one;
+use crate::type_variables::signature::{Parameters, instance};
+use crate::type_variables::slots::Slot;
+use base::types::TypeTerm;
 use std::alloc::{AllocError, Global};
-use type_places::open::open_slots;
-use type_places::places::one;
-use type_places::signature::{Parameters, instance};
-use type_places::slots::Slot;
 
-/// Two types that are to be made one.
+/// Two types to unify.
 #[derive(Drop)]
 pub struct TypePair {
     pub left: TypeTerm,
     pub right: TypeTerm,
 }
 
-/// A unifier: what is known of the variables and of the parts of their types, and ranks. Types share their parts, so
-/// it is small where the types would be large if they were written out.
+/// A unifier: what is known of the variables and of the parts of their types, and ranks. Types share their parts, so it
+/// is small even where the types written out would be large.
 #[derive(Drop)]
 pub struct Unifier<'a> {
     pub slots: Vec<Slot<'a>>,
     pub ranks: Vec<usize>,
 }
 
-/// Makes the types of a pair one.
+/// Unifies the types of a pair.
 fn join<'a>(
     alloc: Global,
     slots: &mut Vec<Slot<'a>>,
@@ -49,7 +49,7 @@ fn join<'a>(
     one(alloc, slots, first, second)
 }
 
-/// What the first so many pairs say of the variables; none where they have no unifier.
+/// Unifies the first so many pairs, and returns what is known of the variables; none where they have no unifier.
 pub fn solve<'a>(
     alloc: Global,
     pairs: &'a [TypePair],

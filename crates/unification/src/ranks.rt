@@ -1,22 +1,22 @@
-//! Ranks of places: each leads to places of lower ranks, where no type is a part of itself.
+//! Ranks of type variables: each refers only to variables of lower ranks, unless a type would be a part of itself.
 
 ghost use Rattle.std.specs.Prelude.{IfOk, MatchOption};
-ghost use Rattle.type_places.specs.Slots.{Typing, Meets, Fits};
+ghost use Rattle.unification.specs.Slots.{Typing, Meets, Fits};
 ghost use Rattle.unification.specs.Ranked.{IsRanking};
 
+use crate::type_variables::slots::Slot;
 use crate::walk::Walk;
 use std::alloc::{AllocError, Global};
-use type_places::slots::Slot;
 
-/// Ranks of all places, from 1 on, and the places in the order of their ranks.
+/// The ranks of all type variables, from 1 on, and the variables in the order of their ranks.
 #[derive(Drop)]
 pub struct Ranking {
     pub ranks: Vec<usize>,
     pub order: Vec<usize>,
 }
 
-/// Ranks of all places; none where no typing meets the slots, since a type would be a part of itself. It takes time in
-/// proportion to the slots and the parts to which they lead.
+/// Returns the ranks of all type variables; none where no typing meets the slots, since a type would be a part of
+/// itself. The time is linear in the slots and the parts that they refer to.
 pub fn ranks<'a>(alloc: Global, slots: &[Slot<'a>]) -> Result<Option<Ranking>, AllocError>
     requires { Fits slots.now }
     ensures { IfOk result (λ found. MatchOption found ((t : Typing) → Meets slots.now t → ⊥) (λ ranking. IsRanking slots.now ranking.ranks.items ranking.order.items)) }

@@ -14,11 +14,11 @@ use std::alloc::{AllocError, Global};
 #[derive(Clone, Copy, Debug, PartialEq, Eq)]
 pub enum UnifyFault {
     NoMemory,
-    /// The pairs up to and with this one, counted from 0, have none, and those before it have one.
+    /// The pairs up to and including this one, counted from 0, have no unifier, and those before it have one.
     Clash(usize),
 }
 
-/// A most general unifier of the first so many pairs; none where they have no unifier.
+/// Returns a most general unifier of the first so many pairs; none where they have no unifier.
 fn attempt<'a>(
     alloc: Global,
     pairs: &'a [TypePair],
@@ -40,7 +40,7 @@ fn attempt<'a>(
     }
 }
 
-/// Whether the first so many pairs have a unifier.
+/// Decides whether the first so many pairs have a unifier.
 fn solvable(
     alloc: Global,
     pairs: &[TypePair],
@@ -59,7 +59,7 @@ fn solvable(
     }
 }
 
-/// The first pair such that the pairs up to and with it have no unifier.
+/// Finds the first pair such that the pairs up to and including it have no unifier.
 fn first_clash(alloc: Global, pairs: &[TypePair], variables: usize) -> Result<usize, AllocError>
     requires { HasNoUnifier variables (take (length pairs.now) pairs.now) }
     ensures { IfOk result (λ k. IsFirstClash variables k pairs.now) }
@@ -87,7 +87,7 @@ impl From<AllocError> for UnifyFault {
     }
 }
 
-/// A most general unifier of the pairs, whose variables are the first so many type parameters.
+/// Returns a most general unifier of the pairs, whose variables are the first so many type parameters.
 pub fn unify<'a>(
     alloc: Global,
     pairs: &'a [TypePair],

@@ -1,22 +1,22 @@
-//! A walk along the places to which places lead, depth first, that gives ranks to places behind their parts.
+//! A depth-first traversal of type variables that gives each a rank after those that it refers to.
 
 ghost use Rattle.std.specs.Prelude.{◌≡◌, ◌<◌, ◌≤◌, ◌+◌, ℕ, [], ◌∷◌, length, reverse, ◌++◌, slice_index, slice_set, IfOk, OnOk};
-ghost use Rattle.type_places.specs.Slots.{Typing, Meets, Fits, slot_at};
+ghost use Rattle.unification.specs.Slots.{Typing, Meets, Fits, slot_at};
 ghost use Rattle.unification.specs.Ranked.{rank_at};
 ghost use Rattle.unification.specs.Walking.{first_part, part_count, IsWalk, IsOnWay, GoesOn, EndsWell};
 
+use crate::type_variables::slots::{Slot, Term};
 use std::alloc::{AllocError, Global};
-use type_places::slots::{Slot, Term};
 
-/// Consecutive places, from the first on and so many.
+/// So many consecutive type variables, from the first on.
 #[derive(Clone, Copy)]
 struct Parts {
     first: usize,
     count: usize,
 }
 
-/// What a walk knows: the ranks that were given, from 1 on, where 0 is none; the places in the order of their ranks;
-/// how many parts of each place are known to have ranks; and the places on the way, each of which leads to the next.
+/// The state of the traversal: the ranks, from 1 on, where 0 is none; the type variables in the order of their ranks;
+/// how many parts of each are known to have ranks; and the path, each of whose variables refers to the next.
 #[derive(Drop)]
 pub(crate) struct Walk {
     pub(crate) ranks: Vec<usize>,
@@ -43,7 +43,7 @@ fn term_parts<'a>(term: Term<'a>) -> Parts
     }
 }
 
-/// The places to which a slot leads.
+/// The type variables that a slot refers to.
 fn slot_parts<'a>(slot: Slot<'a>) -> Parts
     ensures first { result.first ≡ first_part slot.entry }
     ensures count { result.count ≡ part_count slot.entry }
@@ -54,7 +54,7 @@ fn slot_parts<'a>(slot: Slot<'a>) -> Parts
     }
 }
 
-/// How many of the places have ranks up to the first one that has none, where so many are known to have.
+/// How many of the type variables have ranks, up to the first one without a rank, where so many are known to have them.
 fn ranked_parts(ranks: &[usize], parts: Parts, known: usize) -> usize
     requires within { parts.first + parts.count ≤ length ranks.now }
     requires known { known ≤ parts.count }
@@ -71,7 +71,7 @@ fn ranked_parts(ranks: &[usize], parts: Parts, known: usize) -> usize
 }
 
 impl Walk {
-    /// Gives the next rank to a place of which all parts have ranks.
+    /// Gives the next rank to a type variable of which all parts have ranks.
     fn settle(&mut self, place: usize) -> Result<(), AllocError>
         requires { place < length self.old.ranks.items }
         ensures ranks { OnOk result (self.new.ranks.items ≡ slice_set self.old.ranks.items place (length self.old.order.items + 1)) }
@@ -84,8 +84,8 @@ impl Walk {
         Ok(())
     }
 
-    /// Goes to the next part without a rank of the place at which the walk is, or gives it a rank. False where the way
-    /// is longer than there are places, so that it goes in a circle.
+    /// Goes on to the next part without a rank of the last variable of the path, or gives that variable a rank. False
+    /// where the path is longer than the number of type variables, so that it has a cycle.
     fn step<'a>(&mut self, slots: &[Slot<'a>], start: usize, at: usize) -> Result<bool, AllocError>
         requires fits { Fits slots.now }
         requires walk { IsWalk slots.now self.old.ranks.items self.old.order.items self.old.seen.items }
@@ -107,7 +107,8 @@ impl Walk {
         Ok(true)
     }
 
-    /// Gives ranks to a place and to all places to which it leads. False where no typing meets the slots.
+    /// Gives ranks to a type variable and to all that it refers to, directly or not. False where no typing meets the
+    /// slots.
     pub(crate) fn follow<'a>(
         &mut self,
         slots: &[Slot<'a>],

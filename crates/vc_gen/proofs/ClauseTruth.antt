@@ -1,4 +1,4 @@
--- The formulas of conditions are true exactly where the conditions hold.
+-- The formulas of conditions are true exactly if the conditions hold.
 use Rattle.std.proofs.Common.{◌≡◌, ℕ, ℤ, pos, ◌≤ℤ◌, ◌<ℤ◌, List, [], ◌∷◌, ◌++◌, Bool, true, false, not, ◌&&◌, ◌||◌, ◌⊎◌, inl, inr, ◌↔◌, refl, sym, ap, ◌∙◌, subst, arith, if◌then◌else◌}
 use Rattle.std.specs.Prelude.{int_le}
 use Rattle.std.specs.List.{flat_map, AllByRecursion}
@@ -15,7 +15,7 @@ use Rattle.sum_tree.specs.declared.clause.ClauseKind.{ClauseKind}
 use Rattle.sum_tree.specs.declared.clause.ClauseKind.TheVariants.{Requires, Ensures, AbortsIf}
 use Rattle.sum_tree.specs.declared.clause.SumClause.{SumClause}
 use Rattle.sum_tree.specs.SumFunctionData.{SumFunctionData}
-use Rattle.pv_base.proofs.TruthValues.{both_true, true_both, either_true, true_either}
+use Rattle.base.proofs.TruthValues.{both_true, true_both, either_true, true_either}
 use Rattle.ref_sem.specs.Semantics.{Arguments, Names, names_of, sum_number, ComparesBy, Holds, AllHold, SomeHolds, HasKind}
 use Rattle.sum_formula.specs.Translation.{sum_term, comparison_formula, condition_formula}
 use Rattle.sum_formula.specs.Premises.{is_kind, formula_if}

@@ -1,11 +1,11 @@
--- The conditions of a function are all valid exactly where it keeps its contract.
+-- The conditions of a function are all valid exactly if it keeps its contract.
 use Rattle.std.proofs.Common.{◌≡◌, ℕ, ◌^◌, ◌<◌, pos, negsuc, List, [], ◌∷◌, ◌++◌, map, get_or, Option, Some, None, Bool, true, false, not, ◌&&◌, ◌||◌, inl, inr, ◌↔◌, refl, sym, ap, ◌∙◌, subst, arith, if◌then◌else◌}
 use Rattle.std.specs.Prelude.{nat_lt, Result, Ok, Err, IfOk}
 use Rattle.std.specs.List.{flat_map, list_any, AllByRecursion}
 use Rattle.std.proofs.lemmas.Bool.Decides.{nat_tests}
 use Rattle.std.specs.Cmp.Lexicographic.{nat_list_eq_equiv}
-use Rattle.pv_base.specs.TypeData.{BoolType, IntType}
-use Rattle.pv_base.specs.declared.types.Width.TheVariants.{U64}
+use Rattle.base.specs.TypeData.{BoolType, IntType}
+use Rattle.base.specs.declared.types.Width.TheVariants.{U64}
 use Rattle.fol.specs.declared.shapes.Shape.{Shape}
 use Rattle.fol.specs.FormulaData.{TermData, FormulaData, formulas_of}
 use Rattle.fol.specs.Val.{Val, NumberValue, TruthValue, NothingValue, VectorValue, StructValue, MemoryValue}
@@ -16,7 +16,7 @@ use Rattle.sum_tree.specs.declared.clause.ClauseKind.{ClauseKind}
 use Rattle.sum_tree.specs.declared.clause.ClauseKind.TheVariants.{Requires, Ensures, AbortsIf}
 use Rattle.sum_tree.specs.declared.clause.SumClause.{SumClause}
 use Rattle.sum_tree.specs.SumFunctionData.{SumFunctionData}
-use Rattle.pv_base.specs.Names.{same_name}
+use Rattle.base.specs.Names.{same_name}
 use Rattle.ref_sem.specs.Semantics.{Arguments, Names, AreU64, names_of, Holds, AllHold, SomeHolds, HasKind, MeetsClauses, Keeps, run_sum}
 use Rattle.vc_gen.specs.declared.condition.VerificationCondition.{VerificationCondition}
 use Rattle.sum_formula.specs.Translation.{zero_term, term_at, word_term}
@@ -25,7 +25,7 @@ use Rattle.sum_formula.specs.Premises.{argument_formula, arguments_formula, entr
 use Rattle.vc_gen.specs.Conditions.{ensures_condition, aborts_if_condition, aborts_condition, condition_if, conditions_under, conditions_of}
 use Rattle.vc_gen.specs.Decided.{AreValid, Decide}
 use Rattle.vc_gen.specs.Keys.{has_kind}
-use Rattle.pv_base.proofs.TruthValues.{both_true, true_both, never_both, true_not}
+use Rattle.base.proofs.TruthValues.{both_true, true_both, never_both, true_not}
 use Rattle.vc_gen.proofs.Words.{same_name-equal, position_some, name_at_position}
 use Rattle.vc_gen.proofs.NumberTruth.{Agrees}
 use Rattle.vc_gen.proofs.RunTruth.{RunAgrees, run_agrees}
@@ -74,7 +74,7 @@ abbrev natural : Val → ℕ
 natural (NumberValue (pos n)) = n
 natural v = 0
 
--- each name of a list is one of it
+-- each name of a list is in the list
 listed : (names all : List (List ℕ)) → ((name : List ℕ) → list_any (same_name name) names ≡ true → list_any (same_name name) all ≡ true) → AllByRecursion (λ name. list_any (same_name name) all ≡ true) names
 listed [] all h = tt
 listed (name ∷ names) all h = (
@@ -90,7 +90,7 @@ module _ (m : Interpretation) (s : Assignment) (parameters : List (List ℕ)) wh
   abbrev word_value : List ℕ → Val
   word_value name = value_of m (word_term parameters zero_term name) s
 
-  -- where the formulas of the arguments are true, each parameter has a value of 64 bits
+  -- if the formulas of the arguments are true, each parameter has a value of 64 bits
   argument_is_u64 : (names : List (List ℕ)) → all_true m (formulas_of (map (argument_formula parameters) names)) s ≡ true → (name : List ℕ) → list_any (same_name name) names ≡ true → IsU64Value (word_value name)
   argument_is_u64 [] e name h = absurd (cc)
   argument_is_u64 (other ∷ names) e name h = go (argument_is_u64 names) (same_name name other) refl
@@ -109,7 +109,7 @@ module _ (m : Interpretation) (s : Assignment) (parameters : List (List ℕ)) wh
       (ap (has_type m.shapes (IntType U64)) (agrees.values name h.0 zero_term) ∙ small_test (arguments name) (u64s name))
       (arguments_true arguments u64s agrees names h.1)
 
--- a parameter's word is a variable, whatever is returned
+-- a parameter's word is a variable, whatever the result
 same_variable : (m : Interpretation) (s : Assignment) (parameters : List (List ℕ)) (word : List ℕ) → list_any (same_name word) parameters ≡ true → (returned : TermData) → value_of m (word_term parameters returned word) s ≡ value_of m (word_term parameters zero_term word) s
 same_variable m s parameters word h returned =
     let found = position_some (same_name word) parameters h in
@@ -288,7 +288,7 @@ module _ (f : SumFunctionData) (clauses : List SumClause) where
       pub reads : Reads shapes m
       pub s : Assignment
 
-    -- a start as it may be, and a run from it that does as the function has to
+    -- a valid start, and a run from it that behaves as the function has to
     record FromStart (i : Reading) : Type 0 where
       pub arguments : Arguments
       pub u64s : AreU64 arguments

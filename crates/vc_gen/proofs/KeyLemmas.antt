@@ -3,9 +3,9 @@ use Rattle.std.proofs.Common.{◌≡◌, List, [], ◌∷◌, ◌++◌, map, Boo
 use Rattle.std.specs.Prelude.{Result, Ok, Err, IfOk}
 use Rattle.std.specs.List.{flat_map}
 use Rattle.std.proofs.lemmas.List.{map-append}
-use Rattle.answers.specs.declared.condition.ConditionKey.{ConditionKey}
-use Rattle.answers.specs.declared.condition.ConditionKind.{ConditionKind}
-use Rattle.answers.specs.declared.condition.ConditionKind.TheVariants.{Ensures as of_ensures, AbortsIf as of_aborts_if}
+use Rattle.base.specs.declared.condition.ConditionKey.{ConditionKey}
+use Rattle.base.specs.declared.condition.ConditionKind.{ConditionKind}
+use Rattle.base.specs.declared.condition.ConditionKind.TheVariants.{Ensures as of_ensures, AbortsIf as of_aborts_if}
 use Rattle.sum_formula.specs.Premises.{is_kind, at_return, returned_term}
 use Rattle.sum_tree.specs.declared.clause.SumClause.{SumClause}
 use Rattle.sum_tree.specs.declared.clause.ClauseKind.{ClauseKind}

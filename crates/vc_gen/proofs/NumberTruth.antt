@@ -1,4 +1,4 @@
--- The terms of words and sums have the values of the numbers that these stand for.
+-- The terms of words and sums have the values of the numbers they stand for.
 use Rattle.std.proofs.Common.{◌≡◌, ℕ, ◌-◌, ◌^◌, ℤ, pos, ◌+ℤ◌, ◌-ℤ◌, List, Bool, true, false, codes, refl, sym, ap, ◌∙◌, if◌then◌else◌}
 use Rattle.std.specs.List.{list_any}
 use Rattle.fol.specs.FormulaData.{TermData}
@@ -9,7 +9,7 @@ use Rattle.sum_tree.specs.declared.sum.Operator.{Operator}
 use Rattle.sum_tree.specs.declared.sum.Operator.TheVariants.{Plus, Minus}
 use Rattle.sum_tree.specs.SumData.{SumData, NumberSum, WordSum, JoinedSum}
 use Rattle.sum_tree.specs.SumFunctionData.{SumFunctionData}
-use Rattle.pv_base.specs.Names.{same_name}
+use Rattle.base.specs.Names.{same_name}
 use Rattle.ref_sem.specs.Semantics.{Arguments, Names, names_of, operator_number, sum_number}
 use Rattle.sum_formula.specs.Translation.{zero_term, greatest_term, term_at, word_term, operator_term, sum_term}
 use Rattle.vc_gen.proofs.Words.{position_none}
@@ -25,12 +25,12 @@ chosen m s false true t u v x y z e g h = g
 chosen m s false false t u v x y z e g h = h
 
 module _ (m : Interpretation) (s : Assignment) (f : SumFunctionData) (arguments : Arguments) (agrees : Agrees m s f.parameters arguments) where
-  -- the term of what is returned has this value
+  -- the term of the result has this value
   module _ (returned : TermData) (r : ℕ) (returns : value_of m returned s ≡ NumberValue (pos r)) where
     abbrev names : Names
     names = names_of f arguments r
 
-    -- the number of a word that no parameter has
+    -- the number of a word that is no parameter
     abbrev free_number : List ℕ → ℤ
     free_number word = if same_name word (codes "MAX_U64") then pos (2 ^ 64 - 1) else (if same_name word (codes "result") then pos r else pos 0)
 

@@ -1,4 +1,4 @@
--- The range formulas of a body are true exactly where its run returns, and then the body's term has the value returned.
+-- The range formulas of a body are true exactly if its run returns, and then the body's term has the value returned.
 use Rattle.std.proofs.Common.{◌≡◌, ℕ, ◌+◌, ◌-◌, ◌^◌, ◌<◌, ℤ, pos, ◌+ℤ◌, ◌-ℤ◌, List, [], ◌∷◌, ◌++◌, Option, Some, None, Bool, true, false, ◌&&◌, refl, sym, ap, ◌∙◌, subst, arith, if◌then◌else◌}
 use Rattle.std.specs.Prelude.{nat_lt, int_le, option_and_then}
 use Rattle.std.proofs.lemmas.Int.{ints}
@@ -11,7 +11,7 @@ use Rattle.sum_tree.specs.declared.sum.Operator.{Operator}
 use Rattle.sum_tree.specs.declared.sum.Operator.TheVariants.{Plus, Minus}
 use Rattle.sum_tree.specs.SumFunctionData.{SumFunctionData}
 use Rattle.sum_tree.specs.SumData.{SumData, NumberSum, WordSum, JoinedSum}
-use Rattle.pv_base.proofs.TruthValues.{true_both}
+use Rattle.base.proofs.TruthValues.{true_both}
 use Rattle.ref_sem.specs.Semantics.{Arguments, AreU64, operator_result, run_sum}
 use Rattle.sum_formula.specs.Translation.{zero_term, operator_term, sum_term}
 use Rattle.ref_sem.specs.Bodies.{IsU64Sum, HasU64Body}
@@ -20,7 +20,7 @@ use Rattle.vc_gen.proofs.NumberTruth.{Agrees}
 
 -- ---- one operator
 
--- The bound of an operator's term is true exactly where there is a result, and then the term has its value.
+-- The bound of an operator's term is true exactly if there is a result, and then the term has its value.
 abbrev StepAgrees : Option ℕ → Bool → ℤ → Type 0
 StepAgrees (Some r) bound z = (bound ≡ true) × (z ≡ pos r) × (r < 2 ^ 64)
 StepAgrees None bound z = bound ≡ false
@@ -53,12 +53,12 @@ minus_agrees a b h false e = (minus_fits a b e, minus_is a b e, omega arith)
 
 -- ---- a run
 
--- The bounds are all true exactly where the run returns, and then the term has the value that is returned, a u64.
+-- The bounds are all true exactly if the run returns, and then the term has the value returned, a u64.
 abbrev pub RunAgrees : Interpretation → Assignment → Option ℕ → List FormulaData → TermData → Type 0
 RunAgrees m s (Some r) bounds t = (all_true m (formulas_of bounds) s ≡ true) × (value_of m t s ≡ NumberValue (pos r)) × (r < 2 ^ 64)
 RunAgrees m s None bounds t = all_true m (formulas_of bounds) s ≡ false
 
--- the truth of two lists of formulas, one behind the other
+-- the truth of two lists of formulas, one after the other
 all_behind : (m : Interpretation) (s : Assignment) (ps qs : List FormulaData) → all_true m (formulas_of (ps ++ qs)) s ≡ (all_true m (formulas_of ps) s && all_true m (formulas_of qs) s)
 all_behind m s [] qs = refl
 all_behind m s (p ∷ ps) qs = ap (λ b. truth_of m p s && b) (all_behind m s ps qs) ∙ regroup (truth_of m p s) (all_true m (formulas_of ps) s) (all_true m (formulas_of qs) s)
@@ -104,7 +104,7 @@ module _ (m : Interpretation) (s : Assignment) (f : SumFunctionData) (arguments 
   last_step None bound z t e h ls rs p g lt rt =
       all_behind m s ls (rs ++ p ∷ []) ∙ second_fails _ _ lt (all_behind m s rs (p ∷ []) ∙ second_fails _ _ rt (first_fails (truth_of m p s) true (g ∙ h)))
 
-  -- where both sides return, the operator decides
+  -- if both sides return, the operator decides
   joined_agrees : (op : Operator) (left right : SumData) (x y : Option ℕ) → RunAgrees m s x (bounds_of left) (term_of left) → RunAgrees m s y (bounds_of right) (term_of right)
       → RunAgrees m s (option_and_then (λ a. option_and_then (λ b. operator_result op a b) y) x) (bounds_of left ++ (bounds_of right ++ last_bound op left right ∷ [])) (operator_term op (term_of left) (term_of right))
   joined_agrees op left right None y h k = all_behind m s (bounds_of left) (bounds_of right ++ last_bound op left right ∷ []) ∙ first_fails _ _ h

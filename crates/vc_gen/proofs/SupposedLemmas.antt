@@ -1,4 +1,4 @@
--- The conditions of a function suppose that its parameters have values of their types.
+-- The conditions of a function have the premises that its parameters have values of their types.
 use Rattle.std.proofs.Common.{◌≡◌, ℕ, zero, suc, List, [], ◌∷◌, ◌++◌, map, Bool, true, false, if◌then◌else◌, refl, sym, ap, subst, arith}
 use Rattle.std.specs.Prelude.{Result, Ok, Err, IfOk, All, Contains, slice_index_or}
 use Rattle.std.specs.List.{flat_map}
@@ -15,7 +15,7 @@ use Rattle.vc_gen.specs.Keys.{has_kind}
 use Rattle.vc_gen.specs.Supposed.{Itself, Inside, Supposes, SupposesTypes}
 use Rattle.vc_gen.specs.declared.condition.VerificationCondition.{VerificationCondition}
 
--- what a function makes of an item of a list stands at its place
+-- the image of an item of a list is at the item's index
 mapped_at : (make : List ℕ → FormulaData) (xs : List (List ℕ)) (x : List ℕ) (k : ℕ) → slice_index_or xs k x ≡ x → slice_index_or (map make xs) k (make x) ≡ make x
 mapped_at make [] x k e = refl
 mapped_at make (y ∷ ys) x zero e = ap make e

@@ -1,13 +1,13 @@
--- Where a word stands among names.
+-- The index of a word among names.
 use Rattle.std.proofs.Common.{◌≡◌, ℕ, ◌+◌, List, [], ◌∷◌, get_or, Some, None, Bool, true, false, cond, ◌||◌, ◌==◌, refl, sym, ap, ◌∙◌}
 use Rattle.std.specs.List.{list_any, position, position_from}
 use Rattle.std.proofs.lemmas.Bool.{eqb-true}
 use Rattle.std.proofs.lemmas.Iterator.Adapters.{position_from-zero}
 use Rattle.std.proofs.lemmas.List.Quantifiers.{position-Some}
-use Rattle.pv_base.proofs.TruthValues.{both_true}
-use Rattle.pv_base.specs.Names.{same_name}
+use Rattle.base.proofs.TruthValues.{both_true}
+use Rattle.base.specs.Names.{same_name}
 
--- equal names are one name
+-- equal names are identical
 pub same_name-equal : (v w : List ℕ) → same_name v w ≡ true → v ≡ w
 same_name-equal [] [] e = refl
 same_name-equal [] (y ∷ ys) e = absurd (cc)
@@ -40,6 +40,6 @@ from_some p i (x ∷ xs) e = some_step p i x xs (p x) refl e (from_some p (i + 1
 pub position_some : {X : Type 0} (p : X → Bool) (xs : List X) → list_any p xs ≡ true → (k : ℕ) × (position p xs ≡ Some k)
 position_some p xs e = let found = from_some p 0 xs e in (found.0, position_from-zero p xs ∙ found.1)
 
--- the name at the position of a word is the word
+-- the name at the index of a word is the word
 pub name_at_position : (names : List (List ℕ)) (word : List ℕ) (k : ℕ) → position (same_name word) names ≡ Some k → word ≡ get_or names k []
 name_at_position names word k e = same_name-equal word (get_or names k []) (position-Some (same_name word) names k [] e).1

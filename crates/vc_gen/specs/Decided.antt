@@ -11,7 +11,7 @@ use Rattle.vc_gen.specs.declared.condition.VerificationCondition.{VerificationCo
 abbrev pub AreValid : List Shape → List VerificationCondition → Type 0
 AreValid shapes conditions = AllByRecursion (λ c. Valid shapes c.formula) conditions
 
--- All of these formulas are valid, whatever structs there are, exactly where the function keeps its contract.
+-- All of these formulas are valid, whatever structs there are, exactly if the function keeps its contract.
 pub record Decide (f : SumFunctionData) (clauses : List SumClause) (conditions : List VerificationCondition) : Type 0 where
   pub sound : (shapes : List Shape) → AreValid shapes conditions → Keeps f clauses
   pub complete : Keeps f clauses → (shapes : List Shape) → AreValid shapes conditions

@@ -1,9 +1,9 @@
-//! What a verification condition is.
+//! Verification conditions.
 
-use answers::condition::ConditionKey;
+use base::condition::ConditionKey;
 use fol::formula::Formula;
 
-/// A formula that says something of each run of a function.
+/// A formula that states something about each run of a function.
 #[derive(Drop)]
 pub struct VerificationCondition {
     pub key: ConditionKey,

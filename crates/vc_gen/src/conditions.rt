@@ -12,9 +12,9 @@ ghost use Rattle.vc_gen.specs.declared.condition.VerificationCondition.{Verifica
 ghost use Rattle.vc_gen.specs.Conditions.{aborts_condition, at_each_return, at_no_return, condition_if, conditions_at_return, conditions_of, conditions_under};
 
 use crate::condition::VerificationCondition;
-use answers::condition::{ConditionKey, ConditionKind};
+use base::condition::{ConditionKey, ConditionKind};
+use base::memory::NoMemory;
 use fol::formula::{Formula, Term};
-use pv_base::memory::NoMemory;
 use std::alloc::Global;
 use sum_formula::premises::{
     entry_conditions, implication, premise_at_return, returned_sum, returns, start,
@@ -23,7 +23,7 @@ use sum_formula::translation::{condition, zero};
 use sum_tree::clause::{ClauseKind, SumClause};
 use sum_tree::function::SumFunction;
 
-/// The condition that a premise implies a claim.
+/// The condition stating that a premise implies a claim.
 fn condition_that(
     alloc: Global,
     kind: ConditionKind,
@@ -39,7 +39,7 @@ fn condition_that(
     Ok(VerificationCondition { key, formula })
 }
 
-/// The condition of an `ensures` clause; none of another clause.
+/// Appends the condition of an `ensures` clause; a clause of another kind adds nothing.
 fn push_if_ensures(
     alloc: Global,
     function: &SumFunction,
@@ -65,7 +65,7 @@ fn push_if_ensures(
     Ok(())
 }
 
-/// The condition of an `aborts_if` clause at returns; none of another clause.
+/// Appends the condition of an `aborts_if` clause at returns; a clause of another kind adds nothing.
 fn push_if_aborts_if(
     alloc: Global,
     function: &SumFunction,
@@ -91,7 +91,7 @@ fn push_if_aborts_if(
     Ok(())
 }
 
-/// The conditions of the `ensures` clauses.
+/// Appends the conditions of the `ensures` clauses.
 fn push_ensures(
     alloc: Global,
     function: &SumFunction,
@@ -109,7 +109,7 @@ fn push_ensures(
     Ok(())
 }
 
-/// The conditions of the `aborts_if` clauses at returns.
+/// Appends the conditions of the `aborts_if` clauses at returns.
 fn push_aborts_if(
     alloc: Global,
     function: &SumFunction,
@@ -126,7 +126,7 @@ fn push_aborts_if(
     Ok(())
 }
 
-/// The condition that there are no aborts but those of the `aborts_if` clauses.
+/// The condition stating that there are no aborts except those of the `aborts_if` clauses.
 fn aborts(
     alloc: Global,
     function: &SumFunction,
@@ -183,7 +183,7 @@ fn at_returns(
     under_premise(alloc, function, clauses, &premise, &returned)
 }
 
-/// Whether there is an `aborts_if` clause.
+/// Decides whether there is an `aborts_if` clause.
 fn has_aborts_if(clauses: &[SumClause]) -> bool
     ensures { result ≡ has_kind ClauseKind.AbortsIf clauses.now }
 {
@@ -209,9 +209,9 @@ fn generate(
     Ok(conditions)
 }
 
-/// The conditions of a function with the clauses of its spec, in the order of a report. All of them are valid
-/// exactly where the function keeps its contract, and each supposes that the parameters have values of their types. A
-/// function has at most 2^32 parameters.
+/// Returns the conditions of a function with the clauses of its spec, in the order of a report. All of them are valid
+/// exactly if the function keeps its contract, and each has the premise that the parameters have values of their types.
+/// The function has at most 2^32 parameters. `NoMemory` if memory runs out.
 pub fn conditions(
     alloc: Global,
     function: &SumFunction,

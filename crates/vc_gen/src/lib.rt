@@ -1,4 +1,4 @@
-//! Verification conditions: formulas that are valid exactly where a function keeps its contract.
+//! Verification conditions: formulas that are valid exactly if a function keeps its contract.
 #![tactic(auto)]
 
 pub mod condition;

@@ -1,5 +1,5 @@
 use Rattle.std.proofs.Common.{◌+◌, ◌*◌}
-use Rattle.pv_base.specs.TypeData.{type_size, types_size, types_of}
+use Rattle.base.specs.TypeData.{type_size, types_size, types_of}
 use Rattle.axioms.proofs.fields.+put.Given as goal
 
 abbrev pub decreases-is_put : goal.decreases-is_put

@@ -1,4 +1,4 @@
-use Rattle.pv_base.proofs.TruthValues.{fails}
+use Rattle.base.proofs.TruthValues.{fails}
 use Rattle.axioms.specs.Fields.{HasFields}
 use Rattle.axioms.proofs.fields.has_fields.Goals as goal
 

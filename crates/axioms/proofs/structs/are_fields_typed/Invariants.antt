@@ -1,5 +1,5 @@
 use Rattle.std.proofs.Common.{ℕ, ◌<◌, get_or}
-use Rattle.pv_base.specs.TypeData.{TypeData}
+use Rattle.base.specs.TypeData.{TypeData}
 use Rattle.fol.specs.FormulaData.{TermData, FormulaData}
 use Rattle.axioms.specs.Structs.{IsFieldTyped}
 use Rattle.axioms.proofs.structs.are_fields_typed.Given as goal

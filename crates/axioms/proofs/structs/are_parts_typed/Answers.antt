@@ -1,4 +1,4 @@
-use Rattle.pv_base.proofs.TruthValues.{fails}
+use Rattle.base.proofs.TruthValues.{fails}
 use Rattle.axioms.specs.Structs.{ArePartsTyped}
 use Rattle.axioms.proofs.structs.are_parts_typed.Goals as goal
 

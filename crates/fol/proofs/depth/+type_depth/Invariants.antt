@@ -1,5 +1,5 @@
 use Rattle.std.proofs.Common.{◌≡◌, ℕ, ◌+◌, ◌*◌, max, drop}
-use Rattle.pv_base.specs.TypeData.{type_size, types_size, types_of}
+use Rattle.base.specs.TypeData.{type_size, types_size, types_of}
 use Rattle.fol.specs.Depth.{types_depth}
 use Rattle.fol.proofs.depth.+type_depth.Given as goal
 

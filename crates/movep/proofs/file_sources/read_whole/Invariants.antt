@@ -1,6 +1,6 @@
 use Rattle.std.proofs.Common.{◌≡◌, ◌≤◌, ◌+◌, ◌-◌, length}
 use Rattle.std.specs.Io.KnownBytes.{Consumes}
-use Rattle.outside.specs.declared.outside.TheConstants.{FILE_LIMIT}
+use Rattle.report.specs.declared.outside.TheConstants.{FILE_LIMIT}
 use Rattle.movep.specs.declared.file_sources.TheConstants.{READ_SIZE}
 use Rattle.movep.proofs.file_sources.read_whole.Given as goal
 

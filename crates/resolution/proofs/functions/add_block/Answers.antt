@@ -1,9 +1,9 @@
 use Rattle.std.proofs.lemmas.Result.{err_from_is_err_and}
-use Rattle.pv_names.specs.Meanings.{IfUnknown}
+use Rattle.scopes.specs.Meanings.{IfUnknown}
 use Rattle.std.proofs.Common.{[], ◌∷◌}
-use Rattle.code_names.proofs.JoinedLaws.{unknown-more}
-use Rattle.clause_names.specs.Clauses.{placed}
-use Rattle.clause_names.specs.Setting.{scope_of}
+use Rattle.body_names.proofs.CodeJoinedLaws.{unknown-more}
+use Rattle.resolution.specs.Clauses.{placed}
+use Rattle.resolution.specs.Setting.{scope_of}
 use Rattle.resolution.specs.Items.{HasUnknownInOne}
 use Rattle.resolution.proofs.LoopLaws.{block_next, block_unknown}
 use Rattle.resolution.proofs.functions.add_block.Goals as goal

@@ -1,6 +1,6 @@
 use Rattle.std.proofs.Common.{take}
-use Rattle.clause_names.specs.Clauses.{placed}
-use Rattle.clause_names.specs.Setting.{scope_of}
+use Rattle.resolution.specs.Clauses.{placed}
+use Rattle.resolution.specs.Setting.{scope_of}
 use Rattle.resolution.specs.LoopParts.{AddedOne}
 use Rattle.resolution.proofs.functions.add_block.Given as goal
 

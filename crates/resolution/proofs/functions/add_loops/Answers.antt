@@ -1,7 +1,7 @@
 use Rattle.std.proofs.Common.{◌<◌, ◌+◌, List, drop, length, zip, subst, arith}
-use Rattle.clause_tree.specs.declared.clause.Spec.{Spec as SpecTree}
-use Rattle.loop_scopes.specs.declared.scopes.LoopScope.{LoopScope}
-use Rattle.clause_names.specs.Setting.{scope_of}
+use Rattle.syntax_tree.specs.declared.clause.Spec.{Spec as SpecTree}
+use Rattle.body_names.specs.declared.loop_scopes.loop_scope.LoopScope.{LoopScope}
+use Rattle.resolution.specs.Setting.{scope_of}
 use Rattle.resolution.proofs.LoopLaws.{LoopsSoFar, loops_end, loops_fault, loops_next, zip_one, zip_second_over}
 use Rattle.resolution.proofs.functions.add_loops.Goals as goal
 

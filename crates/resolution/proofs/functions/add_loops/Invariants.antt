@@ -1,5 +1,5 @@
 use Rattle.std.proofs.Common.{drop, zip}
-use Rattle.clause_names.specs.Setting.{scope_of}
+use Rattle.resolution.specs.Setting.{scope_of}
 use Rattle.resolution.proofs.LoopLaws.{LoopsSoFar}
 use Rattle.resolution.proofs.functions.add_loops.Given as goal
 

@@ -1,5 +1,5 @@
 use Rattle.std.proofs.Common.{◌≡◌, map, take}
-use Rattle.declaration_names.specs.Declarations.{parameter_name_of}
+use Rattle.resolution.specs.Declarations.{parameter_name_of}
 use Rattle.resolution.proofs.functions.parameter_names.Given as goal
 
 abbrev pub invariant-loop-name : goal.invariant-loop-name

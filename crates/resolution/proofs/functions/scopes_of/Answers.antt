@@ -1,7 +1,7 @@
 use Rattle.std.proofs.Common.{◌≡◌, length, sym, ◌∙◌}
 use Rattle.std.proofs.lemmas.Bool.{eqb-true}
-use Rattle.declaration_names.specs.Declarations.{parameter_names_of}
-use Rattle.loop_scopes.specs.LoopScopes.{loops_of_body}
+use Rattle.resolution.specs.Declarations.{parameter_names_of}
+use Rattle.body_names.specs.LoopScopes.{loops_of_body}
 use Rattle.resolution.proofs.LoopLaws.{nothing_zipped}
 use Rattle.resolution.proofs.functions.scopes_of.Goals as goal
 

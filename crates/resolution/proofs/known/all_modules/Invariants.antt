@@ -1,8 +1,8 @@
 use Rattle.std.proofs.Common.{◌≡◌, take}
 use Rattle.std.specs.List.{flat_map}
 use Rattle.indexmap.specs.IndexSet.{insert_all}
-use Rattle.pv_names.specs.MemberNames.{same_module}
-use Rattle.module_names.specs.Program.{builtin_modules, modules_of}
+use Rattle.scopes.specs.MemberNames.{same_module}
+use Rattle.scopes.specs.Program.{builtin_modules, modules_of}
 use Rattle.resolution.proofs.known.all_modules.Given as goal
 
 abbrev pub invariant-loop-source : goal.invariant-loop-source

@@ -1,7 +1,7 @@
 use Rattle.std.proofs.Common.{◌≡◌, take}
 use Rattle.std.specs.List.{flat_map}
-use Rattle.module_names.specs.Brings.{firsts}
-use Rattle.clause_names.specs.Setting.{same_schema}
+use Rattle.scopes.specs.Brings.{firsts}
+use Rattle.resolution.specs.Setting.{same_schema}
 use Rattle.resolution.specs.Known.{schema_of_member}
 use Rattle.resolution.proofs.known.note_members.Given as goal
 

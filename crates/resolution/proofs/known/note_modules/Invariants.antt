@@ -1,7 +1,7 @@
 use Rattle.std.proofs.Common.{◌≡◌, take}
 use Rattle.indexmap.specs.IndexSet.{insert_all}
-use Rattle.pv_names.specs.MemberNames.{same_module}
-use Rattle.module_names.specs.Program.{modules_of}
+use Rattle.scopes.specs.MemberNames.{same_module}
+use Rattle.scopes.specs.Program.{modules_of}
 use Rattle.resolution.proofs.known.note_modules.Given as goal
 
 abbrev pub invariant-loop-tree : goal.invariant-loop-tree

@@ -1,6 +1,6 @@
 use Rattle.std.proofs.Common.{◌≡◌, take}
-use Rattle.module_names.specs.Brings.{firsts}
-use Rattle.clause_names.specs.Setting.{same_schema}
+use Rattle.scopes.specs.Brings.{firsts}
+use Rattle.resolution.specs.Setting.{same_schema}
 use Rattle.resolution.specs.Known.{schemas_of}
 use Rattle.resolution.proofs.known.note_source_schemas.Given as goal
 

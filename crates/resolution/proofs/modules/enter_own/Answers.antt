@@ -1,7 +1,7 @@
 use Rattle.std.proofs.Common.{◌≡◌, [], refl, ap, subst, ◌∙◌}
-use Rattle.source_tree.specs.SourceModuleData.{SourceModuleData}
-use Rattle.pv_names.specs.EnvironmentData.{entered}
-use Rattle.module_names.specs.Brings.{environment_of}
+use Rattle.syntax_tree.specs.SourceModuleData.{SourceModuleData}
+use Rattle.scopes.specs.EnvironmentData.{entered}
+use Rattle.scopes.specs.Brings.{environment_of}
 use Rattle.resolution.specs.declared.fault.PlaceFault.{PlaceFault}
 use Rattle.resolution.specs.Faults.{IsFaultAmong}
 use Rattle.resolution.specs.Items.{Here, here, items_behind}

@@ -1,6 +1,6 @@
 use Rattle.std.proofs.Common.{◌≡◌, Some, sym, ap, subst, ◌∙◌}
-use Rattle.source_tree.specs.SourceModuleData.{SourceModuleData}
-use Rattle.pv_names.specs.Meanings.{module_meaning}
+use Rattle.syntax_tree.specs.SourceModuleData.{SourceModuleData}
+use Rattle.scopes.specs.Meanings.{module_meaning}
 use Rattle.resolution.specs.declared.fault.PlaceFault.{PlaceFault}
 use Rattle.resolution.specs.Faults.{IsFaultAmong}
 use Rattle.resolution.specs.Items.{AreKnown, items_in, module_items}

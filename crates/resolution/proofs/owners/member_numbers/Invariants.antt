@@ -1,6 +1,6 @@
 use Rattle.std.proofs.Common.{◌≡◌, drop}
-use Rattle.pv_names.specs.MemberNames.{same_name_of_kind}
-use Rattle.module_names.specs.Brings.{firsts}
+use Rattle.scopes.specs.MemberNames.{same_name_of_kind}
+use Rattle.scopes.specs.Brings.{firsts}
 use Rattle.resolution.specs.Owners.{member_numbers, numbered_names}
 use Rattle.resolution.proofs.owners.member_numbers.Given as goal
 

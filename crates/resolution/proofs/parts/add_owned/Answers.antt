@@ -1,7 +1,7 @@
 use Rattle.std.proofs.Common.{◌≡◌, ◌<◌, Some, length, take, get_or, sym, ap, subst, ◌∙◌, arith}
 use Rattle.std.proofs.lemmas.Result.{err_from_is_err_and}
-use Rattle.pv_names.specs.Meanings.{IfUnknown}
-use Rattle.code_names.proofs.JoinedLaws.{unknown-more}
+use Rattle.scopes.specs.Meanings.{IfUnknown}
+use Rattle.body_names.proofs.CodeJoinedLaws.{unknown-more}
 use Rattle.resolution.specs.Items.{HasUnknownInOwned, HasUnknownOf}
 use Rattle.resolution.specs.Owners.{HasUnknownInBlock, member_numbers, module_scope, owner_of}
 use Rattle.resolution.specs.OwnersSoFar.{blocks_before, scopes_of}

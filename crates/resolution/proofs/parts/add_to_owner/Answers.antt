@@ -1,10 +1,10 @@
 use Rattle.std.proofs.Common.{◌≡◌, List, refl, ap, subst, ◌∙◌}
 use Rattle.std.proofs.lemmas.Result.{err_from_is_err_and}
-use Rattle.clause_tree.specs.declared.clause.Spec.{Spec as SpecTree}
-use Rattle.pv_names.specs.Meanings.{IfUnknown}
-use Rattle.code_names.proofs.JoinedLaws.{unknown-more}
-use Rattle.clause_names.specs.Clauses.{AddedClauses, HasUnknownBehind, PlacedClause, placed}
-use Rattle.clause_names.specs.Pragmas.{before_others, pragmas_in, settings_of}
+use Rattle.syntax_tree.specs.declared.clause.Spec.{Spec as SpecTree}
+use Rattle.scopes.specs.Meanings.{IfUnknown}
+use Rattle.body_names.proofs.CodeJoinedLaws.{unknown-more}
+use Rattle.resolution.specs.Clauses.{AddedClauses, HasUnknownBehind, PlacedClause, placed}
+use Rattle.resolution.specs.Pragmas.{before_others, pragmas_in, settings_of}
 use Rattle.resolution.specs.Owners.{HasUnknownInBlock, OwnerScope, placed_in}
 use Rattle.resolution.specs.OwnersSoFar.{IsOwnerAfter, StandsIn}
 use Rattle.resolution.specs.Parts.{here_of}

@@ -1,7 +1,7 @@
 use Rattle.std.proofs.Common.{[], ◌∷◌, Some, length, take, sym, ap, subst, ◌∙◌, append-nil}
 use Rattle.std.proofs.lemmas.Result.{err_from_is_err_and}
-use Rattle.pv_base.specs.Pairs.{Paired}
-use Rattle.source_tree.specs.declared.source.SourceForm.TheVariants.{Function}
+use Rattle.base.specs.Pairs.{Paired}
+use Rattle.syntax_tree.specs.declared.source.SourceForm.TheVariants.{Function}
 use Rattle.resolution.specs.Faults.{IsFaultAmong}
 use Rattle.resolution.specs.Items.{form_items}
 use Rattle.resolution.specs.Owners.{block_of, member_numbers}

@@ -2,8 +2,8 @@ use Rattle.std.proofs.Common.{◌≡◌, ◌+◌, [], ◌∷◌, ◌++◌, lengt
 use Rattle.std.specs.List.{filter_map}
 use Rattle.std.proofs.lemmas.Result.{err_from_is_err_and}
 use Rattle.std.proofs.lemmas.List.{length-take}
-use Rattle.source_tree.specs.SourceData.{SourceMemberData}
-use Rattle.module_names.specs.Declares.{listed}
+use Rattle.syntax_tree.specs.SourceData.{SourceMemberData}
+use Rattle.scopes.specs.Declares.{listed}
 use Rattle.resolution.specs.Faults.{IsFaultAmong}
 use Rattle.resolution.specs.Items.{form_items}
 use Rattle.resolution.specs.OwnersSoFar.{AreOwners, blocks_before}

@@ -1,5 +1,5 @@
 use Rattle.std.proofs.Common.{[], ◌∷◌, sym, subst}
-use Rattle.pv_base.specs.Pairs.{Paired}
+use Rattle.base.specs.Pairs.{Paired}
 use Rattle.resolution.specs.Items.{HasUnknownInForm}
 use Rattle.resolution.specs.Parts.{IsBareAs, here_of}
 use Rattle.resolution.specs.Programs.{form_declaration}

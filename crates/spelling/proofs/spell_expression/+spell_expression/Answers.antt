@@ -1,7 +1,7 @@
 use Rattle.std.proofs.Common.{◌≡◌, ◌++◌, ◌∙◌, sym, ap, subst, OnOk}
-use Rattle.expression_tree.specs.ExpressionData.{ExpressionData}
-use Rattle.expression_tree.specs.ExpressionView.{expression_of_node}
-use Rattle.expression_tree.specs.ExpressionSpelling.{expression_spelling}
+use Rattle.syntax_tree.specs.ExpressionData.{ExpressionData}
+use Rattle.syntax_tree.specs.ExpressionView.{expression_of_node}
+use Rattle.syntax_tree.specs.ExpressionSpelling.{expression_spelling}
 use Rattle.spelling.proofs.Steps.{three_parts}
 use Rattle.spelling.proofs.ExpressionCommas.{items_taken, expressions_comma_list, field_values_comma_list}
 use Rattle.spelling.proofs.spell_expression.+spell_expression.Goals as goal

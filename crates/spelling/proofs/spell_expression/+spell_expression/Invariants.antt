@@ -1,8 +1,8 @@
 use Rattle.std.proofs.Common.{◌≡◌, ◌+◌, ◌*◌, ◌++◌, take}
 use Rattle.std.specs.List.{flat_map}
-use Rattle.expression_tree.specs.ExpressionView.{unboxed}
-use Rattle.expression_tree.specs.ExpressionData.{expression_size, maybe_expression_size, expressions_size, block_size, items_size, item_size, field_value_size, field_values_size, expressions_of, items_of, field_values_of, maybe_expression_of}
-use Rattle.expression_tree.specs.ExpressionSpelling.{expression_after_comma, field_value_after_comma, item_spelling}
+use Rattle.syntax_tree.specs.ExpressionView.{unboxed}
+use Rattle.syntax_tree.specs.ExpressionData.{expression_size, maybe_expression_size, expressions_size, block_size, items_size, item_size, field_value_size, field_values_size, expressions_of, items_of, field_values_of, maybe_expression_of}
+use Rattle.syntax_tree.specs.ExpressionSpelling.{expression_after_comma, field_value_after_comma, item_spelling}
 use Rattle.spelling.proofs.spell_expression.+spell_expression.Given as goal
 
 abbrev pub decreases-spell_expression : goal.decreases-spell_expression

@@ -1,6 +1,6 @@
 use Rattle.std.proofs.Common.{◌≡◌, ◌++◌, take}
 use Rattle.std.specs.List.{flat_map}
-use Rattle.file_tree.specs.MemberSpelling.{attribute_spelling}
+use Rattle.syntax_tree.specs.MemberSpelling.{attribute_spelling}
 use Rattle.spelling.proofs.spell_member.spell_attributes.Given as goal
 
 abbrev pub invariant-loop-one : goal.invariant-loop-one

@@ -1,4 +1,4 @@
-use Rattle.file_tree.specs.MemberSpelling.{import_spelling}
+use Rattle.syntax_tree.specs.MemberSpelling.{import_spelling}
 use Rattle.spelling.proofs.MemberCommas.{mapped_comma_list}
 use Rattle.spelling.proofs.Steps.{three_parts}
 use Rattle.spelling.proofs.spell_member.spell_imports.Goals as goal

@@ -1,4 +1,4 @@
-use Rattle.move_tree.specs.PathSpelling.{path_spelling}
+use Rattle.syntax_tree.specs.PathSpelling.{path_spelling}
 use Rattle.spelling.proofs.MemberCommas.{mapped_comma_list}
 use Rattle.spelling.proofs.Steps.{three_parts}
 use Rattle.spelling.proofs.spell_member.spell_path_list.Goals as goal

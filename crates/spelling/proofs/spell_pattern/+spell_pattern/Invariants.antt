@@ -1,7 +1,7 @@
 use Rattle.std.proofs.Common.{◌≡◌, ◌+◌, ◌*◌, ◌++◌, take}
 use Rattle.std.specs.List.{flat_map}
-use Rattle.move_tree.specs.PatternData.{pattern_size, field_pattern_size, patterns_size, field_patterns_size, patterns_of, field_patterns_of}
-use Rattle.move_tree.specs.PatternSpelling.{pattern_after_comma, field_pattern_after_comma}
+use Rattle.syntax_tree.specs.PatternData.{pattern_size, field_pattern_size, patterns_size, field_patterns_size, patterns_of, field_patterns_of}
+use Rattle.syntax_tree.specs.PatternSpelling.{pattern_after_comma, field_pattern_after_comma}
 use Rattle.spelling.proofs.spell_pattern.+spell_pattern.Given as goal
 
 abbrev pub decreases-spell_pattern : goal.decreases-spell_pattern

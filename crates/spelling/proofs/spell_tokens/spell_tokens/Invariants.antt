@@ -1,5 +1,5 @@
 use Rattle.std.proofs.Common.{◌≡◌, ◌++◌, take, map}
-use Rattle.move_tree.specs.SpecTokenSpelling.{kept}
+use Rattle.syntax_tree.specs.SpecTokenSpelling.{kept}
 use Rattle.spelling.proofs.spell_tokens.spell_tokens.Given as goal
 
 abbrev pub invariant-loop-token : goal.invariant-loop-token

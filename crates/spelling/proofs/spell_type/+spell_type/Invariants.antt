@@ -1,7 +1,7 @@
 use Rattle.std.proofs.Common.{◌≡◌, ◌+◌, ◌*◌, ◌++◌, take}
 use Rattle.std.specs.List.{flat_map}
-use Rattle.move_tree.specs.TypeTreeData.{source_type_size, arguments_size, maybe_arguments_size, source_types_size, source_types_of, maybe_arguments_of}
-use Rattle.move_tree.specs.TypeSpelling.{type_after_comma}
+use Rattle.syntax_tree.specs.TypeTreeData.{source_type_size, arguments_size, maybe_arguments_size, source_types_size, source_types_of, maybe_arguments_of}
+use Rattle.syntax_tree.specs.TypeSpelling.{type_after_comma}
 use Rattle.spelling.proofs.spell_type.+spell_type.Given as goal
 
 abbrev pub decreases-spell_type : goal.decreases-spell_type

@@ -21,7 +21,7 @@ decreases-is_free_in l = 2 * formula_size l.formula.now
 abbrev pub decreases-is_free_in_formulas : goal.decreases-is_free_in_formulas
 decreases-is_free_in_formulas l = 2 * formulas_size (formulas_of l.formulas.now)
 
--- the variable is free in the whole list exactly where it is in what is left
+-- the variable is free in the whole list exactly when it is free in the rest
 abbrev pub invariant-is_free_in_terms-loop-term : goal.invariant-is_free_in_terms-loop-term
 invariant-is_free_in_terms-loop-term l =
     free_in_terms l.variable (terms_of l.terms) ≡ free_in_terms l.variable (terms_of (drop l.term-index l.terms))

@@ -1,6 +1,6 @@
 use Rattle.std.proofs.Common.{cond, None, ap, ◌∙◌}
 use Rattle.std.specs.Vec.Iter.{into_iter_items}
-use Rattle.pv_base.specs.Names.{same_name}
+use Rattle.base.specs.Names.{same_name}
 use Rattle.sum_tree.specs.SumFunctionData.{SumFunctionData}
 use Rattle.sum_module.specs.ClauseTable.{clauses_at, entry_at}
 use Rattle.sum_module.proofs.ClauseTableLemmas.{serves_more}

@@ -1,6 +1,6 @@
 use Rattle.std.proofs.Common.{None, cond, ap, ◌∙◌}
 use Rattle.sum_module.specs.ClauseTable.{entry_at}
-use Rattle.pv_base.proofs.NameLaws.{is_eq-same_name}
+use Rattle.base.proofs.NameLaws.{is_eq-same_name}
 use Rattle.sum_module.proofs.join.take_clauses.Goals as goal
 
 pub returns-in-Some-clause-left : goal.returns-in-Some-clause-left

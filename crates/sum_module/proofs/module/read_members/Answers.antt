@@ -1,8 +1,8 @@
 use Rattle.std.proofs.Common.{ap, subst, ◌∙◌, ◌++◌, take}
-use Rattle.source_tree.specs.SourceData.{SourceMemberData}
+use Rattle.syntax_tree.specs.SourceData.{SourceMemberData}
 use Rattle.sum_read.specs.FormFault.{IfNotBuilt}
-use Rattle.source_tree.specs.Places.{form_place}
-use Rattle.pv_base.specs.Names.{IsSetOf}
+use Rattle.syntax_tree.specs.Places.{form_place}
+use Rattle.base.specs.Names.{IsSetOf}
 use Rattle.sum_module.specs.Members.{name_of_form, IsMember, IsUnbuilt}
 use Rattle.sum_module.proofs.MemberLemmas.{reading_more, reading_stops}
 use Rattle.sum_module.proofs.module.read_members.Goals as goal

@@ -1,5 +1,5 @@
 use Rattle.std.proofs.Common.{◌≡◌, Some, ap, subst, ◌∙◌, inr, rules}
-use Rattle.source_tree.specs.SourceModuleData.{SourceModuleData}
+use Rattle.syntax_tree.specs.SourceModuleData.{SourceModuleData}
 use Rattle.sum_module.specs.Built.{IsFirstUnbuilt, IsUnbuiltAt, address_of}
 use Rattle.sum_module.specs.Fault.{IfNotBuiltAt}
 use Rattle.sum_module.proofs.FaultLemmas.{hands_on}

@@ -1,6 +1,6 @@
 use Rattle.std.proofs.Common.{◌≡◌, None, Some, cond, ap, ◌∙◌, rules}
 use Rattle.std.specs.Option.{option_or}
-use Rattle.pv_base.specs.Names.{same_name}
+use Rattle.base.specs.Names.{same_name}
 use Rattle.sum_module.specs.Parameters.{parameters_at, names_of}
 use Rattle.sum_module.proofs.TableLemmas.{is_added}
 use Rattle.sum_module.proofs.parameters.add_function.Goals as goal

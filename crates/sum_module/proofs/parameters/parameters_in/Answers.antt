@@ -1,5 +1,5 @@
 use Rattle.std.proofs.Common.{ap, sym, subst, ◌∙◌}
-use Rattle.source_tree.specs.SourceData.{SourceMemberData}
+use Rattle.syntax_tree.specs.SourceData.{SourceMemberData}
 use Rattle.sum_module.specs.Parameters.{IsAdded}
 use Rattle.sum_module.proofs.TableLemmas.{table_grows, table_stays}
 use Rattle.sum_module.proofs.parameters.parameters_in.Goals.{in-Function+in_ok-add_function, in_default}

@@ -1,4 +1,4 @@
-use Rattle.spec_tree.specs.SpecExpressionData.{spec_expression_size}
+use Rattle.syntax_tree.specs.SpecExpressionData.{spec_expression_size}
 use Rattle.sum_read.proofs.spec_sum.+read_spec_sum.Given as goal
 
 abbrev pub decreases-read_spec_sum : goal.decreases-read_spec_sum

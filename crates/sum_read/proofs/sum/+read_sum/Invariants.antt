@@ -1,4 +1,4 @@
-use Rattle.expression_tree.specs.ExpressionData.{expression_size}
+use Rattle.syntax_tree.specs.ExpressionData.{expression_size}
 use Rattle.sum_read.proofs.sum.+read_sum.Given as goal
 
 abbrev pub decreases-read_sum : goal.decreases-read_sum

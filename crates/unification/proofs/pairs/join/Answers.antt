@@ -1,7 +1,7 @@
 use Rattle.std.proofs.Common.{◌≡◌, ◌∙◌, Bool, length, sym, arith}
 use Rattle.std.proofs.lemmas.Result.{IfOk-weaker}
-use Rattle.type_places.specs.Slots.{value}
-use Rattle.type_places.proofs.Growing.{grown, grown_said, instance_kept}
+use Rattle.unification.specs.Slots.{value}
+use Rattle.unification.proofs.Growing.{grown, grown_said, instance_kept}
 use Rattle.unification.specs.Unifiers.{apply}
 use Rattle.unification.proofs.pairs.join.Goals as goal
 

@@ -1,5 +1,5 @@
 use Rattle.std.proofs.Common.{◌<◌, Bool, IsTrue, length, subst, arith}
-use Rattle.type_places.specs.Grown.{Grows}
+use Rattle.unification.specs.Grown.{Grows}
 use Rattle.unification.specs.Unifiers.{Joins}
 use Rattle.unification.proofs.Solving.{start, more_at, clash_at}
 use Rattle.unification.proofs.pairs.solve.Goals as goal

@@ -1,7 +1,7 @@
 use Rattle.std.proofs.Common.{List, take, subst}
-use Rattle.type_places.specs.Slots.{Typing, Meets}
-use Rattle.type_places.specs.Ranks.{IsRank}
-use Rattle.type_places.specs.declared.slots.Slot.{Slot}
+use Rattle.unification.specs.Slots.{Typing, Meets}
+use Rattle.unification.specs.Ranks.{IsRank}
+use Rattle.unification.specs.declared.type_variables.slots.Slot.{Slot}
 use Rattle.unification.specs.Unifiers.{HasNoUnifier}
 use Rattle.unification.specs.Ranked.{rank_at, IsRanking}
 use Rattle.unification.specs.Solved.{Solves}

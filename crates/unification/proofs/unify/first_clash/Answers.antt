@@ -1,5 +1,5 @@
 use Rattle.std.proofs.Common.{◌≡◌, ◌+◌, length, take, subst, arith, ℕ}
-use Rattle.pv_base.specs.TypeData.{BoolType}
+use Rattle.base.specs.TypeData.{BoolType}
 use Rattle.unification.specs.Unifiers.{HasNoUnifier}
 use Rattle.unification.proofs.Solving.{some_pairs}
 use Rattle.unification.proofs.unify.first_clash.Goals as goal

@@ -1,7 +1,7 @@
 use Rattle.std.proofs.Common.{ap, sym, ◌∙◌, ◌++◌, ◌∷◌, []}
-use Rattle.pv_base.proofs.NameLaws.{set_more}
-use Rattle.pv_base.specs.Names.{is_one_of}
-use Rattle.pv_base.specs.Names.{has}
+use Rattle.base.proofs.NameLaws.{set_more}
+use Rattle.base.specs.Names.{is_one_of}
+use Rattle.base.specs.Names.{has}
 use Rattle.sum_module.specs.Members.{name_of_form}
 use Rattle.sum_module.proofs.seen.Seen.add.Goals as goal
 

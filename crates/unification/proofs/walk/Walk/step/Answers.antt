@@ -1,7 +1,7 @@
 use Rattle.std.proofs.Common.{◌≡◌, ◌<◌, ◌≤◌, ◌+◌, ℕ, List, ◌∷◌, length, reverse, refl, sym, ap, subst, ◌∙◌, arith}
 use Rattle.std.proofs.lemmas.List.{get_or_read, length-reverse}
-use Rattle.type_places.specs.Slots.{slot_at}
-use Rattle.type_places.proofs.Becoming.{slot_read}
+use Rattle.unification.specs.Slots.{slot_at}
+use Rattle.unification.proofs.Becoming.{slot_read}
 use Rattle.unification.specs.Walking.{first_part, part_count}
 use Rattle.unification.proofs.Stepping.{reverse_push, parts_within, parts_read, next_read, goes_settled, goes_further, goes_round}
 use Rattle.unification.proofs.walk.Walk.step.Goals as goal

@@ -1,5 +1,0 @@
-//! The abilities of types.
-#![tactic(auto)]
-
-pub mod abilities;
-pub mod set;

@@ -1,0 +1,8 @@
+pub mod Bodies
+pub mod Entries
+pub mod Locals
+pub mod Nodes
+pub mod Missing
+pub mod Told
+pub mod Edges
+pub mod Rows

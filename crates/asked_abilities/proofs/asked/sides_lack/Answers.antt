@@ -1,9 +1,0 @@
-use Rattle.typings.specs.Asked.{Drop}
-use Rattle.asked_abilities.specs.Bodies.{is_lacking, place_told}
-use Rattle.asked_abilities.proofs.Asks.{two_asks}
-use Rattle.asked_abilities.proofs.asked.sides_lack.Goals as goal
-
-pub returns : goal.returns
-returns c =
-    two_asks (is_lacking (place_told c.args.judged.table.now c.args.judged.places.now)) (c.args.left, Drop) (c.args.right, Drop)
-    c.lacks_drop-first.result c.lacks_drop-second.result c.lacks_drop-first.ensures c.lacks_drop-second.ensures

@@ -1,8 +1,0 @@
-use Rattle.std.proofs.Common.{◌≡◌, drop}
-use Rattle.abilities.specs.Sets.{both}
-use Rattle.asked_abilities.specs.Entries.{common_told, judged_at}
-use Rattle.asked_abilities.proofs.entry.common.Given as goal
-
-abbrev pub invariant-loop-number : goal.invariant-loop-number
-invariant-loop-number l =
-    both l.found (common_told (judged_at l.table) l.parameters l.number (drop l.number l.parts)) ≡ common_told (judged_at l.table) l.parameters 0 l.parts

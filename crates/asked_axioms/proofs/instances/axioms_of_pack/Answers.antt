@@ -1,6 +1,0 @@
-use Rattle.asked_axioms.proofs.ListLemmas.{lists_all}
-use Rattle.asked_axioms.proofs.instances.axioms_of_pack.Goals as goal
-
-pub returns-clause-all : goal.returns-clause-all
-returns-clause-all c =
-    let all = c.in_ok-ask_pack.ensures.adds in lists_all c.new.ensures.items all.adds all.exactly

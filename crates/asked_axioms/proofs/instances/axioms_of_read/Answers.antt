@@ -1,6 +1,0 @@
-use Rattle.asked_axioms.proofs.ListLemmas.{lists_all}
-use Rattle.asked_axioms.proofs.PairLemmas.{reads}
-use Rattle.asked_axioms.proofs.instances.axioms_of_read.Goals as goal
-
-pub returns-clause-all : goal.returns-clause-all
-returns-clause-all c = lists_all c.new.ensures.items c.in_ok-ask_read.ensures.adds (reads _ _)

@@ -1,8 +1,0 @@
-use Rattle.asked_axioms.specs.Numbers.{term_at}
-use Rattle.asked_axioms.proofs.ListLemmas.{adds_nothing}
-use Rattle.asked_axioms.proofs.VectorLemmas.{nothing_beside}
-use Rattle.asked_axioms.proofs.pairs.ask_beside.Goals as goal
-
-pub returns-in-None-clause-adds : goal.returns-in-None-clause-adds
-returns-in-None-clause-adds c =
-    adds_nothing _ _ (nothing_beside (term_at c.args.pool.now c.args.term) c.in-None.ensures)

@@ -1,8 +1,0 @@
-use Rattle.asked_axioms.specs.Numbers.{term_at}
-use Rattle.asked_axioms.proofs.ListLemmas.{adds_nothing}
-use Rattle.asked_axioms.proofs.VectorLemmas.{no_item}
-use Rattle.asked_axioms.proofs.pairs.ask_item.Goals as goal
-
-pub returns-in-None-clause-adds : goal.returns-in-None-clause-adds
-returns-in-None-clause-adds c =
-    adds_nothing _ _ (no_item (term_at c.args.pool.now c.args.vector) (term_at c.args.pool.now c.args.place) c.in-None.ensures)

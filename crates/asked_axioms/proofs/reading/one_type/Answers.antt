@@ -1,5 +1,0 @@
-use Rattle.asked_axioms.proofs.TypeFormLemmas.{one_plain}
-use Rattle.asked_axioms.proofs.reading.one_type.Goals as goal
-
-pub returns-in-TypeShared : goal.returns-in-TypeShared
-returns-in-TypeShared c = one_plain c.requires c.in-TypeShared.is

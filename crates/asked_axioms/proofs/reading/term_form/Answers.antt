@@ -1,5 +1,0 @@
-use Rattle.asked_axioms.proofs.FormLemmas.{no_term}
-use Rattle.asked_axioms.proofs.reading.term_form.Goals as goal
-
-pub returns-in-None : goal.returns-in-None
-returns-in-None c = no_term c.args.pool.now c.args.term c.in-None.ensures

@@ -1,8 +1,0 @@
-use Rattle.asked_axioms.proofs.FieldLemmas.{PartsSoFar}
-use Rattle.asked_axioms.proofs.structs.part_numbers.Given as goal
-
-abbrev pub invariant-loop-first : goal.invariant-loop-first
-invariant-loop-first l = PartsSoFar l.pool l.numbers.items l.parts l.list
-
-abbrev pub decreases-loop-first : goal.decreases-loop-first
-decreases-loop-first l = l.list

@@ -1,7 +1,0 @@
-use Rattle.asked_axioms.specs.Numbers.{term_at}
-use Rattle.asked_axioms.proofs.ListLemmas.{adds_nothing}
-use Rattle.asked_axioms.proofs.FormLemmas.{quiet_operator}
-use Rattle.asked_axioms.proofs.terms.ask_operator.Goals as goal
-
-pub returns-in-Add-clause-adds : goal.returns-in-Add-clause-adds
-returns-in-Add-clause-adds c = adds_nothing _ _ (quiet_operator c.args.operator (term_at c.args.pool.now c.args.left) (term_at c.args.pool.now c.args.right) c.in-Add.is)

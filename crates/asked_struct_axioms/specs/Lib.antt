@@ -1,4 +1,0 @@
-pub mod SetFieldRows
-pub mod PackedRows
-pub mod FieldTypedRows
-pub mod PackTypedRows

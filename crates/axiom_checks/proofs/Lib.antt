@@ -1,4 +1,0 @@
-pub mod SideLemmas
-pub mod OrderLemmas
-pub mod ListedLemmas
-pub mod AxiomLemmas

@@ -1,6 +1,0 @@
-use Rattle.std.proofs.Common.{◌≡◌, take}
-use Rattle.std.specs.Prelude.{All}
-use Rattle.axiom_checks.proofs.listed.is_among.Given as goal
-
-abbrev pub invariant-loop-step : goal.invariant-loop-step
-invariant-loop-step l = All (λ s. s ≡ l.sought → ⊥) (take l.step-index l.steps)

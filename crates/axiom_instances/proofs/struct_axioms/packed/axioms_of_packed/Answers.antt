@@ -1,0 +1,6 @@
+use Rattle.axiom_instances.proofs.ListLemmas.{lists_all}
+use Rattle.axiom_instances.proofs.struct_axioms.packed.axioms_of_packed.Goals as goal
+
+pub returns-clause-all : goal.returns-clause-all
+returns-clause-all c =
+    let all = c.in_ok-ask_packed.ensures.adds in lists_all c.new.ensures.items all.adds all.exactly

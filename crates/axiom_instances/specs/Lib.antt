@@ -1,0 +1,17 @@
+pub mod Asks
+pub mod Standing
+pub mod Lists
+pub mod Rows
+pub mod Numbers
+pub mod Templates
+pub mod PairRows
+pub mod TypeRows
+pub mod StructRows
+pub mod SetFieldRows
+pub mod PackedRows
+pub mod FieldTypedRows
+pub mod PackTypedRows
+pub mod Fresh
+pub mod VectorRows
+pub mod Puts
+pub mod FieldTypes

@@ -1,0 +1,6 @@
+use Rattle.std.proofs.Common.{take}
+use Rattle.axiom_strategy.proofs.OpenLemmas.{NoneOpenAt}
+use Rattle.axiom_strategy.proofs.decisions.cuts.open_pair.Given as goal
+
+abbrev pub invariant-loop-place : goal.invariant-loop-place
+invariant-loop-place l = NoneOpenAt l.classes l.numbers l.denied l.by_group (take l.place-index l.all)

@@ -1,0 +1,101 @@
+//! Decisions on two numbers with equal values in a solution of the rows.
+
+ghost use Rattle.std.specs.Prelude.{IfOk, IfSome};
+ghost use Rattle.term_pool.specs.Pools.{Extends};
+ghost use Rattle.tableau.specs.PoolBranches.{branch_in, IsOver};
+ghost use Rattle.tableau.specs.Terms.{AreClassesOf};
+ghost use Rattle.axiom_strategy.specs.Orders.{IsOrder, IsWith, IsInGroup, AreOfBranch, IsFreshPair};
+
+use crate::decisions::numbers::number_marks;
+use crate::decisions::orders::{OrderStep, fresh_order, number_places};
+use crate::decisions::places::Place;
+use base::keyed_lists::lists::Lists;
+use base::memory::NoMemory;
+use congruence_closure::branch_classes::BranchClasses;
+use std::alloc::Global;
+use tableau::branch::PoolBranch;
+use term_pool::pool::Pool;
+
+// Decides whether two terms have one value by their names: equal names other than 0.
+fn are_alike(names: &[usize], left: usize, right: usize) -> bool {
+    if left >= names.len() || right >= names.len() {
+        return false;
+    }
+    names[left] != 0 && names[left] == names[right]
+}
+
+fn equal_with(
+    alloc: Global,
+    pool: &mut Pool,
+    branch: &PoolBranch,
+    classes: &BranchClasses,
+    names: &[usize],
+    left: usize,
+    others: &[usize],
+) -> Result<Option<OrderStep>, NoMemory>
+    requires over { IsOver pool.old branch.now }
+    requires classes { AreClassesOf pool.old branch.now classes.now }
+    requires pairs { AreOfBranch pool.old (branch_in pool.old branch.now) (IsWith left others.now) }
+    ensures extends { Extends pool.old pool.new }
+    ensures due { IfOk result (λ found. IfSome found (IsFreshPair pool.old pool.new (branch_in pool.old branch.now) (IsWith left others.now))) }
+{
+    for right in others {
+        if !are_alike(names, left, *right) {
+            continue;
+        }
+        if let Some(step) = fresh_order(alloc, pool, branch, classes, left, *right)? {
+            return Ok(Some(step));
+        }
+    }
+    Ok(None)
+}
+
+fn equal_in_groups(
+    alloc: Global,
+    pool: &mut Pool,
+    branch: &PoolBranch,
+    classes: &BranchClasses,
+    names: &[usize],
+    all: &[Place],
+    by_group: &Lists,
+) -> Result<Option<OrderStep>, NoMemory>
+    requires over { IsOver pool.old branch.now }
+    requires classes { AreClassesOf pool.old branch.now classes.now }
+    requires pairs { AreOfBranch pool.old (branch_in pool.old branch.now) (IsInGroup all.now by_group.now) }
+    ensures extends { Extends pool.old pool.new }
+    ensures due { IfOk result (λ found. IfSome found (IsFreshPair pool.old pool.new (branch_in pool.old branch.now) (IsInGroup all.now by_group.now))) }
+{
+    for place in all {
+        let others = by_group.at(place.group);
+        let found = equal_with(alloc, pool, branch, classes, names, place.term, others)?;
+        if let Some(step) = found {
+            return Ok(Some(step));
+        }
+    }
+    Ok(None)
+}
+
+/// Returns an instance of the trichotomy axiom that is due for two numbers that index one group of aliasing memories
+/// and vectors and have one value in a solution of the rows: this asks first which of two numbers is the greater where
+/// the rows may force them to be equal. `names` gives each term a name by its number; terms with one name other than 0
+/// have one value. `None` does not mean that no instance is due, since this is only a heuristic choice. `classes` are
+/// those of the branch. The running time is linear in the length of the pool plus the number of pairs of numbers that
+/// index one group. `NoMemory` if memory runs out.
+pub fn equal_order(
+    alloc: Global,
+    pool: &mut Pool,
+    branch: &PoolBranch,
+    classes: &BranchClasses,
+    names: &[usize],
+) -> Result<Option<OrderStep>, NoMemory>
+    requires over { IsOver pool.old branch.now }
+    requires classes { AreClassesOf pool.old branch.now classes.now }
+    ensures extends { Extends pool.old pool.new }
+    ensures due { IfOk result (λ found. IfSome found (IsOrder pool.new (branch_in pool.new branch.now))) }
+{
+    let numbers = number_marks(alloc, pool, branch)?;
+    let marks = numbers.as_slice();
+    let places = number_places(alloc, pool, branch, classes, marks)?;
+    let all = places.all.as_slice();
+    equal_in_groups(alloc, pool, branch, classes, names, all, &places.by_group)
+}

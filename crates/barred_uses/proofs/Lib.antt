@@ -1,4 +1,0 @@
-pub mod Owning
-pub mod Steps
-pub mod Deciding
-pub mod Firsts

@@ -1,8 +1,0 @@
-use Rattle.barred_uses.proofs.Steps.{a_typing, no_typing, says_none, says_some}
-use Rattle.barred_uses.proofs.known.is_known.Goals as goal
-
-pub returns-in-None : goal.returns-in-None
-returns-in-None c s says = no_typing s (says_none s _ c.in-None.is says)
-
-pub returns-in-Some : goal.returns-in-Some
-returns-in-Some c s says = a_typing s _ (says_some s _ _ c.in-Some.is says)

@@ -1,6 +1,0 @@
-use Rattle.std.specs.Option.{option_copied}
-use Rattle.barred_uses.proofs.Owning.{owner_says}
-use Rattle.barred_uses.proofs.owners.owner_at.Goals as goal
-
-pub returns : goal.returns
-returns c = owner_says c.args.slots.now c.args.roots.now c.args.place (option_copied c.slot_owner.result) c.requires.fits c.requires.roots c.requires.ranked c.requires.within c.slot_owner.ensures

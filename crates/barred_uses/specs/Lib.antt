@@ -1,4 +1,0 @@
-pub mod Owners
-pub mod Known
-pub mod Nodes
-pub mod Firsts

@@ -1,0 +1,16 @@
+pub mod FinMapEntries
+pub mod ListEnds
+pub mod NameLaws
+pub mod PairLaws
+pub mod TruthValues
+pub mod WholeNumbers
+pub mod PairLemmas
+pub mod CircleLemmas
+pub mod EdgeLemmas
+pub mod LabelLemmas
+pub mod OnCircleLemmas
+pub mod ReachLemmas
+pub mod RootLemmas
+pub mod WalkLemmas
+pub mod MadeGraphs
+pub mod Components

@@ -1,0 +1,14 @@
+pub mod Codes
+pub mod TypeData
+pub mod TypeView
+pub mod TypeFalls
+pub mod Names
+pub mod Pairs
+pub mod Rules
+pub mod Lists
+pub mod KeyedPairs
+pub mod Circles
+pub mod Labelling
+pub mod Walking
+pub mod Graphs
+pub mod MarkedCircles

@@ -1,0 +1,100 @@
+//! The root of each number: the last finished one of those that it leads to.
+
+ghost use Rattle.std.specs.Prelude.{◌≡◌, ℕ, ◌<◌, ◌≤◌, ◌+◌, [], ◌∷◌, ◌++◌, length, replicate, reverse, slice_index, slice_set, None, Some, OnOk, IfOk, Option};
+ghost use Rattle.base.specs.Circles.{IsWithin};
+ghost use Rattle.base.specs.Labelling.{IsLabelling, NoneIsOpen, label, AreNumbers, waiting};
+
+use crate::cycles::graph::Targets;
+use crate::memory::NoMemory;
+use std::alloc::Global;
+
+/// The labels that were given, and the labelled numbers whose edges were not followed.
+#[derive(Drop)]
+struct Labels {
+    labels: Vec<Option<usize>>,
+    work: Vec<usize>,
+}
+
+impl Labels {
+    /// Gives this label to the numbers that `node`, which has it, has an edge to and that have none.
+    fn label_next(
+        &mut self,
+        sources: &[Targets],
+        order: &[usize],
+        node: usize,
+        place: usize,
+    ) -> Result<(), NoMemory>
+        requires within { IsWithin sources.now }
+        requires node { node < length sources.now }
+        requires labels { IsLabelling sources.now order.now place self.old.labels.items (node ∷ reverse self.old.work.items) NoneIsOpen }
+        ensures labels { OnOk result (IsLabelling sources.now order.now place self.new.labels.items (reverse self.new.work.items) NoneIsOpen) }
+        ensures less { OnOk result (waiting self.new.labels.items self.new.work.items ≤ waiting self.old.labels.items self.old.work.items) }
+    {
+        for source in sources[node].as_slice() {
+            if self.labels[*source].is_none() {
+                self.labels[*source] = Some(place);
+                self.work.push(*source)?;
+            }
+        }
+        Ok(())
+    }
+
+    /// Gives this label to the number at its place of the order, and to all that it leads to and that
+    /// have none.
+    fn label_from(
+        &mut self,
+        sources: &[Targets],
+        order: &[usize],
+        place: usize,
+    ) -> Result<(), NoMemory>
+        requires within { IsWithin sources.now }
+        requires numbers { AreNumbers sources.now order.now }
+        requires place { place < length order.now }
+        requires work { self.old.work.items ≡ [] }
+        requires labels { IsLabelling sources.now order.now (place + 1) self.old.labels.items [] NoneIsOpen }
+        ensures work { OnOk result (self.new.work.items ≡ []) }
+        ensures labels { OnOk result (IsLabelling sources.now order.now place self.new.labels.items [] NoneIsOpen) }
+    {
+        let root = order[place];
+        if self.labels[root].is_some() {
+            return Ok(());
+        }
+        self.labels[root] = Some(place);
+        self.work.push(root)?;
+        while let Some(node) = self.work.pop() {
+            self.label_next(sources, order, node, place)?;
+        }
+        Ok(())
+    }
+}
+
+/// No label for any of so many numbers.
+fn no_labels(alloc: Global, count: usize) -> Result<Vec<Option<usize>>, NoMemory>
+    ensures { IfOk result (λ labels. labels.items ≡ replicate count None) }
+{
+    let mut labels = Vec::new(alloc);
+    for _ in 0..count {
+        labels.push(None)?;
+    }
+    Ok(labels)
+}
+
+/// For each number the last place of the order from which edges lead to it.
+pub(crate) fn label_all(
+    alloc: Global,
+    sources: &[Targets],
+    order: &[usize],
+) -> Result<Vec<Option<usize>>, NoMemory>
+    requires within { IsWithin sources.now }
+    requires numbers { AreNumbers sources.now order.now }
+    ensures { IfOk result (λ labels. IsLabelling sources.now order.now 0 labels.items [] NoneIsOpen) }
+{
+    let mut given = Labels {
+        labels: no_labels(alloc, sources.len())?,
+        work: Vec::new(alloc),
+    };
+    for place in (0..order.len()).rev() {
+        given.label_from(sources, order, place)?;
+    }
+    Ok(given.labels)
+}

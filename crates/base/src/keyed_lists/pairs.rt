@@ -1,0 +1,49 @@
+//! Sets of pairs of numbers.
+
+ghost use Rattle.std.specs.Prelude.{◌≡◌, ◌∷◌, [], ◌↔◌, ◌⊎◌, ℕ, Contains, IsTrue, OnOk, IfOk};
+ghost use Rattle.base.specs.KeyedPairs.{AreMore};
+
+use crate::memory::NoMemory;
+use indexmap::IndexSet;
+use std::alloc::Global;
+use std::marker::Model;
+
+/// A set of pairs of numbers.
+#[derive(Drop)]
+pub struct Pairs {
+    pairs: IndexSet<(usize, usize)>,
+}
+
+impl Model for Pairs {
+    ghost use Rattle.std.specs.Prelude.{List, ℕ};
+
+    ghost Value = { List (ℕ × ℕ) };
+
+    ghost view = { λ p. p.pairs.keys };
+}
+
+impl Pairs {
+    /// No pairs.
+    pub fn new(alloc: Global) -> Pairs
+        ensures { result ≡ [] }
+    {
+        Pairs {
+            pairs: IndexSet::new(alloc),
+        }
+    }
+
+    /// Whether a pair is in the set.
+    pub fn has(&self, left: usize, right: usize) -> bool
+        ensures { IsTrue result ↔ Contains self.now (left, right) }
+    {
+        self.pairs.contains(&(left, right))
+    }
+
+    /// Puts a pair in; whether it was not there.
+    pub fn add(&mut self, left: usize, right: usize) -> Result<bool, NoMemory>
+        ensures pairs { OnOk result (AreMore self.old self.new (left, right)) }
+        ensures fresh { IfOk result (λ fresh. IsTrue fresh ↔ (Contains self.old (left, right) → ⊥)) }
+    {
+        Ok(self.pairs.insert((left, right))?)
+    }
+}

@@ -1,0 +1,12 @@
+pub mod CodeAddedLaws
+pub mod CodeListings
+pub mod CodeJoinedLaws
+pub mod PatternListings
+pub mod CodeRemainsLaws
+pub mod SpecAddedLaws
+pub mod SpecJoinedLaws
+pub mod Listings
+pub mod NameListLaws
+pub mod SpecRemainsLaws
+pub mod NumberedLaws
+pub mod TellLaws

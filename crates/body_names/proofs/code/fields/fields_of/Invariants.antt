@@ -1,0 +1,6 @@
+use Rattle.std.proofs.Common.{◌≡◌, map, take}
+use Rattle.body_names.specs.CodeTrees.{field_of_value}
+use Rattle.body_names.proofs.code.fields.fields_of.Given as goal
+
+abbrev pub invariant-loop-one : goal.invariant-loop-one
+invariant-loop-one l = l.names ≡ map field_of_value (take l.one-index l.fields)

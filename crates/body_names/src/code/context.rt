@@ -1,0 +1,14 @@
+//! The context of a body.
+
+ghost use Rattle.std.specs.Prelude.{◌<◌, ◌^◌, length};
+
+use scopes::types::TypePlace;
+use std::alloc::Global;
+
+/// The context of a body: the meaning of names in its module, and the names of its type parameters.
+#[derive(Drop)]
+pub struct Context<'a> {
+    pub alloc: Global,
+    pub types: TypePlace<'a>,
+    ghost few: { length types.parameters.now < 2 ^ 32 },
+}

@@ -1,0 +1,264 @@
+//! The meaning of words and signs in Move code.
+
+ghost use Rattle.std.specs.Prelude.{◌≡◌};
+ghost use Rattle.syntax_tree.specs.TypeTreeData.{maybe_arguments_of};
+ghost use Rattle.scopes.specs.Meanings.{IsMeaning, address_meaning};
+ghost use Rattle.scopes.specs.TypeMeanings.{arguments_meaning, type_meaning};
+ghost use Rattle.body_names.specs.CodeForms.{annotation_meaning, call_meaning, cast_meaning, constant_leaf, declare_meaning, fields_meaning, let_meaning, literal_meaning, local_meaning, number_meaning, operator_of, suffix_meaning, unary_of, use_of, value_meaning, vector_meaning};
+ghost use Rattle.body_names.specs.CodeSetting.{setting};
+
+use crate::code::context::Context;
+use base::name::Name;
+use base::types::{TypeList, TypeTerm, Width};
+use program::boxed::Boxed;
+use program::code::{
+    Call, CodeBinary, CodeLeaf, CodeMany, CodeUnary, LocalUse, NamedFields, Number,
+};
+use program::operator::{Arithmetic, BinaryOperator, Bitwise, Comparison, Shift};
+use program::sequence::Sequence;
+use scopes::fault::NameFault;
+use scopes::scope::Scope;
+use scopes::types::{type_arguments, type_named};
+use syntax_tree::literal::Literal;
+use syntax_tree::operator::{BinaryOperator as SourceOperator, UnaryOperator, UseKind};
+use syntax_tree::path::{Address, Path};
+use syntax_tree::types::{SourceType, TypeArguments};
+use tokens::token::{NumberLiteral, NumberSuffix};
+
+/// Returns the binary operator that a sign means.
+pub fn operator_of(operator: SourceOperator) -> BinaryOperator
+    ensures { result ≡ operator_of operator }
+{
+    match operator {
+        SourceOperator::Or => BinaryOperator::Or,
+        SourceOperator::And => BinaryOperator::And,
+        SourceOperator::Equal => BinaryOperator::Equal,
+        SourceOperator::NotEqual => BinaryOperator::NotEqual,
+        SourceOperator::Less => BinaryOperator::Comparison(Comparison::Less),
+        SourceOperator::LessEqual => BinaryOperator::Comparison(Comparison::LessEqual),
+        SourceOperator::Greater => BinaryOperator::Comparison(Comparison::Greater),
+        SourceOperator::GreaterEqual => BinaryOperator::Comparison(Comparison::GreaterEqual),
+        SourceOperator::BitOr => BinaryOperator::Bitwise(Bitwise::BitOr),
+        SourceOperator::BitXor => BinaryOperator::Bitwise(Bitwise::BitXor),
+        SourceOperator::BitAnd => BinaryOperator::Bitwise(Bitwise::BitAnd),
+        SourceOperator::ShiftLeft => BinaryOperator::Shift(Shift::Left),
+        SourceOperator::ShiftRight => BinaryOperator::Shift(Shift::Right),
+        SourceOperator::Add => BinaryOperator::Arithmetic(Arithmetic::Add),
+        SourceOperator::Subtract => BinaryOperator::Arithmetic(Arithmetic::Subtract),
+        SourceOperator::Multiply => BinaryOperator::Arithmetic(Arithmetic::Multiply),
+        SourceOperator::Divide => BinaryOperator::Arithmetic(Arithmetic::Divide),
+        SourceOperator::Remainder => BinaryOperator::Arithmetic(Arithmetic::Remainder),
+    }
+}
+
+/// Returns the unary operator that a sign means.
+pub fn unary_of(operator: UnaryOperator) -> CodeUnary
+    ensures { result ≡ unary_of operator }
+{
+    match operator {
+        UnaryOperator::Not => CodeUnary::Not,
+        UnaryOperator::Dereference => CodeUnary::Dereference,
+        UnaryOperator::Borrow => CodeUnary::Borrow,
+        UnaryOperator::BorrowMutable => CodeUnary::BorrowMutable,
+    }
+}
+
+/// Returns how `move` or `copy` takes the value of a local.
+pub fn use_of(kind: UseKind) -> LocalUse
+    ensures { result ≡ use_of kind }
+{
+    match kind {
+        UseKind::Move => LocalUse::Move,
+        UseKind::Copy => LocalUse::Copy,
+    }
+}
+
+/// Returns the type that the suffix of a number names, if it has one.
+fn width_of(suffix: NumberSuffix) -> Result<Option<Width>, NameFault>
+    ensures { IsMeaning result (suffix_meaning suffix) }
+{
+    match suffix {
+        NumberSuffix::Absent => Ok(None),
+        NumberSuffix::U8 => Ok(Some(Width::U8)),
+        NumberSuffix::U16 => Ok(Some(Width::U16)),
+        NumberSuffix::U32 => Ok(Some(Width::U32)),
+        NumberSuffix::U64 => Ok(Some(Width::U64)),
+        NumberSuffix::U128 => Ok(Some(Width::U128)),
+        NumberSuffix::U256 => Err(NameFault::Unknown),
+    }
+}
+
+#[tactic(auto, unfolding(crate::specs::CodeForms::number_meaning))]
+fn number(number: &NumberLiteral) -> Result<CodeLeaf, NameFault>
+    ensures { IsMeaning result (number_meaning number.now) }
+{
+    let width = width_of(number.suffix)?;
+    Ok(CodeLeaf::Number(Number {
+        value: number.value,
+        width,
+    }))
+}
+
+fn address(context: &Context<'_>, address: &Address) -> Result<u128, NameFault>
+    ensures { IsMeaning result (address_meaning context.now.types.environment.now address.now) }
+{
+    match context.types.environment.address(address) {
+        Some(number) => Ok(number),
+        None => Err(NameFault::Unknown),
+    }
+}
+
+/// Returns the value of a literal.
+#[tactic(auto, unfolding(crate::specs::CodeForms::literal_meaning))]
+pub fn literal(context: &Context<'_>, literal: &Literal) -> Result<CodeLeaf, NameFault>
+    ensures { IsMeaning result (literal_meaning (setting context.now) literal.now) }
+{
+    match literal {
+        Literal::Number(numeral) => number(&numeral.literal),
+        Literal::Truth { value, .. } => Ok(CodeLeaf::Truth(*value)),
+        Literal::Address { address: named, .. } => Ok(CodeLeaf::Address(address(context, named)?)),
+    }
+}
+
+/// Returns the innermost local of a name.
+pub fn local(kind: LocalUse, scope: &Scope, name: &Name) -> Result<CodeLeaf, NameFault>
+    ensures { IsMeaning result (local_meaning kind scope.now name.now) }
+{
+    match scope.find(name) {
+        Some(number) => Ok(CodeLeaf::Local(kind, number)),
+        None => Err(NameFault::Unknown),
+    }
+}
+
+fn constant(context: &Context<'_>, path: &Path) -> Result<CodeLeaf, NameFault>
+    ensures { IsMeaning result (constant_leaf (setting context.now) path.now) }
+{
+    let id = context
+        .types
+        .environment
+        .constant_named(context.alloc, path)?;
+    let boxed = Boxed::new(context.alloc, id)?;
+    Ok(CodeLeaf::Constant(boxed))
+}
+
+/// Returns the meaning of a path as a value.
+#[tactic(auto, unfolding(crate::specs::CodeForms::value_meaning))]
+pub fn value(context: &Context<'_>, scope: &Scope, path: &Path) -> Result<CodeLeaf, NameFault>
+    ensures { IsMeaning result (value_meaning (setting context.now) scope.now path.now) }
+{
+    if let Path::Name(name) = path {
+        if let Some(number) = scope.find(&name.text) {
+            return Ok(CodeLeaf::Local(LocalUse::Plain, number));
+        }
+    }
+    constant(context, path)
+}
+
+fn type_term(context: &Context<'_>, source: &SourceType) -> Result<Boxed<TypeTerm>, NameFault>
+    ensures { IsMeaning result (type_meaning (setting context.now) source.now) }
+{
+    let term = type_named(context.alloc, &context.types, source)?;
+    let boxed = Boxed::new(context.alloc, term)?;
+    Ok(boxed)
+}
+
+/// Returns a cast to a type.
+#[tactic(auto, unfolding(crate::specs::CodeForms::cast_meaning))]
+pub fn cast(context: &Context<'_>, target: &SourceType) -> Result<CodeUnary, NameFault>
+    ensures { IsMeaning result (cast_meaning (setting context.now) target.now) }
+{
+    let target = type_term(context, target)?;
+    Ok(CodeUnary::Cast(target))
+}
+
+fn annotation(
+    context: &Context<'_>,
+    annotation: &Option<SourceType>,
+) -> Result<Option<Boxed<TypeTerm>>, NameFault>
+    ensures { IsMeaning result (annotation_meaning (setting context.now) annotation.now) }
+{
+    match annotation {
+        None => Ok(None),
+        Some(source) => Ok(Some(type_term(context, source)?)),
+    }
+}
+
+/// Returns a `let` without a value.
+#[tactic(auto, unfolding(crate::specs::CodeForms::declare_meaning))]
+pub fn declaration(
+    context: &Context<'_>,
+    source: &Option<SourceType>,
+) -> Result<CodeUnary, NameFault>
+    ensures { IsMeaning result (declare_meaning (setting context.now) source.now) }
+{
+    let term = annotation(context, source)?;
+    Ok(CodeUnary::Declare(term))
+}
+
+/// Returns a `let` with a value.
+#[tactic(auto, unfolding(crate::specs::CodeForms::let_meaning))]
+pub fn binding(context: &Context<'_>, source: &Option<SourceType>) -> Result<CodeBinary, NameFault>
+    ensures { IsMeaning result (let_meaning (setting context.now) source.now) }
+{
+    let term = annotation(context, source)?;
+    Ok(CodeBinary::Let(term))
+}
+
+fn written_types(
+    context: &Context<'_>,
+    arguments: &Option<TypeArguments>,
+) -> Result<TypeList, NameFault>
+    ensures { IsMeaning result (arguments_meaning (setting context.now) (maybe_arguments_of arguments.now)) }
+{
+    type_arguments(context.alloc, &context.types, arguments)
+}
+
+/// Returns a call of what a path names.
+#[tactic(auto, unfolding(crate::specs::CodeForms::call_meaning))]
+pub fn call(
+    context: &Context<'_>,
+    path: &Path,
+    arguments: &Option<TypeArguments>,
+) -> Result<CodeMany, NameFault>
+    ensures { IsMeaning result (call_meaning (setting context.now) path.now (maybe_arguments_of arguments.now)) }
+{
+    let callee = context.types.environment.callee_named(context.alloc, path)?;
+    let types = written_types(context, arguments)?;
+    let boxed = Boxed::new(context.alloc, Call { callee, types })?;
+    Ok(CodeMany::Call(boxed))
+}
+
+/// Returns a vector with the written type arguments.
+#[tactic(auto, unfolding(crate::specs::CodeForms::vector_meaning))]
+pub fn vector(
+    context: &Context<'_>,
+    arguments: &Option<TypeArguments>,
+) -> Result<CodeMany, NameFault>
+    ensures { IsMeaning result (vector_meaning (setting context.now) (maybe_arguments_of arguments.now)) }
+{
+    let types = written_types(context, arguments)?;
+    Ok(CodeMany::Vector(types))
+}
+
+/// Returns a struct with these fields.
+#[tactic(auto, unfolding(crate::specs::CodeForms::fields_meaning))]
+pub fn named_fields(
+    context: &Context<'_>,
+    path: &Path,
+    arguments: &Option<TypeArguments>,
+    fields: Sequence<Name>,
+) -> Result<Boxed<NamedFields>, NameFault>
+    ensures { IsMeaning result (fields_meaning (setting context.now) path.now (maybe_arguments_of arguments.now) fields) }
+{
+    let owner = context.types.environment.struct_named(context.alloc, path)?;
+    let types = written_types(context, arguments)?;
+    let boxed = Boxed::new(
+        context.alloc,
+        NamedFields {
+            owner,
+            types,
+            fields,
+        },
+    )?;
+    Ok(boxed)
+}

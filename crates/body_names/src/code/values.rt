@@ -1,0 +1,84 @@
+//! Literals, paths and locals as values.
+
+ghost use Rattle.std.specs.Prelude.{◌≡◌, [], ◌∷◌, IfOk, IfErr, OnOk};
+ghost use Rattle.program.specs.Listed.{IsSound};
+ghost use Rattle.scopes.specs.Meanings.{IfUnknown};
+ghost use Rattle.body_names.specs.CodeAdded.{Added};
+ghost use Rattle.body_names.specs.CodeForms.{leaf_tree, literal_meaning, local_meaning, use_of, value_meaning};
+ghost use Rattle.body_names.specs.CodePlaces.{literal_place, path_place};
+ghost use Rattle.body_names.specs.CodeSetting.{setting};
+
+use crate::code::building::Building;
+use crate::code::context::Context;
+use crate::code::forms::{literal, local, use_of, value};
+use crate::code::places::{literal_place, path_place};
+use base::span::Span;
+use scopes::fault::NameFault;
+use syntax_tree::lexeme::Identifier;
+use syntax_tree::literal::Literal;
+use syntax_tree::operator::UseKind;
+use syntax_tree::path::Path;
+
+/// Adds a literal.
+pub fn resolve_literal(
+    context: &Context<'_>,
+    into: &mut Building,
+    source: &Literal,
+) -> Result<usize, NameFault>
+    ensures added { IfOk result (λ place. Added (leaf_tree (literal_meaning (setting context.now) source.now)) (literal_place source.now ∷ []) [] into.old into.new place) }
+    ensures scope { OnOk result (into.new.scope ≡ into.old.scope) }
+    ensures unknown { IfErr result (λ fault. IfUnknown fault (IsSound (leaf_tree (literal_meaning (setting context.now) source.now)) → ⊥)) }
+{
+    let leaf = literal(context, source)?;
+    let place = into.leaf(leaf, literal_place(source))?;
+    Ok(place)
+}
+
+/// Adds the meaning of a path as a value.
+pub fn resolve_value(
+    context: &Context<'_>,
+    into: &mut Building,
+    path: &Path,
+) -> Result<usize, NameFault>
+    ensures added { IfOk result (λ place. Added (leaf_tree (value_meaning (setting context.now) into.old.scope path.now)) (path_place path.now ∷ []) [] into.old into.new place) }
+    ensures scope { OnOk result (into.new.scope ≡ into.old.scope) }
+    ensures unknown { IfErr result (λ fault. IfUnknown fault (IsSound (leaf_tree (value_meaning (setting context.now) into.old.scope path.now)) → ⊥)) }
+{
+    let leaf = value(context, &into.scope, path)?;
+    let place = into.leaf(leaf, path_place(path))?;
+    Ok(place)
+}
+
+/// Adds `move x` or `copy x`.
+pub fn resolve_use(
+    into: &mut Building,
+    kind: UseKind,
+    span: Span,
+    name: &Identifier,
+) -> Result<usize, NameFault>
+    ensures added { IfOk result (λ place. Added (leaf_tree (local_meaning (use_of kind) into.old.scope name.now.text)) (span ∷ []) [] into.old into.new place) }
+    ensures scope { OnOk result (into.new.scope ≡ into.old.scope) }
+    ensures unknown { IfErr result (λ fault. IfUnknown fault (IsSound (leaf_tree (local_meaning (use_of kind) into.old.scope name.now.text)) → ⊥)) }
+{
+    let leaf = local(use_of(kind), &into.scope, &name.text)?;
+    let place = into.leaf(leaf, span)?;
+    Ok(place)
+}
+
+/// Adds the meaning, as a value, of the name of a field without a value.
+pub fn resolve_shorthand(
+    context: &Context<'_>,
+    into: &mut Building,
+    name: &Identifier,
+) -> Result<usize, NameFault>
+    ensures added { IfOk result (λ place. Added (leaf_tree (value_meaning (setting context.now) into.old.scope (Path.Name name.now))) (name.now.place ∷ []) [] into.old into.new place) }
+    ensures scope { OnOk result (into.new.scope ≡ into.old.scope) }
+    ensures unknown { IfErr result (λ fault. IfUnknown fault (IsSound (leaf_tree (value_meaning (setting context.now) into.old.scope (Path.Name name.now))) → ⊥)) }
+{
+    let path = Path::Name(Identifier {
+        text: name.text.try_clone(context.alloc)?,
+        place: name.place,
+    });
+    let place = resolve_value(context, into, &path)?;
+    Ok(place)
+}

@@ -1,0 +1,11 @@
+pub mod Misfitting
+pub mod Dropping
+pub mod Choosing
+pub mod Running
+pub mod Parts
+pub mod Telling
+pub mod Runs
+pub mod Owning
+pub mod Steps
+pub mod Deciding
+pub mod Firsts

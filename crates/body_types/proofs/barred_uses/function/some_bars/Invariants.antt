@@ -1,0 +1,12 @@
+use Rattle.std.proofs.Common.{◌≡◌}
+use Rattle.unification.specs.Slots.{Meets}
+use Rattle.typing_rules.specs.CodeSystems.{function_setting}
+use Rattle.typing_rules.specs.Settings.{first_argument}
+use Rattle.body_types.specs.Nodes.{NoneBars}
+use Rattle.body_types.proofs.barred_uses.function.some_bars.Given as goal
+
+abbrev pub invariant-loop-place : goal.invariant-loop-place
+invariant-loop-place l = record {
+  first : l.first ≡ first_argument (function_setting l.program l.function) l.place;
+  none : NoneBars l.program l.function l.facts.own.now l.facts.types.now (Meets l.facts.slots.now) l.place;
+}

@@ -1,0 +1,8 @@
+use Rattle.std.proofs.Common.{ℕ, ◌<◌, ◌≤◌, length}
+use Rattle.typing_rules.specs.Answers.{System}
+use Rattle.unification.specs.Choices.{HasDefaults}
+use Rattle.body_types.specs.Fitting.{MisfitAt}
+use Rattle.body_types.proofs.code.fitting.misfits.Given as goal
+
+abbrev pub invariant-loop-place : goal.invariant-loop-place
+invariant-loop-place l = (s : System) → HasDefaults s l.defaulted → length l.body.nodes ≤ s.places → (k : ℕ) → k < l.place → MisfitAt s l.body.nodes k → ⊥

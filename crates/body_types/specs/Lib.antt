@@ -1,0 +1,13 @@
+pub mod Plain
+pub mod Fitting
+pub mod Judged
+pub mod Typable
+pub mod CodeTyped
+pub mod Runs
+pub mod SpecKnown
+pub mod SpecTyped
+pub mod Told
+pub mod Owners
+pub mod BarredUsesKnown
+pub mod Nodes
+pub mod Firsts

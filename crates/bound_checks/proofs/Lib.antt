@@ -1,7 +1,0 @@
-pub mod TruthLemmas
-pub mod BetweenLemmas
-pub mod ChosenLemmas
-pub mod RowLemmas
-pub mod FirstLemmas
-pub mod AskLemmas
-pub mod DueLemmas

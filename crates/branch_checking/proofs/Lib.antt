@@ -1,2 +1,0 @@
-pub mod OpenLemmas
-pub mod ReachedLemmas

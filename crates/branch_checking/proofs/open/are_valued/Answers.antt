@@ -1,4 +1,0 @@
-use Rattle.branch_checking.proofs.open.are_valued.Goals as goal
-
-pub follow_classes-requires-clause-state : goal.follow_classes-requires-clause-state
-follow_classes-requires-clause-state c = c.new-state.ensures c.args.pool.now

@@ -1,4 +1,0 @@
-use Rattle.branch_checking.proofs.reached.has_number_left.Goals as goal
-
-pub above_all-requires-clause-above : goal.above_all-requires-clause-above
-above_all-requires-clause-above c = c.new-variables.ensures c.args.pool.now c.args.branch.now.entries

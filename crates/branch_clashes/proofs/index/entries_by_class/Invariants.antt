@@ -1,7 +1,0 @@
-use Rattle.std.proofs.Common.{nat_eq}
-use Rattle.indexmap.specs.IndexMap.{get}
-use Rattle.branch_clashes.specs.Indexes.{AreEntriesBefore}
-use Rattle.branch_clashes.proofs.index.entries_by_class.Given as goal
-
-abbrev pub invariant-loop-i : goal.invariant-loop-i
-invariant-loop-i l = AreEntriesBefore l.branch l.classes l.i (get nat_eq l.by_class)

@@ -1,4 +1,0 @@
-pub mod Clashes
-pub mod Forms
-pub mod Indexes
-pub mod Literal

@@ -1,5 +1,0 @@
-use Rattle.branch_classes.proofs.ExactLemmas.{exactly_alike}
-use Rattle.branch_classes.proofs.laws.congruent_as_alike.Goals as goal
-
-pub returns : goal.returns
-returns c = λ d b i j p q classes nodes equations m n. exactly_alike d.nodes d.equations d.names d.links classes nodes b equations i j p q m n

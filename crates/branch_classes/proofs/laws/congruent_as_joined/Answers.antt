@@ -1,5 +1,0 @@
-use Rattle.branch_classes.proofs.ExactLemmas.{exactly_joined}
-use Rattle.branch_classes.proofs.laws.congruent_as_joined.Goals as goal
-
-pub returns : goal.returns
-returns c = λ d b i j t u classes nodes equations m n. exactly_joined d.nodes d.equations d.names d.links classes nodes b equations i j t u m n

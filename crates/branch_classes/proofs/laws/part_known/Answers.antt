@@ -1,5 +1,0 @@
-use Rattle.branch_classes.proofs.OverLemmas.{part_known}
-use Rattle.branch_classes.proofs.laws.part_known.Goals as goal
-
-pub returns : goal.returns
-returns c = λ pool d number part n over k e o. part_known pool d number part n over k e o

@@ -1,4 +1,0 @@
-pub mod Trees
-pub mod Nodes
-pub mod Numbers
-pub mod Known

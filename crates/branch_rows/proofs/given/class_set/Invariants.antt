@@ -1,5 +1,0 @@
-use Rattle.branch_rows.proofs.GivenLemmas.{IsSetSoFar}
-use Rattle.branch_rows.proofs.given.class_set.Given as goal
-
-abbrev pub invariant-loop-class : goal.invariant-loop-class
-invariant-loop-class l = IsSetSoFar l.given l.class-index l.set.keys

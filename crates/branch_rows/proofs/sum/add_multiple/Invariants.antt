@@ -1,6 +1,0 @@
-use Rattle.std.proofs.Common.{take}
-use Rattle.branch_rows.specs.Sums.{IsAdded}
-use Rattle.branch_rows.proofs.sum.add_multiple.Given as goal
-
-abbrev pub invariant-loop-place : goal.invariant-loop-place
-invariant-loop-place l = IsAdded l.factor l.initial.first.entries (take l.place l.second.entries) l.first.entries

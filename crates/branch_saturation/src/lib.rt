@@ -1,4 +1,0 @@
-//! Whether a branch is saturated.
-#![tactic(auto)]
-
-pub mod saturation;

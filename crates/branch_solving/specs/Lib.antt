@@ -1,2 +1,0 @@
-pub mod Eliminations
-pub mod Bounds

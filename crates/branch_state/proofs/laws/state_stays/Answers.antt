@@ -1,5 +1,0 @@
-use Rattle.branch_state.proofs.StateLemmas.{state_stays}
-use Rattle.branch_state.proofs.laws.state_stays.Goals as goal
-
-pub returns : goal.returns
-returns c = λ ns ms s grown h. state_stays ns ms grown s h

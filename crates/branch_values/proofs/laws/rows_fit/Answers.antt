@@ -1,5 +1,0 @@
-use Rattle.branch_values.proofs.FitLemmas.{rows_of_fit}
-use Rattle.branch_values.proofs.laws.rows_fit.Goals as goal
-
-pub returns : goal.returns
-returns c b class classes rows h = rows_of_fit classes h.stated rows h.are_rows

@@ -1,7 +1,0 @@
-use Rattle.std.specs.Prelude.{nat_eq}
-use Rattle.indexmap.specs.IndexMap.{get}
-use Rattle.branch_values.proofs.NumberLemmas.{AreFirstNumbers}
-use Rattle.branch_values.proofs.numbers.number_entries.Given as goal
-
-abbrev pub invariant-loop-number : goal.invariant-loop-number
-invariant-loop-number l = AreFirstNumbers l.pool l.branch l.names l.number (get nat_eq l.found)

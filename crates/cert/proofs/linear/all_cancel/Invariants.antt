@@ -1,9 +1,0 @@
-use Rattle.std.proofs.Common.{take}
-use Rattle.std.specs.Prelude.{All}
-use Rattle.cert.specs.Branch.{entries_of}
-use Rattle.cert.specs.Unknowns.{Cancels}
-use Rattle.cert.proofs.linear.all_cancel.Given as goal
-
-abbrev pub invariant-loop-multiple : goal.invariant-loop-multiple
-invariant-loop-multiple l =
-    All (Cancels (entries_of l.branch) l.multiples) (take l.multiple-index l.multiples)

@@ -1,8 +1,0 @@
-use Rattle.std.proofs.Common.{take}
-use Rattle.std.specs.Prelude.{All}
-use Rattle.cert.specs.Branch.{entries_of}
-use Rattle.cert.specs.Linear.{MayCount}
-use Rattle.cert.proofs.linear.may_all_count.Given as goal
-
-abbrev pub invariant-loop-multiple : goal.invariant-loop-multiple
-invariant-loop-multiple l = All (MayCount (entries_of l.branch)) (take l.multiple-index l.multiples)

@@ -1,0 +1,10 @@
+pub mod TreesMoveLemmas
+pub mod TreesFitLemmas
+pub mod ListLemmas
+pub mod MarkLemmas
+pub mod NodeLemmas
+pub mod ApplicationLemmas
+pub mod PoolsFitLemmas
+pub mod ItemLemmas
+pub mod LengthsMoveLemmas
+pub mod ProverLemmas

@@ -1,0 +1,8 @@
+use Rattle.std.proofs.Common.{◌≡◌, ◌+◌, take}
+use Rattle.std.specs.List.{flat_map}
+use Rattle.certificates.specs.Lengths.{capped, moves_length}
+use Rattle.certificate_text.specs.Moves.{moves_of_application}
+use Rattle.certificate_text.proofs.lengths.certificate.certificate_len.Given as goal
+
+abbrev pub invariant-loop-application : goal.invariant-loop-application
+invariant-loop-application l = l.total ≡ capped (1 + moves_length (flat_map (moves_of_application l.pool) (take l.application-index l.text)))

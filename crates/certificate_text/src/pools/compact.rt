@@ -1,0 +1,32 @@
+//! Compaction of a pool to the nodes that a proof trace needs.
+
+ghost use Rattle.std.specs.Prelude.{◌≡◌, List, IfOk, OnOk, OnErr};
+ghost use Rattle.std.specs.List.{AllZip};
+ghost use Rattle.certificates.specs.ProofTraces.{Application};
+ghost use Rattle.search.specs.Applications.{IsApplicationOf};
+ghost use Rattle.certificate_text.specs.Moves.{FitApplications};
+
+use crate::pools::applications::renumber;
+use crate::pools::needs::needed_nodes;
+use crate::pools::nodes::copy_marked;
+use base::memory::NoMemory;
+use search::trees::application::PoolApplication;
+use std::alloc::Global;
+use term_pool::pool::Pool;
+
+/// Returns a pool of exactly the nodes that the trace names and their parts. It renumbers the trace: over this pool it
+/// has the same rule applications as over the other one. It takes time linear in the pool and the trace.
+///
+/// # Errors
+///
+/// Only if memory ran out. The trace is unchanged then.
+pub fn compact(alloc: Global, pool: &Pool, text: &mut [PoolApplication]) -> Result<Pool, NoMemory>
+    ensures applications { (applications : List Application) → AllZip (IsApplicationOf pool.now) text.old applications → IfOk result (λ made. AllZip (IsApplicationOf made) text.new applications) }
+    ensures fit { FitApplications text.old → OnOk result (FitApplications text.new) }
+    ensures kept { OnErr result (text.new ≡ text.old) }
+{
+    let marks = needed_nodes(alloc, pool, text)?;
+    let (made, numbers) = copy_marked(alloc, pool, marks.as_slice())?;
+    renumber(numbers.as_slice(), text);
+    Ok(made)
+}

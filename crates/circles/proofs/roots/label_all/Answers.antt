@@ -1,8 +1,0 @@
-use Rattle.std.proofs.Common.{arith, ◌≡◌, ℕ, [], subst}
-use Rattle.circles.specs.Labelling.{IsLabelling, NoneIsOpen}
-use Rattle.circles.proofs.roots.label_all.Goals as goal
-
-pub returns : goal.returns
-returns c =
-    let e : c.loop-place.place ≡ 0 = omega arith in
-    subst (λ (p : ℕ). IsLabelling c.args.sources.now c.args.order.now p c.loop-place.given.labels.items [] NoneIsOpen) e c.loop-place.invariant.labels

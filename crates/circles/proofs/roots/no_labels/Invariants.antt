@@ -1,5 +1,0 @@
-use Rattle.std.proofs.Common.{◌≡◌, replicate, None}
-use Rattle.circles.proofs.roots.no_labels.Given as goal
-
-abbrev pub invariant-loop : goal.invariant-loop
-invariant-loop l = l.labels.items ≡ replicate l.counter None

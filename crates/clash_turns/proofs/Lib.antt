@@ -1,4 +1,0 @@
-pub mod DepthLemmas
-pub mod EntryLemmas
-pub mod GraphLemmas
-pub mod AnswerLemmas

@@ -1,6 +1,0 @@
-use Rattle.std.proofs.Common.{◌≡◌, map, take}
-use Rattle.near_groups.specs.Terms.{formula_number}
-use Rattle.clash_turns.proofs.entries.entry_numbers.Given as goal
-
-abbrev pub invariant-loop-i : goal.invariant-loop-i
-invariant-loop-i l = l.numbers.items ≡ map formula_number (take l.i l.branch.entries)

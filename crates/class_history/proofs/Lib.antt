@@ -1,4 +1,0 @@
-pub mod RootLemmas
-pub mod StepLemmas
-pub mod JoinLemmas
-pub mod AmongLemmas

@@ -1,9 +1,0 @@
-use Rattle.std.proofs.Common.{◌≡◌, length}
-use Rattle.class_history.specs.Histories.{IsHistory}
-use Rattle.class_history.proofs.history.History.of_links.Given as goal
-
-abbrev pub invariant-loop-number : goal.invariant-loop-number
-invariant-loop-number l = record {
-  long : length l.history ≡ l.count;
-  history : IsHistory l.links l.number l.history;
-}

@@ -1,5 +1,0 @@
-use Rattle.class_names.proofs.NameLemmas.{AreFirstNames}
-use Rattle.class_names.proofs.names.class_names.Given as goal
-
-abbrev pub invariant-loop-number : goal.invariant-loop-number
-invariant-loop-number l = AreFirstNames l.pool l.classes l.terms l.number-index l.names.items

@@ -1,4 +1,0 @@
-pub mod Congruence
-pub mod Links
-pub mod Signatures
-pub mod States

@@ -1,9 +1,0 @@
-use Rattle.std.proofs.Common.{sym, arith, ◌-◌}
-use Rattle.typings.specs.CodeDemands.{has}
-use Rattle.typings.specs.Instances.{spec_type}
-use Rattle.node_demands.proofs.Last.{last_some}
-use Rattle.clause_demands.proofs.function.returned.Goals as goal
-
-pub returns-else-count-eq0 : goal.returns-else-count-eq0
-returns-else-count-eq0 c =
-    sym (last_some (λ n. has n (spec_type c.args.function.now.result)) c.args.function.now.body.nodes (c.len-count.result - 1) (omega arith))

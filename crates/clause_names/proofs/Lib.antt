@@ -1,5 +1,0 @@
-pub mod AroundLaws
-pub mod ClauseLaws
-pub mod ListLaws
-pub mod PragmaLaws
-pub mod VariableLaws

@@ -1,6 +1,0 @@
-use Rattle.std.proofs.Common.{◌≡◌, ◌++◌, map, take}
-use Rattle.clause_names.specs.Around.{local_around}
-use Rattle.clause_names.proofs.around.enter_locals.Given as goal
-
-abbrev pub invariant-loop-local : goal.invariant-loop-local
-invariant-loop-local l = l.into ≡ l.initial.into ++ map local_around (take l.local-index l.locals)

@@ -1,6 +1,0 @@
-use Rattle.std.proofs.Common.{◌≡◌, map, take}
-use Rattle.clause_names.specs.Around.{name_of_typed}
-use Rattle.clause_names.proofs.around.names_of.Given as goal
-
-abbrev pub invariant-loop-one : goal.invariant-loop-one
-invariant-loop-one l = l.names ≡ map name_of_typed (take l.one-index l.typed)

@@ -1,6 +1,0 @@
-use Rattle.std.proofs.Common.{◌≡◌, drop}
-use Rattle.clause_names.specs.Includes.{are_variables}
-use Rattle.clause_names.proofs.bindings.are_variables.Given as goal
-
-abbrev pub invariant-loop-name : goal.invariant-loop-name
-invariant-loop-name l = are_variables l.variables l.names ≡ are_variables l.variables (drop l.name-index l.names)

@@ -1,7 +1,0 @@
-use Rattle.std.proofs.Common.{take}
-use Rattle.clause_names.specs.Clauses.{AddedClauses, placed}
-use Rattle.clause_names.specs.Setting.{scope_of}
-use Rattle.clause_names.proofs.clauses.resolve_block.Given as goal
-
-abbrev pub invariant-loop-tree : goal.invariant-loop-tree
-invariant-loop-tree l = AddedClauses (scope_of l.place) (placed l.block (take l.tree-index l.trees)) l.initial.into l.into

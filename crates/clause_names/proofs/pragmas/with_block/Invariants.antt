@@ -1,6 +1,0 @@
-use Rattle.std.proofs.Common.{◌≡◌, take}
-use Rattle.clause_names.specs.Pragmas.{before_others, pragmas_in, settings_of}
-use Rattle.clause_names.proofs.pragmas.with_block.Given as goal
-
-abbrev pub invariant-loop-clause : goal.invariant-loop-clause
-invariant-loop-clause l = l.settings ≡ before_others (settings_of (pragmas_in (take l.clause-index l.clauses))) l.fn.before

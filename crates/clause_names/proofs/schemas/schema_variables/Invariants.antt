@@ -1,6 +1,0 @@
-use Rattle.std.proofs.Common.{◌≡◌, take}
-use Rattle.clause_names.specs.SpecDeclarations.{schema_variables}
-use Rattle.clause_names.proofs.schemas.schema_variables.Given as goal
-
-abbrev pub invariant-loop-tree : goal.invariant-loop-tree
-invariant-loop-tree l = l.names ≡ schema_variables (take l.tree-index l.trees)

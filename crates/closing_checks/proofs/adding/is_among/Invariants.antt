@@ -1,6 +1,0 @@
-use Rattle.std.proofs.Common.{◌≡◌, take}
-use Rattle.std.specs.Prelude.{All}
-use Rattle.closing_checks.proofs.adding.is_among.Given as goal
-
-abbrev pub invariant-loop-other : goal.invariant-loop-other
-invariant-loop-other l = All (λ m. m ≡ l.number → ⊥) (take l.other-index l.numbers)

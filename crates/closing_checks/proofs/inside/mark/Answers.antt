@@ -1,5 +1,0 @@
-use Rattle.closing_checks.proofs.MarkLemmas.{one_marked}
-use Rattle.closing_checks.proofs.inside.mark.Goals as goal
-
-pub returns : goal.returns
-returns c = one_marked c.args.marks.now c.args.number c.requires

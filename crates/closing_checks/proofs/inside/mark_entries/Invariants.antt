@@ -1,5 +1,0 @@
-use Rattle.closing_checks.specs.Inside.{AreEntriesMarked}
-use Rattle.closing_checks.proofs.inside.mark_entries.Given as goal
-
-abbrev pub invariant-loop-i : goal.invariant-loop-i
-invariant-loop-i l = AreEntriesMarked l.pool l.branch l.marks l.i

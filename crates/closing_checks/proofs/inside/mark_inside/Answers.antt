@@ -1,5 +1,0 @@
-use Rattle.closing_checks.proofs.MarkLemmas.{sweep_start}
-use Rattle.closing_checks.proofs.inside.mark_inside.Goals as goal
-
-pub returns : goal.returns
-returns c = c.sweep_all.ensures c.args.branch.now (sweep_start c.args.pool.now c.args.branch.now c.mark_entries.new.marks c.mark_entries.ensures)

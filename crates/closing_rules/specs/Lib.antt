@@ -1,0 +1,13 @@
+pub mod Clashes
+pub mod Forms
+pub mod Indexes
+pub mod Literal
+pub mod Rewriting
+pub mod Places
+pub mod Depths
+pub mod Entries
+pub mod Rewritings
+pub mod Settings
+pub mod Ends
+pub mod Eliminations
+pub mod Bounds

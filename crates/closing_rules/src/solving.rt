@@ -1,0 +1,4 @@
+//! The Fourier-Motzkin elimination of a branch's rows, and the use of its values.
+
+pub mod elimination;
+pub mod values;

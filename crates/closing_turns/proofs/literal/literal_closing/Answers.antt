@@ -1,5 +1,0 @@
-use Rattle.closing_turns.proofs.ClosingLemmas.{without_links}
-use Rattle.closing_turns.proofs.literal.literal_closing.Goals as goal
-
-pub returns : goal.returns
-returns c = λ shapes. without_links shapes c.args.pool.now c.args.branch.now (record { chain = c.new.result; by = c.close_of.result }) c.new.ensures.items c.requires.short c.close_of.ensures

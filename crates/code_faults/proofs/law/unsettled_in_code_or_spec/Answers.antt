@@ -1,5 +1,0 @@
-use Rattle.code_faults.proofs.Splits.{joined_open, split_open}
-use Rattle.code_faults.proofs.law.unsettled_in_code_or_spec.Goals as goal
-
-pub returns : goal.returns
-returns c = λ program place. (split_open program place, joined_open program place)

@@ -1,8 +1,0 @@
-use Rattle.std.proofs.Common.{take}
-use Rattle.declaration_places.specs.Order.{IsFirstOrNone}
-use Rattle.typings.specs.Asked.{FunctionLacksAbility}
-use Rattle.code_faults.specs.Split.{OneAt}
-use Rattle.code_faults.proofs.typed.function_fault.Given as goal
-
-abbrev pub invariant-loop-number : goal.invariant-loop-number
-invariant-loop-number l = IsFirstOrNone (OneAt (λ d. d.1.place) (λ d. FunctionLacksAbility l.program d.1) (take l.number l.program.functions)) l.found

@@ -1,4 +1,0 @@
-pub mod Split
-pub mod Functions
-pub mod Faults
-pub mod Typed

@@ -1,9 +1,0 @@
-//! The rules of typing that the functions, constants and structs of a program break, each with the first place.
-#![tactic(auto)]
-
-pub mod faults;
-pub mod functions;
-mod judged;
-pub mod law;
-pub mod places;
-pub mod typed;

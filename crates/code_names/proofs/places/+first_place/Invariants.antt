@@ -1,5 +1,0 @@
-use Rattle.expression_tree.specs.ExpressionData.{expression_size}
-use Rattle.code_names.proofs.places.+first_place.Given as goal
-
-abbrev pub decreases-first_place : goal.decreases-first_place
-decreases-first_place l = expression_size l.expression.now

@@ -1,9 +1,0 @@
-pub mod Added
-pub mod CodeNames
-pub mod CodeSpans
-pub mod CodeTrees
-pub mod Forms
-pub mod PatternTrees
-pub mod Places
-pub mod Resolved
-pub mod Setting

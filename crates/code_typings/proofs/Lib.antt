@@ -1,4 +1,0 @@
-pub mod Misfitting
-pub mod Dropping
-pub mod Choosing
-pub mod Running

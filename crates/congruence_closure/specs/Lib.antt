@@ -1,0 +1,10 @@
+pub mod Congruence
+pub mod Links
+pub mod Signatures
+pub mod States
+pub mod Histories
+pub mod Paths
+pub mod Trees
+pub mod Nodes
+pub mod Numbers
+pub mod Known

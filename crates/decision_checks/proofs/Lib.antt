@@ -1,5 +1,0 @@
-pub mod TruthLemmas
-pub mod ReadLemmas
-pub mod DenyLemmas
-pub mod NumberLemmas
-pub mod CutLemmas

@@ -1,7 +1,0 @@
-use Rattle.std.proofs.Common.{take}
-use Rattle.std.specs.Prelude.{All}
-use Rattle.decision_checks.specs.Pairs.{IsMeeting}
-use Rattle.decision_checks.proofs.indexes.are_read_in_one.Given as goal
-
-abbrev pub invariant-loop-number : goal.invariant-loop-number
-invariant-loop-number l = All (λ n. IsMeeting l.pool l.classes l.groups l.reads l.one l.other n → ⊥) (take l.number-index l.terms)

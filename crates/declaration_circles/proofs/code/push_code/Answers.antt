@@ -1,7 +1,0 @@
-use Rattle.declaration_circles.specs.Naming.{homes_in_node}
-use Rattle.declaration_circles.proofs.Naming.{pushed}
-use Rattle.declaration_circles.proofs.code.push_code.Goals as goal
-
-pub loop-place-preserved : goal.loop-place-preserved
-loop-place-preserved c =
-    pushed homes_in_node c.args.body.now.nodes c.loop-place.place c.node.result.now _ c.loop-place.into.items _ c.node.ensures.node c.loop-place.invariant c.in_ok-push_node.ensures

@@ -1,8 +1,0 @@
-use Rattle.std.proofs.Common.{◌≡◌, ◌++◌, take}
-use Rattle.std.specs.List.{flat_map}
-use Rattle.declaration_circles.specs.Naming.{homes_in_node}
-use Rattle.declaration_circles.proofs.code.push_code.Given as goal
-
-abbrev pub invariant-loop-place : goal.invariant-loop-place
-invariant-loop-place l =
-    l.into.items ≡ l.initial.into.items ++ flat_map homes_in_node (take l.place l.body.nodes)

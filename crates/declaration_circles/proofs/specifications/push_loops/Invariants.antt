@@ -1,7 +1,0 @@
-use Rattle.std.proofs.Common.{◌≡◌, ◌++◌, take}
-use Rattle.declaration_circles.specs.Naming.{homes_in_loops}
-use Rattle.declaration_circles.proofs.specifications.push_loops.Given as goal
-
-abbrev pub invariant-loop-clause : goal.invariant-loop-clause
-invariant-loop-clause l =
-    l.into.items ≡ l.initial.into.items ++ homes_in_loops (take l.clause-index l.clauses)

@@ -1,0 +1,7 @@
+use Rattle.std.proofs.Common.{◌≡◌, ◌++◌, take, map}
+use Rattle.program.specs.Homes.{struct_home}
+use Rattle.declaration_cycles.proofs.declarations.push_acquired.Given as goal
+
+abbrev pub invariant-loop-id : goal.invariant-loop-id
+invariant-loop-id l =
+    l.into.items ≡ l.initial.into.items ++ map struct_home (take l.id-index l.structs)

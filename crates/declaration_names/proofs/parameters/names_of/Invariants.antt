@@ -1,6 +1,0 @@
-use Rattle.std.proofs.Common.{◌≡◌, map, take}
-use Rattle.declaration_names.specs.Parameters.{type_name_of}
-use Rattle.declaration_names.proofs.parameters.names_of.Given as goal
-
-abbrev pub invariant-loop-parameter : goal.invariant-loop-parameter
-invariant-loop-parameter l = l.names.items ≡ map type_name_of (take l.parameter-index l.parameters)

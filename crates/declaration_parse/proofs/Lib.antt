@@ -1,4 +1,0 @@
-pub mod BeforeLists
-pub mod AbilityLemmas
-pub mod ParameterLemmas
-pub mod TypedNameLemmas

@@ -1,3 +1,0 @@
-pub mod AbilityReading
-pub mod ParameterReading
-pub mod TypedNameReading

@@ -1,0 +1,12 @@
+pub mod LocalEffects
+pub mod Sets
+pub mod Views
+pub mod Shown
+pub mod Summaries
+pub mod Verdicts
+pub mod Entries
+pub mod Tables
+pub mod PointsStates
+pub mod Told
+pub mod Flow
+pub mod WholeProgramStates

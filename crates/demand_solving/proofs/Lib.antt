@@ -1,9 +1,0 @@
-pub mod Bridges
-pub mod Emitting
-pub mod Forming
-pub mod Tupling
-pub mod Returning
-pub mod Fielding
-pub mod Moving
-pub mod Stepping
-pub mod Reading

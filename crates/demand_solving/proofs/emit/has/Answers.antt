@@ -1,6 +1,0 @@
-use Rattle.node_demands.specs.Seen.{seen_form}
-use Rattle.demand_solving.proofs.Emitting.{has_equal}
-use Rattle.demand_solving.proofs.emit.has.Goals as goal
-
-pub returns-clause-emits : goal.returns-clause-emits
-returns-clause-emits c w = has_equal w c.args.slots.now.items c.form_term.new.slots.items c.args.place (seen_form c.args.form) c.in_ok-term.term c.in_ok-term.ensures.said c.requires.place

@@ -1,7 +1,0 @@
-use Rattle.std.proofs.Common.{refl}
-use Rattle.demand_solving.specs.declared.walk.Reading.TheVariants.{Whole}
-use Rattle.demand_solving.proofs.Reading.{start_walk}
-use Rattle.demand_solving.proofs.walk.start.Goals as goal
-
-pub returns : goal.returns
-returns c w = start_walk w c.args.slots.now (record { count = 0; reading = Whole }) refl refl c.requires.fits c.requires.start

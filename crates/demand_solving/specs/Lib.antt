@@ -1,9 +1,0 @@
-pub mod Words
-pub mod Plain
-pub mod Within
-pub mod Equations
-pub mod Owners
-pub mod Tuples
-pub mod Steps
-pub mod Walking
-pub mod Walked

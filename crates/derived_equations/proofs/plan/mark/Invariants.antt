@@ -1,6 +1,0 @@
-use Rattle.std.proofs.Common.{take}
-use Rattle.derived_equations.specs.Plans.{IsOn, AreMarked}
-use Rattle.derived_equations.proofs.plan.mark.Given as goal
-
-abbrev pub invariant-loop-join : goal.invariant-loop-join
-invariant-loop-join l = AreMarked (IsOn (take l.join-index l.route)) l.fn.needed.items l.needed.items

@@ -1,0 +1,13 @@
+pub mod SupposedLemmas
+pub mod ValueLemmas
+pub mod Findings
+pub mod Records
+pub mod PairLemmas
+pub mod ModuleLemmas
+pub mod CauseLemmas
+pub mod FetchLemmas
+pub mod HandedLemmas
+pub mod Placed
+pub mod ReportLemmas
+pub mod RunLemmas
+pub mod Verifiable

@@ -1,0 +1,9 @@
+pub mod Pairs
+pub mod OpenValues
+pub mod Verdicts
+pub mod Findings
+pub mod Verified
+pub mod Stages
+pub mod Outcome
+pub mod Run
+pub mod Causes

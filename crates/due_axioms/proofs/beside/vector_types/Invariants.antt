@@ -1,9 +1,0 @@
-use Rattle.std.proofs.Common.{take}
-use Rattle.due_axioms.specs.Beside.{AreIn, AreVectorTypes}
-use Rattle.due_axioms.proofs.beside.vector_types.Given as goal
-
-abbrev pub invariant-loop-typing : goal.invariant-loop-typing
-invariant-loop-typing l = record {
-  seen : AreIn l.seen.keys l.types.items;
-  are : AreVectorTypes l.pool (take l.typing-index l.typings) l.types.items;
-}

@@ -1,5 +1,0 @@
-use Rattle.due_axioms.proofs.FamilyLemmas.{types_ask}
-use Rattle.due_axioms.proofs.laws.types_ask.Goals as goal
-
-pub returns : goal.returns
-returns c = λ ns d terms typings askers one over are typed h. types_ask ns one d over terms are typings typed askers h

@@ -1,6 +1,0 @@
-use Rattle.std.proofs.Common.{◌≡◌, ◌++◌, map, take}
-use Rattle.due_axioms.specs.Askers.{typing_asker}
-use Rattle.due_axioms.proofs.ranges.add_typings.Given as goal
-
-abbrev pub invariant-loop-typing : goal.invariant-loop-typing
-invariant-loop-typing l = l.askers.items ≡ l.fn.askers.items ++ map typing_asker (take l.typing-index l.typings)

@@ -1,7 +1,0 @@
-use Rattle.std.proofs.Common.{take}
-use Rattle.due_axioms.specs.Keyed.{AreListed}
-use Rattle.due_axioms.specs.Reads.{IsMember}
-use Rattle.due_axioms.proofs.reads.members_by_class.Given as goal
-
-abbrev pub invariant-loop-term : goal.invariant-loop-term
-invariant-loop-term l = AreListed (IsMember l.classes (take l.term-index l.terms)) l.lists

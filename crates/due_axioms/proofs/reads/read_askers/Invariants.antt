@@ -1,7 +1,0 @@
-use Rattle.std.proofs.Common.{take}
-use Rattle.pool_branch.specs.PoolBranches.{branch_in}
-use Rattle.due_axioms.proofs.ReadAskLemmas.{AreReadAskers}
-use Rattle.due_axioms.proofs.reads.read_askers.Given as goal
-
-abbrev pub invariant-loop-term : goal.invariant-loop-term
-invariant-loop-term l = AreReadAskers l.pool (branch_in l.pool l.branch) (take l.term-index l.terms) l.askers.items

@@ -1,6 +1,0 @@
-use Rattle.std.proofs.Common.{take}
-use Rattle.due_decisions.proofs.ChoiceLemmas.{AreChosen}
-use Rattle.due_decisions.proofs.cuts.candidates.Given as goal
-
-abbrev pub invariant-loop-term : goal.invariant-loop-term
-invariant-loop-term l = AreChosen l.pool l.classes l.numbers (take l.term-index l.terms) l.found.items l.seen

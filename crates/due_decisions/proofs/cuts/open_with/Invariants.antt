@@ -1,6 +1,0 @@
-use Rattle.std.proofs.Common.{take}
-use Rattle.due_decisions.specs.Cuts.{NoneOpenWith}
-use Rattle.due_decisions.proofs.cuts.open_with.Given as goal
-
-abbrev pub invariant-loop-other : goal.invariant-loop-other
-invariant-loop-other l = NoneOpenWith l.classes l.numbers l.denied l.left (take l.other-index l.others)

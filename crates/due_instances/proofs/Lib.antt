@@ -1,5 +1,0 @@
-pub mod QuantifierLemmas
-pub mod UniqueLemmas
-pub mod DepthLemmas
-pub mod SaidLemmas
-pub mod StepLemmas

@@ -1,3 +1,0 @@
-pub mod QuantifierFree
-pub mod Bodies
-pub mod Instances

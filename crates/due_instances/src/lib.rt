@@ -1,7 +1,0 @@
-//! Instances of the quantified formulas of a branch that are due.
-#![tactic(auto)]
-
-pub mod due;
-mod made;
-pub mod quantifiers;
-mod said;

@@ -1,4 +1,0 @@
-pub mod GrowthLemmas
-pub mod LateLemmas
-pub mod PlainLemmas
-pub mod PromisingLemmas

@@ -1,7 +1,0 @@
-use Rattle.std.proofs.Common.{refl}
-use Rattle.pool_branch.specs.PoolBranches.{branch_in}
-use Rattle.due_turns.proofs.GrowthLemmas.{split_due}
-use Rattle.due_turns.proofs.growths.split_turn.Goals as goal
-
-pub returns : goal.returns
-returns c = λ shapes ns h time. split_due shapes ns (branch_in ns c.args.branch.now) _ c.args.step.entry refl (c.generation_of.ensures ns) h time

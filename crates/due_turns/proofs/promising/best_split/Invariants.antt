@@ -1,5 +1,0 @@
-use Rattle.formula_pool.specs.Pools.{Extends}
-use Rattle.due_turns.proofs.promising.best_split.Given as goal
-
-abbrev pub invariant-loop-split : goal.invariant-loop-split
-invariant-loop-split l = Extends l.fn.pool l.pool

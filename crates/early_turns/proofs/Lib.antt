@@ -1,3 +1,0 @@
-pub mod RangeLemmas
-pub mod MarkLemmas
-pub mod EarlyLemmas

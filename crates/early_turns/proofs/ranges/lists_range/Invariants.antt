@@ -1,5 +1,0 @@
-use Rattle.early_turns.proofs.RangeLemmas.{NoneListed}
-use Rattle.early_turns.proofs.ranges.lists_range.Given as goal
-
-abbrev pub invariant-loop-instance : goal.invariant-loop-instance
-invariant-loop-instance l = NoneListed l.instances l.formula l.instance-index

@@ -1,5 +1,0 @@
-//! The turns of a search that come before all others.
-#![tactic(auto)]
-
-pub mod early;
-pub mod ranges;

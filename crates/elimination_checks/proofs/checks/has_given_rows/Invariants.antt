@@ -1,8 +1,0 @@
-use Rattle.std.proofs.Common.{take, List}
-use Rattle.std.specs.Prelude.{All, Contains}
-use Rattle.linear_rows.specs.Inequality.{Inequality, padded}
-use Rattle.elimination_checks.specs.Sets.{IsSetOf}
-use Rattle.elimination_checks.proofs.checks.has_given_rows.Given as goal
-
-abbrev pub invariant-loop-row : goal.invariant-loop-row
-invariant-loop-row l = (rows : List Inequality) → IsSetOf rows l.found → All (λ row. Contains rows (padded l.width row)) (take l.row-index l.given)

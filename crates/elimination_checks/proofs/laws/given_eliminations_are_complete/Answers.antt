@@ -1,5 +1,0 @@
-use Rattle.elimination_checks.proofs.ShownLemmas.{shows}
-use Rattle.elimination_checks.proofs.laws.given_eliminations_are_complete.Goals as goal
-
-pub returns : goal.returns
-returns c = λ rows given g. shows rows given g

@@ -1,5 +1,0 @@
-use Rattle.elimination_checks.proofs.ShownLemmas.{chosen}
-use Rattle.elimination_checks.proofs.laws.given_values_are_chosen.Goals as goal
-
-pub returns : goal.returns
-returns c = λ rows given values g. chosen rows given values g

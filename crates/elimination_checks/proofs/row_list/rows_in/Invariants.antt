@@ -1,6 +1,0 @@
-use Rattle.std.proofs.Common.{◌≡◌, take}
-use Rattle.elimination_checks.specs.Given.{rows_of}
-use Rattle.elimination_checks.proofs.row_list.rows_in.Given as goal
-
-abbrev pub invariant-loop-one : goal.invariant-loop-one
-invariant-loop-one l = l.rows ≡ rows_of (take l.one-index l.made)

@@ -1,0 +1,12 @@
+pub mod Numbers
+pub mod Quantified
+pub mod Heads
+pub mod Listed
+pub mod Walks
+pub mod Fits
+pub mod Rows
+pub mod Joins
+pub mod Matches
+pub mod QuantifierFree
+pub mod Bodies
+pub mod Instances

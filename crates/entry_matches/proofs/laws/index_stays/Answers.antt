@@ -1,5 +1,0 @@
-use Rattle.entry_matches.proofs.HeadLemmas.{index_later}
-use Rattle.entry_matches.proofs.laws.index_stays.Goals as goal
-
-pub returns : goal.returns
-returns c = λ ns ms d grown. index_later ns ms grown d

@@ -1,9 +1,0 @@
-use Rattle.pool_branch.specs.PoolBranches.{branch_in}
-use Rattle.entry_matches.proofs.TriggerLemmas.{IsTriggering}
-use Rattle.entry_matches.proofs.matches.triggered.Given as goal
-
-abbrev pub invariant-loop-trigger : goal.invariant-loop-trigger
-invariant-loop-trigger l = IsTriggering l.pool (branch_in l.pool l.branch) l.bound.items l.universal.variable l.given l.universal.triggers l.fn.found l.triggers l.found
-
-abbrev pub decreases-loop-trigger : goal.decreases-loop-trigger
-decreases-loop-trigger l = l.triggers

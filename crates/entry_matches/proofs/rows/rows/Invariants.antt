@@ -1,9 +1,0 @@
-use Rattle.pool_branch.specs.PoolBranches.{branch_in}
-use Rattle.entry_matches.proofs.RowLemmas.{IsListing}
-use Rattle.entry_matches.proofs.rows.rows.Given as goal
-
-abbrev pub invariant-loop-pattern : goal.invariant-loop-pattern
-invariant-loop-pattern l = IsListing l.pool (branch_in l.pool l.branch) l.bound l.list l.rest l.rows.items
-
-abbrev pub decreases-loop-pattern : goal.decreases-loop-pattern
-decreases-loop-pattern l = l.rest

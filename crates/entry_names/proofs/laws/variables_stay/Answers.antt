@@ -1,5 +1,0 @@
-use Rattle.entry_names.proofs.VariablesLemmas.{above_grown}
-use Rattle.entry_names.proofs.laws.variables_stay.Goals as goal
-
-pub returns-clause-grown : goal.returns-clause-grown
-returns-clause-grown c ns ms d v grown over = above_grown ns ms grown d over v

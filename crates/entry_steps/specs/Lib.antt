@@ -1,3 +1,0 @@
-pub mod Compounds
-pub mod Numbers
-pub mod Steps

@@ -1,4 +1,0 @@
-pub mod FrameLemmas
-pub mod AboveLemmas
-pub mod InstanceLemmas
-pub mod ChainLemmas

@@ -1,0 +1,11 @@
+pub mod Frames
+pub mod Chains
+pub mod Routes
+pub mod Replacing
+pub mod BoundNodes
+pub mod Graphs
+pub mod Places
+pub mod Plans
+pub mod Derivations
+pub mod BranchGraphs
+pub mod Formulas

@@ -1,0 +1,5 @@
+pub mod ExpressionReading
+pub mod RepeatReading
+pub mod OperatorReading
+pub mod LeafReading
+pub mod SpecReading

@@ -1,4 +1,0 @@
-//! The numbers of the fields of structs, by their names.
-#![tactic(auto)]
-
-pub mod numbers;

@@ -1,4 +1,0 @@
-//! Trees of source files, of their modules and members.
-#![tactic(auto)]
-
-pub mod member;

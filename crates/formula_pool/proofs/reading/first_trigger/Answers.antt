@@ -1,9 +1,0 @@
-use Rattle.std.proofs.Common.{ap}
-use Rattle.formula_pool.specs.Items.{triggers_in}
-use Rattle.formula_pool.proofs.ItemLemmas.{item_past}
-use Rattle.formula_pool.proofs.reading.first_trigger.Goals as goal
-
-pub returns-in_default-3 : goal.returns-in_default-3
-returns-in_default-3 c =
-    let h = rw c.in_default.is at c.node.ensures in
-    ap triggers_in (item_past c.args.pool.now c.args.list h)

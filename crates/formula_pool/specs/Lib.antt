@@ -1,6 +1,0 @@
-pub mod NodeCodes
-pub mod NodeHash
-pub mod Items
-pub mod Pools
-pub mod Depths
-pub mod Lists

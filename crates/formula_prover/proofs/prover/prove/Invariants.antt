@@ -1,4 +1,0 @@
-use Rattle.formula_prover.proofs.prover.prove.Given as goal
-
-abbrev pub ghost-search : goal.ghost-search
-ghost-search g a = g.sought

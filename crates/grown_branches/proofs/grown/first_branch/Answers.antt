@@ -1,4 +1,0 @@
-use Rattle.grown_branches.proofs.grown.first_branch.Goals as goal
-
-pub push-requires-clause-over : goal.push-requires-clause-over
-push-requires-clause-over c = c.new-branch.ensures.over c.args.pool.now

@@ -1,6 +1,0 @@
-use Rattle.grown_branches.specs.Steps.{first_branch}
-use Rattle.grown_branches.proofs.LeadLemmas.{IsGoing}
-use Rattle.grown_branches.proofs.grown.is_grown.Given as goal
-
-abbrev pub invariant-loop-step : goal.invariant-loop-step
-invariant-loop-step l = IsGoing l.shapes l.fn.pool l.pool (first_branch l.fn.pool l.denial) l.steps l.step-index l.branch l.kept

@@ -1,6 +1,0 @@
-pub mod Grown
-pub mod Lists
-pub mod Sides
-pub mod Entries
-pub mod Steps
-pub mod Kept

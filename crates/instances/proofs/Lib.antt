@@ -1,3 +1,0 @@
-pub mod Drops
-pub mod Lists
-pub mod ReplacedInstance

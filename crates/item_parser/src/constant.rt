@@ -1,0 +1,58 @@
+//! Readers of constants.
+
+ghost use Rattle.std.specs.Prelude.{◌≡◌, None, Some, MatchResult};
+ghost use Rattle.parser_base.specs.ReadFault.{IfNoTree};
+ghost use Rattle.item_parser.specs.MemberReading.{constant_at, constant_behind_name};
+
+use base::span::Span;
+use expression_parser::expression::read_expression;
+use parser_base::fault::ReadFault;
+use parser_base::signs::{begins_capital, expect_sign, read_identifier};
+use parser_base::types::read_type;
+use std::alloc::Global;
+use syntax_tree::lexeme::Identifier;
+use syntax_tree::member::Constant;
+use tokens::token::{Punctuation, Token};
+
+/// Reads a constant after its name.
+#[tactic(auto, unfolding(crate::specs::MemberReading::constant_behind_name))]
+fn read_behind_name(
+    alloc: Global,
+    place: Span,
+    name: Identifier,
+    tokens: &[Token],
+    budget: usize,
+) -> Result<(Constant, &[Token]), ReadFault>
+    ensures { MatchResult result (λ read. constant_behind_name budget place name tokens.now ≡ Some (read.0, read.1.now)) (λ fault. IfNoTree fault (constant_behind_name budget place name tokens.now ≡ None)) }
+{
+    let rest = expect_sign(tokens, Punctuation::Colon)?;
+    let (annotation, rest) = read_type(alloc, rest, budget)?;
+    let rest = expect_sign(rest, Punctuation::Equal)?;
+    let (value, rest) = read_expression(alloc, 0, rest, budget)?;
+    let rest = expect_sign(rest, Punctuation::Semicolon)?;
+    let constant = Constant {
+        place,
+        name,
+        annotation,
+        value,
+    };
+    Ok((constant, rest))
+}
+
+/// Reads a constant after its word. Returns it and the remaining tokens.
+#[tactic(auto, unfolding(crate::specs::MemberReading::constant_at))]
+pub fn read_constant(
+    alloc: Global,
+    place: Span,
+    tokens: &[Token],
+    budget: usize,
+) -> Result<(Constant, &[Token]), ReadFault>
+    ensures { MatchResult result (λ read. constant_at budget place tokens.now ≡ Some (read.0, read.1.now)) (λ fault. IfNoTree fault (constant_at budget place tokens.now ≡ None)) }
+{
+    let (name, rest) = read_identifier(alloc, tokens)?;
+    if begins_capital(name.text.as_slice()) {
+        read_behind_name(alloc, place, name, rest, budget)
+    } else {
+        Err(ReadFault::NoTree { left: tokens.len() })
+    }
+}

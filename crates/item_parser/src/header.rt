@@ -1,0 +1,108 @@
+//! Readers of the parts of a function before its name and after its inputs.
+
+ghost use Rattle.std.specs.Prelude.{◌≡◌, None, Some, length, MatchResult};
+ghost use Rattle.parser_base.specs.ReadFault.{IfNoTree};
+ghost use Rattle.parser_base.specs.TokenReading.{before_sign};
+ghost use Rattle.parser_base.specs.ListReading.{some_items_at};
+ghost use Rattle.parser_base.specs.PathReading.{path_at};
+ghost use Rattle.parser_base.specs.TypeReading.{type_at};
+ghost use Rattle.item_parser.specs.HeaderReading.{acquires_at, entry_at, friends_at, listed_paths_at, public_at, visibility_at};
+
+use base::span::Span;
+use parser_base::fault::ReadFault;
+use parser_base::lists::{Separator, separator_before};
+use parser_base::path::read_path;
+use parser_base::signs::{expect_sign, expect_word, place_of_word, skip_sign, skip_word};
+use parser_base::types::read_type;
+use std::alloc::Global;
+use syntax_tree::member::{Paths, Visibility};
+use syntax_tree::path::Path;
+use syntax_tree::types::SourceType;
+use tokens::token::{Punctuation, Token};
+
+/// Reads `friend` after its parenthesis, for a `public` at `place`.
+#[tactic(auto, unfolding(crate::specs::HeaderReading::friends_at))]
+fn read_friends(place: Span, tokens: &[Token]) -> Result<(Visibility, &[Token]), ReadFault>
+    ensures { MatchResult result (λ read. friends_at place tokens.now ≡ Some (read.0, read.1.now)) (λ fault. IfNoTree fault (friends_at place tokens.now ≡ None)) }
+{
+    let rest = expect_word(tokens, b"friend")?;
+    let rest = expect_sign(rest, Punctuation::RightParenthesis)?;
+    Ok((Visibility::Friends(place), rest))
+}
+
+/// Reads the visibility of a `public` at `place`, by what follows it.
+#[tactic(auto, unfolding(crate::specs::HeaderReading::public_at))]
+fn read_public(place: Span, tokens: &[Token]) -> Result<(Visibility, &[Token]), ReadFault>
+    ensures { MatchResult result (λ read. public_at place tokens.now ≡ Some (read.0, read.1.now)) (λ fault. IfNoTree fault (public_at place tokens.now ≡ None)) }
+{
+    match skip_sign(tokens, Punctuation::LeftParenthesis) {
+        Some(inside) => read_friends(place, inside),
+        None => Ok((Visibility::Public(place), tokens)),
+    }
+}
+
+/// Reads the visibility of a function. Returns it and the remaining tokens.
+#[tactic(auto, unfolding(crate::specs::HeaderReading::visibility_at))]
+pub fn read_visibility(tokens: &[Token]) -> Result<(Visibility, &[Token]), ReadFault>
+    ensures { MatchResult result (λ read. visibility_at tokens.now ≡ Some (read.0, read.1.now)) (λ fault. IfNoTree fault (visibility_at tokens.now ≡ None)) }
+{
+    match place_of_word(tokens, b"public") {
+        Some((place, rest)) => read_public(place, rest),
+        None => Ok((Visibility::Module, tokens)),
+    }
+}
+
+/// Reads `entry`, if it is here. Returns its span and the remaining tokens.
+#[tactic(auto, unfolding(crate::specs::HeaderReading::entry_at))]
+pub fn read_entry(tokens: &[Token]) -> (Option<Span>, &[Token])
+    ensures { (result.0, result.1.now) ≡ entry_at tokens.now }
+{
+    match place_of_word(tokens, b"entry") {
+        Some((place, rest)) => (Some(place), rest),
+        None => (None, tokens),
+    }
+}
+
+/// Reads paths separated by commas up to the brace of a function. Returns the paths, whether a comma follows the last,
+/// and the tokens from the brace on.
+fn read_path_list(alloc: Global, tokens: &[Token]) -> Result<(Vec<Path>, bool, &[Token]), ReadFault>
+    ensures { MatchResult result (λ read. some_items_at (before_sign Punctuation.LeftBrace) path_at tokens.now ≡ Some ((read.0.items, read.1), read.2.now)) (λ fault. IfNoTree fault (some_items_at (before_sign Punctuation.LeftBrace) path_at tokens.now ≡ None)) }
+{
+    let mut items = Vec::new(alloc);
+    let mut rest = tokens;
+    for _ in 0..tokens.len() {
+        let (item, behind) = read_path(alloc, rest)?;
+        items.push(item)?;
+        match separator_before(behind, Punctuation::LeftBrace)? {
+            (Separator::Next, behind) => rest = behind,
+            (Separator::End, behind) => return Ok((items, false, behind)),
+            (Separator::EndBehindComma, behind) => return Ok((items, true, behind)),
+        }
+    }
+    Err(ReadFault::NoTree { left: 0 })
+}
+
+/// Reads the paths after `acquires`. Returns them and the tokens from the brace on.
+#[tactic(auto, unfolding(crate::specs::HeaderReading::listed_paths_at))]
+fn read_listed_paths(alloc: Global, tokens: &[Token]) -> Result<(Paths, &[Token]), ReadFault>
+    ensures { MatchResult result (λ read. listed_paths_at tokens.now ≡ Some (read.0, read.1.now)) (λ fault. IfNoTree fault (listed_paths_at tokens.now ≡ None)) }
+{
+    let (items, last_comma, rest) = read_path_list(alloc, tokens)?;
+    Ok((Paths { items, last_comma }, rest))
+}
+
+/// Reads the structs in a function's `acquires`, if it is here. Returns them and the tokens from the function's brace
+/// on.
+#[tactic(auto, unfolding(crate::specs::HeaderReading::acquires_at))]
+pub fn read_acquires(
+    alloc: Global,
+    tokens: &[Token],
+) -> Result<(Option<Paths>, &[Token]), ReadFault>
+    ensures { MatchResult result (λ read. acquires_at tokens.now ≡ Some (read.0, read.1.now)) (λ fault. IfNoTree fault (acquires_at tokens.now ≡ None)) }
+{
+    let Some(rest) = skip_word(tokens, b"acquires") else {
+        return Ok((None, tokens));
+    };
+    let (paths, rest) = read_listed_paths(alloc, rest)?;
+    Ok((Some(paths), rest))
+}

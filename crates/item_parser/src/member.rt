@@ -1,0 +1,64 @@
+//! Readers of members of modules.
+
+ghost use Rattle.std.specs.Prelude.{◌≡◌, None, Some, MatchResult};
+ghost use Rattle.parser_base.specs.ReadFault.{IfNoTree};
+ghost use Rattle.item_parser.specs.MemberReading.{form_at, member_at};
+
+use crate::attributes::read_attributes;
+use crate::constant::read_constant;
+use crate::function::read_function;
+use crate::imports::{read_friend, read_use};
+use crate::structs::read_struct;
+use parser_base::fault::ReadFault;
+use parser_base::kept::read_member_spec;
+use parser_base::signs::place_of_word;
+use std::alloc::Global;
+use syntax_tree::member::{Member, MemberForm};
+use tokens::token::Token;
+
+/// Reads the form of a member. Returns it and the remaining tokens.
+#[tactic(auto, unfolding(crate::specs::MemberReading::form_at))]
+fn read_form(
+    alloc: Global,
+    tokens: &[Token],
+    budget: usize,
+) -> Result<(MemberForm, &[Token]), ReadFault>
+    ensures { MatchResult result (λ read. form_at budget tokens.now ≡ Some (read.0, read.1.now)) (λ fault. IfNoTree fault (form_at budget tokens.now ≡ None)) }
+{
+    if let Some((place, rest)) = place_of_word(tokens, b"use") {
+        let (member, rest) = read_use(alloc, place, rest)?;
+        return Ok((MemberForm::Use(member), rest));
+    }
+    if let Some((place, rest)) = place_of_word(tokens, b"friend") {
+        let (member, rest) = read_friend(alloc, place, rest)?;
+        return Ok((MemberForm::Friend(member), rest));
+    }
+    if let Some((place, rest)) = place_of_word(tokens, b"struct") {
+        let (member, rest) = read_struct(alloc, place, rest, budget)?;
+        return Ok((MemberForm::Struct(member), rest));
+    }
+    if let Some((place, rest)) = place_of_word(tokens, b"const") {
+        let (member, rest) = read_constant(alloc, place, rest, budget)?;
+        return Ok((MemberForm::Constant(member), rest));
+    }
+    if place_of_word(tokens, b"spec").is_some() {
+        let (member, rest) = read_member_spec(alloc, tokens)?;
+        return Ok((MemberForm::Spec(member), rest));
+    }
+    let (member, rest) = read_function(alloc, tokens, budget)?;
+    Ok((MemberForm::Function(member), rest))
+}
+
+/// Reads a member of a module with its attributes. Returns it and the remaining tokens.
+#[tactic(auto, unfolding(crate::specs::MemberReading::member_at))]
+pub fn read_member(
+    alloc: Global,
+    tokens: &[Token],
+    budget: usize,
+) -> Result<(Member, &[Token]), ReadFault>
+    ensures { MatchResult result (λ read. member_at budget tokens.now ≡ Some (read.0, read.1.now)) (λ fault. IfNoTree fault (member_at budget tokens.now ≡ None)) }
+{
+    let (attributes, rest) = read_attributes(alloc, tokens)?;
+    let (form, rest) = read_form(alloc, rest, budget)?;
+    Ok((Member { attributes, form }, rest))
+}

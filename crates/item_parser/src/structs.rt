@@ -1,0 +1,63 @@
+//! Readers of structs.
+
+ghost use Rattle.std.specs.Prelude.{◌≡◌, None, Some, MatchResult};
+ghost use Rattle.parser_base.specs.ReadFault.{IfNoTree};
+ghost use Rattle.parser_base.specs.TypeReading.{type_at};
+ghost use Rattle.item_parser.specs.StructReading.{struct_at, struct_behind_name};
+
+use base::span::Span;
+use parser_base::abilities::read_abilities;
+use parser_base::fault::ReadFault;
+use parser_base::parameters::read_parameters;
+use parser_base::signs::{begins_capital, expect_sign, read_identifier};
+use parser_base::typed_names::read_fields;
+use std::alloc::Global;
+use syntax_tree::lexeme::Identifier;
+use syntax_tree::member::Struct;
+use tokens::token::{Punctuation, Token};
+
+/// Reads a struct after its name.
+#[tactic(auto, unfolding(crate::specs::StructReading::struct_behind_name))]
+fn read_struct_behind_name(
+    alloc: Global,
+    place: Span,
+    name: Identifier,
+    tokens: &[Token],
+    budget: usize,
+) -> Result<(Struct, &[Token]), ReadFault>
+    ensures { MatchResult result (λ read. struct_behind_name (type_at budget) place name tokens.now ≡ Some (read.0, read.1.now)) (λ fault. IfNoTree fault (struct_behind_name (type_at budget) place name tokens.now ≡ None)) }
+{
+    let (parameters, rest) = read_parameters(alloc, true, tokens)?;
+    let (abilities, rest) = read_abilities(alloc, rest)?;
+    let inside = expect_sign(rest, Punctuation::LeftBrace)?;
+    let (fields, rest) = read_fields(alloc, inside, budget)?;
+    Ok((
+        Struct {
+            place,
+            name,
+            parameters,
+            abilities,
+            fields,
+        },
+        rest,
+    ))
+}
+
+/// Reads a struct after its word at `place`. Returns it and the remaining tokens. The types of its fields are nested at
+/// most `budget` deep.
+#[tactic(auto, unfolding(crate::specs::StructReading::struct_at))]
+pub fn read_struct(
+    alloc: Global,
+    place: Span,
+    tokens: &[Token],
+    budget: usize,
+) -> Result<(Struct, &[Token]), ReadFault>
+    ensures { MatchResult result (λ read. struct_at (type_at budget) place tokens.now ≡ Some (read.0, read.1.now)) (λ fault. IfNoTree fault (struct_at (type_at budget) place tokens.now ≡ None)) }
+{
+    let (name, rest) = read_identifier(alloc, tokens)?;
+    if begins_capital(name.text.as_slice()) {
+        read_struct_behind_name(alloc, place, name, rest, budget)
+    } else {
+        Err(ReadFault::NoTree { left: tokens.len() })
+    }
+}

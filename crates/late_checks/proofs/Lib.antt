@@ -1,3 +1,0 @@
-pub mod FamilyLemmas
-pub mod LateLemmas
-pub mod TurnLemmas

@@ -1,5 +1,0 @@
-use Rattle.lin_arith.proofs.BoundLemmas.{IsBestBefore}
-use Rattle.lin_arith.proofs.bounds.tightest.Given as goal
-
-abbrev pub invariant-loop-bound : goal.invariant-loop-bound
-invariant-loop-bound l = IsBestBefore l.side l.bounds l.bound-index l.best

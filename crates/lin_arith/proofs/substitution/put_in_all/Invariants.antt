@@ -1,6 +1,0 @@
-use Rattle.std.proofs.Common.{take}
-use Rattle.lin_arith.specs.Rest.{IsRest}
-use Rattle.lin_arith.proofs.substitution.put_in_all.Given as goal
-
-abbrev pub invariant-loop-value : goal.invariant-loop-value
-invariant-loop-value l = IsRest l.row (take l.value-index l.values) l.left

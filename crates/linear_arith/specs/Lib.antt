@@ -1,0 +1,16 @@
+pub mod Closure
+pub mod Combination
+pub mod Elimination
+pub mod Fits
+pub mod Floor
+pub mod Inequality
+pub mod Packed
+pub mod Reduction
+pub mod Answer
+pub mod Bounds
+pub mod Choice
+pub mod Rest
+pub mod Stages
+pub mod Substitution
+pub mod Values
+pub mod Wide

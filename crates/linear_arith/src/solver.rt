@@ -1,0 +1,165 @@
+//! The answer to a system of rows.
+
+ghost use Rattle.std.specs.Prelude.{◌≡◌, ◌≢◌, ◌⊎◌, ◌↔◌, pos, ◌<ℤ◌, ℕ, All, Contains, IsTrue, IfOk, IfErr, OnOk, List};
+ghost use Rattle.linear_arith.specs.Fits.{IsFitting};
+ghost use Rattle.linear_arith.specs.Inequality.{Inequality};
+ghost use Rattle.linear_arith.specs.Stages.{IsWhole, IsFittingStage, HasAllStages};
+ghost use Rattle.linear_arith.specs.Values.{IsChosen, IsChoosing, AreAllChosen};
+ghost use Rattle.linear_arith.specs.Wide.{IsWide};
+ghost use Rattle.linear_arith.specs.Combination.{IsContradiction};
+ghost use Rattle.linear_arith.specs.Bounds.{AreNonzero, AreWithinReach};
+ghost use Rattle.linear_arith.specs.Choice.{HaveBounds, IsOfRow, AreCompatible, MeetsStage};
+ghost use Rattle.linear_arith.specs.Closure.{IsDue};
+ghost use Rattle.linear_arith.specs.declared.elimination.Derived.{Derived};
+ghost use Rattle.linear_arith.specs.declared.bounds.Bound.{Bound};
+ghost use Rattle.linear_arith.specs.declared.elimination.Stage.{Stage};
+ghost use Rattle.linear_arith.specs.Elimination.{ReachesLimit};
+ghost use Rattle.linear_arith.specs.Substitution.{ArePositive};
+ghost use Rattle.linear_arith.specs.Answer.{IfInfeasible, IfFeasible, IfTooManyRows, IfWide, IsSolution, Shows, StopShows};
+
+use crate::bounds::{Bound, chosen};
+use crate::elimination::{Derived, Elimination, Stage};
+use crate::rows::{Fraction, Fractions, LinAnswer, LinRow, Rows};
+use crate::stop::Stop;
+use crate::substitution::put_in_all;
+use crate::system::System;
+use base::memory::NoMemory;
+use std::alloc::Global;
+
+/// Whether rows have a solution in fractions, with what shows it: an elimination of one unknown after
+/// another, as Fourier and Motzkin found it. A number fits 128 bits where its negation does too.
+///
+/// `Infeasible` carries multipliers whose combination of the rows is a contradiction, with every product
+/// and sum on the way within 128 bits. `Feasible` carries values that meet every row, put in one after
+/// another: one for each unknown, chosen last unknown first, the whole number nearest to 0 that meets the
+/// bounds where there is one, else a bound. `Wide` carries two rows whose sum leaves 128 bits: two of one
+/// stage; or a row with values put in that were so chosen, and the next one as a row. `TooManyRows` carries
+/// 5,000 different rows of the stages of one elimination. `NoMemory` comes where memory ran out.
+///
+/// `TooManyRows` comes exactly where 5,000 different rows are reached: each other answer comes with an
+/// elimination that has all rows of its stages so far, and fewer than 5,000 different ones. `Infeasible`
+/// and a `Wide` pair of one stage come where that row or sum is due next, the other answers where the
+/// elimination has come to its end.
+pub fn solve(alloc: Global, rows: &Rows) -> Result<LinAnswer, NoMemory>
+    requires { All IsFitting rows.now }
+    ensures infeasible { IfOk result (λ answer. IfInfeasible answer (IsContradiction rows.now)) }
+    ensures due { IfOk result (λ answer. IfInfeasible answer (IsDue rows.now)) }
+    ensures feasible { IfOk result (λ answer. IfFeasible answer (IsSolution rows.now)) }
+    ensures chosen { IfOk result (λ answer. IfFeasible answer (AreAllChosen rows.now)) }
+    ensures wide { IfOk result (λ answer. IfWide answer (IsWide rows.now)) }
+    ensures too_many_rows { IfOk result (λ answer. IfTooManyRows answer (ReachesLimit rows.now)) }
+{
+    match answered(alloc, rows.as_slice()) {
+        Ok(answer) => Ok(answer),
+        Err(Stop::Answered(answer)) => Ok(answer),
+        Err(Stop::OutOfMemory) => Err(NoMemory),
+    }
+}
+
+fn answered(alloc: Global, rows: &[LinRow]) -> Result<LinAnswer, Stop>
+    requires { All IsFitting rows.now }
+    ensures ok { IfOk result (Shows rows.now) }
+    ensures err { IfErr result (StopShows rows.now) }
+{
+    let system = System::new(rows);
+    let mut elimination = Elimination::new(alloc, &system)?;
+    elimination.run(&system)?;
+    let stages = elimination.into_stages();
+    let values = values(alloc, &system, stages.as_slice())?;
+    Ok(LinAnswer::Feasible(Fractions::from_values(values)))
+}
+
+/// The values, last unknown first. An unknown that no stage eliminated stands before all, and is 0.
+fn values(alloc: Global, system: &System<'_>, stages: &[Stage]) -> Result<Vec<Fraction>, Stop>
+    requires { HasAllStages system.now.width system.now.rows.now stages.now }
+    ensures ok { IfOk result (λ values. IsSolution system.now.rows.now values.items) }
+    ensures chosen { IfOk result (λ values. AreAllChosen system.now.rows.now values.items) }
+    ensures err { IfErr result (StopShows system.now.rows.now) }
+{
+    let mut values = Vec::with_capacity(alloc, system.width)?;
+    for unknown in 0..system.width {
+        if is_kept(unknown, stages) {
+            values.push(Fraction {
+                unknown,
+                numerator: 0,
+                denominator: 1,
+            })?;
+        }
+    }
+    for i in (0..stages.len()).rev() {
+        let value = value_at(alloc, &stages[i], values.as_slice())?;
+        values.push(value)?;
+    }
+    Ok(values)
+}
+
+/// Whether no stage eliminated the unknown.
+fn is_kept(unknown: usize, stages: &[Stage]) -> bool
+    ensures { IsTrue result ↔ All (λ (stage : Stage). stage.unknown ≢ unknown) stages.now }
+{
+    stages.iter().all(|stage| stage.unknown != unknown)
+}
+
+/// The value of a stage's unknown, after those that were chosen before.
+fn value_at(alloc: Global, stage: &Stage, values: &[Fraction]) -> Result<Fraction, Stop>
+    requires values { ArePositive values.now }
+    requires compatible { AreCompatible stage.now values.now }
+    requires fits { IsFittingStage stage.now }
+    ensures unknown { IfOk result (λ value. value.unknown ≡ stage.now.unknown) }
+    ensures positive { IfOk result (λ value. pos 0 <ℤ value.denominator) }
+    ensures met { IfOk result (MeetsStage stage.now values.now) }
+    ensures chosen { (found : List Inequality) (before : List ℕ) → IsWhole found before stage.now → IfOk result (IsChosen found before values.now) }
+    ensures err { (rows : List Inequality) (choosing : IsChoosing rows values.now) (before : List ℕ) → IsWhole choosing.complete.found before stage.now → IfErr result (StopShows rows) }
+{
+    let mut bounds = Vec::new(alloc);
+    put_bounds(
+        alloc,
+        stage.unknown,
+        stage.upper.as_slice(),
+        values,
+        &mut bounds,
+    )?;
+    put_bounds(
+        alloc,
+        stage.unknown,
+        stage.lower.as_slice(),
+        values,
+        &mut bounds,
+    )?;
+    match chosen(stage.unknown, bounds.as_slice()) {
+        Some(value) => Ok(value),
+        None => unreachable!(),
+    }
+}
+
+/// Puts what rows say of an unknown at the end of the bounds.
+fn put_bounds(
+    alloc: Global,
+    unknown: usize,
+    rows: &[Derived],
+    values: &[Fraction],
+    bounds: &mut Vec<Bound>,
+) -> Result<(), Stop>
+    requires values { ArePositive values.now }
+    requires fits { All (λ (made : Derived). IsFitting made.row) rows.now }
+    requires bounds { AreNonzero bounds.old.items }
+    requires reached { AreWithinReach bounds.old.items }
+    ensures ok { OnOk result (AreNonzero bounds.new.items) }
+    ensures reached { OnOk result (AreWithinReach bounds.new.items) }
+    ensures kept { OnOk result ((bound : Bound) → Contains bounds.old.items bound → Contains bounds.new.items bound) }
+    ensures put { OnOk result (HaveBounds rows.now values.now unknown bounds.new.items) }
+    ensures from { OnOk result ((bound : Bound) → Contains bounds.new.items bound → Contains bounds.old.items bound ⊎ IsOfRow rows.now values.now unknown bound) }
+    ensures err { (given : List Inequality) (choosing : IsChoosing given values.now) → All (λ (made : Derived). Contains choosing.complete.found made.row) rows.now → IfErr result (StopShows given) }
+{
+    for made in rows {
+        let left = put_in_all(alloc, &made.row, values)?;
+        let bound = Bound {
+            coefficient: left.coefficient(unknown),
+            bound: left.bound(),
+        };
+        if bound.coefficient != 0 {
+            bounds.push(bound)?;
+        }
+    }
+    Ok(())
+}

@@ -1,6 +1,0 @@
-use Rattle.std.proofs.Common.{ℕ, ◌<◌, get_or, pos}
-use Rattle.linear_rows.specs.Fits.{Fits}
-use Rattle.linear_rows.proofs.numbers.are_fitting.Given as goal
-
-abbrev pub invariant-loop-number : goal.invariant-loop-number
-invariant-loop-number l = (k : ℕ) → k < l.number-index → Fits (get_or l.numbers k (pos 0))

@@ -1,6 +1,0 @@
-use Rattle.std.proofs.Common.{take}
-use Rattle.listed_acquires.proofs.Sets.{AreIn}
-use Rattle.listed_acquires.proofs.listed.has_missing.Given as goal
-
-abbrev pub invariant-loop-id : goal.invariant-loop-id
-invariant-loop-id l = AreIn l.set (take l.id-index l.structs)

@@ -1,9 +1,0 @@
-use Rattle.std.proofs.Common.{ℕ, List, map, take}
-use Rattle.control_paths.specs.Flows.{quiet}
-use Rattle.control_paths.specs.Pieces.{Piece, in_order, piece_at}
-use Rattle.local_states.specs.Shown.{Shows}
-use Rattle.local_states.specs.Summaries.{AllStand}
-use Rattle.local_states.proofs.forms.in_order.Given as goal
-
-abbrev pub invariant-loop-part : goal.invariant-loop-part
-invariant-loop-part l = (base : ℕ) (done : List Piece) → AllStand base l.summaries done → Shows base l.effects (in_order quiet (map (piece_at done) (take l.part-index l.parts)))

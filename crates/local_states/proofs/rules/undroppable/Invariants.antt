@@ -1,7 +1,0 @@
-use Rattle.std.proofs.Common.{◌≡◌, ℕ, ◌+◌, ◌&&◌, not, ltb, length}
-use Rattle.control_paths.specs.Pieces.{drops}
-use Rattle.local_states.specs.Sets.{has}
-use Rattle.local_states.proofs.rules.undroppable.Given as goal
-
-abbrev pub invariant-loop-place : goal.invariant-loop-place
-invariant-loop-place l = (i : ℕ) → has l.found i ≡ (ltb i l.place && (ltb (l.base + i) (length l.types) && not (drops l.types (l.base + i))))

@@ -1,5 +1,0 @@
-use Rattle.local_states.proofs.SetLaws.{has_both}
-use Rattle.local_states.proofs.sets.LocalSet.both.Goals as goal
-
-pub returns : goal.returns
-returns c = λ i. has_both c.args.self c.args.other i

@@ -1,5 +1,0 @@
-use Rattle.local_states.proofs.SetLaws.{has_one}
-use Rattle.local_states.proofs.sets.LocalSet.one.Goals as goal
-
-pub returns : goal.returns
-returns c = λ i. has_one c.args.place i c.requires

@@ -1,5 +1,0 @@
-use Rattle.local_states.proofs.SetLaws.{has_union}
-use Rattle.local_states.proofs.sets.LocalSet.union.Goals as goal
-
-pub returns : goal.returns
-returns c = λ i. has_union c.args.self c.args.other i

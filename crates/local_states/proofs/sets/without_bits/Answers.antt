@@ -1,5 +1,0 @@
-use Rattle.local_states.proofs.SetLaws.{has_without}
-use Rattle.local_states.proofs.sets.without_bits.Goals as goal
-
-pub returns : goal.returns
-returns c = λ i h. has_without c.args.locals (record { bits = c.args.taken }) i c.ranges.taken.fits h

@@ -1,5 +1,0 @@
-use Rattle.local_states.proofs.ShownLaws.{over_shown}
-use Rattle.local_states.proofs.shown.aborted.Goals as goal
-
-pub returns : goal.returns
-returns c = λ base. over_shown base c.over.result (λ i had way state h. c.over.ensures.ends i had way state) (λ i had rule h. c.over.ensures.broken i had rule)

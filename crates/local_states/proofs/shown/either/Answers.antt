@@ -1,5 +1,0 @@
-use Rattle.local_states.proofs.ShownLaws.{either_shown}
-use Rattle.local_states.proofs.shown.either.Goals as goal
-
-pub returns : goal.returns
-returns c = λ base f g p q. either_shown base c.either.result c.args.first.now c.args.second.now f g (λ i had way state h. c.either.ensures.ends i had way state) (λ i had rule h. c.either.ensures.broken i had rule) p q

@@ -1,6 +1,0 @@
-use Rattle.control_paths.specs.Flows.{Returned}
-use Rattle.local_states.proofs.ShownLaws.{jump_shown}
-use Rattle.local_states.proofs.shown.returned.Goals as goal
-
-pub returns : goal.returns
-returns c = λ base. jump_shown base c.returned.result Returned c.returned.ensures.ends (λ i had rule h. c.returned.ensures.broken i had rule)

@@ -1,2 +1,0 @@
-pub mod NumberedLaws
-pub mod TellLaws

@@ -1,2 +1,0 @@
-pub mod LoopScopes
-pub mod Passed

@@ -1,2 +1,0 @@
-pub mod MadeGraphs
-pub mod Components

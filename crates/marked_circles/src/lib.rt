@@ -1,6 +1,0 @@
-//! Numbers that lead back to themselves over edges of which at least one is marked.
-#![tactic(auto)]
-
-pub mod edge;
-mod marks;
-pub mod on_circle;

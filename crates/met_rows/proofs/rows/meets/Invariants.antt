@@ -1,7 +1,0 @@
-use Rattle.std.proofs.Common.{take}
-use Rattle.lin_arith.specs.Substitution.{form_of, put_in_all}
-use Rattle.met_rows.specs.Rests.{IsRestOf}
-use Rattle.met_rows.proofs.rows.meets.Given as goal
-
-abbrev pub invariant-loop-value : goal.invariant-loop-value
-invariant-loop-value l = IsRestOf (put_in_all (form_of l.row) (take l.value-index l.values)) l.rest

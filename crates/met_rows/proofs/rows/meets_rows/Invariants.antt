@@ -1,7 +1,0 @@
-use Rattle.std.proofs.Common.{take}
-use Rattle.std.specs.Prelude.{All}
-use Rattle.lin_arith.specs.Substitution.{Meets}
-use Rattle.met_rows.proofs.rows.meets_rows.Given as goal
-
-abbrev pub invariant-loop-row : goal.invariant-loop-row
-invariant-loop-row l = All (Meets l.values) (take l.row-index l.row-items)

@@ -1,7 +1,0 @@
-use Rattle.std.proofs.Common.{◌≡◌, ◌++◌, map}
-use Rattle.std.specs.Vec.Iter.{into_iter_items}
-use Rattle.module_names.specs.Twice.{name_of}
-use Rattle.module_names.proofs.twice.module_keys.Given as goal
-
-abbrev pub invariant-loop-name : goal.invariant-loop-name
-invariant-loop-name l = l.keys.items ++ map name_of (into_iter_items l.name-iterator) ≡ map name_of l.fn.names.entries.items

@@ -1,4 +1,0 @@
-pub mod Declares
-pub mod Brings
-pub mod Program
-pub mod Twice

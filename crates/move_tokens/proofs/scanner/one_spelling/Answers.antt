@@ -1,5 +1,0 @@
-use Rattle.move_tokens.proofs.Rows.{spelled_once}
-use Rattle.move_tokens.proofs.scanner.one_spelling.Goals as goal
-
-pub returns : goal.returns
-returns c = spelled_once

@@ -1,4 +1,0 @@
-pub mod TermLemmas
-pub mod BranchLemmas
-pub mod GraphLemmas
-pub mod NearLemmas

@@ -1,9 +1,0 @@
-use Rattle.std.proofs.Common.{take, nat_eq}
-use Rattle.indexmap.specs.IndexMap.{get}
-use Rattle.pool_branch.specs.PoolBranches.{branch_in}
-use Rattle.near_groups.specs.Graphs.{IsLinking}
-use Rattle.near_groups.proofs.groups.groups.Given as goal
-
-abbrev pub invariant-loop-number : goal.invariant-loop-number
-invariant-loop-number l =
-    IsLinking l.pool (branch_in l.pool l.branch) l.classes (take l.number-index l.terms) l.graph (get nat_eq l.firsts)

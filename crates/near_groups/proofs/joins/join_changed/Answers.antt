@@ -1,8 +1,0 @@
-use Rattle.std.proofs.Common.{◌∙◌, sym}
-use Rattle.near_groups.specs.Graphs.{IsJoined, OneChange}
-use Rattle.near_groups.proofs.GraphLemmas.{ok_then}
-use Rattle.near_groups.proofs.joins.join_changed.Goals as goal
-
-pub returns-in-Some-changed : goal.returns-in-Some-changed
-returns-in-Some-changed c =
-    ok_then c.join.result (λ (j : IsJoined c.args.graph.now c.join.new.graph c.args.number c.in-Some-changed.part). OneChange c.in-Some-changed.part (record { node = c.in-Some.node; made = c.in-Some.ensures; is = sym c.changed.ensures ∙ c.in-Some-changed.is }) j) c.join.ensures

@@ -1,8 +1,0 @@
-use Rattle.std.proofs.Common.{◌≡◌, drop, ◌&&◌}
-use Rattle.pv_base.specs.TypeData.{types_of}
-use Rattle.typings.specs.ProperTypes.{are_proper_singles}
-use Rattle.node_demands.proofs.written.are_proper_singles.Given as goal
-
-abbrev pub invariant-loop-term : goal.invariant-loop-term
-invariant-loop-term l =
-    (l.are && are_proper_singles l.structs (types_of (drop l.term-index l.terms))) ≡ are_proper_singles l.structs (types_of l.terms)

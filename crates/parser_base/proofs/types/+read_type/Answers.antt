@@ -1,0 +1,34 @@
+use Rattle.std.proofs.Common.{arith, rules, length, ◌-◌, ◌+◌}
+use Rattle.parser_base.specs.TokenReading.{after_sign}
+use Rattle.parser_base.proofs.ListSteps.{loop_is_over, loop_lacks_item, loop_is_stuck, loop_ends, loop_ends_behind_comma, loop_goes_on, fault_hands_on, IfNoTree-weaker, IfNoTree-always, same_read}
+use Rattle.parser_base.specs.TypeReading.{type_at}
+use Rattle.parser_base.proofs.Turns.{type_at-turn}
+use Rattle.parser_base.proofs.types.+read_type.Goals as goal
+
+pub read_type-returns : goal.read_type-returns
+read_type-returns t c = same_read c.read_type_form.result (λ read. (read.0, read.1.now)) _ _ (type_at-turn _ _ (omega arith)) c.read_type_form.ensures
+
+pub read_types-returns : goal.read_types-returns
+read_types-returns t c = loop_is_over (after_sign c.args.close) (type_at c.args.budget) _ _ _ _ c.loop.invariant (omega arith)
+
+pub read_types-returns-in_err-item : goal.read_types-returns-in_err-item
+read_types-returns-in_err-item t c =
+    fault_hands_on c.from_residual.result _ _ _ c.from_residual.ensures.1
+    (IfNoTree-weaker _ (loop_lacks_item (after_sign c.args.close) (type_at c.args.budget) _ _ _ (length c.args.tokens.now - (c.loop.counter + 1)) _ c.loop.invariant (omega arith)) c.in_err-item.ensures)
+
+pub read_types-returns-in_err-behind : goal.read_types-returns-in_err-behind
+read_types-returns-in_err-behind t c =
+    fault_hands_on c.from_residual-in_err-behind.result _ _ _ c.from_residual-in_err-behind.ensures.1
+    (IfNoTree-always _ (loop_is_stuck (after_sign c.args.close) (type_at c.args.budget) _ _ _ (length c.args.tokens.now - (c.loop.counter + 1)) _ _ _ c.loop.invariant (omega arith) c.in_ok-item.ensures c.in_err-behind.ensures))
+
+pub read_types-returns-in-End-default : goal.read_types-returns-in-End-default
+read_types-returns-in-End-default t c =
+    loop_ends (after_sign c.args.close) (type_at c.args.budget) _ _ _ _ (length c.args.tokens.now - (c.loop.counter + 1)) _ _ _ _ _ c.loop.invariant (omega arith) c.in_ok-item.ensures c.in_ok-behind.ensures (search rules) c.in_ok-push.ensures.items
+
+pub read_types-returns-in-EndBehindComma-default : goal.read_types-returns-in-EndBehindComma-default
+read_types-returns-in-EndBehindComma-default t c =
+    loop_ends_behind_comma (after_sign c.args.close) (type_at c.args.budget) _ _ _ _ (length c.args.tokens.now - (c.loop.counter + 1)) _ _ _ _ _ c.loop.invariant (omega arith) c.in_ok-item.ensures c.in_ok-behind.ensures (search rules) c.in_ok-push.ensures.items
+
+pub read_types-loop-preserved : goal.read_types-loop-preserved
+read_types-loop-preserved t c =
+    loop_goes_on (after_sign c.args.close) (type_at c.args.budget) _ _ _ _ _ _ _ _ _ _ c.loop.invariant (omega arith) c.in_ok-item.ensures c.in_ok-behind.ensures (search rules) c.in_ok-push.ensures.items

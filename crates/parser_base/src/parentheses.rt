@@ -1,0 +1,34 @@
+//! Two or more expressions in parentheses.
+
+ghost use Rattle.std.specs.Prelude.{◌≡◌, Some, None, MatchResult};
+ghost use Rattle.parser_base.specs.ReadFault.{IfNoTree};
+ghost use Rattle.parser_base.specs.ParenthesesReading.{several};
+
+use crate::fault::ReadFault;
+use base::span::Span;
+use syntax_tree::expression::{Expression, ExpressionNode};
+use tokens::token::Token;
+
+/// Reads two or more expressions in parentheses, after the first.
+#[tactic(auto, using(crate::proofs::SeveralLemmas::several_none, crate::proofs::SeveralLemmas::several_some))]
+pub fn several(
+    place: Span,
+    first: Box<Expression>,
+    more: Vec<Expression>,
+    last_comma: bool,
+    rest: &[Token],
+) -> Result<(Expression, &[Token]), ReadFault>
+    ensures { MatchResult result (λ read. several place first.value (more.items, last_comma) rest.now ≡ Some (read.0, read.1.now)) (λ fault. IfNoTree fault (several place first.value (more.items, last_comma) rest.now ≡ None)) }
+{
+    if more.is_empty() {
+        return Err(ReadFault::NoTree { left: rest.len() });
+    }
+    let mut items = more;
+    items.insert(0, Box::into_inner(first))?;
+    let node = ExpressionNode::Tuple {
+        place,
+        items,
+        last_comma,
+    };
+    Ok((Expression { node }, rest))
+}

@@ -1,9 +1,0 @@
-pub mod StayLemmas
-pub mod KeptLemmas
-pub mod AfterLemmas
-pub mod TreeLemmas
-pub mod WalkLemmas
-pub mod TakenLemmas
-pub mod TextLemmas
-pub mod ReadingLemmas
-pub mod EndLemmas

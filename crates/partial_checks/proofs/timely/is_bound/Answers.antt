@@ -1,6 +1,0 @@
-use Rattle.partial_checks.proofs.KeptLemmas.{kept_followed}
-use Rattle.partial_checks.proofs.timely.is_bound.Goals as goal
-
-pub returns-clause-kept : goal.returns-clause-kept
-returns-clause-kept c =
-    kept_followed c.args.pool.now c.is_bound_by.new.pool c.is_bound_by.ensures.extends c.args.branch.now c.requires.over c.args.kept.now c.requires.kept c.follow_classes.new.self c.is_bound_by.new.variables c.in_ok-follow_classes.ensures.state c.in_ok-told.ensures.above

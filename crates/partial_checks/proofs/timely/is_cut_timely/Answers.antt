@@ -1,4 +1,0 @@
-use Rattle.partial_checks.proofs.timely.is_cut_timely.Goals as goal
-
-pub returns-in-Late-clause-exact : goal.returns-in-Late-clause-exact
-returns-in-Late-clause-exact c = rw c.in-Late.is c.is_late.ensures.exact

@@ -1,3 +1,0 @@
-pub mod Timely
-pub mod Partial
-pub mod Walks

@@ -1,4 +1,0 @@
-pub mod Begun
-pub mod Nodes
-pub mod Passing
-pub mod Tabled

@@ -1,6 +1,0 @@
-pub mod ListLemmas
-pub mod LogLemmas
-pub mod MarkLemmas
-pub mod InsideLemmas
-pub mod AnswerLemmas
-pub mod PushLemmas

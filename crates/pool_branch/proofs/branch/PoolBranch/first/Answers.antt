@@ -1,9 +1,0 @@
-use Rattle.std.proofs.Common.{ap, ◌∙◌}
-use Rattle.pool_branch.specs.Logs.{value_in}
-use Rattle.pool_branch.specs.PoolBranches.{BranchData}
-use Rattle.pool_branch.proofs.AnswerLemmas.{first_says}
-use Rattle.pool_branch.proofs.branch.PoolBranch.first.Goals as goal
-
-pub returns : goal.returns
-returns c =
-    first_says c.args.pool.now c.one_number.ensures c.args.self.now c.requires.over c.args.formula c.requires.formula c.value.result (c.value.ensures ∙ ap (λ (d : BranchData). value_in d.firsts c.args.formula) c.self.view_is)

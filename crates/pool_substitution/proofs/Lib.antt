@@ -1,4 +1,0 @@
-pub mod PutLemmas
-pub mod SizeLemmas
-pub mod ItemLemmas
-pub mod WalkLemmas

@@ -1,0 +1,5 @@
+pub mod ListedLaws
+pub mod Standing
+pub mod Firsts
+pub mod NumberLemmas
+pub mod Common

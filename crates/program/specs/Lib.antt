@@ -1,0 +1,11 @@
+pub mod Arenas
+pub mod CodeNodes
+pub mod Listed
+pub mod Trees
+pub mod Homes
+pub mod Order
+pub mod Same
+pub mod StorageTypes
+pub mod FieldNumbers
+pub mod Sets
+pub mod Types

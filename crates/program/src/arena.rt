@@ -1,0 +1,130 @@
+//! Trees that stand in one list, node by node, each node behind its parts.
+
+ghost use Rattle.std.specs.Prelude.{◌≡◌, ◌<◌, ◌++◌, ◌∷◌, [], length, IfOk, OnOk, OnErr, slice_get, Some};
+ghost use Rattle.program.specs.Listed.{IsSound, nodes_of, subtrees};
+ghost use Rattle.program.specs.Trees.{IsBelow, Stays, Tree, at, tree_of, trees};
+
+use crate::sequence::Sequence;
+use base::memory::NoMemory;
+use base::span::Span;
+use std::alloc::Global;
+use std::marker::Model;
+
+/// A node: what it is, and the places of its parts. A form is one for each number of parts.
+#[derive(Drop)]
+pub enum Node<L, U, B, M> {
+    Leaf(L),
+    Unary(U, usize),
+    Binary(B, usize, usize),
+    /// A condition and two branches.
+    If(usize, usize, usize),
+    Many(M, Sequence<usize>),
+}
+
+/// Nodes, each behind its parts and with its place in the text.
+#[derive(Drop)]
+pub struct Arena<L, U, B, M> {
+    nodes: Vec<Node<L, U, B, M>>,
+    spans: Vec<Span>,
+}
+
+impl<L, U, B, M> Model for Arena<L, U, B, M> {
+    ghost use Rattle.std.specs.Prelude.{List, ◌≡◌, length};
+    ghost use Rattle.program.specs.Arenas.{ArenaData};
+    ghost use Rattle.program.specs.Trees.{AreBelow};
+
+    ghost Value = { ArenaData L U B M };
+
+    ghost view = { λ a. record { nodes = a.nodes.items; spans = a.spans.items } };
+
+    ghost invariant = { λ a. (AreBelow a.nodes.items) × (length a.spans.items ≡ length a.nodes.items) };
+}
+
+/// A node and its place in the text, behind the others.
+fn push_both<N: Drop>(
+    nodes: &mut Vec<N>,
+    spans: &mut Vec<Span>,
+    node: N,
+    span: Span,
+) -> Result<(), NoMemory>
+    ensures nodes { OnOk result (nodes.new.items ≡ nodes.old.items ++ node ∷ []) }
+    ensures spans { OnOk result (spans.new.items ≡ spans.old.items ++ span ∷ []) }
+    ensures err { OnErr result ((nodes.new.items ≡ nodes.old.items) × (spans.new.items ≡ spans.old.items)) }
+{
+    spans.push(span)?;
+    if nodes.push(node).is_err() {
+        spans.pop();
+        return Err(NoMemory);
+    }
+    Ok(())
+}
+
+impl<L: Drop, U: Drop, B: Drop, M: Drop> Arena<L, U, B, M> {
+    /// No nodes.
+    pub fn new(alloc: Global) -> Arena<L, U, B, M>
+        ensures nodes { result.nodes ≡ [] }
+        ensures spans { result.spans ≡ [] }
+    {
+        Arena {
+            nodes: Vec::new(alloc),
+            spans: Vec::new(alloc),
+        }
+    }
+
+    /// How many nodes there are.
+    pub fn len(&self) -> usize
+        ensures { result ≡ length self.now.nodes }
+    {
+        self.nodes.len()
+    }
+
+    fn stored(&self, place: usize) -> &Node<L, U, B, M>
+        requires { place < length self.now.nodes }
+        ensures node { slice_get self.now.nodes place ≡ Some result.now }
+        ensures below { IsBelow place result.now }
+    {
+        &self.nodes[place]
+    }
+
+    /// The node at a place.
+    pub fn node(&self, place: usize) -> &Node<L, U, B, M>
+        requires { place < length self.now.nodes }
+        ensures node { slice_get self.now.nodes place ≡ Some result.now }
+        ensures below { IsBelow place result.now }
+        ensures tree { at (trees self.now.nodes) place ≡ tree_of (trees self.now.nodes) result.now }
+    {
+        self.stored(place)
+    }
+
+    /// One more node behind the others, whose parts stand already, with its place in the text. Answers its
+    /// number. After `NoMemory` the nodes are as they were.
+    pub fn add(&mut self, node: Node<L, U, B, M>, span: Span) -> Result<usize, NoMemory>
+        requires { IsBelow (length self.old.nodes) node }
+        ensures place { IfOk result (λ place. place ≡ length self.old.nodes) }
+        ensures nodes { OnOk result (self.new.nodes ≡ self.old.nodes ++ node ∷ []) }
+        ensures trees { OnOk result (trees self.new.nodes ≡ trees self.old.nodes ++ tree_of (trees self.old.nodes) node ∷ []) }
+        ensures stays { OnOk result (Stays self.old.nodes self.new.nodes) }
+        ensures spans { OnOk result (self.new.spans ≡ self.old.spans ++ span ∷ []) }
+        ensures err { OnErr result (self.new ≡ self.old) }
+    {
+        let place = self.nodes.len();
+        push_both(&mut self.nodes, &mut self.spans, node, span)?;
+        Ok(place)
+    }
+
+    /// The place in the text of the node at a place.
+    pub fn span(&self, place: usize) -> Span
+        requires { place < length self.now.nodes }
+        ensures { slice_get self.now.spans place ≡ Some result }
+    {
+        self.spans[place]
+    }
+}
+
+/// A law: the nodes of a tree stand for the trees inside it and, last, for the tree itself. So no list of nodes is
+/// that of two trees.
+pub fn one_tree<L, U, B, M>()
+    ensures trees { (tree : Tree L U B M) → IsSound tree → trees (nodes_of tree) ≡ subtrees tree }
+    ensures one { (tree other : Tree L U B M)
+        → IsSound tree → IsSound other → nodes_of tree ≡ nodes_of other → tree ≡ other }
+{}

@@ -1,0 +1,55 @@
+//! Clauses of specifications.
+
+use crate::program::SchemaId;
+use crate::sequence::Sequence;
+use crate::spec::SpecBody;
+use base::span::Span;
+use base::types::TypeList;
+
+/// The clauses that are a condition.
+#[derive(Clone, Copy, Debug, PartialEq, Eq)]
+pub enum ConditionKind {
+    Requires,
+    Ensures,
+    AbortsIf,
+    Invariant,
+    /// `invariant update`
+    UpdateInvariant,
+}
+
+/// The forms of a clause, with the places of its expressions among its nodes.
+#[derive(Drop)]
+pub enum ClauseForm {
+    Condition(ConditionKind, usize),
+    /// Places of storage that may change.
+    Modifies(Sequence<usize>),
+    /// `let` or, where `is_post` is true, `let post`
+    Let {
+        is_post: bool,
+        value: usize,
+    },
+    /// The clauses of a schema, with what stands for each of its variables, in their order. Type arguments are
+    /// those that are written: none where they are left out.
+    Include {
+        schema: SchemaId,
+        types: TypeList,
+        given: Sequence<usize>,
+    },
+}
+
+/// A clause, its first token, and that of the spec block that it belongs to.
+#[derive(Drop)]
+pub struct Clause {
+    pub block: Span,
+    pub place: Span,
+    pub form: ClauseForm,
+    /// The nodes of its expressions.
+    pub body: SpecBody,
+}
+
+/// A clause of the spec block of a loop, with the loop's place among the nodes of the body.
+#[derive(Drop)]
+pub struct LoopClause {
+    pub at: usize,
+    pub clause: Clause,
+}

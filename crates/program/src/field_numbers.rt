@@ -1,0 +1,68 @@
+//! The numbers of fields, found without a walk over a struct.
+
+ghost use Rattle.std.specs.Prelude.{◌≡◌, IfOk};
+ghost use Rattle.program.specs.FieldNumbers.{AreFieldNumbers, AreNumbers, field_number_in};
+
+use crate::declaration::{Struct, TypedName};
+use crate::table::Table;
+use base::memory::NoMemory;
+use base::name::Name;
+use base::types::StructId;
+use std::alloc::Global;
+
+/// The numbers of the fields of all structs of a program: how many fields of the struct are declared before it.
+#[derive(Drop)]
+pub struct FieldNumbers {
+    /// Of each struct, in their order, the numbers of its fields by their names.
+    pub structs: Vec<Table<Name, usize>>,
+}
+
+/// The numbers of the fields of one struct.
+fn numbers_of(alloc: Global, fields: &[TypedName]) -> Result<Table<Name, usize>, NoMemory>
+    ensures { IfOk result (AreNumbers fields.now) }
+{
+    let mut numbers = Table::new(alloc);
+    for place in 0..fields.len() {
+        numbers.put(fields[place].name.try_clone(alloc)?, place)?;
+    }
+    Ok(numbers)
+}
+
+impl FieldNumbers {
+    /// Reads the fields of all structs, each once.
+    ///
+    /// # Errors
+    ///
+    /// Only where memory for the names and the numbers is refused.
+    pub fn new(alloc: Global, structs: &Table<StructId, Struct>) -> Result<FieldNumbers, NoMemory>
+        ensures { IfOk result (AreFieldNumbers structs.now) }
+    {
+        let mut all = Vec::new(alloc);
+        for number in 0..structs.len() {
+            if let Some((_, one)) = structs.entry(number) {
+                all.push(numbers_of(alloc, one.fields.as_slice())?)?;
+            }
+        }
+        Ok(FieldNumbers { structs: all })
+    }
+
+    /// The number of the field of this name of the struct: none where the program has no such struct, or the struct no
+    /// such field. It takes two look-ups, however many fields there are.
+    pub fn number(
+        &self,
+        structs: &Table<StructId, Struct>,
+        owner: &StructId,
+        name: &Name,
+    ) -> Option<usize>
+        requires { AreFieldNumbers structs.now self.now }
+        ensures { result ≡ field_number_in structs.now owner.now name.now }
+    {
+        match structs.number(owner) {
+            Some(place) => match self.structs.get(place) {
+                Some(numbers) => numbers.get(name).copied(),
+                None => None,
+            },
+            None => None,
+        }
+    }
+}

@@ -1,7 +1,0 @@
-use Rattle.std.proofs.Common.{◌≡◌, take}
-use Rattle.std.specs.Prelude.{None}
-use Rattle.program_read.specs.LocalCounts.{excess_of_module, first_of}
-use Rattle.program_read.proofs.locals.excess_of.Given as goal
-
-abbrev pub invariant-loop-module : goal.invariant-loop-module
-invariant-loop-module l = first_of excess_of_module (take l.module-index l.modules) ≡ None

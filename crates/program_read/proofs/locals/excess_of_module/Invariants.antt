@@ -1,7 +1,0 @@
-use Rattle.std.proofs.Common.{◌≡◌, take}
-use Rattle.std.specs.Prelude.{None}
-use Rattle.program_read.specs.LocalCounts.{excess_of_member, first_of}
-use Rattle.program_read.proofs.locals.excess_of_module.Given as goal
-
-abbrev pub invariant-loop-member : goal.invariant-loop-member
-invariant-loop-member l = first_of excess_of_member (take l.member-index l.member-items) ≡ None

@@ -1,8 +1,0 @@
-use Rattle.std.proofs.Common.{ℕ, List, ◌++◌, map, take}
-use Rattle.source_tree.specs.SourceModuleData.{SourceModuleData}
-use Rattle.program_read.specs.ModuleReading.{AreRead}
-use Rattle.program_read.proofs.modules.Found.add_all.Given as goal
-
-abbrev pub invariant-loop-module : goal.invariant-loop-module
-invariant-loop-module l =
-    (before : List (ℕ × SourceModuleData)) → AreRead before l.fn.self.modules.items l.fn.self.taken → AreRead (before ++ map (λ m. (l.file, m)) (take l.module-index l.modules)) l.self.modules.items l.self.taken

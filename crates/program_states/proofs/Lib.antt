@@ -1,4 +1,0 @@
-pub mod Bodies
-pub mod Firsts
-pub mod Gathering
-pub mod Steps

@@ -1,7 +1,0 @@
-//! The rules on locals, and the states of locals, over all functions of a typed program.
-#![tactic(auto)]
-
-pub mod flow;
-mod locals;
-pub mod states;
-pub mod told;

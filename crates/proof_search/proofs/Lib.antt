@@ -1,5 +1,0 @@
-pub mod FirstLemmas
-pub mod LevelLemmas
-pub mod LengthLemmas
-pub mod EndLemmas
-pub mod TurnLemmas

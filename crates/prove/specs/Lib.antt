@@ -1,4 +1,0 @@
-pub mod Stages
-pub mod Outcome
-pub mod Run
-pub mod Causes

@@ -1,4 +1,0 @@
-pub mod DeclaredLaws
-pub mod EachLaws
-pub mod InnermostLaws
-pub mod TypeLists

@@ -1,9 +1,0 @@
-use Rattle.std.proofs.Common.{◌≡◌, ◌-◌, length}
-use Rattle.move_tokens.specs.declared.token.Punctuation.TheVariants.{LeftBrace}
-use Rattle.token_reading.specs.TokenReading.{before_sign}
-use Rattle.token_reading.specs.ListReading.{items_at, put_before}
-use Rattle.leaf_parse.specs.PathReading.{path_at}
-use Rattle.pv_parse.proofs.header.read_path_list.Given as goal
-
-abbrev pub invariant-loop : goal.invariant-loop
-invariant-loop l = items_at (before_sign LeftBrace) path_at (length l.tokens) l.tokens ≡ put_before l.items.items (items_at (before_sign LeftBrace) path_at (length l.tokens - l.counter) l.rest)

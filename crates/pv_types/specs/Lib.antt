@@ -1,3 +1,0 @@
-pub mod Arenas
-pub mod Listed
-pub mod Trees

@@ -1,0 +1,15 @@
+pub mod Sums
+pub mod Shapes
+pub mod Memos
+pub mod Entries
+pub mod Rows
+pub mod Numbers
+pub mod Bounds
+pub mod Chosen
+pub mod Cited
+pub mod Shallowest
+pub mod StandIns
+pub mod DifferencesSums
+pub mod Places
+pub mod DifferencesEntries
+pub mod Names

@@ -1,0 +1,56 @@
+-- The classes of whole numbers: an entry states that one of their terms is a whole number.
+use Rattle.std.specs.Prelude.{◌≡◌, ℕ, Bool, true, false, List, slice_index, Option, Some, None}
+use Rattle.base.specs.TypeData.{NumType}
+use Rattle.fol.specs.FormulaData.{TermData, FormulaData, IsFormula}
+use Rattle.term_pool.specs.Items.{term_in, formula_in}
+use Rattle.term_pool.specs.Pools.{item_at}
+use Rattle.term_pool.specs.declared.node.Leaf.TheVariants.{TypeNum}
+use Rattle.term_pool.specs.declared.node.Two.TheVariants.{Is}
+use Rattle.term_pool.specs.declared.node.Node.{Node}
+use Rattle.term_pool.specs.declared.node.Node.TheVariants.{Leaf as LeafNode, Two as TwoNode}
+use Rattle.certificates.specs.BranchesBranch.{Branch, Says, Stands}
+use Rattle.tableau.specs.PoolBranches.{IsTermNumber}
+use Rattle.row_reasoning.specs.declared.values.numbers.NumberEntry.{NumberEntry}
+
+abbrev pub term_at : List Node → ℕ → TermData
+term_at ns n = term_in (item_at ns n)
+
+abbrev pub formula_at : List Node → ℕ → FormulaData
+formula_at ns n = formula_in (item_at ns n)
+
+-- the type of whole numbers
+abbrev pub is_num_node : Node → Bool
+is_num_node (LeafNode TypeNum) = true
+is_num_node _ = false
+
+-- the type and the term of a formula stating that a term has a type
+abbrev pub typed_parts : Node → Option (ℕ × ℕ)
+typed_parts (TwoNode Is a t) = Some (a, t)
+typed_parts _ = None
+
+-- the formula states that the term is a whole number
+pub record IsNumberSaid (ns : List Node) (formula term : ℕ) : Type 0 where
+  pub number : IsTermNumber ns term
+  pub is : formula_at ns formula ≡ IsFormula NumType (term_at ns term)
+
+-- the entry states that the term is a whole number
+pub record IsNumberEntry (ns : List Node) (b : Branch) (entry : NumberEntry) : Type 0 where
+  pub number : IsTermNumber ns entry.term
+  pub says : Says b entry.entry (IsFormula NumType (term_at ns entry.term))
+
+-- the entry states that a term is a whole number whose class has the representative
+pub record IsNumberOf (ns : List Node) (b : Branch) (names : List ℕ) (name : ℕ) (entry : NumberEntry) : Type 0 where
+  pub is_number : IsNumberEntry ns b entry
+  pub named : slice_index names entry.term ≡ name
+
+-- the class of the term, by one of its numbers, has an entry
+pub record HasEntry (ns : List Node) (names : List ℕ) (found : ℕ → Option NumberEntry) (t : TermData) : Type 0 where
+  pub number : ℕ
+  pub is_number : IsTermNumber ns number
+  pub is : term_at ns number ≡ t
+  pub has : found (slice_index names number) ≡ None → ⊥
+
+-- for the representatives of classes, an entry stating that one of their terms is a whole number
+pub record AreNumberEntries (ns : List Node) (b : Branch) (names : List ℕ) (found : ℕ → Option NumberEntry) : Type 0 where
+  pub right : (name : ℕ) (entry : NumberEntry) → found name ≡ Some entry → IsNumberOf ns b names name entry
+  pub all : (t : TermData) → Stands b (IsFormula NumType t) → HasEntry ns names found t

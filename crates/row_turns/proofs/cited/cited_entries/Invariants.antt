@@ -1,5 +1,0 @@
-use Rattle.row_turns.proofs.CitedLemmas.{AreCitedBefore}
-use Rattle.row_turns.proofs.cited.cited_entries.Given as goal
-
-abbrev pub invariant-loop-i : goal.invariant-loop-i
-invariant-loop-i l = AreCitedBefore l.origins l.multipliers l.i l.fn.count l.cited.items

@@ -1,3 +1,0 @@
-pub mod Rewritings
-pub mod Settings
-pub mod Ends

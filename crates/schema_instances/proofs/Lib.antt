@@ -1,9 +1,0 @@
-pub mod Closures
-pub mod InstanceLaws
-pub mod KeyLaws
-pub mod LeadingLaws
-pub mod LevelLaws
-pub mod LinkLaws
-pub mod Lists
-pub mod PathLaws
-pub mod StandingLaws

@@ -1,5 +1,0 @@
-use Rattle.schema_instances.proofs.LevelLaws.{LevelTo}
-use Rattle.schema_instances.proofs.closing.close_level.Given as goal
-
-abbrev pub invariant-loop-number : goal.invariant-loop-number
-invariant-loop-number l = LevelTo l.program l.fn.closure l.closure l.first l.end l.number

@@ -1,0 +1,14 @@
+pub mod Builtins
+pub mod EnvironmentData
+pub mod Meanings
+pub mod MemberNames
+pub mod NamedAddresses
+pub mod Scopes
+pub mod TypeMeanings
+pub mod Visibility
+pub mod Declares
+pub mod Brings
+pub mod Program
+pub mod Twice
+pub mod Uses
+pub mod Visible

@@ -1,0 +1,11 @@
+pub mod TextLemmas
+pub mod WaitingLemmas
+pub mod PushLemmas
+pub mod AddedLemmas
+pub mod TreeLemmas
+pub mod StayLemmas
+pub mod FirstLemmas
+pub mod LevelLemmas
+pub mod LengthLemmas
+pub mod EndLemmas
+pub mod ApplicationLemmas

@@ -1,0 +1,4 @@
+pub mod Applications
+pub mod Trees
+pub mod Decisions
+pub mod Ends

@@ -1,5 +1,0 @@
-use Rattle.search_trees.proofs.StayLemmas.{tree_stays}
-use Rattle.search_trees.proofs.laws.trees_stay.Goals as goal
-
-pub returns : goal.returns
-returns c shapes p spent ns ms tree grown h = tree_stays ns ms grown shapes p spent tree h

@@ -1,4 +1,0 @@
-use Rattle.search_trees.proofs.tree.begin.Goals as goal
-
-pub push-requires-clause-over : goal.push-requires-clause-over
-push-requires-clause-over c = c.new-branch.ensures.over c.args.pool.now

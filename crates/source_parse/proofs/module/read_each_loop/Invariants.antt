@@ -1,7 +1,0 @@
-use Rattle.std.proofs.Common.{map, take}
-use Rattle.pv_base.specs.Pairs.{Paired}
-use Rattle.source_tree.specs.Loops.{IsLoopTree}
-use Rattle.source_parse.proofs.module.read_each_loop.Given as goal
-
-abbrev pub invariant-loop-spec : goal.invariant-loop-spec
-invariant-loop-spec l = Paired IsLoopTree (map (λ s. s.now) (take l.spec-index l.spec-items)) l.trees.items

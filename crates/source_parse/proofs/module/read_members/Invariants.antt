@@ -1,9 +1,0 @@
-use Rattle.std.proofs.Common.{ℕ, List}
-use Rattle.std.specs.Vec.Iter.{into_iter_items}
-use Rattle.pv_base.specs.Names.{IsSetOf}
-use Rattle.source_tree.specs.Members.{IsSourceMember}
-use Rattle.pv_base.proofs.PairLaws.{Reading}
-use Rattle.source_parse.proofs.module.read_members.Given as goal
-
-abbrev pub invariant-loop-member : goal.invariant-loop-member
-invariant-loop-member l = (names : List (List ℕ)) → IsSetOf l.functions names → Reading (IsSourceMember names) l.fn.members.items (into_iter_items l.member-iterator) l.found.items

@@ -1,4 +1,0 @@
-pub mod Reading
-pub mod Named
-pub mod Given
-pub mod Sums

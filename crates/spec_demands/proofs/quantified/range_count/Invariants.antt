@@ -1,6 +1,0 @@
-use Rattle.std.proofs.Common.{◌≡◌, ◌+◌, drop}
-use Rattle.typings.specs.SpecDemands.{range_count}
-use Rattle.spec_demands.proofs.quantified.range_count.Given as goal
-
-abbrev pub invariant-loop-bind : goal.invariant-loop-bind
-invariant-loop-bind l = l.count + range_count (drop l.bind-index l.binds) ≡ range_count l.binds

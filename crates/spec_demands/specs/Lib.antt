@@ -1,4 +1,0 @@
-pub mod Seen
-pub mod Settings
-pub mod Packs
-pub mod Told

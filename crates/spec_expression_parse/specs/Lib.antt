@@ -1,4 +1,0 @@
-pub mod RepeatReading
-pub mod OperatorReading
-pub mod LeafReading
-pub mod SpecReading

@@ -1,9 +1,0 @@
-use Rattle.std.proofs.Common.{◌≡◌, drop}
-use Rattle.std.specs.List.{list_all}
-use Rattle.typings.specs.ProperTypes.{is_proper_single}
-use Rattle.spec_faults.proofs.functions.are_proper.Given as goal
-
-abbrev pub invariant-loop-parameter : goal.invariant-loop-parameter
-invariant-loop-parameter l =
-    list_all (λ p. is_proper_single l.program.structs p.annotation) l.parameters
-    ≡ list_all (λ p. is_proper_single l.program.structs p.annotation) (drop l.parameter-index l.parameters)

@@ -1,6 +1,0 @@
-use Rattle.std.proofs.Common.{take}
-use Rattle.spec_faults.specs.Roots.{IsOfFunction, OfSome, TellsOf}
-use Rattle.spec_faults.proofs.roots.all_functions.Given as goal
-
-abbrev pub invariant-loop-number : goal.invariant-loop-number
-invariant-loop-number l = TellsOf l.program (OfSome (IsOfFunction l.program) (take l.number l.program.functions)) l.judged.items

@@ -1,6 +1,0 @@
-use Rattle.std.proofs.Common.{take}
-use Rattle.spec_faults.specs.Roots.{IsOfModule, OfSome, TellsOf}
-use Rattle.spec_faults.proofs.roots.all_modules.Given as goal
-
-abbrev pub invariant-loop-number : goal.invariant-loop-number
-invariant-loop-number l = TellsOf l.program (OfSome (IsOfModule l.program) (take l.number l.program.modules)) l.judged.items

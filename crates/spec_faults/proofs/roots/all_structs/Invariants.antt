@@ -1,6 +1,0 @@
-use Rattle.std.proofs.Common.{take}
-use Rattle.spec_faults.specs.Roots.{IsOfStruct, OfSome, TellsOf}
-use Rattle.spec_faults.proofs.roots.all_structs.Given as goal
-
-abbrev pub invariant-loop-number : goal.invariant-loop-number
-invariant-loop-number l = TellsOf l.program (OfSome (IsOfStruct l.program) (take l.number l.program.structs)) l.judged.items

@@ -1,9 +1,0 @@
-use Rattle.std.proofs.Common.{List, ◌++◌, ◌∙◌, ap}
-use Rattle.standing_clauses.specs.declared.judged.JudgedClause.{JudgedClause}
-use Rattle.spec_faults.proofs.RootLaws.{all_roots}
-use Rattle.spec_faults.proofs.roots.root_clauses.Goals as goal
-
-pub returns : goal.returns
-returns c =
-    all_roots c.args.program.now c.in_ok-roots.roots.items c.in_ok-of_structs.of_structs.items c.in_ok-of_modules.of_modules.items _ c.in_ok-roots.ensures c.in_ok-of_structs.ensures c.in_ok-of_modules.ensures
-    (c.in_ok-append-2.ensures.items ∙ ap (λ (js : List JudgedClause). js ++ c.in_ok-of_modules.of_modules.items) c.in_ok-append.ensures.items)

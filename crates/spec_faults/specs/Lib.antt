@@ -1,4 +1,0 @@
-pub mod Faults
-pub mod Included
-pub mod Numbered
-pub mod Roots

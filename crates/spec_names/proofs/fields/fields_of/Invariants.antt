@@ -1,6 +1,0 @@
-use Rattle.std.proofs.Common.{◌≡◌, map, take}
-use Rattle.spec_names.specs.SpecTrees.{field_of_value}
-use Rattle.spec_names.proofs.fields.fields_of.Given as goal
-
-abbrev pub invariant-loop-one : goal.invariant-loop-one
-invariant-loop-one l = l.names ≡ map field_of_value (take l.one-index l.fields)

@@ -1,9 +1,0 @@
-use Rattle.std.proofs.Common.{true, ◌≡◌, ◌-◌, length}
-use Rattle.move_tokens.specs.declared.token.Punctuation.TheVariants.{RightBrace}
-use Rattle.token_reading.specs.TokenReading.{after_sign}
-use Rattle.token_reading.specs.ListReading.{items_at, put_before}
-use Rattle.spec_expression_parse.specs.SpecReading.{spec_at, spec_field_at}
-use Rattle.spec_parse.proofs.includes.read_some_bindings.Given as goal
-
-abbrev pub invariant-loop : goal.invariant-loop
-invariant-loop l = items_at (after_sign RightBrace) (spec_field_at (spec_at l.budget true 0)) (length l.tokens) l.tokens ≡ put_before l.items.items (items_at (after_sign RightBrace) (spec_field_at (spec_at l.budget true 0)) (length l.tokens - l.counter) l.rest)

@@ -1,7 +1,0 @@
-use Rattle.std.proofs.Common.{◌≡◌, ◌++◌, take}
-use Rattle.std.specs.List.{flat_map}
-use Rattle.clause_tree.specs.ClauseSpelling.{clause_spelling}
-use Rattle.spec_spelling.proofs.spell_clause.spell_clauses.Given as goal
-
-abbrev pub invariant-loop-one : goal.invariant-loop-one
-invariant-loop-one l = l.into ≡ l.initial.into ++ flat_map clause_spelling (take l.one-index l.clauses)

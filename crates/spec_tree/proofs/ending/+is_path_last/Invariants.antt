@@ -1,5 +1,0 @@
-use Rattle.spec_tree.specs.SpecExpressionData.{spec_expression_size}
-use Rattle.spec_tree.proofs.ending.+is_path_last.Given as goal
-
-abbrev pub decreases-is_path_last : goal.decreases-is_path_last
-decreases-is_path_last l = spec_expression_size l.expression.now

@@ -1,0 +1,7 @@
+use Rattle.std.proofs.Common.{◌≡◌, ◌++◌, take}
+use Rattle.std.specs.List.{flat_map}
+use Rattle.syntax_tree.specs.ClauseSpelling.{clause_spelling}
+use Rattle.spelling.proofs.spell_clause.spell_clauses.Given as goal
+
+abbrev pub invariant-loop-one : goal.invariant-loop-one
+invariant-loop-one l = l.into ≡ l.initial.into ++ flat_map clause_spelling (take l.one-index l.clauses)

@@ -1,8 +1,0 @@
-use Rattle.std.specs.Prelude.{◌<◌}
-use Rattle.split_ranks.proofs.said.Said.+outlook.Given as goal
-
-abbrev pub decreases-outlook : goal.decreases-outlook
-decreases-outlook l = l.depth
-
-abbrev pub invariant-loop-item : goal.invariant-loop-item
-invariant-loop-item l = l.less < l.fn.depth

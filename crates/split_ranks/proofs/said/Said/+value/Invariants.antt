@@ -1,4 +1,0 @@
-use Rattle.split_ranks.proofs.said.Said.+value.Given as goal
-
-abbrev pub decreases-value : goal.decreases-value
-decreases-value l = l.depth

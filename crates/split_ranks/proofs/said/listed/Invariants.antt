@@ -1,8 +1,0 @@
-use Rattle.std.specs.Prelude.{◌≡◌}
-use Rattle.split_ranks.proofs.said.listed.Given as goal
-
-abbrev pub invariant-loop-formula : goal.invariant-loop-formula
-invariant-loop-formula l = l.rest ≡ l.rest
-
-abbrev pub decreases-loop-formula : goal.decreases-loop-formula
-decreases-loop-formula l = l.rest

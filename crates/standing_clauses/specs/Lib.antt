@@ -1,4 +1,0 @@
-pub mod Instances
-pub mod Judged
-pub mod Lets
-pub mod Reached

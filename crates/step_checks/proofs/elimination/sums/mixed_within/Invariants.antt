@@ -1,0 +1,11 @@
+use Rattle.std.proofs.Common.{◌≡◌, ◌<◌, ℕ, pos, ◌+ℤ◌, ◌*ℤ◌, vec_len}
+use Rattle.linear_arith.specs.Combination.{number}
+use Rattle.linear_arith.specs.Elimination.{MixFits}
+use Rattle.step_checks.proofs.elimination.sums.mixed_within.Given as goal
+
+abbrev pub invariant-loop-k : goal.invariant-loop-k
+invariant-loop-k l = record {
+  len : vec_len l.numbers ≡ l.k;
+  made : (k : ℕ) → k < l.k → number k l.numbers.items ≡ (pos l.weights.first *ℤ number k l.first) +ℤ (pos l.weights.second *ℤ number k l.second);
+  within : (k : ℕ) → k < l.k → MixFits l.weights.first l.weights.second (number k l.first) (number k l.second);
+}

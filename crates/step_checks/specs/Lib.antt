@@ -1,0 +1,17 @@
+pub mod Digits
+pub mod Rests
+pub mod Choices
+pub mod Given
+pub mod GivenValues
+pub mod Sets
+pub mod Shown
+pub mod Stages
+pub mod Sums
+pub mod Naming
+pub mod Checked
+pub mod Rows
+pub mod Pairs
+pub mod Sides
+pub mod Orders
+pub mod Inside
+pub mod Links

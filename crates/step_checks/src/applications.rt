@@ -1,0 +1,8 @@
+//! Decides whether an extension of a branch is due: checks of one given application, by number.
+
+pub mod entries;
+pub mod names;
+mod said;
+mod standing;
+mod truths;
+pub mod universals;

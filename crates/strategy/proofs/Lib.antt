@@ -1,0 +1,10 @@
+pub mod GrowthLemmas
+pub mod LateLemmas
+pub mod PlainLemmas
+pub mod PromisingLemmas
+pub mod RangeLemmas
+pub mod MarkLemmas
+pub mod EarlyLemmas
+pub mod StayLemmas
+pub mod StateLemmas
+pub mod SaturationLemmas

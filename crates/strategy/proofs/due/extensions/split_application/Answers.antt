@@ -1,0 +1,7 @@
+use Rattle.std.proofs.Common.{refl}
+use Rattle.tableau.specs.PoolBranches.{branch_in}
+use Rattle.strategy.proofs.GrowthLemmas.{split_due}
+use Rattle.strategy.proofs.due.extensions.split_application.Goals as goal
+
+pub returns : goal.returns
+returns c = λ shapes ns h time. split_due shapes ns (branch_in ns c.args.branch.now) _ c.args.step.entry refl (c.generation_of.ensures ns) h time

@@ -1,0 +1,4 @@
+pub mod Plain
+pub mod Ranges
+pub mod Known
+pub mod Families

@@ -1,4 +1,0 @@
-pub mod StandInLemmas
-pub mod SumLemmas
-pub mod PlaceLemmas
-pub mod EntryLemmas

@@ -1,5 +1,0 @@
-use Rattle.sum_differences.proofs.EntryLemmas.{no_pair_compared}
-use Rattle.sum_differences.proofs.entry.compared.Goals as goal
-
-pub returns-in-None : goal.returns-in-None
-returns-in-None c = no_pair_compared c.args.pool.now c.args.number c.in-None.ensures

@@ -1,8 +1,0 @@
-use Rattle.std.proofs.Common.{◌+◌, ◌*◌, max}
-use Rattle.sum_differences.proofs.walk.+differences.Given as goal
-
-abbrev pub decreases-differences : goal.decreases-differences
-decreases-differences l = 2 * l.one
-
-abbrev pub decreases-parts : goal.decreases-parts
-decreases-parts l = 2 * max l.one.first l.one.second + 1

@@ -1,4 +1,0 @@
-pub mod StandIns
-pub mod Sums
-pub mod Places
-pub mod Entries

@@ -1,0 +1,5 @@
+pub mod Smaller
+pub mod SmallerExpressions
+pub mod SmallerSpecs
+pub mod Taken
+mod PlaceLaws

@@ -1,0 +1,33 @@
+-- Tokens whose brackets match, each kind with its own. A file tree keeps the inside of an attribute and of a spec block
+-- as such tokens.
+use Rattle.std.specs.Prelude.{◌≡◌, List, [], ◌∷◌, Option, Some, None}
+use Rattle.tokens.specs.declared.token.Token.{Token}
+use Rattle.tokens.specs.declared.token.TokenKind.{TokenKind}
+use Rattle.tokens.specs.declared.token.TokenKind.TheVariants.{Punctuation}
+use Rattle.tokens.specs.declared.token.Punctuation.{Punctuation as Sign}
+use Rattle.tokens.specs.declared.token.Punctuation.TheVariants.{LeftParenthesis, RightParenthesis, LeftBrace, RightBrace, LeftBracket, RightBracket}
+
+-- the brackets that are still wanted, the next one first, behind one more that closes
+abbrev pub closed : Sign → List Sign → Option (List Sign)
+closed RightParenthesis (RightParenthesis ∷ wanted) = Some wanted
+closed RightBrace (RightBrace ∷ wanted) = Some wanted
+closed RightBracket (RightBracket ∷ wanted) = Some wanted
+closed _ _ = None
+
+-- the same behind one more token; nothing where a bracket did not match
+abbrev pub wanted_behind : Option (List Sign) → TokenKind → Option (List Sign)
+wanted_behind None kind = None
+wanted_behind (Some wanted) (Punctuation LeftParenthesis) = Some (RightParenthesis ∷ wanted)
+wanted_behind (Some wanted) (Punctuation LeftBrace) = Some (RightBrace ∷ wanted)
+wanted_behind (Some wanted) (Punctuation LeftBracket) = Some (RightBracket ∷ wanted)
+wanted_behind (Some wanted) (Punctuation RightParenthesis) = closed RightParenthesis wanted
+wanted_behind (Some wanted) (Punctuation RightBrace) = closed RightBrace wanted
+wanted_behind (Some wanted) (Punctuation RightBracket) = closed RightBracket wanted
+wanted_behind (Some wanted) kind = Some wanted
+
+abbrev pub wanted_after : Option (List Sign) → List Token → Option (List Sign)
+wanted_after wanted [] = wanted
+wanted_after wanted (token ∷ tokens) = wanted_after (wanted_behind wanted token.kind) tokens
+
+abbrev pub IsBalanced : List Token → Type 0
+IsBalanced tokens = wanted_after (Some []) tokens ≡ Some []

@@ -1,0 +1,209 @@
+-- Proper expressions, blocks and items: those that the grammar has. What stands beside the grammar's text are the levels
+-- of the operators, and its rules on `else`, on names, on last commas and on the blocks of loops.
+-- Source: The Move Book, "Integers" and "Bool" for the operators; the levels are those of Move's compiler.
+use Rattle.std.specs.Prelude.{◌≡◌, ◌≤◌, ℕ, suc, Bool, true, false, Option, Some, None, codes}
+use Rattle.syntax_tree.specs.declared.path.Path.{Path}
+use Rattle.syntax_tree.specs.declared.literal.Literal.{Literal}
+use Rattle.syntax_tree.specs.declared.literal.Literal.TheVariants.{Number, Truth, Address}
+use Rattle.syntax_tree.specs.declared.spec_tokens.KeptSpec.{KeptSpec}
+use Rattle.syntax_tree.specs.declared.operator.BinaryOperator.{BinaryOperator}
+use Rattle.syntax_tree.specs.declared.operator.BinaryOperator.TheVariants.{Or, And, Equal, NotEqual, Less, LessEqual, Greater, GreaterEqual, BitOr, BitXor, BitAnd, ShiftLeft, ShiftRight, Add, Subtract, Multiply, Divide, Remainder}
+use Rattle.syntax_tree.specs.NameRules.{IsName, IsCapital}
+use Rattle.syntax_tree.specs.KeptSpecs.{IsLoopSpec}
+use Rattle.syntax_tree.specs.ProperTypes.{IsProperNumeral, IsProperAddress, IsProperPath, last_name, IsOther, IsProperType, AreProperMaybeArguments}
+use Rattle.syntax_tree.specs.ProperPatterns.{IsProperPattern}
+use Rattle.syntax_tree.specs.TypeTreeData.{SourceTypeData, MaybeArgumentsData, NoArguments, SomeArguments}
+use Rattle.syntax_tree.specs.ExpressionData.{ExpressionData, BinaryExpression, AssignExpression, IfExpression, WhileExpression, LoopExpression, ReturnExpression, AbortExpression, BreakExpression, ContinueExpression, UnaryExpression, UseExpression, FieldExpression, LiteralExpression, PathExpression, CallExpression, PackExpression, VectorExpression, AssertExpression, TupleExpression, CastExpression, BlockExpression, MaybeExpressionData, NoExpression, SomeExpression, BlockOf, ItemData, ExpressionItem, LetItem, FieldValueData, ShortFieldValue, LongFieldValue, ExpressionsData, NoExpressions, MoreExpressions, ItemsData, NoItems, MoreItems, FieldValuesData, NoFieldValues, MoreFieldValues}
+
+-- ---- levels, from the loosest to the tightest; 1, 2 and 6 are those of specifications alone
+
+abbrev pub operator_level : BinaryOperator → ℕ
+operator_level Or = 3
+operator_level And = 4
+operator_level Equal = 5
+operator_level NotEqual = 5
+operator_level Less = 5
+operator_level Greater = 5
+operator_level LessEqual = 5
+operator_level GreaterEqual = 5
+operator_level BitOr = 7
+operator_level BitXor = 8
+operator_level BitAnd = 9
+operator_level ShiftLeft = 10
+operator_level ShiftRight = 10
+operator_level Add = 11
+operator_level Subtract = 11
+operator_level Multiply = 12
+operator_level Divide = 12
+operator_level Remainder = 12
+
+-- operators before an expression are tighter than those between two, and a term is tightest
+abbrev pub unary_level : ℕ
+unary_level = 13
+
+abbrev pub term_level : ℕ
+term_level = 14
+
+-- an assignment and a control form have the level 0: as operands they stand in parentheses
+abbrev pub level : ExpressionData → ℕ
+level (BinaryExpression left operator place right) = operator_level operator
+level (UnaryExpression operator place operand) = unary_level
+level (UseExpression kind place local) = unary_level
+level (AssignExpression target place value) = 0
+level (IfExpression place condition then_branch else_branch) = 0
+level (WhileExpression place condition body) = 0
+level (LoopExpression place body) = 0
+level (ReturnExpression place value) = 0
+level (AbortExpression place code) = 0
+level (BreakExpression place) = 0
+level (ContinueExpression place) = 0
+level _ = term_level
+
+-- all operators of Move associate to the left: on the left stands the own level or a tighter one, on the right a tighter one
+abbrev pub left_level : BinaryOperator → ℕ
+left_level operator = operator_level operator
+
+abbrev pub right_level : BinaryOperator → ℕ
+right_level operator = suc (operator_level operator)
+
+-- ---- `else` belongs to the nearest `if` that has none
+
+-- whether an `else` behind the expression would belong to an `if` in it
+abbrev pub takes_else : ExpressionData → Bool
+takes_else (IfExpression place condition then_branch NoExpression) = true
+takes_else (IfExpression place condition then_branch (SomeExpression else_branch)) = takes_else else_branch
+takes_else (WhileExpression place condition body) = takes_else body
+takes_else (LoopExpression place body) = takes_else body
+takes_else (ReturnExpression place (SomeExpression value)) = takes_else value
+takes_else (AbortExpression place code) = takes_else code
+takes_else (AssignExpression target place value) = takes_else value
+takes_else _ = false
+
+abbrev pub LeavesElse : ExpressionData → MaybeExpressionData → Type 0
+LeavesElse then_branch NoExpression = Unit {0}
+LeavesElse then_branch (SomeExpression else_branch) = takes_else then_branch ≡ false
+
+-- ---- `vector` before a `<` is the sign of a vector
+
+-- the expression does not end in the word `vector` as a path
+abbrev pub EndsInOther : ExpressionData → Type 0
+EndsInOther (PathExpression path) = IsOther (codes "vector") path
+EndsInOther (BinaryExpression left operator place right) = EndsInOther right
+EndsInOther (UnaryExpression operator place operand) = EndsInOther operand
+EndsInOther _ = Unit {0}
+
+abbrev pub MayStandBefore : BinaryOperator → ExpressionData → Type 0
+MayStandBefore Less left = EndsInOther left
+MayStandBefore _ left = Unit {0}
+
+-- a call with type arguments is none of the word `vector`
+abbrev pub MayHaveArguments : Path → MaybeArgumentsData → Type 0
+MayHaveArguments path NoArguments = Unit {0}
+MayHaveArguments path (SomeArguments arguments) = IsOther (codes "vector") path
+
+-- ---- last commas
+
+abbrev pub AreSomeExpressions : ExpressionsData → Type 0
+AreSomeExpressions NoExpressions = ⊥
+AreSomeExpressions (MoreExpressions one more) = Unit {0}
+
+-- one expression between parentheses has no comma
+abbrev pub AreSeveral : ExpressionsData → Type 0
+AreSeveral NoExpressions = ⊥
+AreSeveral (MoreExpressions one more) = AreSomeExpressions more
+
+abbrev pub AreSomeValues : FieldValuesData → Type 0
+AreSomeValues NoFieldValues = ⊥
+AreSomeValues (MoreFieldValues one more) = Unit {0}
+
+-- ---- parts without expressions
+
+abbrev pub IsProperLiteral : Literal → Type 0
+IsProperLiteral (Number n) = IsProperNumeral n
+IsProperLiteral (Truth place value) = Unit {0}
+IsProperLiteral (Address place address) = IsProperAddress address
+
+abbrev pub IsProperAnnotation : Option SourceTypeData → Type 0
+IsProperAnnotation None = Unit {0}
+IsProperAnnotation (Some t) = IsProperType t
+
+-- ---- the spec block of a loop
+
+-- where an expression stands: as the condition of a `while`, as the body of a `loop`, or elsewhere
+pub data Role : Type 0 where
+  elsewhere : Role
+  condition_of_while : Role
+  body_of_loop : Role
+
+abbrev pub HasValue : MaybeExpressionData → Type 0
+HasValue NoExpression = ⊥
+HasValue (SomeExpression value) = Unit {0}
+
+-- a block may begin with a spec block where it is the condition of a `while`, which has a value, or the body of a `loop`
+abbrev pub MayHoldSpec : Role → Option KeptSpec → MaybeExpressionData → Type 0
+MayHoldSpec role None value = Unit {0}
+MayHoldSpec elsewhere (Some spec) value = ⊥
+MayHoldSpec condition_of_while (Some spec) value = IsLoopSpec spec × HasValue value
+MayHoldSpec body_of_loop (Some spec) value = IsLoopSpec spec
+
+-- ---- the trees
+
+abbrev mutual
+  pub IsProperAs : Role → ExpressionData → Type 0
+  IsProperAs role (BinaryExpression left operator place right) =
+      IsProperAs elsewhere left × IsProperAs elsewhere right
+      × (left_level operator ≤ level left) × (right_level operator ≤ level right) × MayStandBefore operator left
+  IsProperAs role (AssignExpression target place value) =
+      IsProperAs elsewhere target × (unary_level ≤ level target) × IsProperAs elsewhere value
+  IsProperAs role (IfExpression place condition then_branch else_branch) =
+      IsProperAs elsewhere condition × IsProperAs elsewhere then_branch × IsProperMaybe else_branch × LeavesElse then_branch else_branch
+  IsProperAs role (WhileExpression place condition body) = IsProperAs condition_of_while condition × IsProperAs elsewhere body
+  IsProperAs role (LoopExpression place body) = IsProperAs body_of_loop body
+  IsProperAs role (ReturnExpression place value) = IsProperMaybe value
+  IsProperAs role (AbortExpression place code) = IsProperAs elsewhere code
+  IsProperAs role (BreakExpression place) = Unit {0}
+  IsProperAs role (ContinueExpression place) = Unit {0}
+  IsProperAs role (UnaryExpression operator place operand) = IsProperAs elsewhere operand × (unary_level ≤ level operand)
+  IsProperAs role (UseExpression kind place local) = IsName local.text
+  IsProperAs role (FieldExpression base field) = IsProperAs elsewhere base × (term_level ≤ level base) × IsName field.text
+  IsProperAs role (LiteralExpression literal) = IsProperLiteral literal
+  IsProperAs role (PathExpression path) = IsProperPath path
+  IsProperAs role (CallExpression function arguments values last) =
+      IsProperPath function × MayHaveArguments function arguments × AreProperMaybeArguments arguments
+      × AreProperExpressions values × (last ≡ true → AreSomeExpressions values)
+  IsProperAs role (PackExpression path arguments fields last) =
+      IsProperPath path × IsCapital (last_name path) × AreProperMaybeArguments arguments
+      × AreProperFieldValues fields × (last ≡ true → AreSomeValues fields)
+  IsProperAs role (VectorExpression place arguments items last) =
+      AreProperMaybeArguments arguments × AreProperExpressions items × (last ≡ true → AreSomeExpressions items)
+  IsProperAs role (AssertExpression place condition code) = IsProperAs elsewhere condition × IsProperAs elsewhere code
+  IsProperAs role (TupleExpression place items last) = AreProperExpressions items × (last ≡ true → AreSeveral items)
+  IsProperAs role (CastExpression place value target) = IsProperAs elsewhere value × IsProperType target
+  IsProperAs role (BlockExpression (BlockOf place spec items value)) = MayHoldSpec role spec value × AreProperItems items × IsProperMaybe value
+
+  pub IsProperMaybe : MaybeExpressionData → Type 0
+  IsProperMaybe NoExpression = Unit {0}
+  IsProperMaybe (SomeExpression value) = IsProperAs elsewhere value
+
+  pub AreProperItems : ItemsData → Type 0
+  AreProperItems NoItems = Unit {0}
+  AreProperItems (MoreItems one more) = IsProperItem one × AreProperItems more
+
+  pub IsProperItem : ItemData → Type 0
+  IsProperItem (ExpressionItem expression) = IsProperAs elsewhere expression
+  IsProperItem (LetItem place pattern annotation value) = IsProperPattern pattern × IsProperAnnotation annotation × IsProperMaybe value
+
+  pub IsProperFieldValue : FieldValueData → Type 0
+  IsProperFieldValue (ShortFieldValue name) = IsName name.text
+  IsProperFieldValue (LongFieldValue name value) = IsName name.text × IsProperAs elsewhere value
+
+  pub AreProperExpressions : ExpressionsData → Type 0
+  AreProperExpressions NoExpressions = Unit {0}
+  AreProperExpressions (MoreExpressions one more) = IsProperAs elsewhere one × AreProperExpressions more
+
+  pub AreProperFieldValues : FieldValuesData → Type 0
+  AreProperFieldValues NoFieldValues = Unit {0}
+  AreProperFieldValues (MoreFieldValues one more) = IsProperFieldValue one × AreProperFieldValues more
+
+abbrev pub IsProperExpression : ExpressionData → Type 0
+IsProperExpression expression = IsProperAs elsewhere expression

@@ -1,0 +1,319 @@
+//! Spec blocks and their clauses.
+
+use crate::lexeme::{Identifier, Numeral};
+use crate::member::{TypeParameters, TypedName, TypedNames};
+use crate::path::Path;
+use crate::spec_expression::{SpecExpression, SpecField};
+use crate::types::{SourceType, TypeArguments};
+use base::span::Span;
+use std::marker::Model;
+
+/// What a pragma is set to.
+#[derive(Drop)]
+pub enum PragmaValue {
+    Truth { place: Span, value: bool },
+    Number(Numeral),
+}
+
+/// A pragma, and what it is set to, where that is written.
+#[derive(Drop)]
+pub struct Pragma {
+    pub name: Identifier,
+    pub value: Option<PragmaValue>,
+}
+
+/// Pragmas between commas.
+#[derive(Drop)]
+pub struct Pragmas {
+    pub items: Vec<Pragma>,
+    pub last_comma: bool,
+}
+
+/// The expression of a code, which stands in a box: a contract sees the expression, and no box.
+#[derive(Drop)]
+pub struct CodeExpression {
+    pub expression: Box<SpecExpression>,
+}
+
+/// The code that an `aborts_if` speaks of.
+#[derive(Drop)]
+pub enum AbortCode {
+    /// None is written.
+    Bare,
+    /// That of an abort without a code.
+    Failure,
+    Code(CodeExpression),
+}
+
+/// The places of storage that a `modifies` names.
+#[derive(Drop)]
+pub struct Targets {
+    pub items: Vec<SpecExpression>,
+    pub last_comma: bool,
+}
+
+/// What stands for the variables of a schema.
+#[derive(Drop)]
+pub struct Bindings {
+    pub items: Vec<SpecField>,
+    pub last_comma: bool,
+}
+
+pub struct Include {
+    pub place: Span,
+    pub schema: Path,
+    pub arguments: Option<TypeArguments>,
+    pub bindings: Option<Bindings>,
+}
+
+// Its own, so that letting one go is a call wherever it is done, and not the cases of all forms below it.
+impl Drop for Include {
+    fn drop(self) {
+        let Include {
+            place: _,
+            schema,
+            arguments,
+            bindings,
+        } = self;
+        drop(schema);
+        drop(arguments);
+        drop(bindings);
+    }
+}
+
+/// A clause of a spec block.
+pub enum Clause {
+    Pragma {
+        place: Span,
+        pragmas: Pragmas,
+    },
+    Requires {
+        place: Span,
+        condition: SpecExpression,
+    },
+    Ensures {
+        place: Span,
+        condition: SpecExpression,
+    },
+    AbortsIf {
+        place: Span,
+        condition: SpecExpression,
+        code: AbortCode,
+    },
+    Modifies {
+        place: Span,
+        targets: Targets,
+    },
+    Invariant {
+        place: Span,
+        is_update: bool,
+        condition: SpecExpression,
+    },
+    Let {
+        place: Span,
+        is_post: bool,
+        name: Identifier,
+        value: SpecExpression,
+    },
+    Include(Include),
+    /// A variable of a schema.
+    Variable(TypedName),
+}
+
+// Its own, so that letting one go is a call wherever it is done, and not the cases of all forms below it.
+impl Drop for Clause {
+    fn drop(self) {
+        match self {
+            Clause::Pragma { place: _, pragmas } => drop(pragmas),
+            Clause::Requires {
+                place: _,
+                condition,
+            }
+            | Clause::Ensures {
+                place: _,
+                condition,
+            }
+            | Clause::Invariant {
+                place: _,
+                is_update: _,
+                condition,
+            } => drop(condition),
+            Clause::AbortsIf {
+                place: _,
+                condition,
+                code,
+            } => {
+                drop(condition);
+                drop(code);
+            }
+            Clause::Modifies { place: _, targets } => drop(targets),
+            Clause::Let {
+                place: _,
+                is_post: _,
+                name,
+                value,
+            } => {
+                drop(name);
+                drop(value);
+            }
+            Clause::Include(include) => drop(include),
+            Clause::Variable(variable) => drop(variable),
+        }
+    }
+}
+
+/// The clauses between the braces of a block.
+#[derive(Drop)]
+pub struct Clauses {
+    pub items: Vec<Clause>,
+}
+
+pub struct Schema {
+    pub place: Span,
+    pub name: Identifier,
+    pub parameters: Option<TypeParameters>,
+    pub clauses: Clauses,
+}
+
+// Its own, so that letting one go is a call wherever it is done, and not the cases of all forms below it.
+impl Drop for Schema {
+    fn drop(self) {
+        let Schema {
+            place: _,
+            name,
+            parameters,
+            clauses,
+        } = self;
+        drop(name);
+        drop(parameters);
+        drop(clauses);
+    }
+}
+
+/// A function for specifications alone.
+pub struct SpecFunction {
+    pub place: Span,
+    pub name: Identifier,
+    pub parameters: Option<TypeParameters>,
+    pub inputs: TypedNames,
+    pub result: SourceType,
+    pub body: SpecExpression,
+}
+
+// Its own, so that letting one go is a call wherever it is done, and not the cases of all forms below it.
+impl Drop for SpecFunction {
+    fn drop(self) {
+        let SpecFunction {
+            place: _,
+            name,
+            parameters,
+            inputs,
+            result,
+            body,
+        } = self;
+        drop(name);
+        drop(parameters);
+        drop(inputs);
+        drop(result);
+        drop(body);
+    }
+}
+
+/// A spec block.
+pub enum Spec {
+    /// That of the module around it.
+    Module {
+        place: Span,
+        clauses: Clauses,
+    },
+    /// That of a struct or a function, by its name.
+    Named {
+        place: Span,
+        name: Identifier,
+        clauses: Clauses,
+    },
+    Schema(Schema),
+    Function(SpecFunction),
+    /// That of the loop of Move code in which it stands.
+    Loop {
+        place: Span,
+        clauses: Clauses,
+    },
+}
+
+// Its own, so that letting one go is a call wherever it is done, and not the cases of all forms below it.
+impl Drop for Spec {
+    fn drop(self) {
+        match self {
+            Spec::Module { place: _, clauses } | Spec::Loop { place: _, clauses } => drop(clauses),
+            Spec::Named {
+                place: _,
+                name,
+                clauses,
+            } => {
+                drop(name);
+                drop(clauses);
+            }
+            Spec::Schema(schema) => drop(schema),
+            Spec::Function(function) => drop(function),
+        }
+    }
+}
+
+impl Model for Pragmas {
+    ghost use Rattle.syntax_tree.specs.ClauseData.{PragmasData};
+
+    ghost Value = { PragmasData };
+
+    ghost view = { λ a. record { items = a.items.items; last_comma = a.last_comma } };
+}
+
+impl Model for CodeExpression {
+    ghost use Rattle.std.specs.Coded.{codes};
+    ghost use Rattle.syntax_tree.specs.SpecExpressionCodes.{coded_spec_expression};
+    ghost use Rattle.syntax_tree.specs.SpecExpressionData.{SpecExpressionData};
+
+    ghost Value = { SpecExpressionData };
+
+    ghost coded = { Prim.hlevel (codes, coded_spec_expression) };
+
+    ghost view = { λ c. c.expression.value };
+}
+
+impl Model for Targets {
+    ghost use Rattle.std.specs.Coded.{codes};
+    ghost use Rattle.syntax_tree.specs.SpecExpressionCodes.{coded_spec_expression};
+    ghost use Rattle.syntax_tree.specs.ClauseData.{TargetsData};
+
+    ghost Value = { TargetsData };
+
+    ghost coded = { Prim.hlevel (codes, coded_spec_expression) };
+
+    ghost view = { λ a. record { items = a.items.items; last_comma = a.last_comma } };
+}
+
+impl Model for Bindings {
+    ghost use Rattle.std.specs.Coded.{codes};
+    ghost use Rattle.syntax_tree.specs.SpecExpressionCodes.{coded_spec_field};
+    ghost use Rattle.syntax_tree.specs.ClauseData.{BindingsData};
+
+    ghost Value = { BindingsData };
+
+    ghost coded = { Prim.hlevel (codes, coded_spec_field) };
+
+    ghost view = { λ a. record { items = a.items.items; last_comma = a.last_comma } };
+}
+
+impl Model for Clauses {
+    ghost use Rattle.std.specs.Coded.{codes};
+    ghost use Rattle.std.specs.Prelude.{List};
+    ghost use Rattle.syntax_tree.specs.TypeTreeCodes.{coded_source_type, coded_arguments};
+    ghost use Rattle.syntax_tree.specs.SpecExpressionCodes.{coded_spec_expression, coded_spec_field};
+    ghost use Rattle.syntax_tree.specs.declared.clause.Clause.{Clause};
+
+    ghost Value = { List Clause };
+
+    ghost coded = { Prim.hlevel (codes, coded_source_type, coded_arguments, coded_spec_expression, coded_spec_field) };
+
+    ghost view = { λ a. a.items.items };
+}

@@ -1,0 +1,13 @@
+pub mod Logs
+pub mod Marks
+pub mod PoolBranches
+pub mod Compounds
+pub mod Numbers
+pub mod Steps
+pub mod Names
+pub mod Variables
+pub mod Existentials
+pub mod Terms
+pub mod Groups
+pub mod Graphs
+pub mod States

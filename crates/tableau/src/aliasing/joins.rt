@@ -1,0 +1,89 @@
+//! The edges of the aliasing graph.
+
+ghost use Rattle.std.specs.Prelude.{◌≡◌, ℕ, ◌<◌, length, Some, cond, nat_eq, OnOk};
+ghost use Rattle.indexmap.specs.IndexMap.{get};
+ghost use Rattle.tableau.specs.Groups.{changed};
+ghost use Rattle.tableau.specs.Graphs.{IsJoined, IsChangeJoined, IsClassJoined};
+
+use base::cycles::graph::Graph;
+use base::memory::NoMemory;
+use fol::operators::{Binary, Ternary, Unary};
+use indexmap::IndexMap;
+use term_pool::node::{Node, One, Three, Two};
+use term_pool::pool::Pool;
+
+// Adds edges between two numbers, both ways.
+fn join(graph: &mut Graph, left: usize, right: usize) -> Result<(), NoMemory>
+    requires left { left < length graph.old }
+    requires right { right < length graph.old }
+    ensures { OnOk result (IsJoined graph.old graph.new left right) }
+{
+    graph.add_edge(left, right)?;
+    graph.add_edge(right, left)
+}
+
+// The memory or vector that a term updates; none if the term is no update.
+fn changed(node: Node) -> Option<usize>
+    ensures { result ≡ changed node }
+{
+    match node {
+        Node::One(One::Unary(Unary::Pop), vector) => Some(vector),
+        Node::Two(Two::Binary(Binary::Push), vector, _) => Some(vector),
+        Node::Three(Three::Ternary(_), changed, _, _) => Some(changed),
+        _ => None,
+    }
+}
+
+/// Joins a number with that of the memory or vector that its term updates.
+pub(crate) fn join_changed(graph: &mut Graph, pool: &Pool, number: usize) -> Result<(), NoMemory>
+    requires within { number < length pool.now }
+    requires one_each { length graph.old ≡ length pool.now }
+    ensures { OnOk result (IsChangeJoined pool.now number graph.old graph.new) }
+{
+    match pool.node(number) {
+        Some(node) => match changed(node) {
+            Some(part) => join(graph, number, part),
+            None => Ok(()),
+        },
+        None => Ok(()),
+    }
+}
+
+// The first number recorded for a class.
+fn first_of(firsts: &IndexMap<usize, usize>, class: usize) -> Option<usize>
+    ensures { result ≡ get nat_eq firsts.now class }
+{
+    match firsts.get(&class) {
+        Some(first) => Some(*first),
+        None => None,
+    }
+}
+
+// Records the first number of a class.
+fn note_first(
+    firsts: &mut IndexMap<usize, usize>,
+    class: usize,
+    number: usize,
+) -> Result<(), NoMemory>
+    ensures { OnOk result ((k : ℕ) → get nat_eq firsts.new k ≡ cond (nat_eq class k) (Some number) (get nat_eq firsts.old k)) }
+{
+    firsts.insert(class, number)?;
+    Ok(())
+}
+
+/// Joins a number with the first one of its class, or records it as the first.
+pub(crate) fn join_class(
+    graph: &mut Graph,
+    firsts: &mut IndexMap<usize, usize>,
+    class: usize,
+    number: usize,
+) -> Result<(), NoMemory>
+    requires within { number < length graph.old }
+    requires firsts { (k first : ℕ) → get nat_eq firsts.old k ≡ Some first → first < length graph.old }
+    ensures { OnOk result (IsClassJoined class number graph.old graph.new (get nat_eq firsts.old) (get nat_eq firsts.new)) }
+{
+    match first_of(firsts, class) {
+        Some(first) => join(graph, number, first),
+        None => note_first(firsts, class, number),
+    }
+}

@@ -1,0 +1,14 @@
+pub mod ItemLemmas
+pub mod ShapeLemmas
+pub mod OnceLemmas
+pub mod DepthLemmas
+pub mod SearchLemmas
+pub mod GrowthLemmas
+pub mod ListLemmas
+pub mod PutLemmas
+pub mod SizeLemmas
+pub mod PoolSubstitutionItemLemmas
+pub mod PoolSubstitutionWalkLemmas
+pub mod MemberLemmas
+pub mod FreeLemmas
+pub mod VariablesWalkLemmas

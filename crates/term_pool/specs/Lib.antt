@@ -1,0 +1,9 @@
+pub mod NodeCodes
+pub mod NodeHash
+pub mod Items
+pub mod Pools
+pub mod Depths
+pub mod Lists
+pub mod Put
+pub mod Values
+pub mod Free

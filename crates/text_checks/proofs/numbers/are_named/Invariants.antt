@@ -1,7 +1,0 @@
-use Rattle.std.proofs.Common.{take}
-use Rattle.std.specs.Prelude.{All}
-use Rattle.closing_checks.specs.Links.{IsNamed}
-use Rattle.text_checks.proofs.numbers.are_named.Given as goal
-
-abbrev pub invariant-loop-step : goal.invariant-loop-step
-invariant-loop-step l = All (IsNamed l.pool) (take l.step-index l.steps)

@@ -1,9 +1,0 @@
-use Rattle.std.proofs.Common.{◌≤◌, ◌-◌, length}
-use Rattle.text_lengths.specs.Lengths.{AreFirstLengths}
-use Rattle.text_lengths.proofs.items.lengths.Given as goal
-
-abbrev pub invariant-loop-node : goal.invariant-loop-node
-invariant-loop-node l = AreFirstLengths l.pool l.lens.items × (length l.lens.items ≤ length l.pool)
-
-abbrev pub decreases-loop-node : goal.decreases-loop-node
-decreases-loop-node l = length l.pool - length l.lens.items

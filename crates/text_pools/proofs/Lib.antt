@@ -1,5 +1,0 @@
-pub mod ListLemmas
-pub mod MarkLemmas
-pub mod NodeLemmas
-pub mod TurnLemmas
-pub mod FitLemmas

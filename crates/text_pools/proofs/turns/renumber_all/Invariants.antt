@@ -1,6 +1,0 @@
-use Rattle.std.proofs.Common.{◌≡◌, ◌++◌, map, take, drop}
-use Rattle.text_pools.specs.Nodes.{new_number}
-use Rattle.text_pools.proofs.turns.renumber_all.Given as goal
-
-abbrev pub invariant-loop-formula : goal.invariant-loop-formula
-invariant-loop-formula l = l.formulas ≡ map (new_number l.numbers) (take l.formula-index l.fn.formulas) ++ drop l.formula-index l.fn.formulas

@@ -1,4 +1,0 @@
-pub mod Marks
-pub mod Names
-pub mod Nodes
-pub mod Turns

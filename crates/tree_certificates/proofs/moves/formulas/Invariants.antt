@@ -1,6 +1,0 @@
-use Rattle.std.proofs.Common.{◌≡◌, map, take}
-use Rattle.entry_steps.specs.Numbers.{formula_at}
-use Rattle.tree_certificates.proofs.moves.formulas.Given as goal
-
-abbrev pub invariant-loop-number : goal.invariant-loop-number
-invariant-loop-number l = l.formulas.items ≡ map (formula_at l.pool) (take l.number-index l.growth.formulas.items)

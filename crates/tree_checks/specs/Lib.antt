@@ -1,0 +1,16 @@
+pub mod Late
+pub mod Bounds
+pub mod Chosen
+pub mod Firsts
+pub mod Grown
+pub mod Lists
+pub mod Sides
+pub mod Entries
+pub mod Steps
+pub mod Kept
+pub mod Reached
+pub mod Timely
+pub mod Partial
+pub mod Walks
+pub mod Numbers
+pub mod Texts

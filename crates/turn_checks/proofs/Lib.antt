@@ -1,4 +1,0 @@
-pub mod GivenLemmas
-pub mod NameLemmas
-pub mod SaidLemmas
-pub mod InstanceLemmas

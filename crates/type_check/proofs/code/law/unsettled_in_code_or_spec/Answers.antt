@@ -1,0 +1,5 @@
+use Rattle.type_check.proofs.Splits.{joined_open, split_open}
+use Rattle.type_check.proofs.code.law.unsettled_in_code_or_spec.Goals as goal
+
+pub returns : goal.returns
+returns c = λ program place. (split_open program place, joined_open program place)

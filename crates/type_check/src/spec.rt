@@ -1,0 +1,7 @@
+//! The first spans of specifications that break a typing rule.
+
+pub mod first;
+mod functions;
+mod loops;
+mod places;
+mod roots;

@@ -1,0 +1,12 @@
+pub mod And
+pub mod Ways
+pub mod CodeGiven
+pub mod Covered
+pub mod Last
+pub mod SpecReading
+pub mod Named
+pub mod SpecGiven
+pub mod Sums
+pub mod Stood
+pub mod Places
+pub mod TypedNodesReading

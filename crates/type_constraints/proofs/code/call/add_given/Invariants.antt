@@ -1,0 +1,8 @@
+use Rattle.std.proofs.Common.{◌≡◌, ◌++◌, drop, map}
+use Rattle.typing_rules.specs.CodeConstraints.{given_constraints}
+use Rattle.type_constraints.specs.CodeSeen.{seen_all}
+use Rattle.type_constraints.proofs.code.call.add_given.Given as goal
+
+abbrev pub invariant-loop-part : goal.invariant-loop-part
+invariant-loop-part l =
+    seen_all l.constraints.items ++ given_constraints l.first l.count (drop l.part-index l.parts) (map (λ p. p.annotation) l.left) ≡ seen_all l.fn.constraints.items ++ given_constraints l.first l.count l.parts (map (λ p. p.annotation) l.parameters)

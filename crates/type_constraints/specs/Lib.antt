@@ -1,0 +1,13 @@
+pub mod CodeSeen
+pub mod CodeSettings
+pub mod Ways
+pub mod CodeTold
+pub mod Bodies
+pub mod SpecSeen
+pub mod SpecSettings
+pub mod Packs
+pub mod SpecTold
+pub mod Blocks
+pub mod Includes
+pub mod Functions
+pub mod Storage

@@ -1,0 +1,136 @@
+//! The constraints of nodes without parts.
+
+ghost use Rattle.std.specs.Prelude.{◌≡◌, ◌++◌, OnOk, Some};
+ghost use Rattle.std.specs.Option.{option_copied};
+ghost use Rattle.std.specs.Map.{lookup};
+ghost use Rattle.base.specs.TypeData.{TupleType, types_of};
+ghost use Rattle.typing_rules.specs.CodeConstraints.{barred_unless, constant_constraints, is_unit, leaf_constraints, number_constraints, same_constant};
+ghost use Rattle.type_constraints.specs.CodeSeen.{seen_all};
+ghost use Rattle.type_constraints.specs.CodeSettings.{setting_of};
+ghost use Rattle.typing_rules.specs.Jumps.{is_in_loop};
+
+use crate::code::constraint::{Constraint, PlainType, TypeForm, add};
+use crate::code::setting::{CodeSetting, local_place};
+use base::memory::NoMemory;
+use base::types::{TypeNode, TypeTerm, Width};
+use program::code::CodeLeaf;
+use program::program::ConstantId;
+use typing_rules::sort::Sort;
+
+/// Adds no constraint if `fine` is true, and otherwise one that no typing meets.
+pub fn add_unless<'a>(constraints: &mut Vec<Constraint<'a>>, fine: bool) -> Result<(), NoMemory>
+    ensures { OnOk result (seen_all constraints.new.items ≡ seen_all constraints.old.items ++ barred_unless fine) }
+{
+    if fine {
+        Ok(())
+    } else {
+        add(constraints, &[Constraint::Barred])
+    }
+}
+
+fn add_number<'a>(
+    constraints: &mut Vec<Constraint<'a>>,
+    place: usize,
+    width: Option<Width>,
+) -> Result<(), NoMemory>
+    ensures { OnOk result (seen_all constraints.new.items ≡ seen_all constraints.old.items ++ number_constraints place width) }
+{
+    match width {
+        Some(found) => {
+            let form = TypeForm::Plain(PlainType::Int(found));
+            add(constraints, &[Constraint::Has(place, form)])
+        }
+        None => add(constraints, &[Constraint::IsOf(Sort::Integer, place)]),
+    }
+}
+
+fn add_constant<'a>(
+    constraints: &mut Vec<Constraint<'a>>,
+    setting: CodeSetting<'a>,
+    place: usize,
+    id: &ConstantId,
+) -> Result<(), NoMemory>
+    ensures { OnOk result (seen_all constraints.new.items ≡ seen_all constraints.old.items ++ constant_constraints place (lookup (same_constant id.now) setting.entry.program.now.constants)) }
+{
+    match setting.program.constants.get(id) {
+        Some(found) => {
+            let form = TypeForm::Written(&found.annotation);
+            add(constraints, &[Constraint::Has(place, form)])
+        }
+        None => add(constraints, &[Constraint::Barred]),
+    }
+}
+
+fn is_empty(types: &[TypeTerm]) -> bool
+    ensures { result ≡ is_unit (Some (TupleType (types_of types.now))) }
+{
+    match types.split_first() {
+        Some(_) => false,
+        None => true,
+    }
+}
+
+fn is_unit_type(term: &TypeTerm) -> bool
+    ensures { result ≡ is_unit (Some term.now) }
+{
+    match &term.node {
+        TypeNode::Tuple(types) => is_empty(&types.items),
+        _ => false,
+    }
+}
+
+/// Decides whether the result is `()`.
+fn is_unit<'a>(result_type: Option<&'a TypeTerm>) -> bool
+    ensures { result ≡ is_unit (option_copied result_type.entry) }
+{
+    match result_type {
+        Some(term) => is_unit_type(term),
+        None => false,
+    }
+}
+
+/// Adds the constraints of the leaf with the number `place`, which is in the body of a loop if `in_loop` is true.
+pub fn add_leaf<'a>(
+    constraints: &mut Vec<Constraint<'a>>,
+    setting: CodeSetting<'a>,
+    place: usize,
+    in_loop: bool,
+    leaf: &'a CodeLeaf,
+) -> Result<(), NoMemory>
+    requires { in_loop ≡ is_in_loop setting.body.now.nodes place }
+    ensures { OnOk result (seen_all constraints.new.items ≡ seen_all constraints.old.items ++ leaf_constraints (setting_of setting.entry) place leaf.now) }
+{
+    match leaf {
+        CodeLeaf::Number(number) => add_number(constraints, place, number.width),
+        CodeLeaf::Truth(_) => {
+            add(
+                constraints,
+                &[Constraint::Has(place, TypeForm::Plain(PlainType::Bool))],
+            )
+        }
+        CodeLeaf::Address(_) => {
+            add(
+                constraints,
+                &[Constraint::Has(place, TypeForm::Plain(PlainType::Address))],
+            )
+        }
+        CodeLeaf::Local(_, local) => {
+            let at = local_place(setting, *local)?;
+            add(constraints, &[Constraint::Same(place, at)])
+        }
+        CodeLeaf::Constant(id) => add_constant(constraints, setting, place, id.get()),
+        CodeLeaf::Return => add_unless(constraints, is_unit(setting.result)),
+        CodeLeaf::Break | CodeLeaf::Continue => add_unless(constraints, in_loop),
+        CodeLeaf::Bind(local) => {
+            let at = local_place(setting, *local)?;
+            add(
+                constraints,
+                &[
+                    Constraint::IsOf(Sort::Single, at),
+                    Constraint::Same(place, at),
+                ],
+            )
+        }
+        CodeLeaf::Ignore => Ok(()),
+    }
+}

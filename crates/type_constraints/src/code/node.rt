@@ -1,0 +1,55 @@
+//! The constraints of nodes of code.
+
+ghost use Rattle.std.specs.Prelude.{◌≡◌, ◌++◌, length, OnOk};
+ghost use Rattle.program.specs.Trees.{IsBelow};
+ghost use Rattle.typing_rules.specs.CodeConstraints.{constraints_at};
+ghost use Rattle.type_constraints.specs.CodeSeen.{seen_all};
+ghost use Rattle.type_constraints.specs.CodeSettings.{AreJumpsOf, setting_of};
+
+use crate::code::constraint::{Constraint, PlainType, TypeForm, add};
+use crate::code::inner::{add_binary, add_unary};
+use crate::code::leaf::add_leaf;
+use crate::code::many::add_many;
+use crate::code::setting::{CodeSetting, Jumps};
+use base::memory::NoMemory;
+use program::arena::Node;
+use program::code::{CodeBinary, CodeLeaf, CodeMany, CodeUnary};
+
+/// Appends the constraints of the node with the number `place`, whose type arguments are the type variables from
+/// `first` on, with these loops around it. After `NoMemory` some of the constraints may be there.
+pub fn add_node<'a>(
+    constraints: &mut Vec<Constraint<'a>>,
+    setting: CodeSetting<'a>,
+    place: usize,
+    first: usize,
+    jumps: Jumps,
+    node: &'a Node<CodeLeaf, CodeUnary, CodeBinary, CodeMany>,
+) -> Result<(), NoMemory>
+    requires below { IsBelow (length setting.body.now.nodes) node.now }
+    requires jumps { AreJumpsOf (setting_of setting) place node.now jumps }
+    ensures { OnOk result (seen_all constraints.new.items ≡ seen_all constraints.old.items ++ constraints_at (setting_of setting.entry) place first node.now) }
+{
+    match node {
+        Node::Leaf(leaf) => add_leaf(constraints, setting, place, jumps.in_loop, leaf),
+        Node::Unary(form, part) => {
+            add_unary(constraints, setting, place, jumps.breaks, form, *part)
+        }
+        Node::Binary(form, left, right) => {
+            add_binary(constraints, setting, place, form, *left, *right)
+        }
+        Node::If(condition, left, right) => {
+            let truth = Constraint::Has(*condition, TypeForm::Plain(PlainType::Bool));
+            add(
+                constraints,
+                &[
+                    truth,
+                    Constraint::Same(*left, place),
+                    Constraint::Same(*right, place),
+                ],
+            )
+        }
+        Node::Many(form, parts) => {
+            add_many(constraints, setting, place, first, form, parts.as_slice())
+        }
+    }
+}

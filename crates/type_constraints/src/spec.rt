@@ -1,0 +1,13 @@
+//! The typing constraints of each node of a spec expression.
+
+pub mod arguments;
+pub mod call;
+pub mod constraint;
+pub mod inner;
+pub mod leaf;
+pub mod names;
+pub mod node;
+pub mod places;
+pub mod quantified;
+pub mod setting;
+pub mod structs;

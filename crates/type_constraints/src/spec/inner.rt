@@ -1,0 +1,153 @@
+//! The constraints of spec expressions with one part or two.
+
+ghost use Rattle.std.specs.Prelude.{◌≡◌, ◌++◌, ◌∷◌, [], OnOk};
+ghost use Rattle.typing_rules.specs.CodeConstraints.{has};
+ghost use Rattle.type_constraints.specs.CodeSeen.{plain_type};
+ghost use Rattle.typing_rules.specs.SpecConstraints.{common_constraints, spec_binary_constraints, spec_operator_constraints, spec_unary_constraints};
+ghost use Rattle.type_constraints.specs.SpecSeen.{seen_all};
+
+use crate::code::constraint::PlainType;
+use crate::spec::constraint::{SpecConstraint, add};
+use crate::spec::leaf::has;
+use base::memory::NoMemory;
+use program::operator::{BinaryOperator, SpecOperator};
+use program::spec::{SpecBinary, SpecUnary};
+use typing_rules::sort::{Sort, Wrap};
+
+/// Adds the constraints of an expression with one part.
+pub fn add_unary<'a>(
+    constraints: &mut Vec<SpecConstraint<'a>>,
+    place: usize,
+    form: &'a SpecUnary,
+    part: usize,
+) -> Result<(), NoMemory>
+    ensures { OnOk result (seen_all constraints.new.items ≡ seen_all constraints.old.items ++ spec_unary_constraints place form.now part) }
+{
+    match form {
+        SpecUnary::Not => add(
+            constraints,
+            &[has(part, PlainType::Bool), has(place, PlainType::Bool)],
+        ),
+        SpecUnary::Field(name) => add(constraints, &[SpecConstraint::FieldOf(place, part, name)]),
+    }
+}
+
+/// Adds the constraints that both parts and the whole have these types.
+fn add_three<'a>(
+    constraints: &mut Vec<SpecConstraint<'a>>,
+    place: usize,
+    left: usize,
+    right: usize,
+    parts: PlainType,
+    whole: PlainType,
+) -> Result<(), NoMemory>
+    ensures { OnOk result (seen_all constraints.new.items ≡ seen_all constraints.old.items ++ has left (plain_type parts) ∷ has right (plain_type parts) ∷ has place (plain_type whole) ∷ []) }
+{
+    add(
+        constraints,
+        &[has(left, parts), has(right, parts), has(place, whole)],
+    )
+}
+
+/// Adds the constraints of an operator that Move has too.
+fn add_common<'a>(
+    constraints: &mut Vec<SpecConstraint<'a>>,
+    place: usize,
+    operator: BinaryOperator,
+    left: usize,
+    right: usize,
+) -> Result<(), NoMemory>
+    ensures { OnOk result (seen_all constraints.new.items ≡ seen_all constraints.old.items ++ common_constraints place operator left right) }
+{
+    match operator {
+        BinaryOperator::Arithmetic(_) | BinaryOperator::Bitwise(_) | BinaryOperator::Shift(_) => {
+            add_three(
+                constraints,
+                place,
+                left,
+                right,
+                PlainType::Num,
+                PlainType::Num,
+            )
+        }
+        BinaryOperator::Comparison(_) => {
+            add_three(
+                constraints,
+                place,
+                left,
+                right,
+                PlainType::Num,
+                PlainType::Bool,
+            )
+        }
+        BinaryOperator::Equal | BinaryOperator::NotEqual => {
+            let value = SpecConstraint::IsOf(Sort::Value, left);
+            let same = SpecConstraint::Same(left, right);
+            add(constraints, &[value, same, has(place, PlainType::Bool)])
+        }
+        BinaryOperator::And | BinaryOperator::Or => {
+            add_three(
+                constraints,
+                place,
+                left,
+                right,
+                PlainType::Bool,
+                PlainType::Bool,
+            )
+        }
+    }
+}
+
+fn add_operator<'a>(
+    constraints: &mut Vec<SpecConstraint<'a>>,
+    place: usize,
+    operator: SpecOperator,
+    left: usize,
+    right: usize,
+) -> Result<(), NoMemory>
+    ensures { OnOk result (seen_all constraints.new.items ≡ seen_all constraints.old.items ++ spec_operator_constraints place operator left right) }
+{
+    match operator {
+        SpecOperator::Common(common) => add_common(constraints, place, common, left, right),
+        SpecOperator::Implies | SpecOperator::Equivalent => {
+            add_three(
+                constraints,
+                place,
+                left,
+                right,
+                PlainType::Bool,
+                PlainType::Bool,
+            )
+        }
+        SpecOperator::Range => {
+            add_three(
+                constraints,
+                place,
+                left,
+                right,
+                PlainType::Num,
+                PlainType::Nothing,
+            )
+        }
+    }
+}
+
+/// Adds the constraints of an expression with two parts.
+pub fn add_binary<'a>(
+    constraints: &mut Vec<SpecConstraint<'a>>,
+    place: usize,
+    form: &SpecBinary,
+    left: usize,
+    right: usize,
+) -> Result<(), NoMemory>
+    ensures { OnOk result (seen_all constraints.new.items ≡ seen_all constraints.old.items ++ spec_binary_constraints place form.now left right) }
+{
+    match form {
+        SpecBinary::Operator(operator) => add_operator(constraints, place, *operator, left, right),
+        SpecBinary::Index => {
+            let value = SpecConstraint::IsOf(Sort::Value, place);
+            let made = SpecConstraint::MadeOf(left, Wrap::Vector, place);
+            add(constraints, &[value, made, has(right, PlainType::Num)])
+        }
+    }
+}

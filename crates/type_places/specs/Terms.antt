@@ -1,8 +1,0 @@
--- Lists of terms.
-use Rattle.std.specs.Prelude.{ℕ, List, [], ◌∷◌}
-use Rattle.type_places.specs.Slots.{TermWithin}
-use Rattle.type_places.specs.declared.slots.Term.{Term}
-
-abbrev pub AllWithin : ℕ → List Term → Type 0
-AllWithin n [] = Unit {0}
-AllWithin n (x ∷ xs) = TermWithin n x × AllWithin n xs

@@ -1,5 +1,0 @@
-use Rattle.type_pool.proofs.Standing.{type_read}
-use Rattle.type_pool.proofs.pool.TypePool.entry.Goals as goal
-
-pub returns-clause-one : goal.returns-clause-one
-returns-clause-one c = type_read c.args.self.now c.args.number c.stored.result.now c.stored.ensures.entry c.stored.ensures.below

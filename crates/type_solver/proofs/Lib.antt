@@ -1,0 +1,17 @@
+pub mod Bridges
+pub mod Emitting
+pub mod Forming
+pub mod Tupling
+pub mod Returning
+pub mod Fielding
+pub mod Moving
+pub mod Stepping
+pub mod Reading
+pub mod Standing
+pub mod Parts
+pub mod Lowering
+pub mod Listing
+pub mod Steps
+pub mod CodeSystemsWhole
+pub mod Walks
+pub mod SpecSystemsWhole

@@ -1,0 +1,7 @@
+use Rattle.std.proofs.Common.{drop}
+use Rattle.type_constraints.specs.CodeSeen.{seen_all}
+use Rattle.type_solver.specs.Within.{AllWithin}
+use Rattle.type_solver.proofs.within.all_within.Given as goal
+
+abbrev pub invariant-loop-constraint : goal.invariant-loop-constraint
+invariant-loop-constraint l = AllWithin l.places (seen_all (drop l.constraint-index l.constraints)) → AllWithin l.places (seen_all l.constraints)

@@ -1,0 +1,17 @@
+-- The types substituted for type parameters.
+use Rattle.std.specs.Prelude.{ℕ, ◌+◌, ◌≤◌}
+use Rattle.base.specs.TypeData.{TypeData, types_of}
+use Rattle.typing_rules.specs.Constraint.{arguments}
+use Rattle.typing_rules.specs.Instances.{argument_in}
+use Rattle.unification.specs.Slots.{Typing}
+use Rattle.type_solver.specs.declared.spec.read.Arguments.{Arguments}
+use Rattle.type_solver.specs.declared.spec.read.Arguments.TheVariants.{Types, Places}
+
+abbrev pub standing : Typing → Arguments → ℕ → TypeData
+standing t (Types types) = argument_in (types_of types.now)
+standing t (Places p) = arguments t p.base p.count
+
+-- their type variables are among the first n
+abbrev pub ArgumentsWithin : ℕ → Arguments → Type 0
+ArgumentsWithin n (Types types) = Unit {0}
+ArgumentsWithin n (Places p) = p.base + p.count ≤ n

@@ -1,0 +1,123 @@
+//! Constraints on fields of structs.
+
+ghost use Rattle.std.specs.Prelude.{◌≡◌, ◌<◌, ◌≤◌, ◌+◌, ℕ, List, IfOk, MatchOption, length};
+ghost use Rattle.std.specs.Map.{lookup};
+ghost use Rattle.std.specs.Option.{option_copied};
+ghost use Rattle.program.specs.Same.{same_struct};
+ghost use Rattle.typing_rules.specs.Constraint as D;
+ghost use Rattle.typing_rules.specs.Rules.{field_of};
+ghost use Rattle.unification.specs.Slots.{Typing, Fits, TermWithin};
+ghost use Rattle.unification.specs.declared.type_variables.slots.Slot.{Slot as SlotData};
+ghost use Rattle.unification.specs.declared.type_variables.slots.Term.{Term as TermData};
+ghost use Rattle.unification.specs.Heads.{StructWithin};
+ghost use Rattle.type_solver.specs.Equations.{Keeps, KindSaid, Emits, code_reading};
+ghost use Rattle.type_solver.specs.Owners.{OwnerSays, OwnerSaid, StructSaid};
+
+use crate::equation::Equation;
+use crate::forms::declared;
+use crate::kinds::kind_at;
+use base::memory::NoMemory;
+use base::name::Name;
+use base::types::{StructId, TypeTerm};
+use program::declaration::Struct;
+use program::table::Table;
+use std::alloc::Global;
+use type_constraints::code::structs::field_named;
+use unification::type_variables::heads::{KindSeen, StructSeen, struct_seen};
+use unification::type_variables::signature::Parameters;
+use unification::type_variables::slots::{Slot, Term};
+
+/// The type of the field of this name of a struct.
+fn field_type<'a>(
+    structs: &'a Table<StructId, Struct>,
+    id: &StructId,
+    name: &Name,
+) -> Option<&'a TypeTerm>
+    ensures { option_copied result ≡ field_of (lookup (same_struct id.now) structs.now) name.now }
+{
+    match structs.get(id) {
+        Some(found) => field_named(found.fields.as_slice(), name),
+        None => None,
+    }
+}
+
+/// The type of a variable, or the type that it points at if it is a reference. None where it is not known whether it is
+/// a reference.
+fn owner<'a>(seen: KindSeen<'a>, place: usize) -> Option<Term<'a>>
+    ensures { (old new : List SlotData) → KindSaid old new place seen.entry → place < length old → OwnerSays old new place result }
+{
+    match seen {
+        KindSeen::Unsettled => None,
+        KindSeen::Plain => Some(Term::Place(place)),
+        KindSeen::To(_, to) => Some(to),
+    }
+}
+
+/// The equation that the variable is the type of the field of this name, where this struct is known of the owner.
+fn field_in<'a>(
+    alloc: Global,
+    slots: &mut Vec<Slot<'a>>,
+    structs: &'a Table<StructId, Struct>,
+    seen: StructSeen<'a>,
+    place: usize,
+    name: &Name,
+) -> Result<Equation<'a>, NoMemory>
+    requires fits { Fits slots.old.items }
+    requires place { place < length slots.old.items }
+    requires seen { StructWithin (length slots.old.items) seen }
+    ensures keeps { IfOk result (λ q. Keeps slots.old.items slots.new.items) }
+    ensures emits { IfOk result (λ q. (old : List SlotData) (from : ℕ) (owner : TermData) → StructSaid old slots.old.items from owner seen.entry → from < length old → Emits (code_reading structs.now) old slots.new.items (D.FieldOf place from name.now) q) }
+{
+    match seen {
+        StructSeen::Unknown => Ok(Equation::Unsettled),
+        StructSeen::Other => Ok(Equation::Never),
+        StructSeen::Known(id, base, count) => match field_type(structs, id, name) {
+            None => Ok(Equation::Never),
+            Some(of) => {
+                let term = declared(alloc, slots, of, Parameters { base, count })?;
+                Ok(Equation::Equal(Term::Place(place), term))
+            }
+        },
+    }
+}
+
+/// The equation that the variable is the type of the field of this name of a term.
+fn field_of_owner<'a>(
+    alloc: Global,
+    slots: &mut Vec<Slot<'a>>,
+    structs: &'a Table<StructId, Struct>,
+    term: Term<'a>,
+    place: usize,
+    name: &Name,
+) -> Result<Equation<'a>, NoMemory>
+    requires fits { Fits slots.old.items }
+    requires place { place < length slots.old.items }
+    requires term { TermWithin (length slots.old.items) term }
+    ensures keeps { IfOk result (λ q. Keeps slots.old.items slots.new.items) }
+    ensures emits { IfOk result (λ q. (old : List SlotData) (from : ℕ) → OwnerSaid old slots.old.items from term.entry → from < length old → Emits (code_reading structs.now) old slots.new.items (D.FieldOf place from name.now) q) }
+{
+    let seen = struct_seen(slots, term)?;
+    field_in(alloc, slots, structs, seen, place, name)
+}
+
+/// The equation that the first variable is the type of the field of this name of the second.
+pub fn field<'a>(
+    alloc: Global,
+    slots: &mut Vec<Slot<'a>>,
+    structs: &'a Table<StructId, Struct>,
+    place: usize,
+    from: usize,
+    name: &Name,
+) -> Result<Equation<'a>, NoMemory>
+    requires fits { Fits slots.old.items }
+    requires place { place < length slots.old.items }
+    requires from { from < length slots.old.items }
+    ensures keeps { IfOk result (λ q. Keeps slots.old.items slots.new.items) }
+    ensures emits { IfOk result (λ q. Emits (code_reading structs.now) slots.old.items slots.new.items (D.FieldOf place from name.now) q) }
+{
+    let kind = kind_at(slots, from);
+    match owner(kind, from) {
+        None => Ok(Equation::Unsettled),
+        Some(term) => field_of_owner(alloc, slots, structs, term, place, name),
+    }
+}

@@ -1,0 +1,74 @@
+//! The steps of a system of specifications.
+
+ghost use Rattle.std.specs.Prelude.{◌≡◌, ◌≤◌, ◌∷◌, ◌++◌, [], List, IfOk, length};
+ghost use Rattle.type_constraints.specs.SpecSeen.{seen_all};
+ghost use Rattle.type_constraints.specs.SpecSettings.{setting_of};
+ghost use Rattle.type_constraints.specs.SpecTold.{ArePlaces};
+ghost use Rattle.typing_rules.specs.Constraint as D;
+ghost use Rattle.typing_rules.specs.SpecConstraints.{declared_variables, spec_constraints_from};
+ghost use Rattle.unification.specs.Slots.{Typing, Fits, Meets};
+ghost use Rattle.type_solver.specs.Plain.{ArePlain};
+ghost use Rattle.type_solver.specs.Walking.{IsWalk};
+ghost use Rattle.type_solver.specs.Lowered.{spec_reading};
+
+use crate::emit::Tables;
+use crate::spec::walk::read_spec_step;
+use crate::walk::{Progress, start};
+use base::memory::NoMemory;
+use std::alloc::Global;
+use type_constraints::spec::constraint::SpecConstraint;
+use type_constraints::spec::node::node_constraints;
+use type_constraints::spec::quantified::declared_variables;
+use type_constraints::spec::setting::SpecSetting;
+use unification::type_variables::slots::Slot;
+
+/// Reads the nodes of a spec expression, given the type variables of their first type arguments.
+fn read_nodes<'a>(
+    alloc: Global,
+    tables: Tables<'a>,
+    slots: &mut Vec<Slot<'a>>,
+    setting: SpecSetting<'a>,
+    firsts: &[usize],
+    places: usize,
+    before: Progress,
+) -> Result<Progress, NoMemory>
+    requires types { ArePlain tables.types.now }
+    requires fits { Fits slots.old.items }
+    requires places { places ≤ length slots.old.items }
+    requires len { length setting.body.now.nodes ≤ length firsts.now }
+    requires firsts { ArePlaces (setting_of setting) firsts.now }
+    ensures walk { IfOk result (λ after. (steps : List (List D.Constraint)) → IsWalk (spec_reading tables.entry.structs.now) places steps slots.old.items before → IsWalk (spec_reading tables.entry.structs.now) places (steps ++ spec_constraints_from (setting_of setting.entry) 0 setting.entry.body.now.nodes) slots.new.items after) }
+    ensures fits { IfOk result (λ after. Fits slots.new.items) }
+    ensures places { IfOk result (λ after. places ≤ length slots.new.items) }
+{
+    let mut progress = before;
+    for place in 0..setting.body.len() {
+        let constraints = node_constraints(alloc, setting, place, firsts[place])?;
+        progress = read_spec_step(alloc, tables, slots, progress, places, &constraints)?;
+    }
+    Ok(progress)
+}
+
+/// Reads a system of a spec expression whose type variables are all open, with these constraints on the whole.
+pub fn read_steps<'a>(
+    alloc: Global,
+    tables: Tables<'a>,
+    slots: &mut Vec<Slot<'a>>,
+    setting: SpecSetting<'a>,
+    firsts: &[usize],
+    whole: &[SpecConstraint<'a>],
+) -> Result<Progress, NoMemory>
+    requires types { ArePlain tables.types.now }
+    requires fits { Fits slots.old.items }
+    requires start { (t : Typing) → Meets slots.old.items t }
+    requires len { length setting.body.now.nodes ≤ length firsts.now }
+    requires firsts { ArePlaces (setting_of setting) firsts.now }
+    ensures { IfOk result (IsWalk (spec_reading tables.entry.structs.now) (length slots.old.items) (declared_variables (setting_of setting.entry) ∷ (spec_constraints_from (setting_of setting.entry) 0 setting.entry.body.now.nodes ++ seen_all whole.now ∷ [])) slots.new.items) }
+{
+    let places = slots.len();
+    let begun = start(slots);
+    let declared = declared_variables(alloc, setting)?;
+    let first = read_spec_step(alloc, tables, slots, begun, places, &declared)?;
+    let nodes = read_nodes(alloc, tables, slots, setting, firsts, places, first)?;
+    read_spec_step(alloc, tables, slots, nodes, places, whole)
+}

@@ -1,7 +1,0 @@
-use Rattle.std.proofs.Common.{take}
-use Rattle.pv_base.specs.Pairs.{Paired}
-use Rattle.typed_program.specs.Clauses.{AreFunctionClauses}
-use Rattle.typed_program.proofs.clauses.function_clauses.Given as goal
-
-abbrev pub invariant-loop-number : goal.invariant-loop-number
-invariant-loop-number l = Paired (λ e t. AreFunctionClauses l.program e.1 t) (take l.number l.program.functions) l.all.items

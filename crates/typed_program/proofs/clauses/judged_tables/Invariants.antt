@@ -1,7 +1,0 @@
-use Rattle.std.specs.Vec.Iter.{into_iter_items}
-use Rattle.pv_base.proofs.PairLaws.{Reading}
-use Rattle.typed_program.specs.Clauses.{Tells}
-use Rattle.typed_program.proofs.clauses.judged_tables.Given as goal
-
-abbrev pub invariant-loop-one : goal.invariant-loop-one
-invariant-loop-one l = Reading Tells l.fn.judged.items (into_iter_items l.one-iterator) l.tables

@@ -1,7 +1,0 @@
-use Rattle.std.specs.Vec.Iter.{into_iter_items}
-use Rattle.pv_base.proofs.PairLaws.{Reading}
-use Rattle.typed_program.proofs.Included.{TellAll}
-use Rattle.typed_program.proofs.instances.instance_tables.Given as goal
-
-abbrev pub invariant-loop-one : goal.invariant-loop-one
-invariant-loop-one l = Reading TellAll l.fn.instances.judged.items (into_iter_items l.one-iterator) l.clauses.items

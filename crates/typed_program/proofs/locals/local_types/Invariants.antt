@@ -1,7 +1,0 @@
-use Rattle.std.proofs.Common.{◌+◌, length}
-use Rattle.typings.specs.CodeSystems.{function_system}
-use Rattle.standing_clauses.proofs.Placing.{TypesTo}
-use Rattle.typed_program.proofs.locals.local_types.Given as goal
-
-abbrev pub invariant-loop-local : goal.invariant-loop-local
-invariant-loop-local l = TypesTo (function_system l.program l.function) (length l.function.body.nodes) (length l.function.body.nodes + l.local) l.terms.items

@@ -1,4 +1,0 @@
-use Rattle.typed_program.proofs.program.type_program.Goals as goal
-
-pub with_tables-requires-clause-determined : goal.with_tables-requires-clause-determined
-with_tables-requires-clause-determined c = c.in_ok-typing.ensures.well.typed.determined

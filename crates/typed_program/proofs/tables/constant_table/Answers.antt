@@ -1,8 +1,0 @@
-use Rattle.typings.specs.CodeSystems.{constant_system}
-use Rattle.typed_program.proofs.tables.constant_table.Goals as goal
-
-pub code_table-requires : goal.code_table-requires
-code_table-requires c = (constant_system c.args.program.now c.args.constant.now, c.args.constant.now.value.nodes, c.requires.settled, c.in_ok-typing.ensures.says)
-
-pub returns : goal.returns
-returns c = c.code_table.ensures (constant_system c.args.program.now c.args.constant.now) c.args.constant.now.value.nodes c.in_ok-typing.ensures.says

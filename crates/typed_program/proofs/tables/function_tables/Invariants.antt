@@ -1,7 +1,0 @@
-use Rattle.std.specs.Vec.Iter.{into_iter_items}
-use Rattle.pv_base.proofs.PairLaws.{Reading}
-use Rattle.typed_program.proofs.Settled.{TellsCode}
-use Rattle.typed_program.proofs.tables.function_tables.Given as goal
-
-abbrev pub invariant-loop-one : goal.invariant-loop-one
-invariant-loop-one l = Reading TellsCode l.fn.typings.items (into_iter_items l.one-iterator) l.tables.items

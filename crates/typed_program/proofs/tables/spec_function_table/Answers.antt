@@ -1,8 +1,0 @@
-use Rattle.typings.specs.Clauses.{spec_function_system}
-use Rattle.typed_program.proofs.tables.spec_function_table.Goals as goal
-
-pub spec_table-requires : goal.spec_table-requires
-spec_table-requires c = (spec_function_system c.args.program.now c.args.function.now, c.requires.settled, c.in_ok-typing.ensures.says)
-
-pub returns : goal.returns
-returns c = c.spec_table.ensures (spec_function_system c.args.program.now c.args.function.now) c.in_ok-typing.ensures.says

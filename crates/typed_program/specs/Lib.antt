@@ -1,4 +1,0 @@
-pub mod Clauses
-pub mod Instances
-pub mod Tables
-pub mod TypedPrograms

@@ -1,0 +1,11 @@
+//! Type variables, what is known of their types, and their unification.
+
+pub mod heads;
+pub mod joins;
+pub mod open;
+pub mod parts;
+pub mod places;
+pub mod roots;
+pub mod signature;
+pub mod slots;
+pub mod sorts;

@@ -1,5 +1,0 @@
-use Rattle.value_checks.proofs.StayLemmas.{names_before, names_after}
-use Rattle.value_checks.proofs.laws.names_stay.Goals as goal
-
-pub returns : goal.returns
-returns c = λ ns ms d class names grown one over. (names_after ns ms grown one d over class names, names_before ns ms grown one d over class names)

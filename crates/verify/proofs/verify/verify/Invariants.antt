@@ -1,7 +1,0 @@
-use Rattle.std.proofs.Common.{take}
-use Rattle.pv_base.specs.Pairs.{Paired}
-use Rattle.verify.specs.Verified.{functions_of, IsRecordIn}
-use Rattle.verify.proofs.verify.verify.Given as goal
-
-abbrev pub invariant-loop-module : goal.invariant-loop-module
-invariant-loop-module g l = Paired (IsRecordIn l.files) (functions_of (take l.module-index l.program)) l.functions.items

@@ -1,6 +1,0 @@
-use Rattle.std.proofs.Common.{map, take}
-use Rattle.visibility.specs.Visible.{IsFirstBarred, function_code}
-use Rattle.visibility.proofs.first.first_function.Given as goal
-
-abbrev pub invariant-loop-number : goal.invariant-loop-number
-invariant-loop-number l = IsFirstBarred l.program (map function_code (take l.number l.program.functions)) l.found

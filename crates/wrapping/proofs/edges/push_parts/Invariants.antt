@@ -1,7 +1,0 @@
-use Rattle.std.proofs.Common.{◌≡◌, ◌+◌, ◌++◌, take}
-use Rattle.wrapping.specs.Edges.{part_edges}
-use Rattle.wrapping.proofs.edges.push_parts.Given as goal
-
-abbrev pub invariant-loop-part : goal.invariant-loop-part
-invariant-loop-part l =
-    (l.into.items ≡ l.initial.into.items ++ part_edges l.fn.row l.number (take l.part-index l.parts)) × (l.types ≡ l.fn.row.first + l.fn.row.parameters)

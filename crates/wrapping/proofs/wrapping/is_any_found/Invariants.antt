@@ -1,6 +1,0 @@
-use Rattle.std.proofs.Common.{◌+◌, ◌<◌, ℕ, false, IsTrue}
-use Rattle.std.specs.Prelude.{slice_index_or}
-use Rattle.wrapping.proofs.wrapping.is_any_found.Given as goal
-
-abbrev pub invariant-loop-number : goal.invariant-loop-number
-invariant-loop-number l = (k : ℕ) → k < l.number → IsTrue (slice_index_or l.found (l.row.first + k) false) → ⊥

@@ -1,7 +1,0 @@
-//! Functions of which a type parameter comes back to itself inside another type, over any number of calls.
-#![tactic(auto)]
-
-mod edges;
-mod rows;
-pub mod told;
-pub mod wrapping;
