@@ -1,8 +1,8 @@
 //! The formulas.
 
+use base::types::{TypeNode, TypeTerm};
 use fol::formula::{Formula, FormulaNode, Term, TermNode, Trigger, Triggers};
 use fol::operators::{Binary, Connective, Ternary};
-use pv_base::types::{TypeNode, TypeTerm};
 use std::alloc::Global;
 use std::panic::Expect;
 use std::process::Abort;

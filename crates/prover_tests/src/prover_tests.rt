@@ -3,7 +3,7 @@
 ghost use Rattle.std.specs.Prelude.{◌≡◌, ◌<◌};
 
 use crate::claims::{Claim, formula_of};
-use crate::searches::{first_value, found, turns, word};
+use crate::searches::{applications, first_value, found, word};
 use std::marker::Brand;
 use std::panic::Expect;
 use std::sync::ledger::Blank;
@@ -38,7 +38,7 @@ fn budget_ends_after_its_steps(rt: HostRuntime) -> Result<(), Fail> {
     let alloc = rt.alloc();
     let formula = formula_of(&rt, alloc, Claim::NotBoth);
     let answer = found::<Brand>(alloc, &formula, 1, Blank::new(1)).expect(&rt, "memory");
-    assert_eq!(rt; turns(&answer), 1);
+    assert_eq!(rt; applications(&answer), 1);
     Ok(())
 }
 

@@ -3,16 +3,16 @@
 ghost use Rattle.std.specs.Prelude.{◌≡◌, ◌<◌};
 
 use crate::structs::shapes;
+use base::memory::NoMemory;
+use base::steps::Steps;
+use certificate_text::prover::answer::Answer;
+use certificate_text::prover::prove;
 use fol::formula::Formula;
-use formula_deciders::deciders::FormulaDeciders;
-use formula_prover::answer::Answer;
-use formula_prover::prover::prove;
-use linear_rows::rows::Fraction;
-use proof_search::end::End;
-use pv_base::memory::NoMemory;
-use pv_base::steps::Steps;
+use linear_arith::rows::Fraction;
+use search::end::End;
 use std::alloc::Global;
 use std::sync::ledger::{Blank, Ledger};
+use strategy::deciders::FormulaDeciders;
 
 /// What the prover answers for a formula within a budget.
 pub(crate) fn found<L: Ledger>(
@@ -55,7 +55,7 @@ pub(crate) fn word(answer: &Answer) -> &'static str {
 }
 
 /// How many turns the text of the search has.
-pub(crate) fn turns(answer: &Answer) -> usize {
+pub(crate) fn applications(answer: &Answer) -> usize {
     match answer {
         Answer::Ended(search) => search.outcome.tree.text.len(),
         Answer::TooLong(search, _) => search.outcome.tree.text.len(),

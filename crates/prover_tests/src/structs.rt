@@ -1,13 +1,13 @@
 //! Structs with fields of whole numbers.
 
 ghost use Rattle.std.specs.Prelude.{◌≤◌, length, IfOk};
-ghost use Rattle.pv_base.specs.TypeData.{list_of_types};
-ghost use Rattle.asked_axioms.specs.StructRows.{HasFewFields};
+ghost use Rattle.base.specs.TypeData.{list_of_types};
+ghost use Rattle.axiom_instances.specs.StructRows.{HasFewFields};
 
+use base::memory::NoMemory;
+use base::name::Name;
+use base::types::{StructId, TypeList, TypeNode, TypeTerm};
 use fol::shapes::{Shape, Shapes};
-use pv_base::memory::NoMemory;
-use pv_base::name::Name;
-use pv_base::types::{StructId, TypeList, TypeNode, TypeTerm};
 use std::alloc::Global;
 
 pub(crate) fn whole() -> TypeTerm {

@@ -1,26 +1,26 @@
 //! Whether the texts of searches are seen to show what the searches answer.
 
 ghost use Rattle.std.specs.Prelude.{◌≡◌, OnOk, IfOk};
-ghost use Rattle.pool_branch.specs.PoolBranches.{IsFormulaNumber};
+ghost use Rattle.tableau.specs.PoolBranches.{IsFormulaNumber};
 
 use crate::searches::word_of;
 use crate::structs::shapes;
 use crate::words::Fault;
+use certificate_text::prover::answer::{Answer, Search};
 use fol::formula::Formula;
-use formula_pool::interning::intern_formula;
-use formula_pool::pool::Pool;
-use formula_prover::answer::{Answer, Search};
-use linear_rows::rows::{Fraction, Fractions};
-use partial_checks::turns::GivenChain;
-use proof_search::end::End;
-use proof_search::search::Outcome;
-use proof_search::values::OpenValues;
-use search_trees::tree::SearchTree;
-use search_trees::turn::{Growth, PoolTurn};
+use linear_arith::rows::{Fraction, Fractions};
+use search::end::End;
+use search::search::Outcome;
+use search::trees::application::{Extension, PoolApplication};
+use search::trees::tree::SearchTree;
+use search::values::OpenValues;
 use std::alloc::Global;
 use std::mem;
-use text_checks::open::is_open_text;
-use text_checks::partial::is_partial_text;
+use term_pool::interning::intern_formula;
+use term_pool::pool::Pool;
+use tree_checks::partial::applications::GivenChain;
+use tree_checks::texts::open::is_open_text;
+use tree_checks::texts::partial::is_partial_text;
 
 /// What is changed before it is asked whether a text shows an answer.
 #[derive(Clone, Copy, Debug, PartialEq, Eq)]
@@ -43,7 +43,7 @@ pub(crate) enum Change {
 pub(crate) struct Searched {
     pool: Pool,
     denial: usize,
-    text: Vec<PoolTurn>,
+    text: Vec<PoolApplication>,
     end: End,
 }
 
@@ -75,12 +75,12 @@ pub(crate) fn answer_of(search: &Searched) -> &'static str {
     word_of(&search.end)
 }
 
-fn steps_of(text: &[PoolTurn]) -> u64 {
+fn steps_of(text: &[PoolApplication]) -> u64 {
     let mut steps: u64 = 0;
-    for turn in text {
-        let more = match turn {
-            PoolTurn::Grown(_) => 1,
-            PoolTurn::Closed(closing) => closing.chain.len() as u64,
+    for application in text {
+        let more = match application {
+            PoolApplication::Grown(_) => 1,
+            PoolApplication::Closed(closing) => closing.chain.len() as u64,
         };
         steps = steps.saturating_add(more);
     }
@@ -89,31 +89,37 @@ fn steps_of(text: &[PoolTurn]) -> u64 {
 
 // ---- changes
 
-fn copied(alloc: Global, growth: &Growth) -> Result<Growth, Fault> {
-    Ok(Growth {
-        reason: growth.reason,
-        generation: growth.generation,
-        formulas: Vec::from_slice(alloc, growth.formulas.as_slice())?,
+fn copied(alloc: Global, extension: &Extension) -> Result<Extension, Fault> {
+    Ok(Extension {
+        reason: extension.reason,
+        generation: extension.generation,
+        formulas: Vec::from_slice(alloc, extension.formulas.as_slice())?,
     })
 }
 
 // The first turn once more, if formulas are added by it.
-fn first_again(alloc: Global, text: &[PoolTurn]) -> Result<Option<PoolTurn>, Fault> {
+fn first_again(alloc: Global, text: &[PoolApplication]) -> Result<Option<PoolApplication>, Fault> {
     match text.first() {
-        Some(PoolTurn::Grown(growth)) => Ok(Some(PoolTurn::Grown(copied(alloc, growth)?))),
+        Some(PoolApplication::Grown(extension)) => Ok(Some(PoolApplication::Grown(copied(
+            alloc, extension,
+        )?))),
         _ => Ok(None),
     }
 }
 
-fn raise_generations(text: &mut Vec<PoolTurn>) {
-    for turn in text.iter_mut() {
-        if let PoolTurn::Grown(growth) = turn {
-            growth.generation = growth.generation.saturating_add(1);
+fn raise_generations(text: &mut Vec<PoolApplication>) {
+    for application in text.iter_mut() {
+        if let PoolApplication::Grown(extension) = application {
+            extension.generation = extension.generation.saturating_add(1);
         }
     }
 }
 
-fn change_text(alloc: Global, text: &mut Vec<PoolTurn>, change: Change) -> Result<(), Fault> {
+fn change_text(
+    alloc: Global,
+    text: &mut Vec<PoolApplication>,
+    change: Change,
+) -> Result<(), Fault> {
     match change {
         Change::FirstLeftOut => {
             text.reverse();
@@ -124,8 +130,8 @@ fn change_text(alloc: Global, text: &mut Vec<PoolTurn>, change: Change) -> Resul
             let _last = text.pop();
         }
         Change::FirstTwice => {
-            if let Some(turn) = first_again(alloc, text.as_slice())? {
-                text.push(turn)?;
+            if let Some(application) = first_again(alloc, text.as_slice())? {
+                text.push(application)?;
             }
         }
         Change::NextGeneration => raise_generations(text),
@@ -170,7 +176,11 @@ fn change_values(alloc: Global, values: OpenValues, change: Change) -> Result<Op
 // ---- what is told
 
 // The search's text, which it has no more.
-fn taken_text(alloc: Global, search: &mut Searched, change: Change) -> Result<Vec<PoolTurn>, Fault>
+fn taken_text(
+    alloc: Global,
+    search: &mut Searched,
+    change: Change,
+) -> Result<Vec<PoolApplication>, Fault>
     ensures pool { OnOk result (search.new.pool ≡ search.old.pool) }
     ensures denial { OnOk result (search.new.denial ≡ search.old.denial) }
 {

@@ -6,10 +6,10 @@
 //! and `some:9:0`, which bind variable 9 with one trigger of so many terms, or none.
 
 use crate::structs::{struct_name, whole as num};
+use base::memory::NoMemory;
+use base::types::{TypeList, TypeNode, TypeTerm, Width};
 use fol::formula::{Formula, FormulaNode, Term, TermNode, Trigger};
 use fol::operators::{Binary, Connective, Constant, Quantifier, Ternary, Unary};
-use pv_base::memory::NoMemory;
-use pv_base::types::{TypeList, TypeNode, TypeTerm, Width};
 use std::alloc::{AllocError, AllocFailed, Global};
 
 /// Why no formula was read.

@@ -5,14 +5,14 @@ use axioms::axiom::{
     Alternative, Axiom, Equation, Equivalence, Exception, Fact, Rule, StructAxiom,
 };
 use axioms::instance::is_axiom;
+use base::memory::NoMemory;
+use base::name::Name;
+use base::types::{StructId, TypeList, TypeNode, TypeTerm, Width};
 use fol::formula::{Formula, FormulaNode, Term, TermNode};
 use fol::operators::{
     Binary, Comparison, Connective, Constant, Junction, Quantifier, Ternary, Unary,
 };
 use fol::shapes::{Shape, Shapes};
-use pv_base::memory::NoMemory;
-use pv_base::name::Name;
-use pv_base::types::{StructId, TypeList, TypeNode, TypeTerm, Width};
 use std::alloc::Global;
 use std::panic::Expect;
 use std::test::Fail;

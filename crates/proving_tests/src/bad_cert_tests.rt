@@ -3,8 +3,8 @@
 
 use crate::axioms_tests::{pair_shapes, read};
 use axioms::axiom::{Alternative, Axiom, Equation, Fact, StructAxiom};
-use cert::certificate::{Cause, Cert, Close, Move, MoveNode, Multiple, Step, StepNode};
-use cert::checker::check;
+use certificates::certificate::{Cause, Cert, Close, Move, MoveNode, Multiple, Step, StepNode};
+use certificates::checker::check;
 use fol::formula::{Formula, Term, TermNode};
 use fol::operators::Unary;
 use fol::shapes::Shapes;

@@ -1,12 +1,12 @@
 //! Certificates worked out by hand, and what becomes of them when they are spoilt.
 
 use axioms::axiom::{Axiom, Fact};
-use cert::certificate::{Cert, Close, Move, MoveNode, Multiple, Step, StepNode};
-use cert::checker::check;
+use base::types::{TypeNode, TypeTerm};
+use certificates::certificate::{Cert, Close, Move, MoveNode, Multiple, Step, StepNode};
+use certificates::checker::check;
 use fol::formula::{Formula, FormulaNode, Term, TermNode};
 use fol::operators::{Comparison, Connective, Constant};
 use fol::shapes::Shapes;
-use pv_base::types::{TypeNode, TypeTerm};
 use std::alloc::Global;
 use std::panic::Expect;
 use std::process::Abort;

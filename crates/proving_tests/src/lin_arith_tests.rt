@@ -1,7 +1,7 @@
 //! Systems with answers that were worked out by hand.
 
-use lin_arith::solve;
-use linear_rows::rows::{Fraction, LinAnswer, LinRow, Rows};
+use linear_arith::rows::{Fraction, LinAnswer, LinRow, Rows};
+use linear_arith::solve;
 use std::alloc::Global;
 use std::panic::Expect;
 use std::process::Abort;

@@ -1,10 +1,10 @@
 //! Files and a sink in memory.
 
-use outside::memory_sink::VecSink;
-use outside::memory_sources::MapSources;
-use outside::outside::{Fetched, Sink, Sources, Wrote};
-use pv_base::lists::{Bytes, Calls, FileMap};
-use pv_base::name::Name;
+use base::lists::{Bytes, Calls, FileMap};
+use base::name::Name;
+use report::outside::memory_sink::VecSink;
+use report::outside::memory_sources::MapSources;
+use report::outside::{Fetched, Sink, Sources, Wrote};
 use std::alloc::Global;
 use std::test::Fail;
 

@@ -1,11 +1,11 @@
 //! The texts of reports and statuses, as a user sees them.
 
-use answers::condition::ConditionKind;
-use answers::rule::Rule;
-use formula_prover::answer::Answer;
-use outside::memory_sink::VecSink;
-use pv_base::lists::{Bytes, Calls};
-use pv_base::name::Name;
+use base::condition::ConditionKind;
+use base::lists::{Bytes, Calls};
+use base::name::Name;
+use base::rule::Rule;
+use certificate_text::prover::answer::Answer;
+use report::outside::memory_sink::VecSink;
 use report::report::{
     ConditionRecord, ConditionVerdict, FunctionRecord, FunctionVerdict, ParameterValue, Report,
 };

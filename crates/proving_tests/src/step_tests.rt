@@ -1,10 +1,10 @@
 //! Steps of certificates, each accepted, and refused in a form that differs in one place.
 
-use cert::certificate::{Cause, Cert, Close, Move, MoveNode, Step, StepNode};
-use cert::checker::check;
+use base::types::{TypeNode, TypeTerm, Width};
+use certificates::certificate::{Cause, Cert, Close, Move, MoveNode, Step, StepNode};
+use certificates::checker::check;
 use fol::formula::{Formula, Term};
 use fol::shapes::Shapes;
-use pv_base::types::{TypeNode, TypeTerm, Width};
 use std::alloc::Global;
 use std::panic::Expect;
 use std::process::Abort;

@@ -1,5 +1,5 @@
 use Rattle.std.proofs.Common.{List, length, ap, arith}
-use Rattle.pv_base.specs.TypeData.{TypeData, list_of_types-types_of}
+use Rattle.base.specs.TypeData.{TypeData, list_of_types-types_of}
 use Rattle.prover_tests.proofs.structs.fields.Goals as goal
 
 pub returns : goal.returns

@@ -1,8 +1,8 @@
 use Rattle.std.proofs.Common.{◌<◌, ◌^◌, length, sym, subst, arith}
 use Rattle.std.proofs.lemmas.List.Elements.{All-nil, All-push}
-use Rattle.pv_base.specs.TypeData.{list_of_types}
+use Rattle.base.specs.TypeData.{list_of_types}
 use Rattle.fol.specs.declared.shapes.Shape.{Shape}
-use Rattle.asked_axioms.specs.StructRows.{HasFewFields}
+use Rattle.axiom_instances.specs.StructRows.{HasFewFields}
 use Rattle.prover_tests.proofs.structs.shapes.Goals as goal
 
 pub loop-count-init : goal.loop-count-init

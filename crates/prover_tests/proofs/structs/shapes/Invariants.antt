@@ -1,4 +1,4 @@
-use Rattle.asked_axioms.specs.StructRows.{HasFewFields}
+use Rattle.axiom_instances.specs.StructRows.{HasFewFields}
 use Rattle.prover_tests.proofs.structs.shapes.Given as goal
 
 abbrev pub invariant-loop-count : goal.invariant-loop-count

@@ -1,4 +1,0 @@
-use Rattle.pool_tests.proofs.class_tests.classes_of.Goals as goal
-
-pub loop-entry-init : goal.loop-entry-init
-loop-entry-init g c = c.new-classes.ensures.over c.args.pool.now

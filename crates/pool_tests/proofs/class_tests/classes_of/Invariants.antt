@@ -1,6 +1,0 @@
-use Rattle.branch_classes.specs.Known.{IsOver}
-use Rattle.pool_tests.proofs.class_tests.classes_of.Given as goal
-
--- the classes are over the pool
-abbrev pub invariant-loop-entry : goal.invariant-loop-entry
-invariant-loop-entry g l = IsOver l.pool l.classes

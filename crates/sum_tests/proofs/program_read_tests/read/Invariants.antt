@@ -1,7 +1,0 @@
-use Rattle.std.proofs.Common.{◌<◌, length}
-use Rattle.std.specs.List.{AllByRecursion}
-use Rattle.sum_tests.proofs.program_read_tests.read.Given as goal
-
--- each file is short
-abbrev pub invariant-loop-text : goal.invariant-loop-text
-invariant-loop-text g l = AllByRecursion (λ bytes. length bytes < 4294967296) l.files.items
