@@ -16,21 +16,21 @@ import tempfile
 
 ROOT = os.path.dirname(os.path.dirname(os.path.abspath(__file__)))
 
-NAMES = ["pv_base", "fol", "substitution", "instances", "linear_rows", "axioms", "cert", "certificate_bytes"]
+NAMES = ["base", "fol", "substitution", "linear_arith", "axioms", "certificates"]
 
 PROGRAM = r"""//! Times certificates and formulas that grow.
 #![tactic(auto)]
 
 use axioms::axiom::{Axiom, Equation, Fact};
 use axioms::instance::is_axiom;
-use cert::certificate::{Cause, Cert, Close, Move, MoveNode, Multiple, Step, StepNode};
-use cert::checker::check;
-use certificate_bytes::cert_len::cert_len;
+use certificates::certificate::{Cause, Cert, Close, Move, MoveNode, Multiple, Step, StepNode};
+use certificates::checker::check;
+use certificates::bytes::cert_len::cert_len;
 use fol::formula::{Formula, Term, TermNode};
 use fol::shapes::Shapes;
-use instances::substitute::substitute;
-use pv_base::memory::NoMemory;
-use pv_base::types::{TypeNode, TypeTerm};
+use substitution::instances::substitute::substitute;
+use base::memory::NoMemory;
+use base::types::{TypeNode, TypeTerm};
 use std::alloc::Global;
 use std::time::CpuClock;
 use substitution::instance::is_instance;
@@ -304,7 +304,7 @@ def prepare(folder):
     for name in NAMES:
         copy(crates, name)
     with open(os.path.join(folder, "crates.txt"), "w", encoding="utf-8") as file:
-        file.write(crates_below() + "times: pv_base fol substitution instances axioms cert certificate_bytes anyhow\n")
+        file.write(crates_below() + "times: base fol substitution axioms certificates anyhow\n")
     target = os.path.join(crates, "times")
     os.makedirs(os.path.join(target, "src"), exist_ok=True)
     with open(os.path.join(target, "src", "main.rt"), "w", encoding="utf-8") as file:

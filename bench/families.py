@@ -1,5 +1,5 @@
 #!/usr/bin/env python3
-"""How far and how fast `formula_prover::prove` reaches: families of formulas, valid ones and others.
+"""How far and how fast `certificate_text::prover::prove` reaches: families of formulas, valid ones and others.
 
 Writes a program over a copy of the crates below it into a folder of its own, proves and runs it on formulas that this
 script draws, and prints for each family how many valid formulas are proved, how many of the others end open, the median
@@ -31,18 +31,18 @@ mod structs;
 mod words;
 
 ghost use Rattle.std.specs.Prelude.{◌≡◌, ◌<◌};
-ghost use Rattle.asked_axioms.specs.StructRows.{HasFewFields};
+ghost use Rattle.axiom_instances.specs.StructRows.{HasFewFields};
 
 use crate::structs::shapes;
 use crate::words::formula_of;
 use fol::formula::Formula;
 use fol::shapes::Shapes;
-use formula_deciders::deciders::FormulaDeciders;
-use formula_prover::answer::Answer;
-use formula_prover::prover::prove;
-use proof_search::end::End;
-use pv_base::memory::NoMemory;
-use pv_base::steps::Steps;
+use strategy::deciders::FormulaDeciders;
+use certificate_text::prover::answer::Answer;
+use certificate_text::prover::prove;
+use search::end::End;
+use base::memory::NoMemory;
+use base::steps::Steps;
 use std::alloc::Global;
 use std::io::{BufRead, BufReader};
 use std::marker::Brand;
@@ -430,13 +430,13 @@ def built(folder):
     crates = os.path.join(folder, "crates")
     names = set()
     lines = ""
-    for top in ["formula_prover", "formula_deciders"]:
+    for top in ["certificate_text", "strategy"]:
         below, said = lines_below(top)
         names |= below
         lines += "".join(line for line in said.splitlines(True) if line not in lines)
     for name in names:
         copy(crates, name)
-    write(os.path.join(folder, "crates.txt"), lines + "families: pv_base fol asked_axioms proof_search formula_prover formula_deciders anyhow\n")
+    write(os.path.join(folder, "crates.txt"), lines + "families: base fol axiom_instances search certificate_text strategy anyhow\n")
     target = os.path.join(crates, "families")
     reader = os.path.join(ROOT, "crates", "prover_tests")
     os.makedirs(os.path.join(target, "src"), exist_ok=True)

@@ -1,5 +1,5 @@
 #!/usr/bin/env python3
-"""Times `lin_arith::solve` on systems of rows.
+"""Times `linear_arith::solve` on systems of rows.
 
 Writes a program over a copy of the crates below it into a folder of its own, proves and runs it on
 systems that this script draws, and prints of each its rows, its unknowns, the answer, and the time.
@@ -20,8 +20,8 @@ PROGRAM = r"""//! Times the solver on the systems that stand on the standard inp
 //! bound; `end` ends a system.
 #![tactic(auto)]
 
-use lin_arith::solve;
-use linear_rows::rows::{LinAnswer, LinRow, Rows};
+use linear_arith::solve;
+use linear_arith::rows::{LinAnswer, LinRow, Rows};
 use std::alloc::Global;
 use std::io::{BufRead, BufReader};
 use std::time::Instant;
@@ -112,11 +112,11 @@ def systems():
 def main() -> int:
     folder = sys.argv[1] if len(sys.argv) > 1 else tempfile.mkdtemp(prefix="linear_rows.")
     crates = os.path.join(folder, "crates")
-    for name in ["pv_base", "linear_rows", "lin_arith"]:
+    for name in ["base", "linear_arith"]:
         target = os.path.join(crates, name)
         shutil.copytree(os.path.join(ROOT, "crates", name), target, dirs_exist_ok=True, ignore=shutil.ignore_patterns("out", "must-fail"))
     with open(os.path.join(folder, "crates.txt"), "w", encoding="utf-8") as file:
-        file.write("pv_base:\nlinear_rows: pv_base\nlin_arith: pv_base linear_rows\ntimes: linear_rows lin_arith anyhow\n")
+        file.write("base: indexmap\nlinear_arith: base\ntimes: linear_arith anyhow\n")
     target = os.path.join(crates, "times")
     os.makedirs(os.path.join(target, "src"), exist_ok=True)
     with open(os.path.join(target, "src", "main.rt"), "w", encoding="utf-8") as file:

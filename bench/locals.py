@@ -11,27 +11,27 @@ import shutil
 import subprocess
 import sys
 
-LINE = "locals_bench: pv_base move_tokens expression_tree expression_parse pv_types pv_names code_names local_states point_states\n"
+LINE = "locals_bench: base tokens syntax_tree expression_parser program scopes body_names definite_assignment\n"
 
 MAIN = r'''
 //! How long the rules on locals take.
 #![tactic(auto)]
 
-use code_names::body::{ResolvedBody, resolve_body};
-use code_names::context::Context;
-use expression_parse::block::read_block;
-use local_states::rules::broken_rules;
-use point_states::states::local_states;
-use move_tokens::scanner::tokens;
-use pv_base::memory::NoMemory;
-use pv_base::name::Name;
-use pv_base::span::Span;
-use pv_names::addresses::Addresses;
-use pv_names::environment::Environment;
-use pv_names::types::TypePlace;
-use pv_types::declaration::AbilitySet;
-use pv_types::program::ModuleId;
-use pv_types::sequence::Sequence;
+use body_names::code::body::{ResolvedBody, resolve_body};
+use body_names::code::context::Context;
+use expression_parser::block::read_block;
+use definite_assignment::rules::broken_rules;
+use definite_assignment::points::states::local_states;
+use tokens::scanner::tokens;
+use base::memory::NoMemory;
+use base::name::Name;
+use base::span::Span;
+use scopes::addresses::Addresses;
+use scopes::environment::Environment;
+use scopes::types::TypePlace;
+use program::declaration::AbilitySet;
+use program::program::ModuleId;
+use program::sequence::Sequence;
 use std::alloc::{AllocError, Global};
 use std::io;
 use std::time::Instant;

@@ -24,15 +24,15 @@ PROGRAM = r"""//! Times the readers on the texts that stand on the standard inpu
 //! text that begins with `spec` is the spec block of a function, another one a file.
 #![tactic(auto)]
 
-use clause_tree::slot::Slot;
-use file_tree::member::File;
+use syntax_tree::slot::Slot;
+use syntax_tree::member::File;
 use spelling::spell_member::spell;
-use token_reading::explain::ParseFault;
-use pv_parse::denoted::modules;
-use spec_parse::denoted_block::spec_block;
-use move_tokens::scanner::tokens;
-use move_tokens::token::Tokens;
-use move_tokens::weight::weight;
+use parser_base::explain::ParseFault;
+use item_parser::denoted::modules;
+use item_parser::spec::denoted_block::spec_block;
+use tokens::scanner::tokens;
+use tokens::token::Tokens;
+use tokens::weight::weight;
 use std::io::{BufRead, BufReader};
 use std::time::Instant;
 
@@ -223,7 +223,7 @@ def crates():
     with open(os.path.join(ROOT, "crates.txt"), encoding="utf-8") as file:
         lines = [line.strip() for line in file if ":" in line and not line.startswith("#")]
     uses = {line.split(":")[0]: line.split(":")[1].split() for line in lines}
-    needed = set(uses["pv_parse"]) | {"pv_parse"} | set(uses["spec_parse"]) | {"spec_parse"}
+    needed = set(uses["item_parser"]) | {"item_parser", "spelling"}
     return [line for line in lines if line.split(":")[0] in needed], sorted(needed)
 
 
@@ -239,7 +239,7 @@ def main() -> int:
         target = os.path.join(folder, "crates", name)
         shutil.copytree(os.path.join(ROOT, "crates", name), target, dirs_exist_ok=True, ignore=shutil.ignore_patterns("out", "must-fail"))
     with open(os.path.join(folder, "crates.txt"), "w", encoding="utf-8") as file:
-        file.write("\n".join(lines) + "\ntimes: move_tokens file_tree clause_tree token_reading pv_parse spec_parse spelling anyhow\n")
+        file.write("\n".join(lines) + "\ntimes: tokens syntax_tree parser_base item_parser spelling anyhow\n")
     target = os.path.join(folder, "crates", "times")
     os.makedirs(os.path.join(target, "src"), exist_ok=True)
     with open(os.path.join(target, "src", "main.rt"), "w", encoding="utf-8") as file:
