@@ -125,8 +125,8 @@ fn add_beside(askers: &mut Vec<Asker>, types: &[usize], terms: &[usize]) -> Resu
 }
 
 /// Returns the trigger that is on every branch, a trigger for each of the given types, and one for each vector type
-/// among them, taken once, beside each term that is the empty vector or a vector made of another one. `NoMemory` if
-/// memory runs out.
+/// among them beside each term that is the empty vector or a vector made of another one. `NoMemory` if memory runs
+/// out.
 pub fn type_askers(
     alloc: Global,
     pool: &Pool,

@@ -142,10 +142,10 @@ fn near_triggered(
     Ok(None)
 }
 
-/// Returns a due instance of an axiom of the table, as `next_axiom` does; but an instance triggered by a read or a
-/// store counts only if something of the class of what is read, or of the store, is read at the index's class by a term
-/// of the branch that is no read-back. A read-back reads what was just stored, set or pushed. `None` does not mean that
-/// no instance is due, since this is only a heuristic choice. `classes` are those of the branch, `terms` are the
+/// Returns a due instance of an axiom of the table. This is a heuristic choice: it passes over an instance triggered by
+/// a read or a store unless something of the class of what is read, or of the store, is read at the index's class by a
+/// term of the branch that is no read-back (a read of what was just stored, set or pushed). Only that the instance is
+/// due is a clause; `None` does not mean that no instance is due. `classes` are those of the branch, `terms` are the
 /// numbers of its terms, `known` belongs to the pool or to an earlier state of it, some variable is free in none of the
 /// branch's entries, and each struct shape has fewer than 2^32 fields. `NoMemory` if memory runs out.
 pub fn near_axiom(

@@ -1,4 +1,4 @@
--- Two numbers, with an edge from one to the other, that have one root: each leads to the other.
+-- Two numbers with an edge from one to the other and with the same root: each reaches the other.
 use Rattle.std.proofs.Common.{◌≡◌, ℕ, ◌<◌, ◌≤◌, inl, inr, List, [], length, get_or, Option, Some, sym, ◌∙◌, ap, subst, arith}
 use Rattle.std.proofs.lemmas.List.{get_or_past}
 use Rattle.std.proofs.lemmas.Bool.{cases_lt}
@@ -18,7 +18,7 @@ module _ (graph sources : List (List ℕ)) (marks : List Mark) (order : List ℕ
     | inr r ↦ elim r [ inl o ↦ absurd (walk.opened i o) | inr f ↦ f ]
   ]
 
-  -- the label of a number is no place before its own
+  -- the label of a number is no index before its own
   own : (i k : ℕ) → mark marks i ≡ Finished k → IsAtLeast k (label labels i)
   own i k f =
       let p = walk.placed i k f in
@@ -42,7 +42,7 @@ module _ (graph sources : List (List ℕ)) (marks : List Mark) (order : List ℕ
       let s2 = s.2 in
       (s.0, s.1, omega arith)
 
-  -- the root leads to all numbers that are finished with or after this one and not after the root
+  -- the root reaches all numbers that are finished with or after this one and not after the root
   covered : {x r : ℕ} (q l a w c : ℕ) → Reaches graph x r → mark marks r ≡ Finished q → label labels x ≡ Some l → l ≤ q → mark marks x ≡ Finished a → mark marks w ≡ Finished c → a ≤ c → c ≤ q → Reaches graph r w
   covered {x} {r} q l a w c Here f h b g t low high =
       let n : a ≡ q = cc in
@@ -97,7 +97,7 @@ module _ (graph sources : List (List ℕ)) (marks : List Mark) (order : List ℕ
       let same : r.0 ≡ o.0 = omega arith in
       cc
 
-  -- a number and the root that its label tells lead to each other
+  -- a number and the root at its label reach each other
   pub root_together : (i : ℕ) → i < length graph → (m : ℕ) × (label labels i ≡ Some m) × (m < length order) × AreTogether graph i (get_or order m 0)
   root_together i b =
       let f = finished i b in
@@ -108,7 +108,7 @@ module _ (graph sources : List (List ℕ)) (marks : List Mark) (order : List ℕ
       let down : Reaches graph (get_or order o.0 0) i = covered o.0 o.0 f.0 i f.0 up root o.1 (omega arith) f.1 f.1 (omega arith) o.2 in
       (o.0, o.1, led.1, record { there = up; back = down })
 
-  -- numbers that lead to each other have one label
+  -- numbers that reach each other have the same label
   pub same_label : (i j : ℕ) → i < length graph → j < length graph → AreTogether graph i j → label labels i ≡ label labels j
   same_label i j b d h =
       let f = finished i b in

@@ -1,4 +1,4 @@
--- A number is on a marked circle where a marked edge stands inside its component.
+-- A number is on a cycle with a marked edge where its component contains a marked edge.
 use Rattle.std.proofs.Common.{◌≡◌, ◌↔◌, ℕ, ◌<◌, Bool, true, false, List, length, get_or, refl, sym, ◌∙◌, ap, subst, arith}
 use Rattle.std.specs.Prelude.{All, Contains}
 use Rattle.std.specs.Bool.{IsTrue}
@@ -55,7 +55,7 @@ module _ (numbers : List (List ℕ)) (edges : List MarkedEdge) (roots : List ℕ
   pub circle_on : IsOnMarkedCircle edges i → list_any (marks_root roots (root i)) edges ≡ true
   circle_on l = marks_over (marked_over numbers edges has l refl)
 
--- the same of what the code reads
+-- the same for the values that the code reads
 pub told_circle : (numbers : List (List ℕ)) (edges : List MarkedEdge) (roots : List ℕ) (found : Bool) → HasEdgesOf numbers edges → AreRoots numbers roots → All (IsWithin (length numbers)) edges → (i : ℕ) → i < length numbers
     → found ≡ list_any (marks_root roots (get_or roots i 0)) edges → IsTrue found ↔ IsOnMarkedCircle edges i
 told_circle numbers edges roots found has are within i b e = (

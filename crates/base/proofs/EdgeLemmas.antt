@@ -1,4 +1,4 @@
--- Edges of graphs that are made: without any, and with one more.
+-- The edges of a graph without edges, and of a graph with one more edge.
 use Rattle.std.proofs.Common.{◌≡◌, ℕ, ◌<◌, ◌-◌, ◌⊎◌, inl, inr, List, [], ◌∷◌, ◌++◌, length, get_or, set, take, replicate, true, false, Result, Ok, Err, OnOk, OnErr, refl, sym, ◌∙◌, ap, subst, arith}
 use Rattle.std.proofs.lemmas.List.{get_or-set_other, get_or_past, length-set, length_push, get_or_append_left, get_or_push, length-replicate, get_or-replicate, set-set, set-get_or, take_at}
 use Rattle.std.specs.Result.{is_err}
@@ -100,7 +100,7 @@ mirrored_pushed graph sources from to f t m =
       ];
     }
 
--- what was put at the end of an element and taken away again
+-- an item that is added at the end of a list and removed again
 pub restored : (graph : List (List ℕ)) (i : ℕ) (read once taken : List ℕ) (x : ℕ) → i < length graph → read ≡ get_or graph i read → once ≡ read ++ x ∷ [] → taken ≡ take (length once - 1) once → set (set graph i once) i taken ≡ graph
 restored graph i read once taken x b r o t =
     let p = length_push read x in
@@ -112,7 +112,7 @@ restored graph i read once taken x b r o t =
 pub unchanged : (graph : List (List ℕ)) (i : ℕ) (read after : List ℕ) → read ≡ get_or graph i read → after ≡ read → set graph i after ≡ graph
 unchanged graph i read after r e = ap (λ (xs : List ℕ). set graph i xs) (e ∙ r) ∙ set-get_or graph i read
 
--- ---- what a result says
+-- ---- the cases of a result
 
 pub on_ok : {T E : Type 0} (r : Result T E) (P : Type 0) → is_err r ≡ false → OnOk r P → P
 on_ok (Ok x) P e h = h

@@ -1,4 +1,4 @@
--- A `BTreeMap` from texts, seen as the finite map of its entries.
+-- A `BTreeMap` over names, as the finite map of its entries.
 use Rattle.std.proofs.Common.{◌≡◌, ℕ, List, [], ◌∷◌, cond, Some, refl, sym, ap, ◌∙◌}
 use Rattle.std.specs.Ordering.{nat_cmp, eq_by_cmp}
 use Rattle.std.specs.Cmp.Lexicographic.{slice_cmp, nat_list_cmp_total}
@@ -13,7 +13,7 @@ module _ {X : Type 0} where
   lookup-find q [] = refl
   lookup-find q (e ∷ es) = ap (cond (eq_by_cmp (slice_cmp nat_cmp) q e.0) (Some e.1)) (lookup-find q es)
 
-  -- the tree finds at a text what the finite map has there
+  -- the tree finds at a name what the finite map has there
   pub get-tree : (m : BTreeMap (List ℕ) X) (q : List ℕ) → tree.get (slice_cmp nat_cmp) m q ≡ get (from_entries {R = slice_cmp nat_cmp} m.entries) q
   get-tree m q = lookup-find q m.entries ∙ sym (get-from_entries nat_list_cmp_total m.entries q)
 

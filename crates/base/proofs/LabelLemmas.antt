@@ -1,4 +1,4 @@
--- The steps by which numbers are labelled.
+-- The steps of the labelling.
 use Rattle.std.proofs.Common.{◌≡◌, ◌≢◌, ℕ, zero, suc, ◌<◌, ◌≤◌, ◌+◌, inl, inr, List, [], ◌∷◌, ◌++◌, length, get_or, set, replicate, true, false, Option, Some, None, refl, sym, ◌∙◌, ap, subst, arith}
 use Rattle.std.proofs.lemmas.List.{get_or-set_other, get_or_past, length-set, length_push, length-replicate, get_or-replicate}
 use Rattle.std.specs.Option.{is_some}
@@ -20,14 +20,14 @@ labelled_within labels i l h = elim (cases_lt i (length labels)) [
   | inr b ↦ (let n = get_or_past labels i None b in absurd (cc))
 ]
 
--- a number with a label keeps it while another one gets its own
+-- a number keeps its label while another one gets its own
 pub label_kept : (labels : List (Option ℕ)) (i j l m : ℕ) → label labels i ≡ None → label labels j ≡ Some m → label (set labels i (Some l)) j ≡ Some m
 label_kept labels i j l m fresh h = label_other labels i j l (λ e. let g = ap (λ (x : ℕ). label labels x) e in cc) ∙ h
 
 pub at_least_kept : (labels : List (Option ℕ)) (i j l least : ℕ) → label labels i ≡ None → IsAtLeast least (label labels j) → IsAtLeast least (label (set labels i (Some l)) j)
 at_least_kept labels i j l least fresh h = (h.0, label_kept labels i j l h.0 fresh h.1, h.2)
 
--- ---- nothing is labelled yet
+-- ---- no labels
 
 pub label_begin : (sources : List (List ℕ)) (order : List ℕ) → IsLabelling sources order (length order) (replicate (length sources) None) [] NoneIsOpen
 label_begin sources order =
@@ -43,7 +43,7 @@ label_begin sources order =
       above = λ k a b. absurd (omega arith);
     }
 
--- ---- the number at the next place of the order
+-- ---- the number at the next index of the order
 
 module _ (sources : List (List ℕ)) (order : List ℕ) (place : ℕ) (labels : List (Option ℕ)) (within : place < length order) (labelling : IsLabelling sources order (place + 1) labels [] NoneIsOpen) where
   pub label_skip : (l : ℕ) → label labels (get_or order place 0) ≡ Some l → IsLabelling sources order place labels [] NoneIsOpen
@@ -178,7 +178,7 @@ module _ (sources : List (List ℕ)) (order : List ℕ) (place : ℕ) (labels : 
         above = λ k a b. at_least_kept labels source (get_or order k 0) place k fresh (labelling.above k a b);
       }
 
--- ---- what is left to do
+-- ---- the measure
 
 pub unlabelled_set : (labels : List (Option ℕ)) (i l : ℕ) → i < length labels → label labels i ≡ None → unlabelled (set labels i (Some l)) + 1 ≡ unlabelled labels
 unlabelled_set [] i l h n = absurd (omega arith)
@@ -193,7 +193,7 @@ waiting_set labels work after i l h n e =
     let q = ap (λ (xs : List ℕ). length xs) e in
     omega (arith, unlabelled_set labels i l h n)
 
--- ---- what a test says
+-- ---- the cases of a test
 
 pub some_of : (found : Option ℕ) → is_some found ≡ true → (l : ℕ) × (found ≡ Some l)
 some_of None h = absurd (cc)

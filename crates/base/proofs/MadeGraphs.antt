@@ -1,4 +1,4 @@
--- Graphs that are made of edges, and what leads to what in them.
+-- Graphs of given edges, and their paths.
 use Rattle.std.proofs.Common.{◌≡◌, ℕ, ◌+◌, ◌<◌, ◌⊎◌, inl, inr, Bool, true, false, ◌||◌, List, [], ◌∷◌, ◌++◌, length, get_or, set, take, replicate, add-one, refl, sym, ◌∙◌, ap, subst, arith}
 use Rattle.std.specs.Prelude.{All, Contains}
 use Rattle.std.proofs.Math.Seq.{take-suc}
@@ -42,7 +42,7 @@ module _ (numbers : List (List ℕ)) (edges : List MarkedEdge) (edge : MarkedEdg
   more_edges : HasEdgesOf more (edges ++ edge ∷ [])
   more_edges = record { there = there_more; back = back_more }
 
--- the next one of some edges
+-- one more edge
 pub next_edge : (numbers new : List (List ℕ)) (edges : List MarkedEdge) (n count : ℕ) (d : MarkedEdge) → n < length edges → length numbers ≡ count → All (IsWithin count) edges
     → new ≡ set numbers (get_or edges n d).from (get_or numbers (get_or edges n d).from [] ++ (get_or edges n d).to ∷ [])
     → HasEdgesOf numbers (take n edges) → HasEdgesOf new (take (n + 1) edges)
@@ -58,7 +58,7 @@ or_true : (b : Bool) → (b || true) ≡ true
 or_true true = refl
 or_true false = refl
 
--- ---- what leads to what
+-- ---- paths
 
 module _ (edges : List MarkedEdge) where
   pub leads_join : {i j k : ℕ} {m n : Bool} → Leads edges i j m → Leads edges j k n → Leads edges i k (m || n)
@@ -71,7 +71,7 @@ module _ (numbers : List (List ℕ)) (edges : List MarkedEdge) (h : HasEdgesOf n
   leads_reaches {i} {j} {m} (Directly e) = graph.Along (h.there i j m e) graph.Here
   leads_reaches {i} {j} {m} (Over {j = k} {one = one} e p) = graph.Along (h.there i k one e) (leads_reaches p)
 
-  -- what is reached is the number itself, or what it leads to
+  -- what is reached is the number itself, or the end of a path of at least one edge
   pub reaches_leads : {i j : ℕ} → graph.Reaches numbers i j → (i ≡ j) ⊎ ((m : Bool) × Leads edges i j m)
   reaches_leads graph.Here = inl refl
   reaches_leads {i} {j} (graph.Along {j = k} e r) =
@@ -81,7 +81,7 @@ module _ (numbers : List (List ℕ)) (edges : List MarkedEdge) (h : HasEdgesOf n
         | inr p ↦ inr (o.0 || p.0, Over o.1 p.1)
       ]
 
-  -- a marked edge on the way
+  -- a path over a marked edge
   pub record IsOver (i j : ℕ) : Type 0 where
     pub from : ℕ
     pub to : ℕ
@@ -97,7 +97,7 @@ module _ (numbers : List (List ℕ)) (edges : List MarkedEdge) (h : HasEdgesOf n
   marked_over {i} {j} {m} (Over {j = k} {one = true} e p) q = record { from = i; to = k; edge = e; before = graph.Here; after = leads_reaches p }
   marked_over {i} {j} {m} (Over {j = k} {one = false} e p) q = over_more i k j (h.there i k false e) (marked_over p q)
 
-  -- the number reaches the edge, and the edge the number
+  -- the number reaches the start of the edge, and the end of the edge reaches the number
   pub around : (i : ℕ) (e : MarkedEdge) → Contains edges e → e.is_marked ≡ true → graph.Reaches numbers i e.from → graph.Reaches numbers e.to i → Leads edges i i true
   around i e c q before after =
       let one : Leads edges e.from e.to true = Directly (subst (λ (b : Bool). IsEdge edges e.from e.to b) q c) in

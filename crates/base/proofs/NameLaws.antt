@@ -17,7 +17,7 @@ same_name-other w v h = go (same_name w v) refl
     go true e = absurd (h (same_text w v (sym e)))
     go false e = e
 
--- ---- among names
+-- ---- lists of names
 
 pub none_of-sound : (names : List (List ℕ)) (w : List ℕ) → is_one_of names w ≡ false → AllByRecursion (λ other. w ≢ other) names
 none_of-sound [] w e = tt
@@ -36,7 +36,7 @@ none_of-complete (k ∷ ks) w a = ap (λ b. b || is_one_of ks w) (same_name-othe
 
 -- ---- sets
 
--- the order of a set tells the same names apart
+-- two names are equal in the order of a set where they are the same
 pub is_eq-same_name : (a b : List ℕ) → is_eq (slice_cmp nat_cmp a b) ≡ same_name a b
 is_eq-same_name a b = sym (lists_ties nat_cmp unsigned_ties a b)
 

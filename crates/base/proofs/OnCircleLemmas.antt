@@ -1,4 +1,4 @@
--- Numbers on circles are those that have a target with their own label.
+-- The numbers on cycles are those that have a target with their own label.
 use Rattle.std.proofs.Common.{◌≡◌, ◌↔◌, ℕ, ◌<◌, ◌≤◌, ◌+◌, inl, inr, List, [], ◌∷◌, ◌++◌, length, get_or, false, Option, None, refl, sym, ◌∙◌, ap, subst, arith}
 use Rattle.std.specs.Prelude.{Contains}
 use Rattle.std.specs.Bool.{IsTrue}
@@ -29,7 +29,7 @@ module _ (graph sources : List (List ℕ)) (marks : List Mark) (order : List ℕ
       let e = subst (λ (xs : List ℕ). (k : ℕ) × (k < length xs) × (get_or xs k 0 ≡ o.0)) (sym are) o.1 in
       (e.0, e.1, ap (λ (x : ℕ). label labels x) e.2 ∙ r ∙ sym is)
 
--- ---- the same of what the code reads
+-- ---- the same for the values that the code reads
 
 module _ (graph g sources : List (List ℕ)) (marks : List Mark) (order o : List ℕ) (labels ls : List (Option ℕ)) (same : g ≡ graph) (mirrored : AreMirrored graph sources) (walk : IsWalk g marks order []) (seen : (i : ℕ) → i < length g → IsSeen marks i) (ordered : o ≡ order) (labelling : IsLabelling sources o 0 labels [] NoneIsOpen) (valued : ls ≡ labels) (i : ℕ) (inside : i < length g) (read slice : List ℕ) (reads : read ≡ get_or g i read) (sliced : slice ≡ read) (own : Option ℕ) (owned : own ≡ get_or labels i own) where
   walk_read : IsWalk graph marks order []
@@ -60,10 +60,10 @@ module _ (graph g sources : List (List ℕ)) (marks : List Mark) (order o : List
   pub circle_read : IsOnCircle graph i → HasLabel slice ls own
   circle_read = circle_has graph sources marks order ls mirrored walk_read seen_read labelling_read i slice slice_is own own_is
 
--- ---- those that were found
+-- ---- the numbers that are found
 
 module _ (graph : List (List ℕ)) (found : List ℕ) where
-  -- the numbers below this one that are on a circle are those that were found
+  -- the numbers below this one that are on a cycle are those that are found
   abbrev pub AreFound : ℕ → Type 0
   AreFound i = (j : ℕ) → Contains found j ↔ ((j < i) × IsOnCircle graph j)
 
@@ -97,7 +97,7 @@ one_found graph found i on h j = (
   ],
 )
 
--- ---- what a test says
+-- ---- the cases of a test
 
 pub not_true : IsTrue false → ⊥
 not_true h = cc

@@ -1,4 +1,5 @@
--- Pairing grows with its lists, ends where one item has no partner, and gives one list where each item has one partner.
+-- Laws of lists that are related item by item: an item without a partner excludes all lists, and unique partners give
+-- one list.
 use Rattle.std.proofs.Common.{◌≡◌, ℕ, zero, suc, ◌+◌, ◌<◌, List, [], ◌∷◌, ◌++◌, length, map, take, get_or, refl, sym, ap, subst, ◌∙◌, arith, append_assoc, append-nil}
 use Rattle.std.specs.List.{AllByRecursion}
 use Rattle.std.proofs.lemmas.List.{take_more}
@@ -10,7 +11,7 @@ paired_append R [] (w ∷ ys) x y p r = absurd p
 paired_append R (v ∷ xs) [] x y p r = absurd p
 paired_append R (v ∷ xs) (w ∷ ys) x y p r = (p.0, paired_append R xs ys x y p.1 r)
 
--- an item without a partner, with others before and behind it
+-- an item without a partner, with others before and after it
 pub no_pair : {A B : Type 0} (R : A → B → Type 0) (front : List A) (x : A) (back : List A) (ys : List B) → ((y : B) → R x y → ⊥) → Paired R (front ++ x ∷ back) ys → ⊥
 no_pair R [] x back [] none p = p
 no_pair R [] x back (y ∷ ys) none p = none y p.0
@@ -33,15 +34,15 @@ pub all_at : {A : Type 0} (P : A → Type 0) (front : List A) (x : A) (back : Li
 all_at P [] x back a = a.0
 all_at P (y ∷ front) x back a = all_at P front x back a.1
 
--- an item of a list of which each item was seen as another
+-- an item of a list of which each item has a property
 pub all_seen : {A B : Type 0} (f : A → B) (P : B → Type 0) (xs : List A) (i : ℕ) (d : A) → i < length xs → AllByRecursion P (map f xs) → P (f (get_or xs i d))
 all_seen f P [] i d h a = absurd (omega arith)
 all_seen f P (x ∷ xs) zero d h a = a.0
 all_seen f P (x ∷ xs) (suc i) d h a = all_seen f P xs i d (omega (arith, h)) a.1
 
--- ---- a reading in order
+-- ---- reading in order
 
--- what was read so far belongs to what stands before the rest
+-- the results so far are related to the items before the rest
 pub record Reading {A B : Type 0} (R : A → B → Type 0) (all rest : List A) (found : List B) : Type 0 where
   pub front : List A
   pub parts : all ≡ front ++ rest
@@ -63,7 +64,7 @@ reading_stop {R = R} x back r e none ys p = no_pair R r.front x back ys none (su
 pub reading_end : {A B : Type 0} {R : A → B → Type 0} {all rest : List A} {found : List B} → Reading R all rest found → rest ≡ [] → Paired R all found
 reading_end {R = R} {found = found} r e = subst (λ all. Paired R all found) (sym (r.parts ∙ ap (λ rest. r.front ++ rest) e ∙ append-nil r.front)) r.paired
 
--- ---- a loop over a list, by numbers
+-- ---- a loop over a list by index
 
 mapped : {A B C : Type 0} (R : C → B → Type 0) (f : A → C) (xs : List A) (ys : List B) (x : A) (y : B) → Paired R (map f xs) ys → R (f x) y → Paired R (map f (xs ++ x ∷ [])) (ys ++ y ∷ [])
 mapped R f [] [] x y p r = (r, tt)

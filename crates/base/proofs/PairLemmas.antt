@@ -1,4 +1,4 @@
--- Which pairs are found in a set of them.
+-- The pairs that a set contains.
 use Rattle.std.proofs.Common.{◌≡◌, ◌⊎◌, inl, inr, ◌↔◌, ℕ, zero, suc, Bool, true, false, not, List, [], ◌∷◌, ◌++◌, true≢false, refl, sym, ap, ◌∙◌, subst, if◌then◌else◌, arith}
 use Rattle.std.specs.Prelude.{Contains, ◌&&◌, ◌||◌, nat_eq, IsTrue}
 use Rattle.std.specs.List.{list_any}

@@ -1,4 +1,4 @@
--- What edges lead to: paths joined, and turned round.
+-- Paths: concatenation and reversal.
 use Rattle.std.proofs.Common.{◌≡◌, ℕ, ◌<◌, List, [], ◌∷◌, ◌++◌, length, get_or, reverse, sym, ◌∙◌, ap, arith}
 use Rattle.std.proofs.lemmas.List.{get_or_read, reverse-append}
 use Rattle.base.specs.Circles.{IsEdge, Reaches, Here, Along, AreMirrored, IsWithin}
@@ -15,7 +15,7 @@ pub reach_turned : {graph sources : List (List ℕ)} {i j : ℕ} → AreMirrored
 reach_turned m Here = Here
 reach_turned m (Along e p) = reach_push (reach_turned m p) (m.back _ _ e)
 
--- the targets that were read, and the one that is next
+-- the targets that are read, and the next one
 pub targets_are : (graph : List (List ℕ)) (node : ℕ) (read slice : List ℕ) → node < length graph → read ≡ get_or graph node read → slice ≡ read → slice ≡ get_or graph node []
 targets_are graph node read slice b is e = e ∙ get_or_read graph node read b is []
 

@@ -1,4 +1,4 @@
--- The roots that labels tell are those of the components.
+-- The roots at the labels are those of the components.
 use Rattle.std.proofs.Common.{◌≡◌, ℕ, ◌<◌, List, [], length, get_or, Option, Some, Result, Ok, Err, sym, ◌∙◌, ap, subst, arith}
 use Rattle.std.specs.Prelude.{IfOk}
 use Rattle.base.specs.declared.cycles.walk.Mark.{Mark}
@@ -42,7 +42,7 @@ module _ (graph sources : List (List ℕ)) (marks : List Mark) (order : List ℕ
             each i (omega arith) ∙ ap (root_of order) (same_label graph sources marks order labels mirrored walk seen labelling i j b d h) ∙ sym (each j (omega arith));
       }
 
--- the same of what the code reads
+-- the same for the values that the code reads
 pub roots_read : (graph g sources : List (List ℕ)) (marks : List Mark) (order o p : List ℕ) (labels ls : List (Option ℕ)) → g ≡ graph → AreMirrored graph sources → IsWalk g marks order [] → ((i : ℕ) → i < length g → IsSeen marks i) → o ≡ order → p ≡ order → IsLabelling sources o 0 labels [] NoneIsOpen → ls ≡ labels
     → (roots : List ℕ) → length roots ≡ length ls → ((i : ℕ) → i < length ls → get_or roots i 0 ≡ root_of p (label ls i)) → AreRoots graph roots
 roots_read graph g sources marks order o p labels ls same mirrored walk seen ordered again labelling valued roots long each =
@@ -53,7 +53,7 @@ roots_read graph g sources marks order o p labels ls same mirrored walk seen ord
     roots long
     (subst (λ (x : List ℕ). (i : ℕ) → i < length ls → get_or roots i 0 ≡ root_of x (label ls i)) again each)
 
--- what two clauses say of one result
+-- two properties of one result
 pub both_ok : {T E : Type 0} (r : Result T E) (P Q R : T → Type 0) → ((x : T) → P x → Q x → R x) → IfOk r P → IfOk r Q → IfOk r R
 both_ok (Ok x) P Q R f p q = f x p q
 both_ok (Err e) P Q R f p q = tt

@@ -1,4 +1,4 @@
--- Truth values: what holds where a conjunction, a disjunction or a negation does, and tests as facts.
+-- Truth values: conjunctions, disjunctions and negations, and tests as facts.
 use Rattle.std.proofs.Common.{◌≡◌, ◌↔◌, ◌⊎◌, inl, inr, Bool, true, false, not, ◌&&◌, ◌||◌, refl, ◌∙◌, subst, rules}
 use Rattle.std.specs.Prelude.{IsTrue}
 
@@ -60,10 +60,10 @@ never h = search rules
 pub not_true : (b : Bool) → b ≡ false → IsTrue b → ⊥
 not_true b e h = never (subst IsTrue e h)
 
--- a test that held, of what is so
+-- a test that is true, of a true fact
 pub holds : (P : Type 0) → P → IsTrue true ↔ P
 holds P p = (λ h. p, λ q. true_is true refl)
 
--- a test that failed, of what can't be
+-- a test that is false, of a false fact
 pub fails : (P : Type 0) → (P → ⊥) → IsTrue false ↔ P
 fails P none = (λ h. absurd (never h), λ p. absurd (none p))

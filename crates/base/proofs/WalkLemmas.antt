@@ -1,4 +1,4 @@
--- The steps of a walk: a number is opened, an edge is followed, a number is finished.
+-- The steps of the traversal: a number is opened, an edge is followed, a number is finished.
 use Rattle.std.proofs.Common.{◌≡◌, ◌≢◌, ℕ, zero, suc, ◌<◌, ◌≤◌, ◌+◌, ◌⊎◌, inl, inr, List, [], ◌∷◌, ◌++◌, length, get_or, set, replicate, refl, sym, ◌∙◌, ap, subst, arith}
 use Rattle.std.proofs.lemmas.List.{get_or-set_other, get_or_past, length-set, get_or_append_left, get_or_push, length_push, length-replicate, get_or-replicate}
 use Rattle.std.proofs.lemmas.Grind.{get_or-set_at}
@@ -120,11 +120,11 @@ module _ (graph : List (List ℕ)) (marks : List Mark) (order : List ℕ) (u nex
   old : (i k : ℕ) → i ≢ u → mark (set marks u (Finished (length order))) i ≡ Finished k → mark marks i ≡ Finished k
   old i k d h = sym (mark_other marks u i (Finished (length order)) d) ∙ h
 
-  -- the one that is finished now
+  -- the number that is finished now
   now : (i k : ℕ) → i ≡ u → mark (set marks u (Finished (length order))) i ≡ Finished k → k ≡ length order
   now i k e h = let g = mark_same marks u i (Finished (length order)) e inside in cc
 
-  -- a number that was finished before is another one, and stays as it was
+  -- a number that was finished before is another one, and keeps its mark
   stays : (i k : ℕ) → mark marks i ≡ Finished k → mark (set marks u (Finished (length order))) i ≡ Finished k
   stays i k h = mark_other marks u i (Finished (length order)) (λ e. let g = ap (λ (x : ℕ). mark marks x) e in let o = is_open in cc) ∙ h
 
@@ -192,7 +192,7 @@ module _ (graph : List (List ℕ)) (marks : List Mark) (order : List ℕ) (u nex
     reaching = last_reaching;
   }
 
--- ---- what is left to do
+-- ---- the measure
 
 pub left_set : (graph : List (List ℕ)) (marks : List Mark) (i : ℕ) (m : Mark) → length marks ≡ length graph → i < length marks → left_unseen graph (set marks i m) + steps_unseen (mark marks i) (get_or graph i []) ≡ left_unseen graph marks + steps_unseen m (get_or graph i [])
 left_set [] marks i m e h = absurd (omega arith)

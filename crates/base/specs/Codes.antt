@@ -1,9 +1,9 @@
--- Codes of pure data: each tree is a tree of numbers, and back.
+-- Codes of pure data as trees of numbers, and back.
 use base.Stored.{Gv, gnil, gnum, gcons, num}
 use Rattle.std.specs.Prelude.{◌≡◌, ℕ, zero, suc, List, [], ◌∷◌, refl}
 use Rattle.std.proofs.Common.{ap}
 
--- the case with this number, or the default where there are not so many
+-- the case with this number, or the default where there is none
 abbrev pub pick : {A : Type 0} → ℕ → A → List A → A
 pick n default [] = default
 pick zero default (x ∷ xs) = x

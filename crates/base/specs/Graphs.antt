@@ -1,4 +1,4 @@
--- Graphs that have given edges, and the components inside which a marked one stands.
+-- The graph of given edges, and the components that contain a marked one.
 use Rattle.std.specs.Prelude.{ℕ, ◌==◌, Bool, ◌&&◌, List, slice_index}
 use Rattle.base.specs.Circles as graph
 use Rattle.base.specs.declared.marked_cycles.edge.MarkedEdge.{MarkedEdge}
@@ -9,6 +9,6 @@ pub record HasEdgesOf (numbers : List (List ℕ)) (edges : List MarkedEdge) : Ty
   pub there : (i j : ℕ) (marked : Bool) → IsEdge edges i j marked → graph.IsEdge numbers i j
   pub back : (i j : ℕ) → graph.IsEdge numbers i j → (marked : Bool) × IsEdge edges i j marked
 
--- the edge is marked, and stands inside the component with this root
+-- the edge is marked, and lies inside the component with this root
 abbrev pub marks_root : List ℕ → ℕ → MarkedEdge → Bool
 marks_root roots root edge = edge.is_marked && (slice_index roots edge.from == root && slice_index roots edge.to == root)

@@ -1,4 +1,4 @@
--- Numbers with the place of the last finished number that leads to them along the turned edges.
+-- The labels of numbers: the last index of the order at which a number reaches them along the reversed edges.
 use Rattle.std.specs.Prelude.{◌≡◌, ℕ, ◌<◌, ◌≤◌, ◌+◌, ◌*◌, ◌⊎◌, List, [], ◌∷◌, length, slice_index, slice_index_or, Option, Some, None}
 use Rattle.base.specs.Circles.{Reaches}
 
@@ -13,7 +13,7 @@ abbrev pub IsIn : ℕ → List ℕ → Type 0
 IsIn i [] = ⊥
 IsIn i (j ∷ work) = (i ≡ j) ⊎ IsIn i work
 
--- which edges of which numbers are still to be followed
+-- no edge is still to be followed
 abbrev pub NoneIsOpen : ℕ → ℕ → Type 0
 NoneIsOpen y k = ⊥
 
@@ -23,8 +23,8 @@ IsFrom node next y k = (y ≡ node) × (next ≤ k)
 abbrev pub AreNumbers : List (List ℕ) → List ℕ → Type 0
 AreNumbers sources order = (k : ℕ) → k < length order → slice_index order k < length sources
 
--- the numbers that are reached from those at or after `place` have labels, the greatest possible ones, but for what
--- is left to be done: the numbers in `work`, whose edges were not followed, and the open edges
+-- the numbers that are reached from those at or after the index `place` have labels, the greatest possible ones, except
+-- for the pending part: the numbers in `work`, whose edges are not followed yet, and the open edges
 pub record IsLabelling (sources : List (List ℕ)) (order : List ℕ) (place : ℕ) (labels : List (Option ℕ)) (work : List ℕ) (IsOpen : ℕ → ℕ → Type 0) : Type 0 where
   pub long : length labels ≡ length sources
   pub led : (x l : ℕ) → label labels x ≡ Some l → (place ≤ l) × (l < length order) × Reaches sources (slice_index order l) x
@@ -32,17 +32,17 @@ pub record IsLabelling (sources : List (List ℕ)) (order : List ℕ) (place : �
   pub closed : (y k l : ℕ) → label labels y ≡ Some l → k < length (slice_index_or sources y []) → IsAtLeast l (label labels (slice_index (slice_index_or sources y []) k)) ⊎ (IsIn y work ⊎ IsOpen y k)
   pub above : (k : ℕ) → place ≤ k → k < length order → IsAtLeast k (label labels (slice_index order k))
 
--- the number at the place that a label tells
+-- the number at the index that is the label
 abbrev pub root_of : List ℕ → Option ℕ → ℕ
 root_of order None = 0
 root_of order (Some place) = slice_index order place
 
--- how many numbers have no label
+-- the number of numbers without a label
 abbrev pub unlabelled : List (Option ℕ) → ℕ
 unlabelled [] = 0
 unlabelled (None ∷ labels) = unlabelled labels + 1
 unlabelled (Some place ∷ labels) = unlabelled labels
 
--- what is left to do: each number without a label is labelled once and taken from the work once
+-- a measure of the remaining steps: each number without a label is labelled once and taken from the work once
 abbrev pub waiting : List (Option ℕ) → List ℕ → ℕ
 waiting labels work = 2 * unlabelled labels + length work

@@ -1,4 +1,4 @@
--- Two lists whose items belong together, one by one.
+-- Two lists whose items are related one by one.
 use Rattle.std.specs.Prelude.{List, [], ◌∷◌}
 
 abbrev pub Paired : {A B : Type 0} → (A → B → Type 0) → List A → List B → Type 0

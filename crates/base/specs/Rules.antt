@@ -35,8 +35,8 @@ rule_name Unassigned = codes "Unassigned"
 rule_name Undropped = codes "Undropped"
 rule_name NotBuilt = codes "NotBuilt"
 
--- Where a file breaks the rule, its definition says at which place: for each rule but `Grammar`, whose place is where a reader
--- stood.
+-- The definition of a rule says at which span a file breaks it, except for `Grammar`, whose span is where a parser
+-- stopped.
 abbrev pub tells_place : Rule → Bool
 tells_place Grammar = false
 tells_place _ = true

@@ -1,6 +1,6 @@
--- Types as pure data, as contracts see them, and their code.
--- The integer, truth, address and vector types and the references are those of The Move Book, "Primitive Types"
--- and "References"; `num` is the type of whole numbers of the Move Specification Language.
+-- Types as pure data, as contracts see them, and their code. The integer, truth, address and vector types and the
+-- references are those of The Move Book, "Primitive Types" and "References"; `num` is the type of integers of any size
+-- of the Move Specification Language reference, "Type System".
 use base.Stored.{Gv, gnil, gnum, gcons, num}
 use Rattle.std.specs.Prelude.{◌≡◌, ℕ, ◌+◌, List, [], ◌∷◌, refl}
 use Rattle.std.specs.Coded.{Coded, code_by}
@@ -46,7 +46,7 @@ pub types_of-list_of_types : (ts : TypesData) → types_of (list_of_types ts) �
 types_of-list_of_types NoTypes = refl
 types_of-list_of_types (MoreTypes t ts) = ap (MoreTypes t) (types_of-list_of_types ts)
 
--- lists that make the same types are one
+-- lists of the same types are equal
 pub types_of_injective : (ts us : List TypeData) → types_of ts ≡ types_of us → ts ≡ us
 types_of_injective ts us e =
     sym (list_of_types-types_of ts) ∙ ap list_of_types e ∙ list_of_types-types_of us
@@ -100,7 +100,7 @@ struct_back (gcons a (gcons b c)) = record { address = num a; «module» = numbe
 pub struct_back-code : (s : StructId) → struct_back (struct_code s) ≡ s
 struct_back-code s = λ i. record { address = s.address; «module» = numbers_back-code s.module i; name = numbers_back-code s.name i }
 
--- a numbered tree with three places
+-- a numbered tree with three subtrees
 abbrev tree : ℕ → Gv → Gv → Gv → Gv
 tree n a b c = gcons (gnum n) (gcons a (gcons b c))
 

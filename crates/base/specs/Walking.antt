@@ -1,11 +1,11 @@
--- A walk along the edges of a graph, depth first.
+-- A depth-first traversal of a graph.
 use Rattle.std.specs.Prelude.{◌≡◌, ◌≢◌, ℕ, ◌<◌, ◌≤◌, ◌+◌, ◌-◌, ◌⊎◌, List, [], ◌∷◌, length, slice_index, slice_index_or}
 use Rattle.base.specs.declared.cycles.walk.Mark.{Mark}
 use Rattle.base.specs.declared.cycles.walk.Mark.TheVariants.{Unseen, Open, Finished}
 use Rattle.base.specs.declared.cycles.walk.Visit.{Visit}
 use Rattle.base.specs.Circles.{IsEdge, Reaches}
 
--- how far the walk is with a number; what is no number of the graph is not seen
+-- the mark of a number; what is no number of the graph is not seen
 abbrev pub mark : List Mark → ℕ → Mark
 mark marks i = slice_index_or marks i Unseen
 
@@ -20,26 +20,26 @@ abbrev pub IsOn : ℕ → List Visit → Type 0
 IsOn i [] = ⊥
 IsOn i (visit ∷ path) = (i ≡ visit.node) ⊎ IsOn i path
 
--- each number on the path is another one than `node`, and leads to it
+-- each number on the path differs from `node` and reaches it
 abbrev pub LeadTo : List (List ℕ) → ℕ → List Visit → Type 0
 LeadTo graph node [] = Unit {0}
 LeadTo graph node (visit ∷ path) = (visit.node ≢ node) × Reaches graph visit.node node × LeadTo graph node path
 
--- the edges of this visit that were followed lead to numbers that were seen
+-- the followed edges of this visit lead to seen numbers
 abbrev pub IsFollowed : List (List ℕ) → List Mark → Visit → Type 0
 IsFollowed graph marks visit = (k : ℕ) → k < visit.next → k < length (slice_index_or graph visit.node []) → IsSeen marks (slice_index (slice_index_or graph visit.node []) k)
 
--- the numbers on the path are open, each leads to the next
+-- the numbers on the path are open, and each reaches the next
 abbrev pub IsPath : List (List ℕ) → List Mark → List Visit → Type 0
 IsPath graph marks [] = Unit {0}
 IsPath graph marks (visit ∷ path) = (mark marks visit.node ≡ Open) × LeadTo graph visit.node path × IsFollowed graph marks visit × IsPath graph marks path
 
--- the second number has its place in the order before c
+-- v is finished before the index c
 abbrev pub IsBefore : List Mark → ℕ → ℕ → Type 0
 IsBefore marks v c = (b : ℕ) × (mark marks v ≡ Finished b) × (b < c)
 
--- what holds throughout a walk: of the numbers that are finished, the edges lead to what was seen; and where one of
--- them, x, has an edge to v, then v leads to each number that was finished with or after x and before v
+-- the invariant of the traversal: the edges of finished numbers lead to seen numbers; and where a finished x has an
+-- edge to v, then v reaches each number that was finished with or after x and before v
 pub record IsWalk (graph : List (List ℕ)) (marks : List Mark) (order : List ℕ) (path : List Visit) : Type 0 where
   pub long : length marks ≡ length graph
   pub on_path : IsPath graph marks path
@@ -49,7 +49,7 @@ pub record IsWalk (graph : List (List ℕ)) (marks : List Mark) (order : List �
   pub followed : (i k j : ℕ) → mark marks i ≡ Finished k → IsEdge graph i j → IsSeen marks j
   pub reaching : (x v w a c : ℕ) → mark marks x ≡ Finished a → IsEdge graph x v → mark marks w ≡ Finished c → a ≤ c → IsBefore marks v c ⊎ Reaches graph v w
 
--- what is left to do: the steps of the numbers that were not seen, and those of the path
+-- a measure of the remaining steps: those of the unseen numbers, and those of the path
 abbrev pub steps_unseen : Mark → List ℕ → ℕ
 steps_unseen Unseen targets = length targets + 2
 steps_unseen Open targets = 0

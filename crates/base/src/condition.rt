@@ -1,6 +1,6 @@
-//! What a verification condition is of, whatever its formula.
+//! The kinds and keys of verification conditions.
 
-/// What a condition says of its function.
+/// What a verification condition claims of its function.
 #[derive(Clone, Copy, Debug, PartialEq, Eq)]
 pub enum ConditionKind {
     /// The clause holds at each return.
@@ -11,12 +11,12 @@ pub enum ConditionKind {
     Aborts,
 }
 
-/// What tells a condition from the others of its function. Places are bytes, counted from 0 in the file.
+/// What distinguishes a condition from the others of its function. Positions are bytes, counted from 0 in the file.
 #[derive(Clone, Copy, Debug, PartialEq, Eq)]
 pub struct ConditionKey {
     pub kind: ConditionKind,
-    /// The place of the clause, or for `Aborts` of the function.
+    /// The start of the clause, or for `Aborts` of the function.
     pub start: u32,
-    /// The place of the check, where it stands apart from the clause.
+    /// The start of the check, where it lies outside the clause.
     pub check: Option<u32>,
 }

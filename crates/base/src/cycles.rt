@@ -1,4 +1,4 @@
-//! Numbers that lead to others, and those of them that lead back to themselves.
+//! Graphs over numbers, and the numbers that are on a cycle.
 
 pub mod components;
 pub mod graph;

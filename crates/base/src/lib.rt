@@ -1,4 +1,5 @@
-//! The base of the verifier: names, spans, types, lists, the counter of search steps, the names of rules and conditions, lists kept by key, and the strongly connected components of a graph.
+//! The base of the verifier: names, spans, types, lists, the counter of search steps, the names of rules and
+//! conditions, lists by key, and the strongly connected components of a graph.
 #![tactic(auto)]
 
 pub mod condition;

@@ -1,5 +1,4 @@
-//! Lists and maps that contracts name: bytes, the words of a command line, files by their names, and the
-//! numbers of calls.
+//! Lists and maps that contracts name: bytes, the words of a command line, files by name, and the numbers of calls.
 
 ghost use Rattle.std.specs.Prelude.{◌≡◌, ◌↔◌, ◌∷◌, ◌++◌, [], length, IsTrue, OnOk, OnErr, IfOk, Contains};
 ghost use Rattle.std.specs.Option.{option_copied};
@@ -11,7 +10,7 @@ use std::alloc::Global;
 use std::collections::BTreeMap;
 use std::marker::Model;
 
-/// Bytes, as those of a source file.
+/// Bytes, such as those of a source file.
 #[derive(Drop)]
 pub struct Bytes {
     items: Vec<u8>,
@@ -26,7 +25,7 @@ impl Model for Bytes {
 }
 
 impl Bytes {
-    /// No bytes.
+    /// Returns the empty list of bytes.
     pub fn new(alloc: Global) -> Bytes
         ensures { result ≡ [] }
     {
@@ -35,7 +34,7 @@ impl Bytes {
         }
     }
 
-    /// The bytes, in order.
+    /// Returns the bytes, in order.
     pub fn as_slice(&self) -> &[u8]
         ensures { result.now ≡ self.now }
     {
@@ -49,21 +48,21 @@ impl Bytes {
         self.items.len()
     }
 
-    /// Whether there are none.
+    /// Decides whether there are no bytes.
     pub fn is_empty(&self) -> bool
         ensures { IsTrue result ↔ (self.now ≡ []) }
     {
         self.items.is_empty()
     }
 
-    /// Takes all bytes away.
+    /// Removes all bytes.
     pub fn clear(&mut self)
         ensures { self.new ≡ [] }
     {
         self.items.clear();
     }
 
-    /// Puts these bytes at the end. After `NoMemory` the bytes are as they were.
+    /// Adds these bytes at the end. After `NoMemory` the bytes are unchanged.
     pub fn extend_from_slice(&mut self, more: &[u8]) -> Result<(), NoMemory>
         ensures ok { OnOk result (self.new ≡ self.old ++ more.now) }
         ensures err { OnErr result (self.new ≡ self.old) }
@@ -88,7 +87,7 @@ impl Model for Words {
 }
 
 impl Words {
-    /// No words.
+    /// Returns the empty list of words.
     pub fn new(alloc: Global) -> Words
         ensures { result ≡ [] }
     {
@@ -97,14 +96,14 @@ impl Words {
         }
     }
 
-    /// The words, in order.
+    /// Returns the words, in order.
     pub fn as_slice(&self) -> &[Name]
         ensures { result.now ≡ self.now }
     {
         self.items.as_slice()
     }
 
-    /// Puts a word at the end. After `NoMemory` the words are as they were.
+    /// Adds a word at the end. After `NoMemory` the words are unchanged.
     pub fn push(&mut self, word: Name) -> Result<(), NoMemory>
         ensures ok { OnOk result (self.new ≡ self.old ++ word ∷ []) }
         ensures err { OnErr result (self.new ≡ self.old) }
@@ -114,7 +113,7 @@ impl Words {
     }
 }
 
-/// Files by their names, each as its bytes.
+/// Files by name, each as its bytes.
 #[derive(Drop)]
 pub struct FileMap {
     files: BTreeMap<Name, Bytes>,
@@ -135,7 +134,7 @@ impl Model for FileMap {
 }
 
 impl FileMap {
-    /// No files.
+    /// Returns the map without files.
     pub fn new(alloc: Global) -> FileMap
         ensures { result ≡ map.empty }
     {
@@ -144,15 +143,14 @@ impl FileMap {
         }
     }
 
-    /// The bytes of the file with this name.
+    /// Returns the bytes of the file with this name.
     pub fn get(&self, name: &Name) -> Option<&Bytes>
         ensures { option_copied result ≡ map.get self.now name.now }
     {
         self.files.get(name)
     }
 
-    /// Puts a file into the map, in place of an older one with its name. After `NoMemory` the map is as
-    /// it was.
+    /// Adds a file to the map, and replaces an older one with its name. After `NoMemory` the map is unchanged.
     pub fn insert(&mut self, name: Name, bytes: Bytes) -> Result<(), NoMemory>
         ensures ok { OnOk result (self.new ≡ map.insert self.old name bytes) }
         ensures err { OnErr result (self.new ≡ self.old) }
@@ -177,7 +175,7 @@ impl Model for Calls {
 }
 
 impl Calls {
-    /// No calls.
+    /// Returns the empty list.
     pub fn new(alloc: Global) -> Calls
         ensures { result ≡ [] }
     {
@@ -186,7 +184,7 @@ impl Calls {
         }
     }
 
-    /// The calls with these numbers.
+    /// Returns the calls with these numbers.
     pub fn from_slice(alloc: Global, numbers: &[u64]) -> Result<Calls, NoMemory>
         ensures { IfOk result (λ calls. calls ≡ numbers.now) }
     {
@@ -195,7 +193,7 @@ impl Calls {
         })
     }
 
-    /// Whether the call with this number is among them.
+    /// Decides whether the call with this number is in the list.
     pub fn contains(&self, number: u64) -> bool
         ensures { IsTrue result ↔ Contains self.now number }
     {

@@ -1,4 +1,4 @@
-//! Numbers that lead back to themselves over edges of which at least one is marked.
+//! Numbers that are on a cycle with a marked edge.
 
 pub mod edge;
 mod marks;

@@ -1,4 +1,4 @@
-//! Want of memory, which each allocating call of the verifier may answer.
+//! The error of an allocation that fails.
 
 ghost use Rattle.std.specs.Prelude.{◌≡◌};
 
@@ -6,7 +6,7 @@ use std::alloc::{AllocError, AllocFailed};
 use std::error::Error;
 use std::fmt;
 
-/// Memory ran out. Whatever the call took by shared reference is as it was.
+/// There is not enough memory. What the call took by shared reference is unchanged.
 #[derive(Clone, Copy, Debug, PartialEq, Eq)]
 pub struct NoMemory;
 

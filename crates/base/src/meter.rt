@@ -1,11 +1,11 @@
-//! Counts the steps of a search against its budget.
+//! The step count of a search against its budget.
 
 ghost use Rattle.std.specs.Prelude.{◌≡◌, ◌+◌, true, false};
 
 use crate::steps::Steps;
 use std::sync::ledger::Ledger;
 
-/// Takes a step, and counts it, if one is left; else says that none is.
+/// Counts one more step and returns true if one is left; else returns false.
 pub fn take_step<L: Ledger>(steps: &mut Steps<L>, left: &mut u64) -> bool
     ensures counted { steps.new + left.new ≡ steps.old + left.old }
     ensures taken { result ≡ true → left.old ≡ left.new + 1 }

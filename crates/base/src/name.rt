@@ -30,7 +30,7 @@ impl Model for Name {
 }
 
 impl Name {
-    /// The name that these bytes spell.
+    /// Returns the name that these bytes spell.
     pub fn from_slice(alloc: Global, bytes: &[u8]) -> Result<Name, NoMemory>
         ensures { IfOk result (λ name. name ≡ bytes.now) }
     {
@@ -39,14 +39,14 @@ impl Name {
         })
     }
 
-    /// The bytes that spell the name.
+    /// Returns the bytes that spell the name.
     pub fn as_slice(&self) -> &[u8]
         ensures { result.now ≡ self.now }
     {
         self.bytes.as_slice()
     }
 
-    /// A second copy of the name.
+    /// Returns a copy of the name.
     pub fn try_clone(&self, alloc: Global) -> Result<Name, NoMemory>
         ensures { IfOk result (λ name. name ≡ self.now) }
     {

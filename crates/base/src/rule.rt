@@ -8,41 +8,41 @@ ghost use Rattle.base.specs.Rules.{rule_name, rule_number};
 pub enum Rule {
     /// No list of tokens spells the bytes.
     BadToken,
-    /// The tokens are of no source, and hold no marker of a form that is left out.
+    /// The tokens are of no source, and contain no marker of a form that is left out.
     Grammar,
-    /// The tokens are of no source, and hold a marker of a form that is left out.
+    /// The tokens are of no source, and contain a marker of a form that is left out.
     LeftOut,
-    /// A use of a name means no declaration: of an address, a module, a member, a type, a value, a call or a variable of a
+    /// A name refers to no declaration: of an address, a module, a member, a type, a value, a callee or a variable of a
     /// schema.
     UnknownName,
-    /// Two declarations of one kind in one module have one name, or two parameters, type parameters or fields of one
-    /// owner; or two modules have one address and one name.
+    /// Two declarations of one kind in one module have the same name, or two parameters, type parameters or fields of
+    /// one owner; or two modules have the same address and name.
     TwiceDeclared,
-    /// Code calls a function that is not visible in its module, makes or takes apart a struct of another module, uses a
-    /// field of one, or uses global storage at one; fields and storage whose types are inferred are looked at too.
+    /// Code calls a function that is not visible in its module, packs or unpacks a struct of another module, uses a
+    /// field of one, or uses global storage at one; fields and storage whose types are inferred count too.
     NotVisible,
-    /// Modules use one another in a circle, the types of a struct's fields lead back to it, or spec functions or
+    /// Modules use one another in a cycle, the types of a struct's fields lead back to the struct, or spec functions or
     /// schemas use themselves.
     Cycle,
-    /// A declaration or a clause has no typing; or a number that is written does not fit its type, the value of a
-    /// constant is not returned, or calls carry a type parameter back to itself inside another type.
+    /// A declaration or a clause has no typing; or a numeral does not fit its type, the value of a constant is not
+    /// returned, or calls carry a type parameter back to itself inside another type.
     NoTyping,
     /// There are typings, and a type is not determined.
     Ambiguous,
-    /// A type lacks an ability that is asked of it.
+    /// A type lacks a required ability.
     Ability,
-    /// A function does not list in `acquires` a struct that it has to list.
+    /// A function does not list in `acquires` a struct that it must list.
     Acquires,
     /// A local may be used without a value.
     Unassigned,
     /// A value whose type has no drop may be left behind.
     Undropped,
-    /// The file holds a form that is not built yet.
+    /// The file contains a form that is not supported yet.
     NotBuilt,
 }
 
 impl Rule {
-    /// The number by which a refusal names the rule.
+    /// Returns the number of the rule, which a refusal states.
     pub fn number(self) -> u32
         ensures { result ≡ rule_number self }
     {
@@ -64,7 +64,7 @@ impl Rule {
         }
     }
 
-    /// The name by which a refusal names the rule.
+    /// Returns the name of the rule, which a refusal states.
     pub fn text(self) -> &'static [u8]
         ensures { result.now ≡ rule_name self }
     {

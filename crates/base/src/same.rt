@@ -6,7 +6,7 @@ use crate::memory::NoMemory;
 use crate::types::{FunctionId, StructId, TypeList, TypeNode, TypeTerm};
 use std::alloc::Global;
 
-/// Whether two types are one.
+/// Decides whether two types are equal.
 #[cycle(same_type)]
 pub fn same_type(left: &TypeTerm, right: &TypeTerm) -> bool
     ensures { IsTrue result ↔ (left.now ≡ right.now) }
@@ -27,7 +27,7 @@ pub fn same_type(left: &TypeTerm, right: &TypeTerm) -> bool
     }
 }
 
-/// Whether two lists of types are one.
+/// Decides whether two lists of types are equal.
 #[cycle(same_type)]
 pub fn same_types(left: &TypeList, right: &TypeList) -> bool
     ensures { IsTrue result ↔ (left.now ≡ right.now) }
@@ -46,7 +46,7 @@ fn same_slices(left: &[TypeTerm], right: &[TypeTerm]) -> bool
     }
 }
 
-/// Whether two names of structs are one.
+/// Decides whether two names of structs are equal.
 pub fn same_struct(left: &StructId, right: &StructId) -> bool
     ensures { IsTrue result ↔ (left.now ≡ right.now) }
 {
@@ -54,7 +54,7 @@ pub fn same_struct(left: &StructId, right: &StructId) -> bool
 }
 
 impl FunctionId {
-    /// A second copy of the name of a function.
+    /// Returns a copy of the name of a function.
     pub fn try_clone(&self, alloc: Global) -> Result<FunctionId, NoMemory>
         ensures { IfOk result (λ copy. copy ≡ self.now) }
     {
@@ -67,7 +67,7 @@ impl FunctionId {
 }
 
 impl StructId {
-    /// A second copy of the name of a struct.
+    /// Returns a copy of the name of a struct.
     pub fn try_clone(&self, alloc: Global) -> Result<StructId, NoMemory>
         ensures { IfOk result (λ copy. copy ≡ self.now) }
     {
@@ -79,7 +79,7 @@ impl StructId {
     }
 }
 
-/// A second copy of a type.
+/// Returns a copy of a type.
 #[cycle(copy_type)]
 pub fn copy_type(alloc: Global, from: &TypeTerm) -> Result<TypeTerm, NoMemory>
     ensures { IfOk result (λ copy. copy ≡ from.now) }
@@ -109,7 +109,7 @@ fn copy_boxed(alloc: Global, from: &TypeTerm) -> Result<Box<TypeTerm>, NoMemory>
     Ok(Box::new(alloc, copy_type(alloc, from)?)?)
 }
 
-/// A second copy of a list of types.
+/// Returns a copy of a list of types.
 #[cycle(copy_type)]
 pub fn copy_types(alloc: Global, from: &TypeList) -> Result<TypeList, NoMemory>
     ensures { IfOk result (λ copy. copy ≡ from.now) }

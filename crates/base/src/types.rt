@@ -29,14 +29,14 @@ pub enum Width {
     U128,
 }
 
-/// A type of Move or of its specifications. `num` is the type of whole numbers; a type parameter
-/// goes by its number; a list of types between parentheses is a tuple.
+/// A type of Move or of its specifications. `num` is the type of integers of any size; a type parameter is its number;
+/// a list of types between parentheses is a tuple.
 #[cycle(type_term)]
 pub struct TypeTerm {
     pub node: TypeNode,
 }
 
-// Its own, so that letting one go is a call wherever it is done, and not the cases of all forms below it.
+// A separate impl, so that each drop is a call and not the cases of all forms below it.
 impl Drop for TypeTerm {
     #[cycle(drop_type)]
     fn drop(self) {

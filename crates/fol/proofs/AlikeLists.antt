@@ -1,9 +1,9 @@
--- A comparison of two lists, item by item from their fronts.
+-- The comparison of two lists, item by item.
 use Rattle.std.proofs.Common.{◌≡◌, ◌↔◌, ◌⊎◌, inl, inr, ℕ, ◌≤◌, List, [], ◌∷◌, length, sym, ◌∙◌, ap, arith}
 use Rattle.base.proofs.ListEnds.{head_is, tail_is}
 
--- What a comparison of two lists knows that has xs and ys left of them: xs and ys are equal exactly where the whole
--- lists are, are as long as each other, and are no larger than the whole
+-- the invariant of a comparison of `left` and `right` with the rests xs and ys: the rests are equal exactly where the
+-- lists are, they have the same length, and they are no larger than the lists
 pub record Alike {A : Type 0} (size : List A → ℕ) (left right xs ys : List A) : Type 0 where
   pub same_rest : (xs ≡ ys) ↔ (left ≡ right)
   pub same_length : length xs ≡ length ys

@@ -1,4 +1,4 @@
--- The laws on tests that answer right.
+-- The laws of tests that decide which properties all values have.
 use Rattle.std.proofs.Common.{◌≡◌, Bool, true, false, ◌⊎◌, ◌↔◌, inl, inr, refl, sym, ◌∙◌}
 use mathlib.Core.Path.{fun_ext}
 use Rattle.std.specs.Prelude.{IsTrue, IsFalse}
@@ -6,7 +6,7 @@ use Rattle.std.specs.Cmp.{both_ways}
 use Rattle.fol.specs.Val.{Val}
 use Rattle.fol.specs.Deciders.{SomeInterpretationReads, OneInterpretationReads, OneTestAnswersRight}
 
--- the test that a decision on each test gives
+-- the test, from a decision of each property
 abbrev holds_of_all : (f : Val → Bool) → ((v : Val) → IsTrue (f v)) ⊎ ((v : Val) × IsFalse (f v)) → Bool
 holds_of_all f (inl _) = true
 holds_of_all f (inr _) = false

@@ -1,4 +1,4 @@
--- Why 'for all values' may be read as the answer of a test: to a classical reader there is one such test, and no other.
+-- Why the truth of 'for all values' can be the answer of a test: in classical logic there is exactly one such test.
 use Rattle.std.specs.Prelude.{◌≡◌, ℕ, Bool, ◌⊎◌, IsTrue, IsFalse, List}
 use Rattle.base.specs.TypeData.{TypeData}
 use Rattle.fol.specs.declared.shapes.Shape.{Shape}
@@ -10,17 +10,17 @@ use Rattle.fol.specs.Validity.{AnswersRight, Reads, is_ground}
 abbrev pub EachTestIsDecided : Type 0
 EachTestIsDecided = (f : Val → Bool) → ((v : Val) → IsTrue (f v)) ⊎ ((v : Val) × IsFalse (f v))
 
--- then there is an interpretation to read formulas in, whatever the shapes and the ground types that are named
+-- then there is an interpretation of any shapes in which type parameters name any given ground types
 abbrev pub SomeInterpretationReads : Type 0
 SomeInterpretationReads =
     EachTestIsDecided → (shapes : List Shape) (named : ℕ → TypeData) → ((n : ℕ) → IsTrue (is_ground (named n))) → (m : Interpretation) × Reads shapes m × ((n : ℕ) → m.named n ≡ named n)
 
--- two interpretations to read formulas in that agree on what names mean are one
+-- two interpretations of the same shapes in which type parameters name the same types are equal
 abbrev pub OneInterpretationReads : Type 0
 OneInterpretationReads =
     (shapes : List Shape) (m n : Interpretation) → Reads shapes m → Reads shapes n → ((k : ℕ) → m.named k ≡ n.named k) → m ≡ n
 
--- two tests that answer right give the same answers
+-- two tests that decide which properties all values have give the same answers
 abbrev pub OneTestAnswersRight : Type 0
 OneTestAnswersRight =
     (all other : (Val → Bool) → Bool) → AnswersRight all → AnswersRight other → (f : Val → Bool) → all f ≡ other f

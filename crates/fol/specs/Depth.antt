@@ -1,4 +1,4 @@
--- How deep a formula is: the greatest number of terms, formulas and types that stand one within another.
+-- The depth of a formula: the greatest number of terms, formulas and types that are nested.
 use Rattle.std.specs.Prelude.{ℕ, ◌+◌, ◌<◌, max}
 use Rattle.std.proofs.Common.{arith}
 use Rattle.base.specs.TypeData.{TypeData, TypesData, BoolType, IntType, NumType, AddressType, SignerType, VectorType, StructType, ParamType, SharedType, MutableType, TupleType, NoTypes, MoreTypes}

@@ -1,6 +1,6 @@
--- Terms and formulas as pure data, as contracts see them: many-sorted first-order logic with whole numbers, arrays
--- ("memories"), sequences ("vectors") and tuples with names ("structs"), in one sort of values. Terms and formulas go by
--- the number of their parts, with an operator for each.
+-- Terms and formulas as pure data, as contracts see them: many-sorted first-order logic with integers, arrays
+-- ("memories"), sequences ("vectors") and tuples with names ("structs"), in one sort of values. There is a constructor
+-- for each arity, with an operator.
 use Rattle.std.specs.Prelude.{◌≡◌, ℕ, ◌+◌, ℤ, List, [], ◌∷◌, refl}
 use Rattle.std.proofs.Common.{ap, sym, ◌∙◌}
 use Rattle.base.specs.TypeData.{TypeData}
@@ -55,7 +55,7 @@ mutual
     NoFormulas : FormulasData
     MoreFormulas : FormulaData → FormulasData → FormulasData
 
--- ---- each operator's term or formula by its name
+-- ---- the term or formula of each operator
 
 abbrev pub NumTerm : ℤ → TermData
 NumTerm i = ConstantTerm (Num i)

@@ -1,4 +1,4 @@
--- One level of a term and of a formula, with what stands below as pure data.
+-- One level of a term and of a formula, with its children as pure data.
 use Rattle.fol.specs.FormulaData.{TermData, VarTerm, ConstantTerm, UnaryTerm, BinaryTerm, TernaryTerm, PackTerm, FieldTerm, SetFieldTerm, IfTerm, FormulaData, CompareFormula, IsFormula, HoldsFormula, NotFormula, JoinFormula, ConnectFormula, QuantifyFormula, terms_of, triggers_of, formulas_of}
 use Rattle.fol.specs.declared.formula.TermNode.{TermNode}
 use Rattle.fol.specs.declared.formula.TermNode.TheVariants.{Var, Constant, Unary, Binary, Ternary, Pack, Field, SetField, If}

@@ -33,7 +33,7 @@ tail gnil = gnil
 tail (gnum n) = gnil
 tail (gcons a b) = b
 
--- a numbered tree with three places
+-- a numbered tree with three subtrees
 abbrev pub tree : ℕ → Gv → Gv → Gv → Gv
 tree n a b c = gcons (gnum n) (gcons a (gcons b c))
 

@@ -1,5 +1,5 @@
--- What the operators of terms give at values. Each has a value at all values: what is no number counts as 0 in
--- arithmetic, what is no vector as the empty one, and what is no memory as the one without entries.
+-- The values of the operators of terms. Each operator is total: what is not a number is 0 in arithmetic, what is not a
+-- vector is the empty one, and what is not a memory is the one without entries.
 use Rattle.std.specs.Prelude.{ℕ, ◌-◌, ℤ, pos, negsuc, ◌+ℤ◌, ◌-ℤ◌, ◌*ℤ◌, int_le, Bool, true, false, List, ◌^◌, bit_and, bit_or, bit_xor, [], ◌∷◌, ◌++◌, length, take, slice_index_or, slice_set, if◌then◌else◌}
 use Rattle.std.specs.Ordering.{match_ordering}
 use Rattle.base.specs.TypeData.{TypeData}
@@ -17,7 +17,7 @@ use Rattle.fol.specs.declared.operators.Comparison.TheVariants.{Eq, Le}
 use Rattle.fol.specs.Val.{Val, NumberValue, TruthValue, NothingValue, VectorValue, StructValue, MemoryValue, NoValues, Entries, NoEntries, MoreEntries, values_of, list_of_values, same_value, same_type, compare_values}
 use Rattle.fol.specs.Whole.{quotient, remainder, bitwise, shifted_left, shifted_right}
 
--- ---- what a value counts as
+-- ---- conversions of values
 
 abbrev pub number_of : Val → ℤ
 number_of (NumberValue z) = z
@@ -60,11 +60,11 @@ div_values v w = NumberValue (quotient (number_of v) (number_of w))
 abbrev pub mod_values : Val → Val → Val
 mod_values v w = NumberValue (remainder (number_of v) (number_of w))
 
--- an operator of bits. Of a number below 0 it is 0
+-- a bitwise operator, which is 0 for a number below 0
 abbrev pub bit_values : (ℕ → ℕ → ℕ) → Val → Val → Val
 bit_values op v w = NumberValue (bitwise op (number_of v) (number_of w))
 
--- a shift within a width. Of a number below 0, or by one, it is 0
+-- a left shift within a width, which is 0 for a number below 0, or by one
 abbrev pub shl_values : Width → Val → Val → Val
 shl_values w v i = NumberValue (bitwise (shifted_left w) (number_of v) (number_of i))
 
@@ -84,12 +84,12 @@ abbrev entry_at : Entries → Val → Val
 entry_at NoEntries key = NothingValue
 entry_at (MoreEntries k v es) key = if same_value key k then v else entry_at es key
 
--- the entries with this one put in its place, for the one of the same key if there is one
+-- the entries with this one inserted in order, in place of one with the same key
 abbrev with_entry : Entries → Val → Val → Entries
 with_entry NoEntries key value = MoreEntries key value NoEntries
 with_entry (MoreEntries k v es) key value = match_ordering (compare_values key k) (MoreEntries key value (MoreEntries k v es)) (MoreEntries key value es) (MoreEntries k v (with_entry es key value))
 
--- what the memory holds at the key, and `Nothing` where it has no entry
+-- the value of the memory at the key, or `Nothing` where it has no entry
 abbrev pub select_value : Val → Val → Val
 select_value memory key = entry_at (entries_of memory) key
 
@@ -114,7 +114,7 @@ with_item vs (NumberValue (pos n)) item = slice_set vs n item
 with_item vs (NumberValue (negsuc n)) item = vs
 with_item vs _ item = vs
 
--- the item at a place of the vector, and `Nothing` at what is none of its places
+-- the item of the vector at an index, or `Nothing` where there is none
 abbrev pub at_value : Val → Val → Val
 at_value v i = item_at (items_of v) i
 
@@ -125,18 +125,18 @@ push_value v item = vector_of (items_of v ++ item ∷ [])
 abbrev pub pop_value : Val → Val
 pop_value v = vector_of (take (length (items_of v) - 1) (items_of v))
 
--- with this item at a place of the vector. What is none of its places changes nothing
+-- the vector with this item at an index, or unchanged where there is no such index
 abbrev pub set_value : Val → Val → Val → Val
 set_value v i item = vector_of (with_item (items_of v) i item)
 
 -- ---- structs
 
--- the field with this number of a struct of this type, and `Nothing` of any other value
+-- the field with this number of a struct of this type, or `Nothing` for any other value
 abbrev pub field_value : TypeData → ℕ → Val → Val
 field_value t k (StructValue u vs) = if same_type t u then slice_index_or (list_of_values vs) k NothingValue else NothingValue
 field_value t k _ = NothingValue
 
--- the struct with this value in that field. Any other value stays as it is
+-- the struct of this type with this value in that field; any other value is unchanged
 abbrev pub set_field_value : TypeData → ℕ → Val → Val → Val
 set_field_value t k (StructValue u vs) value = if same_type t u then StructValue u (values_of (slice_set (list_of_values vs) k value)) else StructValue u vs
 set_field_value t k v value = v

@@ -1,5 +1,5 @@
--- A total order on the trees of numbers by which the logic codes pure data. What has such a code is told apart and
--- ordered by it.
+-- A total order on the trees of numbers by which the logic codes pure data, which gives a total order of all data with
+-- such a code.
 use base.Stored.{Gv, gnil, gnum, gcons}
 use Rattle.std.specs.Prelude.{◌≡◌, Bool, true, refl}
 use Rattle.std.specs.declared.cmp.Ordering.{Ordering}
@@ -23,13 +23,13 @@ compare_trees (gcons a b) (gcons c d) = ordering_then (compare_trees a c) (compa
 abbrev pub same_tree : Gv → Gv → Bool
 same_tree a b = is_eq (compare_trees a b)
 
--- two parts tie where both do
+-- an ordering and its tie-break are both `Equal` where their combination is
 then_equal : (o p : Ordering) → ordering_then o p ≡ Equal → (o ≡ Equal) × (p ≡ Equal)
 then_equal Less p e = absurd (cc)
 then_equal Equal p e = (refl, e)
 then_equal Greater p e = absurd (cc)
 
--- only equal trees tie
+-- trees that compare as `Equal` are equal
 pub equal_trees : (a b : Gv) → compare_trees a b ≡ Equal → a ≡ b
 equal_trees gnil gnil e = refl
 equal_trees gnil (gnum n) e = absurd (cc)
@@ -57,7 +57,7 @@ antisymm (gcons a b) (gnum n) = refl
 antisymm (gcons a b) (gcons c d) =
     (λ i. ordering_then (antisymm a c i) (antisymm b d i)) ∙ then_flip (compare_trees c a) (compare_trees d b)
 
--- of pairs, from the same of their parts
+-- the same for pairs, from their components
 pairs_trans : (a b c d e f : Gv) → (compare_trees a c ≡ Less → compare_trees c e ≡ Less → compare_trees a e ≡ Less) → (compare_trees b d ≡ Less → compare_trees d f ≡ Less → compare_trees b f ≡ Less) → (o p : Ordering) → compare_trees a c ≡ o → compare_trees c e ≡ p → ordering_then o (compare_trees b d) ≡ Less → ordering_then p (compare_trees d f) ≡ Less → ordering_then (compare_trees a e) (compare_trees b f) ≡ Less
 pairs_trans a b c d e f left right Less Less x y h k = ap (λ o. ordering_then o (compare_trees b f)) (left x y)
 pairs_trans a b c d e f left right Less Equal x y h k =
@@ -96,7 +96,7 @@ trans (gcons a b) (gcons c d) (gcons e f) h k =
 pub tree_total : IsTotalOrder compare_trees
 tree_total = record { antisymm = antisymm; trans = trans; congr = λ a b c e. ap (λ t. compare_trees t c) (equal_trees a b e) }
 
--- the test holds of equal trees alone
+-- the test is true of equal trees alone
 pub same_tree-equal : (a b : Gv) → same_tree a b ≡ true → a ≡ b
 same_tree-equal a b e = equal_trees a b ((Equal-is (compare_trees a b)).0 e)
 

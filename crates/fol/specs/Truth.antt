@@ -1,5 +1,5 @@
 -- The value of a term and the truth of a formula, as in first-order logic: under an assignment of values to variables
--- and an interpretation of what the formula itself does not say.
+-- and an interpretation. Source: H. B. Enderton, A Mathematical Introduction to Logic, section 2.2.
 use Rattle.std.specs.Prelude.{ℕ, Bool, true, false, not, ◌&&◌, ◌||◌, ◌==◌, List, if◌then◌else◌}
 use Rattle.base.specs.TypeData.{TypeData}
 use Rattle.fol.specs.declared.shapes.Shape.{Shape}
@@ -13,10 +13,9 @@ use Rattle.fol.specs.declared.operators.Quantifier.{Quantifier}
 use Rattle.fol.specs.declared.operators.Quantifier.TheVariants.{ForAll, Exists}
 use Rattle.fol.specs.TypedValue.{put_types, has_type}
 
--- What truth hangs on beside the values of variables: a test of whether a property holds of all values, the shapes of
--- structs, and the types that type parameters name.
--- The test is a part of the interpretation because no test of an infinite number of values can be computed. To a
--- classical reader there is exactly one that answers right.
+-- An interpretation: a test of whether a property holds of all values, the shapes of structs, and the types that type
+-- parameters name. The test is a part of the interpretation because no test of an infinite number of values is
+-- computable. In classical logic there is exactly one such test.
 pub record Interpretation : Type 0 where
   pub all : (Val → Bool) → Bool
   pub shapes : List Shape
@@ -30,7 +29,7 @@ Assignment = ℕ → Val
 abbrev pub set_var : Assignment → ℕ → Val → Assignment
 set_var s n v k = if k == n then v else s k
 
--- whether two truth values are equal
+-- decides whether two truth values are equal
 abbrev pub same_truth : Bool → Bool → Bool
 same_truth true b = b
 same_truth false b = not b
@@ -39,7 +38,7 @@ abbrev pub connected : Connective → Bool → Bool → Bool
 connected Implies a b = not a || b
 connected Iff a b = same_truth a b
 
--- of all values, or of some: not of all that it is false
+-- for all values, or for some: not for all is it false
 abbrev pub quantified : Quantifier → ((Val → Bool) → Bool) → (Val → Bool) → Bool
 quantified ForAll all f = all f
 quantified Exists all f = not (all (λ v. not (f v)))

@@ -1,4 +1,5 @@
--- Which values a type has, under the shapes of structs.
+-- The values of each type, given the shapes of structs. Source: The Move Book, "Primitive Types" and "Structs and
+-- Resources"; the Move Specification Language reference, "Type System", on `num`.
 use Rattle.std.specs.Prelude.{ℕ, ◌-◌, ◌^◌, ℤ, pos, negsuc, Bool, true, false, ◌&&◌, nat_lt, nat_le, ◌==◌, List, [], ◌∷◌, length, map, slice_index_or, Option, Some, None, if◌then◌else◌}
 use Rattle.base.specs.TypeData.{TypeData, TypesData, BoolType, IntType, NumType, AddressType, SignerType, VectorType, StructType, ParamType, SharedType, MutableType, TupleType, NoTypes, MoreTypes, list_of_types, struct_code}
 use Rattle.base.specs.declared.types.StructId.{StructId}
@@ -9,7 +10,7 @@ use Rattle.fol.specs.Val.{Val, NumberValue, TruthValue, VectorValue, StructValue
 use Rattle.fol.specs.TreeOrder.{same_tree}
 use Rattle.fol.specs.Whole.{bits_of}
 
--- ---- types with types in place of type parameters
+-- ---- types with type arguments in place of type parameters
 
 abbrev mutual
   pub put_types : (ℕ → TypeData) → TypeData → TypeData
@@ -29,7 +30,7 @@ abbrev mutual
   put_types_in named NoTypes = NoTypes
   put_types_in named (MoreTypes t ts) = MoreTypes (put_types named t) (put_types_in named ts)
 
--- the type argument with this number. A parameter without an argument stays a name, and has no values
+-- the type argument with this number; a parameter without an argument is unchanged, and has no values
 abbrev pub argument : TypesData → ℕ → TypeData
 argument args n = slice_index_or (list_of_types args) n (ParamType n)
 
@@ -38,15 +39,15 @@ argument args n = slice_index_or (list_of_types args) n (ParamType n)
 abbrev pub same_struct : StructId → StructId → Bool
 same_struct a b = same_tree (struct_code a) (struct_code b)
 
--- the types of the fields of a struct with these type arguments. There are none of a struct that the shapes lack, or
--- with another number of type arguments
+-- the types of the fields of a struct with these type arguments; none where the shapes lack the struct, or it has
+-- another number of type parameters
 abbrev pub field_types : List Shape → StructId → TypesData → Option (List TypeData)
 field_types [] s args = None
 field_types (shape ∷ shapes) s args = if same_struct shape.name s then (if length (list_of_types args) == shape.parameters then Some (map (put_types (argument args)) (list_of_types shape.fields)) else None) else field_types shapes s args
 
 -- ---- values of types
 
--- a whole number from 0 to the greatest of the width
+-- a number from 0 to the greatest of the width
 abbrev pub is_in_width : Width → ℤ → Bool
 is_in_width w (pos n) = nat_lt n (2 ^ bits_of w)
 is_in_width w (negsuc n) = false
@@ -56,7 +57,7 @@ some_and None test = false
 some_and (Some x) test = test x
 
 abbrev mutual
-  -- whether the value is one of the type. References, tuples and type parameters have none
+  -- decides whether the value is of the type; references, tuples and type parameters have no values
   pub has_type : List Shape → TypeData → Val → Bool
   has_type shapes BoolType (TruthValue b) = true
   has_type shapes (IntType w) (NumberValue z) = is_in_width w z
@@ -71,7 +72,7 @@ abbrev mutual
   all_have_type shapes t NoValues = true
   all_have_type shapes t (MoreValues v vs) = has_type shapes t v && all_have_type shapes t vs
 
-  -- whether there is one value for each type, and of this type
+  -- decides whether there is one value for each type, and of this type
   pub have_types : List Shape → List TypeData → Vals → Bool
   have_types shapes [] NoValues = true
   have_types shapes (t ∷ ts) (MoreValues v vs) = has_type shapes t v && have_types shapes ts vs

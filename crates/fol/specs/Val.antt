@@ -1,6 +1,6 @@
--- The values that terms have: whole numbers (addresses and signers among them), truth values, `Nothing`, vectors,
--- structs with their type, and memories. They are the values of The Move Book's types, with the unbounded numbers of
--- the Move Specification Language and, for storage, finite maps as in the theory of arrays.
+-- The values of terms: integers (also as addresses and signers), truth values, `Nothing`, vectors, structs with their
+-- type, and memories. They are the values of The Move Book's types, with the unbounded numbers of the Move
+-- Specification Language and, for storage, finite maps as in the theory of arrays.
 use base.Stored.{Gv, gnil, gnum, gcons, num}
 use denote.Struct.Codes.{itself}
 use Rattle.std.specs.Prelude.{◌≡◌, ℤ, Bool, true, false, List, [], ◌∷◌, Decides, refl}
@@ -27,7 +27,7 @@ mutual
     NoValues : Vals
     MoreValues : Val → Vals → Vals
 
-  -- what a memory holds: keys with their values, in the order of the keys
+  -- the entries of a memory: keys with their values, in the order of the keys
   pub data Entries : Type 0 where
     NoEntries : Entries
     MoreEntries : Val → Val → Entries → Entries
@@ -117,15 +117,15 @@ coded_value = code_by Gv itself value_code value_back value_back-code
 
 -- ---- equality and order
 
--- the total order on values, which keeps a memory's entries in place
+-- the total order on values, in which the entries of a memory are sorted
 unfoldable pub compare_values : Val → Val → Ordering
 compare_values v w = compare_trees (value_code v) (value_code w)
 
--- whether two values are equal
+-- decides whether two values are equal
 unfoldable pub same_value : Val → Val → Bool
 same_value v w = same_tree (value_code v) (value_code w)
 
--- whether two types are equal
+-- decides whether two types are equal
 unfoldable pub same_type : TypeData → TypeData → Bool
 same_type t u = same_tree (type_code t) (type_code u)
 
@@ -133,7 +133,7 @@ pub compare_values_total : IsTotalOrder compare_values
 unfolding compare_values
 compare_values_total = on_total value_code tree_total
 
--- only equal values tie
+-- values that compare as `Equal` are equal
 pub compare_values-equal : (v w : Val) → compare_values v w ≡ Equal → v ≡ w
 unfolding compare_values
 compare_values-equal v w e =

@@ -1,4 +1,5 @@
--- Validity: truth under every interpretation and every assignment.
+-- Validity: truth under every interpretation and every assignment. Source: H. B. Enderton, A Mathematical Introduction
+-- to Logic, section 2.2.
 use Rattle.std.specs.Prelude.{◌≡◌, ℕ, Bool, true, false, ◌&&◌, ◌↔◌, IsTrue, List}
 use Rattle.base.specs.TypeData.{TypeData, TypesData, BoolType, IntType, NumType, AddressType, SignerType, VectorType, StructType, ParamType, SharedType, MutableType, TupleType, NoTypes, MoreTypes}
 use Rattle.fol.specs.declared.shapes.Shape.{Shape}
@@ -6,11 +7,11 @@ use Rattle.fol.specs.FormulaData.{FormulaData}
 use Rattle.fol.specs.Val.{Val}
 use Rattle.fol.specs.Truth.{Interpretation, Assignment, truth_of}
 
--- the test holds exactly of the properties that all values have
+-- the test decides which properties all values have
 abbrev pub AnswersRight : ((Val → Bool) → Bool) → Type 0
 AnswersRight all = (f : Val → Bool) → IsTrue (all f) ↔ ((v : Val) → IsTrue (f v))
 
--- whether the type is one that values of Move have: it has no type parameters in it, and no `num`, reference or tuple
+-- decides whether the type is one of Move values: it contains no type parameter, no `num`, no reference and no tuple
 abbrev mutual
   pub is_ground : TypeData → Bool
   is_ground BoolType = true
@@ -29,12 +30,12 @@ abbrev mutual
   all_ground NoTypes = true
   all_ground (MoreTypes t ts) = is_ground t && all_ground ts
 
--- an interpretation that a formula over these shapes may be read in
+-- an interpretation of these shapes
 pub record Reads (shapes : List Shape) (m : Interpretation) : Type 0 where
   pub answers_right : AnswersRight m.all
   pub same_shapes : m.shapes ≡ shapes
   pub names_ground : (n : ℕ) → IsTrue (is_ground (m.named n))
 
--- the formula is true whatever its variables and type parameters stand for
+-- the formula is true under each interpretation of these shapes and each assignment
 pub record Valid (shapes : List Shape) (p : FormulaData) : Type 0 where
   pub holds : (m : Interpretation) → Reads shapes m → (s : Assignment) → IsTrue (truth_of m p s)

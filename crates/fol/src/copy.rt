@@ -24,8 +24,8 @@ fn formula(node: FormulaNode) -> Formula
 }
 
 impl Term {
-    /// A second copy of the term.
-    // Each form that has parts is copied by a function of its own, which keeps the proof of this one short.
+    /// Returns a copy of the term.
+    // Each form with children is copied by a function of its own, which keeps the proof of this one short.
     #[cycle(copy)]
     pub fn try_clone(&self, alloc: Global) -> Result<Term, NoMemory>
         ensures { IfOk result (λ copy. copy ≡ self.now) }
@@ -121,7 +121,7 @@ fn copy_if(alloc: Global, p: &Formula, a: &Term, b: &Term) -> Result<Term, NoMem
     Ok(term(TermNode::If(p, a, b)))
 }
 
-/// A second copy of the term, in a box.
+/// Returns a copy of the term, in a box.
 #[cycle(copy)]
 pub fn copy_term(alloc: Global, from: &Term) -> Result<Box<Term>, NoMemory>
     ensures { IfOk result (λ copy. copy.value ≡ from.now) }
@@ -163,7 +163,7 @@ fn copy_triggers(alloc: Global, from: &[Trigger]) -> Result<Vec<Trigger>, NoMemo
 }
 
 impl Formula {
-    /// A second copy of the formula.
+    /// Returns a copy of the formula.
     #[cycle(copy)]
     pub fn try_clone(&self, alloc: Global) -> Result<Formula, NoMemory>
         ensures { IfOk result (λ copy. copy ≡ self.now) }
@@ -258,7 +258,7 @@ fn copy_quantify(
     Ok(formula(FormulaNode::Quantify(operator, n, triggers, p)))
 }
 
-/// A second copy of the formula, in a box.
+/// Returns a copy of the formula, in a box.
 #[cycle(copy)]
 pub fn copy_formula(alloc: Global, from: &Formula) -> Result<Box<Formula>, NoMemory>
     ensures { IfOk result (λ copy. copy.value ≡ from.now) }

@@ -1,4 +1,4 @@
-//! A test of how deep terms and formulas are, which looks no deeper than its limit.
+//! Decides whether terms and formulas are deeper than a limit, without looking deeper than the limit.
 
 ghost use Rattle.std.specs.Prelude.{◌↔◌, ◌<◌, IsTrue};
 ghost use Rattle.base.specs.TypeData.{types_of};
@@ -8,7 +8,7 @@ ghost use Rattle.fol.specs.Depth.{type_depth, types_depth, term_depth, terms_dep
 use crate::formula::{Formula, FormulaNode, Term, TermNode, Trigger};
 use base::types::{TypeList, TypeNode, TypeTerm};
 
-/// Whether the type has more than `limit` types one within another, itself included.
+/// Decides whether the type is deeper than `limit`: more than so many types are nested, itself included.
 #[cycle(type_depth)]
 #[tactic(auto, using(crate::proofs::DepthLaws::type_depth_positive))]
 pub fn is_type_deeper(of: &TypeTerm, limit: u32) -> bool
@@ -51,7 +51,7 @@ fn is_any_type_deeper(types: &[TypeTerm], limit: u32) -> bool
     false
 }
 
-/// Whether the term has more than `limit` terms, formulas and types one within another, itself
+/// Decides whether the term is deeper than `limit`: more than so many terms, formulas and types are nested, itself
 /// included.
 #[cycle(depth)]
 #[tactic(auto, using(crate::proofs::DepthLaws::term_depth_positive))]
@@ -113,7 +113,7 @@ fn is_any_trigger_deeper(triggers: &[Trigger], limit: u32) -> bool
     false
 }
 
-/// Whether the formula has more than `limit` terms, formulas and types one within another, itself
+/// Decides whether the formula is deeper than `limit`: more than so many terms, formulas and types are nested, itself
 /// included.
 #[cycle(depth)]
 #[tactic(auto, using(crate::proofs::DepthLaws::formula_depth_positive))]

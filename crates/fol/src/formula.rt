@@ -6,13 +6,13 @@ use crate::operators::{
 use base::types::TypeTerm;
 use std::marker::Model;
 
-/// A term: it has one value for each choice of values of its variables.
+/// A term. It has a value for each assignment of values to its variables.
 #[cycle(formula)]
 pub struct Term {
     pub node: TermNode,
 }
 
-// Its own, so that letting one go is a call wherever it is done, and not the cases of all forms below it.
+// A separate impl, so that each drop is a call and not the cases of all forms below it.
 impl Drop for Term {
     #[cycle(drop_formula)]
     fn drop(self) {
@@ -21,8 +21,8 @@ impl Drop for Term {
     }
 }
 
-/// The shapes of a term. Each term has a value whatever its parts are; `specs/Operators.antt` says
-/// which.
+/// The forms of a term. Each term has a value, whatever the values of its children are; `specs/Operators.antt` defines
+/// it.
 #[cycle(formula)]
 #[derive(Drop)]
 pub enum TermNode {
@@ -38,12 +38,12 @@ pub enum TermNode {
     Field(TypeTerm, u32, Box<Term>),
     /// A struct of this type with the field of this number replaced.
     SetField(TypeTerm, u32, Box<Term>, Box<Term>),
-    /// The first term where the formula is true, else the second.
+    /// The first term if the formula is true, else the second.
     If(Box<Formula>, Box<Term>, Box<Term>),
 }
 
-/// A trigger of a quantifier: terms that, found together, call for an instance. It has no part in
-/// what the quantifier means.
+/// A trigger of a quantifier: terms that, matched together, instantiate it. It does not affect the meaning of the
+/// quantifier.
 #[cycle(formula)]
 #[derive(Drop)]
 pub struct Trigger {
@@ -53,13 +53,13 @@ pub struct Trigger {
 /// The triggers of a quantifier.
 pub type Triggers = Vec<Trigger>;
 
-/// A formula: it is true or false for each choice of values of its variables.
+/// A formula. It is true or false for each assignment of values to its variables.
 #[cycle(formula)]
 pub struct Formula {
     pub node: FormulaNode,
 }
 
-// Its own, so that letting one go is a call wherever it is done, and not the cases of all forms below it.
+// A separate impl, so that each drop is a call and not the cases of all forms below it.
 impl Drop for Formula {
     #[cycle(drop_formula)]
     fn drop(self) {
@@ -68,19 +68,19 @@ impl Drop for Formula {
     }
 }
 
-/// The shapes of a formula.
+/// The forms of a formula.
 #[cycle(formula)]
 #[derive(Drop)]
 pub enum FormulaNode {
     Compare(Comparison, Box<Term>, Box<Term>),
-    /// The term has a value of the type.
+    /// The value of the term is of the type.
     Is(TypeTerm, Box<Term>),
-    /// The term is `True`.
+    /// The value of the term is `True`.
     Holds(Box<Term>),
     Not(Box<Formula>),
     Join(Junction, Vec<Formula>),
     Connect(Connective, Box<Formula>, Box<Formula>),
-    /// The formula for each value, or for some value, of the variable.
+    /// The formula holds for each value, or for some value, of the variable.
     Quantify(Quantifier, u32, Triggers, Box<Formula>),
 }
 

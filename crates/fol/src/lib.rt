@@ -1,4 +1,4 @@
-//! First-order formulas over Move's values, and when they are true.
+//! First-order formulas over Move's values, and their truth.
 #![tactic(auto)]
 
 pub mod copy;

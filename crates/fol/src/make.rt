@@ -1,4 +1,4 @@
-//! Terms and formulas from their parts.
+//! Constructors of terms and formulas.
 
 ghost use Rattle.std.specs.Prelude.{◌≡◌, ℕ, pos, if◌then◌else◌};
 ghost use Rattle.fol.specs.FormulaData.{VarTerm, NumTerm, TrueTerm, FalseTerm, NothingTerm, AddTerm, SubTerm, MulTerm, DivTerm, ModTerm, IfTerm, EqFormula, LeFormula, IsFormula, HoldsFormula, NotFormula, AllOfFormula, AnyOfFormula, ForAllFormula, ExistsFormula, formulas_of, triggers_of};
@@ -9,7 +9,7 @@ use crate::operators::{Binary, Comparison, Constant, Junction, Quantifier};
 use base::types::TypeTerm;
 
 impl Term {
-    /// The variable with this number.
+    /// Returns the variable with this number.
     pub fn variable(number: u32) -> Term
         ensures { result ≡ VarTerm number }
     {
@@ -18,7 +18,7 @@ impl Term {
         }
     }
 
-    /// The whole number.
+    /// Returns the term of an integer.
     pub fn number(value: i128) -> Term
         ensures { result ≡ NumTerm value }
     {
@@ -27,7 +27,7 @@ impl Term {
         }
     }
 
-    /// The whole number from 0, in the one form that it has.
+    /// Returns the term of a natural number, in its one form.
     pub fn natural(value: u128) -> Term
         ensures { result ≡ numeral value }
     {
@@ -39,7 +39,7 @@ impl Term {
         Term { node }
     }
 
-    /// The truth value.
+    /// Returns the term of a truth value.
     pub fn truth(value: bool) -> Term
         ensures { result ≡ (if value then TrueTerm else FalseTerm) }
     {
@@ -51,7 +51,7 @@ impl Term {
         Term { node }
     }
 
-    /// The value that no Move value equals.
+    /// Returns the term of the value that no Move value equals.
     pub fn nothing() -> Term
         ensures { result ≡ NothingTerm }
     {
@@ -60,7 +60,7 @@ impl Term {
         }
     }
 
-    /// The sum.
+    /// Returns the sum of two terms.
     pub fn sum(left: Box<Term>, right: Box<Term>) -> Term
         ensures { result ≡ AddTerm left.value right.value }
     {
@@ -69,7 +69,7 @@ impl Term {
         }
     }
 
-    /// The first number less the second.
+    /// Returns the first term minus the second.
     pub fn difference(left: Box<Term>, right: Box<Term>) -> Term
         ensures { result ≡ SubTerm left.value right.value }
     {
@@ -78,7 +78,7 @@ impl Term {
         }
     }
 
-    /// The product.
+    /// Returns the product of two terms.
     pub fn product(left: Box<Term>, right: Box<Term>) -> Term
         ensures { result ≡ MulTerm left.value right.value }
     {
@@ -87,7 +87,7 @@ impl Term {
         }
     }
 
-    /// The quotient, rounded down; 0 where the divisor is 0.
+    /// Returns the quotient of two terms, rounded down; its value is 0 where that of the divisor is 0.
     pub fn quotient(left: Box<Term>, right: Box<Term>) -> Term
         ensures { result ≡ DivTerm left.value right.value }
     {
@@ -96,7 +96,7 @@ impl Term {
         }
     }
 
-    /// What the quotient leaves.
+    /// Returns the remainder of the quotient.
     pub fn remainder(left: Box<Term>, right: Box<Term>) -> Term
         ensures { result ≡ ModTerm left.value right.value }
     {
@@ -107,7 +107,7 @@ impl Term {
 }
 
 impl Formula {
-    /// The terms have one value.
+    /// Returns the formula that the terms have the same value.
     pub fn equal(left: Box<Term>, right: Box<Term>) -> Formula
         ensures { result ≡ EqFormula left.value right.value }
     {
@@ -116,7 +116,7 @@ impl Formula {
         }
     }
 
-    /// The first number is at most the second.
+    /// Returns the formula that the first number is at most the second.
     pub fn at_most(left: Box<Term>, right: Box<Term>) -> Formula
         ensures { result ≡ LeFormula left.value right.value }
     {
@@ -125,7 +125,7 @@ impl Formula {
         }
     }
 
-    /// The term has a value of the type.
+    /// Returns the formula that the value of the term is of the type.
     pub fn has_type(of: TypeTerm, term: Box<Term>) -> Formula
         ensures { result ≡ IsFormula of term.value }
     {
@@ -134,7 +134,7 @@ impl Formula {
         }
     }
 
-    /// The term is `True`.
+    /// Returns the formula that the value of the term is `True`.
     pub fn holds(term: Box<Term>) -> Formula
         ensures { result ≡ HoldsFormula term.value }
     {
@@ -143,7 +143,7 @@ impl Formula {
         }
     }
 
-    /// The negation.
+    /// Returns the negation.
     pub fn not(formula: Box<Formula>) -> Formula
         ensures { result ≡ NotFormula formula.value }
     {
@@ -152,7 +152,7 @@ impl Formula {
         }
     }
 
-    /// All of these are true.
+    /// Returns the conjunction.
     pub fn all_of(formulas: Vec<Formula>) -> Formula
         ensures { result ≡ AllOfFormula (formulas_of formulas.items) }
     {
@@ -161,7 +161,7 @@ impl Formula {
         }
     }
 
-    /// Some of these is true.
+    /// Returns the disjunction.
     pub fn any_of(formulas: Vec<Formula>) -> Formula
         ensures { result ≡ AnyOfFormula (formulas_of formulas.items) }
     {
@@ -170,7 +170,7 @@ impl Formula {
         }
     }
 
-    /// True for each value of the variable.
+    /// Returns the formula that the body is true for each value of the variable.
     pub fn for_all(variable: u32, triggers: Triggers, body: Box<Formula>) -> Formula
         ensures { result ≡ ForAllFormula variable (triggers_of triggers.items) body.value }
     {
@@ -179,7 +179,7 @@ impl Formula {
         }
     }
 
-    /// True for some value of the variable.
+    /// Returns the formula that the body is true for some value of the variable.
     pub fn exists(variable: u32, triggers: Triggers, body: Box<Formula>) -> Formula
         ensures { result ≡ ExistsFormula variable (triggers_of triggers.items) body.value }
     {

@@ -1,11 +1,11 @@
-//! The operators of terms and formulas, by the number of their parts.
+//! The operators of terms and formulas, by their arity.
 
 use base::types::Width;
 
-/// The terms without parts, variables aside.
+/// The terms without children, except variables.
 #[derive(Clone, Copy, Debug, PartialEq, Eq)]
 pub enum Constant {
-    /// The whole number.
+    /// The integer.
     Num(i128),
     /// The greatest `u128`, 2^128 - 1.
     Max,
@@ -17,11 +17,11 @@ pub enum Constant {
     Blank,
     /// The vector without items.
     Empty,
-    /// The whole number, for those that no `Num` holds.
+    /// The natural number, for those that are in the range of no other constant.
     Wide(u128),
 }
 
-/// The operators of one term.
+/// The operators with one term.
 #[derive(Clone, Copy, Debug, PartialEq, Eq)]
 pub enum Unary {
     /// The number of items of a vector.
@@ -30,7 +30,7 @@ pub enum Unary {
     Pop,
 }
 
-/// The operators of two terms.
+/// The operators with two terms.
 #[derive(Clone, Copy, Debug, PartialEq, Eq)]
 pub enum Binary {
     Add,
@@ -38,52 +38,52 @@ pub enum Binary {
     Mul,
     /// The quotient, rounded down; 0 where the divisor is 0.
     Div,
-    /// What the quotient leaves: the dividend less the divisor times the quotient.
+    /// The remainder: the dividend minus the divisor times the quotient.
     Mod,
-    /// Bit by bit, as are `Or` and `Xor`.
+    /// Bitwise, as are `Or` and `Xor`.
     And,
     Or,
     Xor,
-    /// Shifted to the left within the width.
+    /// The left shift within the width.
     Shl(Width),
-    /// Shifted to the right.
+    /// The right shift.
     Shr(Width),
-    /// What a memory holds at a key.
+    /// The value of a memory at a key.
     Select,
-    /// The item of a vector at a place, counted from 0.
+    /// The item of a vector at an index, counted from 0.
     At,
     /// A vector with one more item at its end.
     Push,
 }
 
-/// The operators of three terms.
+/// The operators with three terms.
 #[derive(Clone, Copy, Debug, PartialEq, Eq)]
 pub enum Ternary {
     /// A memory with a value written at a key.
     Store,
-    /// A vector with the item at a place replaced.
+    /// A vector with the item at an index replaced.
     Set,
 }
 
-/// The relations of two terms.
+/// The relations between two terms.
 #[derive(Clone, Copy, Debug, PartialEq, Eq)]
 pub enum Comparison {
-    /// The terms have one value.
+    /// The terms have the same value.
     Eq,
     /// The first number is at most the second.
     Le,
 }
 
-/// The operators of any number of formulas.
+/// The operators with any number of formulas.
 #[derive(Clone, Copy, Debug, PartialEq, Eq)]
 pub enum Junction {
     /// All of them are true.
     AllOf,
-    /// Some of them is true.
+    /// At least one of them is true.
     AnyOf,
 }
 
-/// The operators of two formulas.
+/// The operators with two formulas.
 #[derive(Clone, Copy, Debug, PartialEq, Eq)]
 pub enum Connective {
     Implies,

@@ -6,7 +6,7 @@ ghost use Rattle.fol.specs.FormulaData.{terms_of, triggers_of, formulas_of};
 use crate::formula::{Formula, FormulaNode, Term, TermNode, Trigger};
 use base::same::same_type;
 
-/// Whether two terms are one.
+/// Decides whether two terms are equal.
 #[cycle(same)]
 pub fn same_term(left: &Term, right: &Term) -> bool
     ensures { IsTrue result ↔ (left.now ≡ right.now) }
@@ -37,7 +37,7 @@ pub fn same_term(left: &Term, right: &Term) -> bool
     }
 }
 
-/// Whether two lists of terms are one.
+/// Decides whether two lists of terms are equal.
 #[cycle(same)]
 #[tactic(auto, using(crate::specs::FormulaData::terms_of_injective))]
 pub fn same_terms(left: &[Term], right: &[Term]) -> bool
@@ -79,7 +79,7 @@ fn same_triggers(left: &[Trigger], right: &[Trigger]) -> bool
     true
 }
 
-/// Whether two formulas are one.
+/// Decides whether two formulas are equal.
 #[cycle(same)]
 pub fn same_formula(left: &Formula, right: &Formula) -> bool
     ensures { IsTrue result ↔ (left.now ≡ right.now) }
@@ -107,7 +107,7 @@ pub fn same_formula(left: &Formula, right: &Formula) -> bool
     }
 }
 
-/// Whether two lists of formulas are one.
+/// Decides whether two lists of formulas are equal.
 #[cycle(same)]
 #[tactic(auto, using(crate::specs::FormulaData::formulas_of_injective))]
 pub fn same_formulas(left: &[Formula], right: &[Formula]) -> bool

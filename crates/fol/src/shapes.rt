@@ -1,4 +1,4 @@
-//! What structs are made of.
+//! The shapes of structs.
 
 ghost use Rattle.std.specs.Prelude.{◌≡◌, ◌∷◌, ◌++◌, [], OnOk, OnErr};
 
@@ -7,7 +7,7 @@ use base::types::{StructId, TypeList};
 use std::alloc::Global;
 use std::marker::Model;
 
-/// A struct's shape: how many type parameters it has, and the types of its fields over them.
+/// The shape of a struct: the number of its type parameters, and the types of its fields over them.
 #[derive(Drop)]
 pub struct Shape {
     pub name: StructId,
@@ -15,8 +15,7 @@ pub struct Shape {
     pub fields: TypeList,
 }
 
-/// The shapes of structs. Of several shapes with one name the first counts; a struct without a shape
-/// has no values.
+/// The shapes of structs. Of several shapes with one name the first is used; a struct without a shape has no values.
 #[derive(Drop)]
 pub struct Shapes {
     items: Vec<Shape>,
@@ -35,7 +34,7 @@ impl Model for Shapes {
 }
 
 impl Shapes {
-    /// No shapes.
+    /// Returns the empty list of shapes.
     pub fn new(alloc: Global) -> Shapes
         ensures { result ≡ [] }
     {
@@ -51,7 +50,7 @@ impl Shapes {
         self.items.as_slice()
     }
 
-    /// Puts a shape at the end. After `NoMemory` the shapes are as they were.
+    /// Adds a shape at the end. After `NoMemory` the shapes are unchanged.
     pub fn add(&mut self, shape: Shape) -> Result<(), NoMemory>
         ensures ok { OnOk result (self.new ≡ self.old ++ shape ∷ []) }
         ensures err { OnErr result (self.new ≡ self.old) }

@@ -18,9 +18,9 @@ use tokens::token::Tokens;
 ///
 /// # Errors
 ///
-/// `Grammar` exactly if the tokens denote no file and hold no marker of a form that is left out, with the byte offset
-/// at which reading ended; `LeftOut` exactly if they denote none and hold a marker, with the index of the first one;
-/// `NoMemory` if memory runs out.
+/// `Grammar` exactly if the tokens denote no file and hold no marker of a form that is left out; its byte offset, about
+/// where reading ended, is a hint that no clause pins. `LeftOut` exactly if they denote none and hold a marker, with
+/// the index of the first one. `NoMemory` if memory runs out.
 pub fn modules(alloc: Global, tokens: &Tokens) -> Result<File, ParseFault>
     ensures denoted { IfOk result (λ file. IsFileOf file tokens.now) }
     ensures refused { IfErr result (λ fault. IsCause tokens.now fault) }

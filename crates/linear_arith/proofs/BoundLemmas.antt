@@ -1,4 +1,4 @@
--- Bounds of one unknown: which of two leaves less room, and what meets them.
+-- The bounds of an unknown: the tighter one of two, and the values that meet them.
 use Rattle.std.proofs.Common.{◌≡◌, ◌≢◌, Bool, true, false, cond, ℕ, zero, suc, ◌+◌, ◌*◌, ◌-◌, ◌^◌, ◌<◌, ◌≤◌, pos, negsuc, ℤ, ◌+ℤ◌, ◌*ℤ◌, ◌≤ℤ◌, ◌<ℤ◌, neg_ℤ, refl, sym, ap, ◌∙◌, subst, arith, ◌↔◌, ◌⊎◌, inl, inr, List, get_or, Option, Some, None, MatchOption, IfSome, FitsSigned, below_more}
 use Rattle.std.specs.Prelude.{unsigned_abs, All}
 use Rattle.std.proofs.Math.IntN.{*ℤ_comm}
@@ -15,7 +15,7 @@ use Rattle.linear_arith.specs.declared.bounds.Side.{Side}
 use Rattle.linear_arith.specs.declared.bounds.Side.TheVariants.{Upper, Lower}
 use Rattle.base.proofs.WholeNumbers.{mul_swap, mul_neg, neg_mul, mul_le, le_of_mul, one_mul}
 
--- products of numbers with sizes, by the sizes of both
+-- products of numbers and absolute values, by the absolute values of both
 pub products_not_negative : (a b : ℤ) (m n : ℕ) → pos 0 ≤ℤ a → pos 0 ≤ℤ b → ((unsigned_abs a * m ≤ unsigned_abs b * n) ↔ ((a *ℤ pos m) ≤ℤ (b *ℤ pos n)))
 products_not_negative (pos a) (pos b) m n h k = (λ p. omega (arith, ints, p), λ p. omega (arith, ints, p))
 products_not_negative (pos a) (negsuc b) m n h k = absurd (omega (arith, ints, k))
@@ -42,7 +42,7 @@ size_positive (pos zero) h = absurd (h refl)
 size_positive (pos (suc n)) h = omega arith
 size_positive (negsuc n) h = omega arith
 
--- as tight as one that is as tight as a third
+-- tightness is transitive
 pub IsAsTight_trans : (a b c : Bound) → b.coefficient ≢ pos 0 → IsAsTight a b → IsAsTight b c → IsAsTight a c
 IsAsTight_trans a b c h ab bc = go (unsigned_abs a.coefficient) (unsigned_abs b.coefficient) (unsigned_abs c.coefficient) a.bound b.bound c.bound (size_positive b.coefficient h) ab bc
   where
@@ -60,7 +60,7 @@ on_side_nonzero : (side : Side) (b : Bound) → IsOn side b → b.coefficient �
 on_side_nonzero Upper b h e = let z : pos 0 <ℤ pos 0 = subst (λ (c : ℤ). pos 0 <ℤ c) e h in absurd (omega (arith, ints, z))
 on_side_nonzero Lower b h e = let z : pos 0 <ℤ pos 0 = subst (λ (c : ℤ). c <ℤ pos 0) e h in absurd (omega (arith, ints, z))
 
--- the tightest of the bounds of a side before a place
+-- the tightest of the bounds of a side before an index
 pub record IsBest (side : Side) (bounds : List Bound) (i : ℕ) (t : Bound) : Type 0 where
   pub place : ℕ
   pub place_before : place < i
@@ -103,7 +103,7 @@ best_without side bounds i (Some b) now at before off = record {
   as_tight = λ k d h. below_more (λ (k : ℕ). (d : Bound) → IsOn side (get_or bounds k d) → IsAsTight b (get_or bounds k d)) i (λ k l d. before.as_tight k d l) (λ d o. absurd (off (subst (λ (b : Bound). IsOn side b) (at d) o))) k h d;
 }
 
--- a number up to the quotient t/m rounded down, times n, is at most b, where t/m is at most b/n
+-- an integer up to the quotient t/m rounded down, times n, is at most b, where t/m is at most b/n
 met_below_floor : (m n t b f y : ℤ) → pos 0 <ℤ m → pos 0 <ℤ n → (t *ℤ n) ≤ℤ (b *ℤ m) → (m *ℤ f) ≤ℤ t → y ≤ℤ f → (n *ℤ y) ≤ℤ b
 met_below_floor m n t b f y hm hn tight below le =
     let one = mul_le m y f (omega (arith, ints, hm)) le in
@@ -113,7 +113,7 @@ met_below_floor m n t b f y hm hn tight below le =
     let e3 = *ℤ_comm b m in
     le_of_mul m (n *ℤ y) b hm (omega (arith, ints, two, e1, e2, e3, tight))
 
--- a number whose product with m is at most t is at most the quotient t/m rounded down
+-- an integer whose product with m is at most t is at most the quotient t/m rounded down
 floor_above : (m t f y : ℤ) → pos 0 <ℤ m → (m *ℤ y) ≤ℤ t → t <ℤ (m *ℤ (f +ℤ pos 1)) → y ≤ℤ f
 floor_above m t f y h le above = by_lt_z f y (λ lt. absurd (let k = mul_le m (f +ℤ pos 1) y (omega (arith, ints, h)) (omega (arith, ints, lt)) in omega (arith, ints, k, le, above))) (λ k. k)
 
@@ -208,9 +208,9 @@ pub uppers_most : (bounds : List Bound) (u : Bound) (f z : ℤ) → IsTightest U
 uppers_most bounds u f z best floor met =
     upper_most u f z best.on_side floor (subst (λ (b : Bound). IsMetAt z (pos 1) b) best.member.2 (met best.member.0 u best.member.1))
 
--- ---- whole numbers, and those of 128 bits among them
+-- ---- integers, and those of 128 bits
 
--- a number of 128 bits, or one that is far from 0
+-- an integer is in 128 bits, or far from 0
 fits_or_far : (z : ℤ) → FitsSigned w128 z ⊎ (2 ^ 127 ≤ unsigned_abs z)
 fits_or_far (pos n) = elim (below_or_past n (2 ^ 127)) [ inl l ↦ inl (omega (arith, ints, l)) | inr l ↦ inr l ]
 fits_or_far (negsuc n) = elim (below_or_past n (2 ^ 127)) [ inl l ↦ inl (omega (arith, ints, l)) | inr l ↦ inr (omega (arith, l)) ]
@@ -229,14 +229,14 @@ nearer_below (pos a) z h l = absurd (omega (arith, ints, h))
 nearer_below (negsuc a) (pos z) h l = absurd (omega (arith, ints, l))
 nearer_below (negsuc a) (negsuc z) h l = omega (arith, ints, l)
 
--- the greater of a number and 0
+-- the maximum of an integer and 0
 pub nearer_max : (b : Bool) (a m z : ℤ) → m ≡ cond b a (pos 0) → pos 0 ≤ℤ m → a ≤ℤ z → unsigned_abs m ≤ unsigned_abs z
 nearer_max true (pos a) m (pos z) e h l = subst (λ (x : ℤ). unsigned_abs x ≤ z) (sym e) (omega (arith, ints, l))
 nearer_max true (pos a) m (negsuc z) e h l = absurd (omega (arith, ints, l))
 nearer_max true (negsuc a) m z e h l = absurd (let n : pos 0 ≤ℤ negsuc a = subst (λ (x : ℤ). pos 0 ≤ℤ x) e h in omega (arith, ints, n))
 nearer_max false a m z e h l = subst (λ (x : ℤ). unsigned_abs x ≤ unsigned_abs z) (sym e) (omega arith)
 
--- the nearest to 0 among the numbers of 128 bits that meet the bounds is the nearest of all
+-- the nearest to 0 among the integers of 128 bits that meet the bounds is the nearest of all integers
 pub whole_is_between : (bounds : List Bound) (value : Fraction) → value.denominator ≡ pos 1 → FitsSigned w128 value.numerator → AreMet bounds value.numerator → ((z : ℤ) → FitsSigned w128 z → AreMet bounds z → unsigned_abs value.numerator ≤ unsigned_abs z) → IsBetween bounds value
 whole_is_between bounds value one fits met near = whole one met (λ z m. elim (fits_or_far z) [
   | inl f ↦ near z f m
@@ -250,8 +250,8 @@ lower_up b y z le on m =
     let e2 = neg_mul b.coefficient z in
     omega (arith, ints, k, e1, e2, m)
 
--- where no number of 128 bits meets the bounds, since the greatest that meets the upper ones is less than the least that
--- meets the lower ones, none does
+-- no integer meets the bounds where none of 128 bits does, since the greatest that meets the upper ones is less than
+-- the least that meets the lower ones
 pub none_met : (bounds : List Bound) (u : Bound) (f least : ℤ) → FitsSigned w128 f → IsTightest Upper bounds u → IsFloor u.bound (unsigned_abs u.coefficient) f → f <ℤ least → ((z : ℤ) → FitsSigned w128 z → All (λ b. IsOn Lower b → IsMetAt z (pos 1) b) bounds → least ≤ℤ z) → (z : ℤ) → AreMet bounds z → ⊥
 none_met bounds u f least fits best floor less lowest z met = by_size z met (uppers_most bounds u f z best floor met) (fits_or_far z)
   where
@@ -267,7 +267,7 @@ none_met bounds u f least fits best floor less lowest z met = by_size z met (upp
         let l = lowest (negsuc (2 ^ 127 - 1)) g (lowers (negsuc n) (negsuc (2 ^ 127 - 1)) down m) in
         omega (arith, ints, l, less, fits)
 
--- a bound whose numbers fit is met by the greatest number of 128 bits, if it is a lower one
+-- a lower bound whose numbers fit is met by the greatest integer of 128 bits
 pub reached : (b : Bound) → FitsBound b → IsReached b
 reached b f on =
     let k = mul_le (pos (2 ^ 127 - 1)) b.coefficient (negsuc 0) (omega (arith, ints)) (omega (arith, ints, on)) in

@@ -1,4 +1,4 @@
--- Bounds that are put in a list, one for each row in which the unknown is left, and the value that is chosen between them.
+-- The list of the bounds of constraints on an unknown, and the value that is chosen between them.
 use Rattle.std.proofs.Common.{◌≡◌, ◌≢◌, ℕ, ◌+◌, ◌<◌, List, [], ◌∷◌, ◌++◌, length, get_or, pos, ℤ, ◌*ℤ◌, refl, sym, ap, ◌∙◌, subst, arith, below_more, ◌⊎◌, inl, inr}
 use Rattle.std.specs.Prelude.{All, Contains}
 use Rattle.std.proofs.Math.IntN.{*ℤ-zero}
@@ -15,7 +15,7 @@ use Rattle.linear_arith.specs.declared.rows.Fraction.{Fraction}
 use Rattle.linear_arith.proofs.ChoiceLemmas.{IsOfStageRow, bounds_consistent, form_met}
 use Rattle.linear_arith.proofs.ListLemmas.{get_or-any_default}
 
--- the bounds of the first `count` rows are put at the end
+-- the bounds of the first `count` constraints are added
 pub record ArePut (rows : List Derived) (values : List Fraction) (unknown : ℕ) (old : List Bound) (count : ℕ) (bounds : List Bound) : Type 0 where
   pub kept : (bound : Bound) → Contains old bound → Contains bounds bound
   pub put : (k : ℕ) (d : Derived) → k < count → (left_of values (get_or rows k d).row).at unknown ≢ pos 0 → HasBound (left_of values (get_or rows k d).row) unknown bounds
@@ -35,7 +35,7 @@ bound_of_ratio form left unknown now r e f = record {
   is_most = ap (λ (z : ℤ). r.scale *ℤ z) f ∙ r.bound;
 }
 
--- one row more, which has a bound
+-- one more constraint, with its bound
 pub put_one : (rows : List Derived) (values : List Fraction) (unknown : ℕ) (old bounds : List Bound) (i : ℕ) (made : Derived) (left : Inequality) (now : Bound) → i < length rows → made ≡ get_or rows i made → IsRest made.row values left → IsRatio (left_of values made.row) left → now.coefficient ≡ coefficient unknown left → now.bound ≡ left.bound → ArePut rows values unknown old i bounds → ArePut rows values unknown old (i + 1) (bounds ++ now ∷ [])
 put_one rows values unknown old bounds i made left now l is h r e f a =
     let here = bound_of_ratio (left_of values made.row) left unknown now r e f in
@@ -48,7 +48,7 @@ put_one rows values unknown old bounds i made left now l is h r e f a =
       ];
     }
 
--- and one without the unknown
+-- one more constraint, without the unknown
 pub put_skip : (rows : List Derived) (values : List Fraction) (unknown : ℕ) (old bounds : List Bound) (i : ℕ) (made : Derived) (left : Inequality) → i < length rows → made ≡ get_or rows i made → IsRatio (left_of values made.row) left → coefficient unknown left ≡ pos 0 → ArePut rows values unknown old i bounds → ArePut rows values unknown old (i + 1) bounds
 put_skip rows values unknown old bounds i made left l is r z a =
     let none : (left_of values made.row).at unknown ≡ pos 0 = sym (r.coefficients unknown) ∙ ap (λ (z : ℤ). r.scale *ℤ z) z ∙ *ℤ-zero r.scale in
@@ -58,14 +58,14 @@ put_skip rows values unknown old bounds i made left l is r z a =
       from = a.from;
     }
 
--- all rows
+-- all constraints
 pub have_bounds : (rows : List Derived) (values : List Fraction) (unknown : ℕ) (old bounds : List Bound) (count : ℕ) → ArePut rows values unknown old count bounds → length rows ≡ count → HaveBounds rows values unknown bounds
 have_bounds rows values unknown old bounds count a len row s n =
     let same : (get_or rows s.is_live.0 s.made).row ≡ row = ap (λ (m : Derived). m.row) s.is_live.2 ∙ s.same in
     let l = s.is_live.1 in
     subst (λ (r : Inequality). HasBound (left_of values r) unknown bounds) same (a.put s.is_live.0 s.made (omega (arith, l, len)) (λ z. n (subst (λ (r : Inequality). (left_of values r).at unknown ≡ pos 0) same z)))
 
--- the value that is chosen between the bounds of the stage's rows meets them
+-- the value that is chosen between the bounds of the stage's constraints meets them
 pub stage_all_met : (stage : Stage) (values : List Fraction) (first second : List Bound) (value : Fraction) → AreCompatible stage values → ((bound : Bound) → Contains first bound → Contains [] bound ⊎ IsOfRow stage.upper.items values stage.unknown bound) → ((bound : Bound) → Contains second bound → Contains first bound ⊎ IsOfRow stage.lower.items values stage.unknown bound) → (AreConsistent second → All (IsMetAt value.numerator value.denominator) second) → All (IsMetAt value.numerator value.denominator) second
 stage_all_met stage values first second value compatible of_upper of_lower met =
     let from = λ (b : Bound) (h : Contains second b). elim (of_lower b h) as (λ _. IsOfStageRow stage values b) [
@@ -77,7 +77,7 @@ stage_all_met stage values first second value compatible of_upper of_lower met =
     ] in
     met (bounds_consistent stage values second compatible from)
 
--- and the rows
+-- it meets the constraints
 pub stage_met : (stage : Stage) (values : List Fraction) (first second : List Bound) (value : Fraction) → AreCompatible stage values → ((bound : Bound) → Contains first bound → Contains [] bound ⊎ IsOfRow stage.upper.items values stage.unknown bound) → ((bound : Bound) → Contains second bound → Contains first bound ⊎ IsOfRow stage.lower.items values stage.unknown bound) → ((bound : Bound) → Contains first bound → Contains second bound) → HaveBounds stage.upper.items values stage.unknown first → HaveBounds stage.lower.items values stage.unknown second → (AreConsistent second → All (IsMetAt value.numerator value.denominator) second) → value.unknown ≡ stage.unknown → MeetsStage stage values value
 stage_met stage values first second value compatible of_upper of_lower kept upper lower met same row s n =
     let all = stage_all_met stage values first second value compatible of_upper of_lower met in

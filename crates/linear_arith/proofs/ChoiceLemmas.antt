@@ -1,4 +1,5 @@
--- Values chosen one after another meet all rows: what is left of a sum of two rows is the sum of what is left of them.
+-- Values chosen one after another meet all constraints: the substitution in a sum of two constraints gives the sum of
+-- their substitutions.
 use Rattle.std.proofs.Common.{◌≡◌, ◌≢◌, ℕ, zero, suc, ◌<◌, Bool, true, false, List, [], ◌∷◌, ◌++◌, length, get_or, pos, ℤ, ◌+ℤ◌, ◌-ℤ◌, ◌*ℤ◌, ◌≤ℤ◌, ◌<ℤ◌, negsuc, neg_ℤ, refl, sym, ap, ◌∙◌, subst, arith, ◌⊎◌, inl, inr}
 use Rattle.std.specs.Prelude.{All, Contains, if◌then◌else◌, ◌==◌}
 use Rattle.std.proofs.Math.IntN.{*ℤ-zero, *ℤ_comm}
@@ -34,12 +35,12 @@ choice_true t c e = ap (λ (b : Bool). if b then pos 0 else c) e
 choice_false : (t : Bool) (c : ℤ) → t ≡ false → (if t then pos 0 else c) ≡ c
 choice_false t c e = ap (λ (b : Bool). if b then pos 0 else c) e
 
--- an unknown that does not stand in a form is not put into it
+-- the substitution for an unknown that is not in the form does not change its values
 pub zero_stays : (form : LinearForm) (u : ℕ) (values : List Fraction) → form.at u ≡ pos 0 → (put_in_all form values).at u ≡ pos 0
 zero_stays form u [] z = z
 zero_stays form u (v ∷ vs) z = zero_stays (put_in form v) u vs (choice_zero (u == v.unknown) v.denominator (form.at u) z)
 
--- and one that has a value goes
+-- an unknown with a value is removed
 value_goes : (form : LinearForm) (u : ℕ) (values : List Fraction) (i : ℕ) (v : Fraction) → i < length values → get_or values i v ≡ v → v.unknown ≡ u → (put_in_all form values).at u ≡ pos 0
 value_goes form u [] i v l e s = absurd (omega (arith, l))
 value_goes form u (w ∷ vs) zero v l e s =
@@ -55,13 +56,13 @@ denominators_positive : (values : List Fraction) → ArePositive values → pos 
 denominators_positive [] p = size_positive 1 (omega arith)
 denominators_positive (v ∷ vs) p = mul_positive (denominators vs) v.denominator (denominators_positive vs (λ k d l. p (suc k) d (omega (arith, l)))) (p 0 v (omega arith))
 
--- the coefficient of an unknown without a value is multiplied
+-- the coefficient of an unknown without a value is multiplied by the denominators
 others_scaled : (form : LinearForm) (u : ℕ) (values : List Fraction) → All (λ (v : Fraction). v.unknown ≢ u) values → (put_in_all form values).at u ≡ denominators values *ℤ form.at u
 others_scaled form u [] n = sym (one_mul (form.at u))
 others_scaled form u (v ∷ vs) n =
     others_scaled (put_in form v) u vs (λ k d l. n (suc k) d (omega (arith, l))) ∙ ap (λ (z : ℤ). denominators vs *ℤ z) (choice_false (u == v.unknown) (v.denominator *ℤ form.at u) (ne_eqb u v.unknown (λ e. n 0 v (omega arith) (sym e)))) ∙ sym (mul_assoc (denominators vs) v.denominator (form.at u))
 
--- a true form stays true
+-- a true form is true after a substitution
 true_put_in : (form : LinearForm) (value : Fraction) → pos 0 <ℤ value.denominator → IsTrueForm form → IsTrueForm (put_in form value)
 true_put_in form value p t = record {
   no_unknown_left = λ u. choice_zero (u == value.unknown) value.denominator (form.at u) (t.no_unknown_left u);
@@ -84,12 +85,12 @@ true_stays form (v ∷ vs) p t = true_stays (put_in form v) vs (λ k d l. p (suc
 abbrev SumsUp : ℕ → ℕ → ℕ → ℤ → ℤ → ℤ → Type 0
 SumsUp g x y t s r = pos g *ℤ t ≡ (pos x *ℤ s) +ℤ (pos y *ℤ r)
 
--- g times a form is x times one and y times another
+-- g times a form is the sum of x times one and y times another
 record AreSummed (g x y : ℕ) (first second form : LinearForm) : Type 0 where
   pub at : (u : ℕ) → SumsUp g x y (form.at u) (first.at u) (second.at u)
   pub bound : SumsUp g x y form.bound first.bound second.bound
 
--- each of the three numbers times another
+-- the three numbers, each times another number
 sums_up_times : (g x y : ℕ) (t s r q : ℤ) → SumsUp g x y t s r → SumsUp g x y (q *ℤ t) (q *ℤ s) (q *ℤ r)
 sums_up_times g x y t s r q h =
     mul_swap (pos g) q t ∙ ap (λ (z : ℤ). q *ℤ z) h ∙ mul_add q (pos x *ℤ s) (pos y *ℤ r) ∙ rw (mul_swap q (pos x) s, mul_swap q (pos y) r) refl
@@ -118,7 +119,7 @@ summed_stays : (g x y : ℕ) (first second form : LinearForm) (values : List Fra
 summed_stays g x y first second form [] h = h
 summed_stays g x y first second form (v ∷ vs) h = summed_stays g x y (put_in first v) (put_in second v) (put_in form v) vs (summed_put_in g x y first second form v h)
 
--- where x * a + y * b is 0 and x * r + y * s is not negative, with a above 0 and b below
+-- signs where x * a + y * b is 0 and x * r + y * s is not negative, with a above 0 and b below
 compatible_numbers : (x y : ℕ) (a b r s : ℤ) → 0 < x → b <ℤ pos 0 → (pos x *ℤ a) +ℤ (pos y *ℤ b) ≡ pos 0 → pos 0 ≤ℤ ((pos x *ℤ r) +ℤ (pos y *ℤ s)) → (b *ℤ r) ≤ℤ (a *ℤ s)
 compatible_numbers x y a b r s p below none h =
     let n = neg_ℤ b in
@@ -133,21 +134,21 @@ compatible_numbers x y a b r s p below none h =
     let turned : n *ℤ r ≡ neg_ℤ (b *ℤ r) = *ℤ_comm n r ∙ mul_neg r b ∙ ap (λ (w : ℤ). neg_ℤ w) (*ℤ_comm r b) in
     omega (arith, ints, sum, turned)
 
--- values for all unknowns but these, with which each row without these is met
+-- values for all unknowns except these, which meet each constraint without these
 pub record AreChosen (width : ℕ) (found : List Inequality) (unknowns : List ℕ) (values : List Fraction) : Type 0 where
   pub positive : ArePositive values
   pub met : (row : Inequality) → Contains found row → IsWithout unknowns row → Meets values row
   pub covered : (u : ℕ) → u < width → Contains unknowns u ⊎ HasValue values u
   pub others : (value : Fraction) → Contains values value → Contains unknowns value.unknown → ⊥
 
--- where no unknown is left in these rows, all positive values meet them
+-- where no unknown is left in these constraints, all positive values meet them
 pub met_by_all : (row : Inequality) (values : List Fraction) → ArePositive values → IsSound row → ((u : ℕ) → coefficient u row ≡ pos 0) → Meets values row
 met_by_all row values p sound none = true_stays (form_of row) values p (record { no_unknown_left = none; not_negative = sound none })
 
 pub no_value_yet : (width : ℕ) (found : List Inequality) (unknowns : List ℕ) (unknown : ℕ) (values : List Fraction) → AreChosen width found (unknowns ++ unknown ∷ []) values → All (λ (v : Fraction). v.unknown ≢ unknown) values
 no_value_yet width found unknowns unknown values c k d l e = c.others (get_or values k d) (Contains-get_or values k d l) (subst (λ (u : ℕ). Contains (unknowns ++ unknown ∷ []) u) (sym e) (Contains-push unknowns unknown))
 
--- the rows of a stage with the values of the later ones
+-- the constraints of a stage after the substitution of the values of the later stages
 pub stage_compatible : (width : ℕ) (found : List Inequality) (unknowns : List ℕ) (stage : Stage) (values : List Fraction) → IsWhole found unknowns stage → AreChosen width found (unknowns ++ stage.unknown ∷ []) values → AreCompatible stage values
 stage_compatible width found unknowns stage values w c upper lower su sl above below =
     let n = no_value_yet width found unknowns stage.unknown values c in
@@ -167,7 +168,7 @@ zero_or_not (pos zero) = inl refl
 zero_or_not (pos (suc n)) = inr (λ e. omega (arith, ints, e))
 zero_or_not (negsuc n) = inr (λ e. omega (arith, ints, e))
 
--- what is left of a row of a stage with the value of its unknown
+-- a constraint of a stage after the substitution of the value of its unknown
 all_gone : (width : ℕ) (found : List Inequality) (unknowns : List ℕ) (unknown : ℕ) (values : List Fraction) (value : Fraction) (row : Inequality) → AreChosen width found (unknowns ++ unknown ∷ []) values → value.unknown ≡ unknown → length row.coefficients ≡ width → IsWithout unknowns row → (u : ℕ) → (put_in (left_of values row) value).at u ≡ pos 0
 all_gone width found unknowns unknown values value row c same len without u = elim (eqb_tells u value.unknown) [
   | inl e ↦ choice_true (u == value.unknown) (value.denominator *ℤ (left_of values row).at u) e.0
@@ -183,7 +184,7 @@ all_gone width found unknowns unknown values value row c same len without u = el
   ])
 ]
 
--- the values with one more
+-- one more value
 pub chosen_next : (width : ℕ) (found : List Inequality) (unknowns : List ℕ) (stage : Stage) (values : List Fraction) (value : Fraction) → All (λ row. length row.coefficients ≡ width) found → IsWhole found unknowns stage → AreChosen width found (unknowns ++ stage.unknown ∷ []) values → value.unknown ≡ stage.unknown → pos 0 <ℤ value.denominator → MeetsStage stage values value → (Contains unknowns stage.unknown → ⊥) → AreChosen width found unknowns (values ++ value ∷ [])
 chosen_next width found unknowns stage values value len w c same p meets new = record {
   positive = All-push (λ (v : Fraction). pos 0 <ℤ v.denominator) values value c.positive p;
@@ -215,7 +216,7 @@ consistent_numbers s t a r b m p q h =
     let right : (s *ℤ a) *ℤ (t *ℤ m) ≡ t *ℤ (s *ℤ (a *ℤ m)) = mul_assoc s a (t *ℤ m) ∙ ap (λ (z : ℤ). s *ℤ z) (mul_swap a t m) ∙ mul_swap s t (a *ℤ m) in
     le_of_mul s (b *ℤ r) (a *ℤ m) p (le_of_mul t (s *ℤ (b *ℤ r)) (s *ℤ (a *ℤ m)) q (omega (arith, ints, h, left, right)))
 
--- a bound of one of the stage's rows
+-- a bound of one of the stage's constraints
 pub record IsOfStageRow (stage : Stage) (values : List Fraction) (bound : Bound) : Type 0 where
   pub row : Inequality
   pub stands : StandsInStage stage row
@@ -241,7 +242,7 @@ met_number s c b p q f m h e g le =
     let right : s *ℤ (b *ℤ q) ≡ q *ℤ m = sym (mul_assoc s b q) ∙ ap (λ (z : ℤ). z *ℤ q) g ∙ *ℤ_comm m q in
     omega (arith, ints, k, left, right)
 
--- a value that meets the bounds meets what is left of a row that has one
+-- a value that meets the bounds meets a constraint with such a bound
 pub form_met : (form : LinearForm) (unknown : ℕ) (bounds : List Bound) (value : Fraction) → HasBound form unknown bounds → value.unknown ≡ unknown → All (IsMetAt value.numerator value.denominator) bounds → pos 0 ≤ℤ (put_in form value).bound
 form_met form unknown bounds value h same met =
     let b = h.is_bound_of in

@@ -1,4 +1,4 @@
--- The value that is chosen between the bounds of a stage, as one that is chosen after an elimination.
+-- The value that is chosen between the bounds of a stage is chosen after an elimination.
 use Rattle.std.proofs.Common.{◌≡◌, ◌≢◌, ℕ, List, [], get_or, pos, ℤ, ◌*ℤ◌, ◌≤ℤ◌, ◌<ℤ◌, sym, ap, ◌∙◌, subst, arith, ◌⊎◌, inl, inr}
 use Rattle.std.specs.Prelude.{All, Contains}
 use Rattle.std.proofs.lemmas.Int.{ints}
@@ -20,7 +20,7 @@ use Rattle.linear_arith.proofs.ChoiceLemmas.{zero_stays}
 use Rattle.linear_arith.proofs.RestLemmas.{rest_ratio}
 use Rattle.base.proofs.WholeNumbers.{mul_assoc, mul_le, le_of_mul, zero_of_multiple}
 
--- a bound that holds of a number holds of it in each positive multiple
+-- a bound that a number meets is met for each positive multiple
 same_bound : (s t c b d m p q : ℤ) → pos 0 <ℤ s → pos 0 <ℤ t → s *ℤ c ≡ t *ℤ d → s *ℤ b ≡ t *ℤ m → (c *ℤ p) ≤ℤ (b *ℤ q) → (d *ℤ p) ≤ℤ (m *ℤ q)
 same_bound s t c b d m p q hs ht e f h =
     let k = mul_le s (c *ℤ p) (b *ℤ q) (omega (arith, ints, hs)) h in
@@ -28,7 +28,7 @@ same_bound s t c b d m p q hs ht e f h =
     let right : s *ℤ (b *ℤ q) ≡ t *ℤ (m *ℤ q) = sym (mul_assoc s b q) ∙ ap (λ (z : ℤ). z *ℤ q) f ∙ mul_assoc t m q in
     le_of_mul t (d *ℤ p) (m *ℤ q) ht (omega (arith, ints, k, left, right))
 
--- what is left of some row of the stage has the numbers of the bound
+-- some constraint of the stage has the numbers of the bound after the substitution
 record IsExact (found : List Inequality) (before : List ℕ) (values : List Fraction) (unknown : ℕ) (bound : Bound) : Type 0 where
   rest : Inequality
   is_bounding : IsBounding found before values unknown rest
@@ -43,7 +43,7 @@ exact_of_row found before stage part values b w n r s = record {
   same_bound = r.same_bound;
 }
 
--- what meets the bounds meets what is left of each row of the stage
+-- a value that meets the bounds meets each constraint of the stage after the substitution
 rows_met : (found : List Inequality) (before : List ℕ) (stage : Stage) (values : List Fraction) (first second : List Bound) (p q : ℤ) → ArePositive values → IsWhole found before stage → ((bound : Bound) → Contains first bound → Contains second bound) → HaveBounds stage.upper.items values stage.unknown first → HaveBounds stage.lower.items values stage.unknown second → All (IsMetAt p q) second → MeetsBounds found before values stage.unknown p q
 rows_met found before stage values first second p q positive w kept upper lower met rest h =
     let u = stage.unknown in
@@ -58,14 +58,14 @@ rows_met found before stage values first second p q positive w kept upper lower 
     let at = All-contains (IsMetAt p q) second has.bound met has.is_in in
     same_bound b.scale r.scale has.bound.coefficient has.bound.bound (coefficient u rest) rest.bound p q b.positive r.positive (b.coefficient ∙ sym (r.coefficients u)) (b.is_most ∙ sym r.bound) at
 
--- and what meets these meets the bounds
+-- a value that meets these meets the bounds
 bounds_met : (found : List Inequality) (before : List ℕ) (values : List Fraction) (unknown : ℕ) (bounds : List Bound) (z : ℤ) → ((bound : Bound) → Contains bounds bound → IsExact found before values unknown bound) → MeetsBounds found before values unknown z (pos 1) → AreMet bounds z
 bounds_met found before values unknown bounds z exact meets k d l =
     let b = get_or bounds k d in
     let x = exact b (Contains-get_or bounds k d l) in
     subst (λ (c : ℤ). (c *ℤ z) ≤ℤ (b.bound *ℤ pos 1)) (sym x.same_coefficient) (subst (λ (m : ℤ). (coefficient unknown x.rest *ℤ z) ≤ℤ (m *ℤ pos 1)) (sym x.same_bound) (meets x.rest x.is_bounding))
 
--- the value between the bounds is chosen between the rows
+-- a value that is chosen between the bounds is chosen between the constraints
 between_rows : (found : List Inequality) (before : List ℕ) (values : List Fraction) (bounds : List Bound) (value : Fraction) → ((p q : ℤ) → All (IsMetAt p q) bounds → MeetsBounds found before values value.unknown p q) → ((bound : Bound) → Contains bounds bound → IsExact found before values value.unknown bound) → pos 0 <ℤ value.denominator → All (IsMetAt value.numerator value.denominator) bounds → IsBetween bounds value → IsChosen found before values value
 between_rows found before values bounds value rows exact positive met (whole_between one all near) =
     whole one (rows value.numerator (pos 1) all) (λ z m. near z (bounds_met found before values value.unknown bounds z exact m))

@@ -22,7 +22,7 @@ zero_or_positive : (n : ℕ) → (n ≡ 0) ⊎ (0 < n)
 zero_or_positive zero = inl refl
 zero_or_positive (suc n) = inr (omega arith)
 
--- a row that is a positive multiple of another
+-- a constraint that is a positive multiple of another
 pub record IsMultiple (other row : Inequality) : Type 0 where
   pub scale : ℕ
   pub positive : 0 < scale
@@ -68,7 +68,7 @@ weighted_sum-mix part x y (a ∷ xs) (b ∷ ys) (m ∷ ms) (row ∷ rows) e f h 
     let rest = weighted_sum-mix part x y xs ys ms rows (omega (arith, e)) (omega (arith, f)) (λ k l. h (suc k) (omega (arith, l))) in
     mix_step x y a b (part row) (weighted_sum part xs rows) (weighted_sum part ys rows) m (weighted_sum part ms rows) here rest
 
--- and multiples give multiples
+-- multiples of multipliers give multiples of weighted sums
 weighted_sum-times : (part : Inequality → ℤ) (g : ℤ) (ms mixed : List ℤ) (rows : List Inequality) → length ms ≡ length mixed → ((k : ℕ) → g *ℤ number k ms ≡ number k mixed) → g *ℤ weighted_sum part ms rows ≡ weighted_sum part mixed rows
 weighted_sum-times part g [] [] rows e h = *ℤ-zero g
 weighted_sum-times part g [] (n ∷ ns) rows e h = absurd (omega (arith, e))
@@ -79,11 +79,11 @@ weighted_sum-times part g (m ∷ ms) (n ∷ ns) (row ∷ rows) e h =
     let rest = weighted_sum-times part g ms ns rows (omega (arith, e)) (λ k. h (suc k)) in
     mul_add g (m *ℤ part row) (weighted_sum part ms rows) ∙ rw (← mul_assoc g m (part row), here, rest) refl
 
--- g times a number is x times one and y times another
+-- g times a number is the sum of x times one and y times another
 abbrev SumsUp : ℕ → ℕ → ℕ → ℤ → ℤ → ℤ → Type 0
 SumsUp g x y t s r = pos g *ℤ t ≡ (pos x *ℤ s) +ℤ (pos y *ℤ r)
 
--- three rows whose numbers do so
+-- three constraints with such numbers
 pub record AreSummed (g x y : ℕ) (first second row : Inequality) : Type 0 where
   pub coefficients : (u : ℕ) → SumsUp g x y (coefficient u row) (coefficient u first) (coefficient u second)
   pub bound : SumsUp g x y row.bound first.bound second.bound
@@ -92,7 +92,7 @@ combined_part : (width x y g : ℕ) (first second mixed ms : List ℤ) (rows : L
 combined_part width x y g first second mixed ms rows part mix same times =
     weighted_sum-times part (pos g) ms mixed rows times.same_unknowns times.coefficients ∙ weighted_sum-mix part (pos x) (pos y) first second mixed rows (sym mix.one_each) (same ∙ sym mix.one_each) (λ k l. mix.numbers k (omega (arith, mix.one_each, l)))
 
--- combinations by multipliers that are summed
+-- combinations by sums of multipliers
 pub combinations_summed : (width x y g : ℕ) (first second mixed ms : List ℤ) (rows : List Inequality) → IsMix x y first second mixed → length second ≡ length first → IsTimes g (as_row ms) (as_row mixed) → AreSummed g x y (combination width first rows) (combination width second rows) (combination width ms rows)
 combinations_summed width x y g first second mixed ms rows mix same times = record {
   coefficients = λ u. elim (below_or_past u width) [
@@ -110,7 +110,7 @@ combinations_summed width x y g first second mixed ms rows mix same times = reco
         let len = length-map-range_with_len (λ v. weighted_sum (coefficient v) ns rows) 0 width in
         get_or-past (combination width ns rows).coefficients u (pos 0) (omega (arith, len, l))
 
--- rows whose numbers are summed one by one
+-- constraints whose numbers are sums one by one
 pub rows_summed : (x y : ℕ) (first second row : Inequality) → length second.coefficients ≡ length first.coefficients → IsMix x y first.coefficients second.coefficients row.coefficients → row.bound ≡ (pos x *ℤ first.bound) +ℤ (pos y *ℤ second.bound) → AreSummed 1 x y first second row
 rows_summed x y first second row same mix bound = record {
   coefficients = λ u. one_mul (coefficient u row) ∙ elim (below_or_past u (length first.coefficients)) as (λ _. coefficient u row ≡ (pos x *ℤ coefficient u first) +ℤ (pos y *ℤ coefficient u second)) [
@@ -127,7 +127,7 @@ scaled_sum g d x e y f c a b t s r i j k h =
     let n : pos (y * f) *ℤ b ≡ pos y *ℤ r = mul_assoc (pos y) (pos f) b ∙ ap (λ (z : ℤ). pos y *ℤ z) k in
     l ∙ h ∙ rw (m, n) refl
 
--- a row is the sum of two others, where positive multiples of the three are summed so that the unknown cancels
+-- a constraint is the sum of two others, where sums of positive multiples of the three cancel the unknown
 pub sum_of_multiples : (unknown g x y : ℕ) (upper lower row first second total : Inequality) → 0 < g → Cancels (coefficient unknown first) (coefficient unknown second) x y → IsMultiple row total → IsMultiple upper first → IsMultiple lower second → AreSummed g x y first second total → IsSumOf unknown upper lower row
 sum_of_multiples unknown g x y upper lower row first second total p cancels d e f h = record {
   factor = g * d.scale;
@@ -152,12 +152,12 @@ without_others unknowns unknown row h k d l = All-contains (λ (u : ℕ). coeffi
 pub without_one_more : (unknowns : List ℕ) (unknown : ℕ) (row : Inequality) → IsWithout unknowns row → coefficient unknown row ≡ pos 0 → IsWithout (unknowns ++ unknown ∷ []) row
 without_one_more unknowns unknown row h z = All-push (λ (u : ℕ). coefficient u row ≡ pos 0) unknowns unknown h z
 
--- the sum of two rows has no unknown that they do not have
+-- the sum of two constraints has no unknown that neither of them has
 pub without_in_sum : (unknowns : List ℕ) (unknown : ℕ) (upper lower row : Inequality) → IsSumOf unknown upper lower row → IsWithout unknowns upper → IsWithout unknowns lower → IsWithout (unknowns ++ unknown ∷ []) row
 without_in_sum unknowns unknown upper lower row s a b =
     without_one_more unknowns unknown row (λ k d l. zero_of_multiple (pos s.factor) (coefficient (get_or unknowns k d) row) (size_positive s.factor s.factor_positive) (s.coefficients (get_or unknowns k d) ∙ rw (a k d l, b k d l) (sym (no_mix (pos s.first) (pos s.second))))) s.cancels
 
--- one sum stays where rows are found
+-- a sum is still found when constraints are added
 pub sum_stays : (old new : List Inequality) (unknown : ℕ) (upper lower : Inequality) → ((row : Inequality) → Contains old row → Contains new row) → HasSum old unknown upper lower → HasSum new unknown upper lower
 sum_stays old new unknown upper lower keep s = record { row = s.row; is_found = keep s.row s.is_found; is_sum = s.is_sum }
 
@@ -170,7 +170,7 @@ not_zero_below z e h = omega (arith, ints, e, h)
 pub not_both : (z : ℤ) → pos 0 <ℤ z → z <ℤ pos 0 → ⊥
 not_both z h k = omega (arith, ints, h, k)
 
--- all sums for one unknown stay where the rows that are found are without it
+-- all sums for an unknown are still found when constraints without it are added
 pub sums_stay : (old new : List Inequality) (unknowns : List ℕ) (unknown : ℕ) → ((row : Inequality) → Contains old row → Contains new row) → ((row : Inequality) → Contains new row → Contains old row ⊎ (coefficient unknown row ≡ pos 0)) → HasSums old unknowns unknown → HasSums new unknowns unknown
 sums_stay old new unknowns unknown keep fresh s = record {
   sums = λ upper lower a b wa wb above below. elim (fresh upper a) [

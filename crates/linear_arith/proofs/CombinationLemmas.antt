@@ -1,4 +1,4 @@
--- Weighted sums, one row at a time.
+-- Weighted sums, one constraint at a time.
 use Rattle.std.proofs.Common.{◌≡◌, ℕ, ◌<◌, ◌≤◌, ◌+◌, List, [], length, drop, get_or, pos, ℤ, ◌+ℤ◌, ◌*ℤ◌, refl, sym, ap, ◌∙◌, subst, arith, add-one, drop-cons, ◌↔◌}
 use Rattle.std.proofs.Math.IntN.{zero-*ℤ}
 use Rattle.std.proofs.lemmas.List.{drop_all}
@@ -7,11 +7,11 @@ use Rattle.linear_arith.specs.Fits.{Fits}
 use Rattle.linear_arith.specs.Inequality.{Inequality}
 use Rattle.linear_arith.specs.Combination.{IsAdded, weighted_sum, StaysWithin}
 
--- the sum from a row on is that row's product and the sum from the next row on
+-- the sum from a constraint on is that constraint's product plus the sum from the next one on
 weighted_sum-drop : (part : Inequality → ℤ) (ms : List ℤ) (rows : List Inequality) (i : ℕ) (row : Inequality) → i < length ms → i < length rows → weighted_sum part (drop i ms) (drop i rows) ≡ (get_or ms i (pos 0) *ℤ part (get_or rows i row)) +ℤ weighted_sum part (drop (i + 1) ms) (drop (i + 1) rows)
 weighted_sum-drop part ms rows i row h k = rw (add-one, drop-cons ms i (pos 0), drop-cons rows i row) refl
 
--- a total that has the products before a row has, with that row's product, those before the next
+-- a total of the products before a constraint, with that constraint's product, is the total before the next
 pub weighted_sum-step : (part : Inequality → ℤ) (ms : List ℤ) (rows : List Inequality) (i : ℕ) (row : Inequality) (total next whole : ℤ) → i < length ms → i < length rows → row ≡ get_or rows i row → next ≡ total +ℤ (get_or ms i (pos 0) *ℤ part row) → total +ℤ weighted_sum part (drop i ms) (drop i rows) ≡ whole → next +ℤ weighted_sum part (drop (i + 1) ms) (drop (i + 1) rows) ≡ whole
 weighted_sum-step part ms rows i row total next whole h k e n w =
     let d = weighted_sum-drop part ms rows i row h k in
@@ -30,13 +30,13 @@ StaysWithin-step part ms rows i row total next h k e n a =
     let w = as_itself _ _ d in
     rw n (λ s. (w.0 s).1, λ s. w.1 (a, s))
 
--- where a product or its sum does not fit, the whole does not stay within
+-- where a product or its sum does not fit, the whole sum is not computed in 128 bits
 pub StaysWithin-fails : (part : Inequality → ℤ) (ms : List ℤ) (rows : List Inequality) (i : ℕ) (row : Inequality) (total : ℤ) → i < length ms → i < length rows → row ≡ get_or rows i row → ¬ (IsAdded total (get_or ms i (pos 0) *ℤ part row)) → ¬ (StaysWithin part total (drop i ms) (drop i rows))
 StaysWithin-fails part ms rows i row total h k e n s =
     let d = rw (← e) at (StaysWithin-drop part total ms rows i row h k) in
     n ((as_itself _ _ d).0 s).0
 
--- after the last row the total is the whole sum
+-- after the last constraint the total is the whole sum
 pub weighted_sum-end : (part : Inequality → ℤ) (ms : List ℤ) (rows : List Inequality) (i : ℕ) (total whole : ℤ) → length ms ≤ i → total +ℤ weighted_sum part (drop i ms) (drop i rows) ≡ whole → total ≡ whole
 weighted_sum-end part ms rows i total whole h w =
     let e : total +ℤ weighted_sum part [] (drop i rows) ≡ whole = subst (λ (xs : List ℤ). total +ℤ weighted_sum part xs (drop i rows) ≡ whole) (drop_all i ms h) w in

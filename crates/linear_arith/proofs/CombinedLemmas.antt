@@ -1,4 +1,4 @@
--- Combinations of rows, made one row after another.
+-- Combinations of constraints, computed one constraint after another.
 use Rattle.std.proofs.Common.{◌≡◌, ℕ, zero, suc, ◌<◌, ◌≤◌, ◌+◌, List, length, map, drop, get_or, replicate, pos, ℤ, ◌+ℤ◌, ◌*ℤ◌, sym, ap, ◌∙◌, subst, arith, ◌↔◌}
 use Rattle.std.specs.List.{range_with_len}
 use Rattle.std.proofs.lemmas.List.{ext_get_or, get_or-replicate, length-replicate}
@@ -10,7 +10,7 @@ use Rattle.linear_arith.specs.Combination.{IsAdded, weighted_sum, StaysWithin, c
 use Rattle.linear_arith.proofs.ListLemmas.{get_or-any_default}
 use Rattle.linear_arith.proofs.CombinationLemmas.{weighted_sum-step, StaysWithin-step, weighted_sum-skip, StaysWithin-skip, StaysWithin-fails, weighted_sum-end, StaysWithin-end}
 
--- a total that has the products of the rows before one, in a sum of which nothing has left 128 bits so far
+-- a total of the products of the constraints before one, in a sum whose numbers are in 128 bits so far
 pub record HasProducts (part : Inequality → ℤ) (ms : List ℤ) (rows : List Inequality) (i : ℕ) (total : ℤ) : Type 0 where
   pub fits : Fits total
   pub value : total +ℤ weighted_sum part (drop i ms) (drop i rows) ≡ weighted_sum part ms rows
@@ -43,7 +43,7 @@ products_skip part ms rows i total h k z before =
       within = (λ s. step.0 (before.within.0 s), λ s. before.within.1 (step.1 s));
     }
 
--- past multipliers of 0 the total is the same
+-- multipliers of 0 do not change the total
 pub products_past : (part : Inequality → ℤ) (ms : List ℤ) (rows : List Inequality) (i n : ℕ) (total : ℤ) → length ms ≡ length rows → i + n ≤ length rows → ((k : ℕ) → k < n → get_or ms (k + i) (pos 0) ≡ pos 0) → HasProducts part ms rows i total → HasProducts part ms rows (i + n) total
 products_past part ms rows i zero total e l z before = subst (λ (j : ℕ). HasProducts part ms rows j total) (none_more i) before
   where
@@ -69,7 +69,7 @@ products_end part ms rows total e before =
 pub products_fail : (part : Inequality → ℤ) (ms : List ℤ) (rows : List Inequality) (i : ℕ) (row : Inequality) (total : ℤ) → i < length ms → i < length rows → row ≡ get_or rows i row → ¬ (IsAdded total (get_or ms i (pos 0) *ℤ part row)) → HasProducts part ms rows i total → ¬ (StaysWithin part (pos 0) ms rows)
 products_fail part ms rows i row total h k e n before s = StaysWithin-fails part ms rows i row total h k e n (before.within.0 s)
 
--- the same of each coefficient and of the bound
+-- the same for each coefficient and for the bound
 pub record HasCombined (width : ℕ) (ms : List ℤ) (rows : List Inequality) (i : ℕ) (totals : List ℤ) (bound : ℤ) : Type 0 where
   pub len : length totals ≡ width
   pub coefficients : (u : ℕ) → u < width → HasProducts (coefficient u) ms rows i (number u totals)
@@ -113,7 +113,7 @@ bound_leaves width ms rows i row m totals bound e l is at leaves before whole =
     let gone = subst (λ (z : ℤ). ¬ (IsAdded bound (z *ℤ row.bound))) at leaves in
     products_fail bound_of ms rows i row bound (omega (arith, e, l)) l is gone before.bounds whole.bound
 
--- after the last row they are the combination
+-- after the last constraint the totals are the combination
 pub combined_end : (width : ℕ) (ms : List ℤ) (rows : List Inequality) (totals : List ℤ) (bound : ℤ) → length ms ≡ length rows → HasCombined width ms rows (length rows) totals bound → CombinesWithin width ms rows × (record { coefficients = totals; bound = bound } ≡ combination width ms rows)
 combined_end width ms rows totals bound e before =
     let sums = λ (u : ℕ). weighted_sum (coefficient u) ms rows in

@@ -1,4 +1,4 @@
--- A combination with no unknown among the first ones has none at all, where no row has others.
+-- A combination with no unknown among the first ones has none at all, where no constraint has others.
 use Rattle.std.proofs.Common.{◌≡◌, ℕ, suc, ◌<◌, ◌≤◌, List, [], ◌∷◌, length, get_or, pos, ℤ, ◌≤ℤ◌, ◌<ℤ◌, refl, sym, ◌∙◌, subst, arith, map, inl, inr}
 use Rattle.std.specs.Prelude.{All}
 use Rattle.std.specs.List.{range_with_len}

@@ -1,4 +1,4 @@
--- Rows whose numbers fit.
+-- Constraints whose numbers fit.
 use Rattle.std.proofs.Common.{◌≡◌, ℕ, ◌<◌, List, length, get_or, pos, ℤ, sym, subst, arith, inl, inr}
 use Rattle.std.specs.Prelude.{All}
 use Rattle.std.proofs.lemmas.Int.{ints}

@@ -1,4 +1,4 @@
--- Rows whose numbers fit 128 bits.
+-- Constraints whose numbers fit 128 bits.
 use Rattle.std.proofs.Common.{◌≡◌, ℕ, zero, suc, ◌*◌, ◌-◌, ◌^◌, ◌<◌, List, [], ◌∷◌, get_or, map, pos, negsuc, ℤ, ◌+ℤ◌, ◌*ℤ◌, ◌<ℤ◌, refl, sym, subst, arith, ◌⊎◌, inl, inr}
 use Rattle.std.specs.List.{range_with_len}
 use Rattle.std.proofs.lemmas.Int.{ints}
@@ -44,7 +44,7 @@ first_fit f width h u = elim (below_or_past u width) as (λ _. Fits (get_or (map
 pub padded_fits : (width : ℕ) (row : Inequality) → IsFitting row → IsFitting (padded width row)
 padded_fits width row f = (first_fit (λ (u : ℕ). coefficient u row) width (λ u l. f.0 u), f.1)
 
--- a sum of which nothing leaves 128 bits
+-- a sum whose numbers are all in 128 bits
 within_fits : (part : Inequality → ℤ) (total : ℤ) (ms : List ℤ) (rows : List Inequality) → Fits total → StaysWithin part total ms rows → Fits (total +ℤ weighted_sum part ms rows)
 within_fits part total [] rows f s = subst (λ (z : ℤ). Fits z) (none_more total) f
   where

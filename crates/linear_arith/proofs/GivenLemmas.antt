@@ -1,4 +1,4 @@
--- A given row is the combination of the given rows in which it alone has a multiplier, of 1.
+-- A given constraint is the combination of the given constraints with the multiplier 1 for itself and 0 for the others.
 use Rattle.std.proofs.Common.{◌≡◌, ◌≢◌, ℕ, zero, suc, ◌<◌, ◌≤◌, List, [], ◌∷◌, length, get_or, pos, ℤ, ◌+ℤ◌, ◌<ℤ◌, refl, sym, ap, ◌∙◌, subst, arith, map, inl, inr}
 use Rattle.std.specs.Prelude.{All}
 use Rattle.std.specs.List.{range_with_len}
@@ -20,7 +20,7 @@ use Rattle.linear_arith.proofs.ListLemmas.{get_or-past, below_or_past}
 use Rattle.linear_arith.proofs.FitSystemLemmas.{zero_fits}
 use Rattle.linear_arith.proofs.StageLemmas.{unit_multipliers, width_of_combination}
 
--- no multiplier but 0
+-- all multipliers are 0
 no_sum : (part : Inequality → ℤ) (ms : List ℤ) (rows : List Inequality) → ((k : ℕ) → number k ms ≡ pos 0) → weighted_sum part ms rows ≡ pos 0
 no_sum part [] rows h = refl
 no_sum part (m ∷ ms) [] h = refl
@@ -73,7 +73,7 @@ padded_is width ms rows i row h is = λ j. record {
     at : (part : Inequality → ℤ) → part row ≡ weighted_sum part ms rows
     at part = ap part is ∙ sym (unit_sum part ms rows i row h.one_each h.is_one h.itself h.others)
 
--- a given row that is a contradiction
+-- a given constraint that is a contradiction
 pub given_contradicts : (width : ℕ) (ms : List ℤ) (rows : List Inequality) (i : ℕ) (row : Inequality) → IsUnit (length rows) i ms → row ≡ get_or rows i row → length row.coefficients ≤ width → Fits row.bound → row.bound <ℤ pos 0 → All (λ c. c ≡ pos 0) (padded width row).coefficients → IsContradiction rows ms
 given_contradicts width ms rows i row h is short f b zeros =
     let none = λ (u : ℕ). elim (below_or_past u width) as (λ _. coefficient u row ≡ pos 0) [
@@ -94,7 +94,7 @@ given_contradicts width ms rows i row h is short f b zeros =
       bounds_within = unit_within bound_of ms rows i row h.one_each h.is_one h.itself h.others (subst (λ (z : ℤ). Fits z) (at bound_of) f);
     }
 
--- a given row as a row of the first stage
+-- a given constraint as a constraint of the first stage
 pub given_derived : (width : ℕ) (rows : List Inequality) (i : ℕ) (made : Derived) → IsUnit (length rows) i made.multipliers → made.row ≡ combination width made.multipliers rows → made.total ≡ combination width made.multipliers rows → IsSound made.row → IsFitting made.row → IsDerived width rows [] made
 given_derived width rows i made unit is total sound fits =
     let scaled = subst (λ (r : Inequality). IsMultiple made.row r) (is ∙ sym total) (multiple_of_itself made.row) in record {
@@ -110,7 +110,7 @@ given_derived width rows i made unit is total sound fits =
       fits = fits;
     }
 
--- a given row has the form of its row of the first stage
+-- a given constraint has the form of its constraint of the first stage
 pub padded_form : (width : ℕ) (row : Inequality) → length row.coefficients ≤ width → form_of (padded width row) ≡ form_of row
 padded_form width row short = λ j. record { at = λ (u : ℕ). same u j; bound = row.bound }
   where

@@ -1,4 +1,4 @@
--- Eliminations that grow by rows of the stage that they have reached, and go from stage to stage with all sums.
+-- Eliminations to which constraints of the current stage are added, and which go from stage to stage with all sums.
 use Rattle.std.proofs.Common.{◌≡◌, ◌≢◌, ℕ, zero, suc, ◌<◌, ◌≤◌, List, [], ◌∷◌, ◌++◌, length, get_or, pos, ℤ, ◌*ℤ◌, ◌<ℤ◌, refl, sym, ap, ◌∙◌, subst, arith, ◌⊎◌, inl, inr}
 use Rattle.std.specs.Prelude.{All, Contains}
 use Rattle.std.specs.List.{AllPairs}
@@ -22,7 +22,7 @@ use Rattle.linear_arith.proofs.ClosureLemmas.{size_positive, not_zero_above, not
 use Rattle.base.proofs.WholeNumbers.{mul_positive, mul_negative, positive_of_multiple, negative_of_multiple}
 use Rattle.linear_arith.proofs.ListLemmas.{get_or-past, below_or_past}
 
--- the same rows, the same unknowns
+-- the same constraints, the same unknowns
 pub grown_same : (old new : Elimination) → new.unknowns.items ≡ old.unknowns.items → new.found ≡ old.found → new.live.items ≡ old.live.items → new.stages.items ≡ old.stages.items → HasGrown old new
 grown_same old new unknowns found live stages = record {
   stages = stages;
@@ -32,7 +32,7 @@ grown_same old new unknowns found live stages = record {
   fresh = λ row h. inl (subst (λ (rs : List Inequality). Contains rs row) found h);
 }
 
--- one more row
+-- one more constraint
 pub grown_with : (width : ℕ) (rows : List Inequality) (old new : Elimination) (made : Derived) → IsDerived width rows old.unknowns.items made → new.unknowns.items ≡ old.unknowns.items → new.found ≡ old.found ++ made.row ∷ [] → new.live.items ≡ old.live.items ++ made ∷ [] → new.stages.items ≡ old.stages.items → HasGrown old new
 grown_with width rows old new made d unknowns found live stages = record {
   stages = stages;
@@ -93,7 +93,7 @@ row_below width rows unknowns unknown made d h = negative_of_multiple (pos d.sca
 pub live_derived : (width : ℕ) (rows : List Inequality) (old : Elimination) (row : Inequality) (s : StandsIn old.live.items row) → IsUnderWay width rows old → IsDerived width rows old.unknowns.items s.made
 live_derived width rows old row s u = All-contains (IsDerived width rows old.unknowns.items) old.live.items s.made u.live s.is_live
 
--- rows of a stage, when it is parted by an unknown
+-- the constraints of a stage, partitioned by an unknown
 pub stands_above : (width : ℕ) (rows : List Inequality) (old : Elimination) (unknown : ℕ) (uppers lowers others : List Derived) → IsUnderWay width rows old → AreParted unknown old.live.items uppers lowers others → (row : Inequality) → StandsIn old.live.items row → pos 0 <ℤ coefficient unknown row → StandsIn uppers row
 stands_above width rows old unknown uppers lowers others u parted row s above = record {
   made = s.made;
@@ -115,7 +115,7 @@ stands_still width rows old unknown uppers lowers others u parted row s gone = r
   same = s.same;
 }
 
--- the sum of any row of a list and any of another is found
+-- the sum of each constraint of a list and each of another is found
 abbrev pub HaveSums : List Inequality → ℕ → List Derived → List Derived → Type 0
 HaveSums found unknown uppers lowers = All (λ (upper : Derived). All (λ (lower : Derived). HasSum found unknown upper.row lower.row) lowers) uppers
 
@@ -124,7 +124,7 @@ not_left width rows old unknown u left k d l e =
     let derived = All-contains (IsDerived width rows old.unknowns.items) old.live.items left.made u.live left.is_live in
     left.stands (subst (λ (n : ℕ). coefficient n left.made.row ≡ pos 0) e (derived.without k d l))
 
--- what the next stage keeps of the rows that were found, and what it adds to them
+-- the found constraints that the next stage keeps, and those that it adds
 pub next_keeps : (old mid new : Elimination) → mid.found ≡ old.found → HasGrown mid new → (row : Inequality) → Contains old.found row → Contains new.found row
 next_keeps old mid new found g row h = g.found row (subst (λ (rs : List Inequality). Contains rs row) (sym found) h)
 
@@ -134,7 +134,7 @@ next_fresh unknown old mid new found unknowns g row h = elim (g.fresh row h) [
   | inr f ↦ inr (subst (λ (ns : List ℕ). IsWithout ns row) (g.unknowns ∙ unknowns) f.without)
 ]
 
--- a row with the unknown was there before
+-- a constraint with the unknown was found before
 pub next_old : (unknown : ℕ) (old mid new : Elimination) → mid.found ≡ old.found → mid.unknowns.items ≡ old.unknowns.items ++ unknown ∷ [] → HasGrown mid new → (row : Inequality) → Contains new.found row → coefficient unknown row ≢ pos 0 → Contains old.found row
 next_old unknown old mid new found unknowns g row h n = elim (next_fresh unknown old mid new found unknowns g row h) [ inl o ↦ o | inr w ↦ absurd (n (without_last old.unknowns.items unknown row w)) ]
 
@@ -151,7 +151,7 @@ next_sums width rows unknown uppers lowers old mid new u c parted found unknowns
         let sum = All-contains (λ (y : Derived). HasSum new.found unknown s.made.row y.row) lowers t.made each t.is_live in
         subst (λ (r : Inequality). HasSum new.found unknown upper r) t.same (subst (λ (r : Inequality). HasSum new.found unknown r t.made.row) s.same sum)
 
--- the next stage of an elimination, once the sums that cancel its unknown were added
+-- the next stage of an elimination, after the sums that cancel its unknown are added
 pub caught_up_next : (width : ℕ) (rows : List Inequality) (unknown : ℕ) (uppers lowers : List Derived) (old mid new : Elimination) → IsUnderWay width rows old → IsCaughtUp width rows old → unknown < width → IsLeft old.live.items unknown → AreParted unknown old.live.items uppers lowers mid.live.items → mid.found ≡ old.found → mid.unknowns.items ≡ old.unknowns.items ++ unknown ∷ [] → HasGrown mid new → HaveSums new.found unknown uppers lowers → IsCaughtUp width rows new
 caught_up_next width rows unknown uppers lowers old mid new u c below left parted found unknowns g sums = record {
   begins = λ k d l. next_keeps old mid new found g (padded width (get_or rows k d)) (c.begins k d l);
@@ -167,7 +167,7 @@ caught_up_next width rows unknown uppers lowers old mid new u c below left parte
     same : new.unknowns.items ≡ old.unknowns.items ++ unknown ∷ []
     same = g.unknowns ∙ unknowns
 
--- the first stage, with all given rows
+-- the first stage, with all given constraints
 pub caught_up_first : (width : ℕ) (rows : List Inequality) (new : Elimination) → new.unknowns.items ≡ [] → KeepsRows new → ((k : ℕ) (d : Inequality) → k < length rows → Contains new.found (padded width (get_or rows k d))) → IsCaughtUp width rows new
 caught_up_first width rows new e keeps begins = record {
   begins = λ k d l. begins k d l;
@@ -177,20 +177,20 @@ caught_up_first width rows new e keeps begins = record {
   different = subst (λ (us : List ℕ). AllPairs (λ a b. a ≢ b) us) (sym e) (λ i j d l m. absurd (omega (arith, m)));
 }
 
--- unknowns that differ are no more than there are
+-- different unknowns are at most as many as there are unknowns
 pub unknowns_within : (width : ℕ) (rows : List Inequality) (elimination : Elimination) → IsCaughtUp width rows elimination → length elimination.unknowns.items ≤ width
 unknowns_within width rows elimination c =
     let us = elimination.unknowns.items in
     length-le_from_distinct_below us width (IsDistinct-from_AllPairs Decides-eqb us c.different) (λ q h. All-contains (λ (u : ℕ). u < width) us q c.below (Contains-from_any (λ x y e. eqb-true x y e) q us h))
 
--- where no unknown is left in the stage that was reached, none is left in a row without those that were eliminated
+-- where no unknown is left in the current stage, none is left in a constraint without the eliminated ones
 pub none_left : (width : ℕ) (rows : List Inequality) (elimination : Elimination) → IsUnderWay width rows elimination → IsCaughtUp width rows elimination → NoneIsLeft width elimination.live.items → (row : Inequality) → Contains elimination.found row → IsWithout elimination.unknowns.items row → (n : ℕ) → coefficient n row ≡ pos 0
 none_left width rows elimination u c left row h w n = elim (below_or_past n width) as (λ _. coefficient n row ≡ pos 0) [
   | inl l ↦ let s = c.keeps row h w in ap (λ (r : Inequality). coefficient n r) (sym s.same) ∙ All-contains (λ (made : Derived). coefficient n made.row ≡ pos 0) elimination.live.items s.made (left n l) s.is_live
   | inr l ↦ get_or-past row.coefficients n (pos 0) (let w = All-contains (λ (r : Inequality). length r.coefficients ≡ width) elimination.found row u.are_found.same_width h in omega (arith, w, l))
 ]
 
--- the elimination that has all sums
+-- the elimination with all sums
 pub eliminated : (width : ℕ) (rows : List Inequality) (elimination : Elimination) → IsUnderWay width rows elimination → IsCaughtUp width rows elimination → IsElimination width rows elimination.unknowns.items elimination.unknowns.items elimination.found
 eliminated width rows elimination u c = record {
   within = u.within;
@@ -205,7 +205,7 @@ Contains-cons_cases : {A : Type 0} (y : A) (ys : List A) (x : A) → Contains (y
 Contains-cons_cases y ys x (zero, l, e) = inl e
 Contains-cons_cases y ys x (suc k, l, e) = inr (k, omega (arith, l), e)
 
--- a list of which one row more is taken out, and put at the end of another or not
+-- a list from which one more constraint is removed, and added to another list or not
 pub moved : (rest more old new : List Derived) (made x : Derived) → rest ≡ made ∷ more → new ≡ old ++ made ∷ [] → Contains rest x ⊎ Contains old x → Contains more x ⊎ Contains new x
 moved rest more old new made x e f h = elim h [
   | inl r ↦ elim (Contains-cons_cases made more x (subst (λ (ds : List Derived). Contains ds x) e r)) [
@@ -227,7 +227,7 @@ not_moved rest more old made x e n h = elim h [
 pub all_moved : (rest old : List Derived) (x : Derived) → length rest ≡ 0 → Contains rest x ⊎ Contains old x → Contains old x
 all_moved rest old x e h = elim h [ inl r ↦ absurd (let l = r.1 in omega (arith, l, e)) | inr o ↦ o ]
 
--- rows that come from a list, with one more of them
+-- constraints from a list, with one more of them
 pub from_with : (all old new : List Derived) (made : Derived) → new ≡ old ++ made ∷ [] → ((x : Derived) → Contains old x → Contains all x) → Contains all made → (x : Derived) → Contains new x → Contains all x
 from_with all old new made e f h x g = elim (Contains-push_cases old made x (subst (λ (ds : List Derived). Contains ds x) e g)) [ inl o ↦ f x o | inr same ↦ subst (λ (d : Derived). Contains all d) same h ]
 
@@ -237,7 +237,7 @@ first_from all rest more made e f = f made (subst (λ (ds : List Derived). Conta
 pub rest_from : (all rest more : List Derived) (made : Derived) → rest ≡ made ∷ more → ((x : Derived) → Contains rest x → Contains all x) → (x : Derived) → Contains more x → Contains all x
 rest_from all rest more made e f x h = f x (subst (λ (ds : List Derived). Contains ds x) (sym e) (suc h.0, (let l = h.1 in omega (arith, l)), h.2))
 
--- the stage that is left, where the elimination begins with its sums
+-- the stage that is eliminated, before its sums are added
 pub stage_left : (width : ℕ) (rows : List Inequality) (unknown : ℕ) (stage : Stage) (old mid : Elimination) → IsUnderWay width rows old → IsCaughtUp width rows old → IsUnderWay width rows mid → IsStage width rows old.unknowns.items stage → stage.unknown ≡ unknown → AreParted unknown old.live.items stage.upper.items stage.lower.items mid.live.items → mid.found ≡ old.found → mid.unknowns.items ≡ old.unknowns.items ++ unknown ∷ [] → IsStageBefore width rows mid.found mid.unknowns.items stage
 stage_left width rows unknown stage old mid u c v is_stage same parted found unknowns = record {
   before = old.unknowns.items;
@@ -258,7 +258,7 @@ stage_left width rows unknown stage old mid u c v is_stage same parted found unk
     each : (part : List Derived) → ((made : Derived) → Contains part made → Contains old.live.items made) → All (λ (made : Derived). Contains mid.found made.row) part
     each part from k d l = subst (λ (rs : List Inequality). Contains rs (get_or part k d).row) (sym found) (All-contains (λ (m : Derived). Contains old.found m.row) old.live.items (get_or part k d) u.live_found (from (get_or part k d) (Contains-get_or part k d l)))
 
--- and after some of them
+-- the same after some of the sums
 pub stage_grown : (width : ℕ) (rows : List Inequality) (stage : Stage) (old new : Elimination) → IsUnderWay width rows new → HasGrown old new → IsStageBefore width rows old.found old.unknowns.items stage → IsStageBefore width rows new.found new.unknowns.items stage
 stage_grown width rows stage old new v g b = record {
   before = b.before;
@@ -276,7 +276,7 @@ stage_grown width rows stage old new v g b = record {
   lower_found = λ k d l. g.found (get_or stage.lower.items k d).row (b.lower_found k d l);
 }
 
--- two rows of the stage
+-- two constraints of the stage
 pub pair_of_stage : (width : ℕ) (rows found : List Inequality) (unknowns : List ℕ) (stage : Stage) (upper lower : Derived) → IsStageBefore width rows found unknowns stage → Contains stage.upper.items upper → Contains stage.lower.items lower → AreBefore width rows found unknowns stage.unknown upper lower
 pair_of_stage width rows found unknowns stage upper lower b u l = record {
   before = b.before;
@@ -290,7 +290,7 @@ pair_of_stage width rows found unknowns stage upper lower b u l = record {
   lower_found = All-contains (λ (made : Derived). Contains found made.row) stage.lower.items lower b.lower_found l;
 }
 
--- the first given rows of an elimination
+-- the first given constraints of an elimination
 pub begun : (width : ℕ) (rows : List Inequality) (count : ℕ) (elimination : Elimination) → IsUnderWay width rows elimination → elimination.unknowns.items ≡ [] → ((k : ℕ) (d : Inequality) → k < count → Contains elimination.found (padded width (get_or rows k d))) → IsBegun rows count
 begun width rows count elimination u e begins = record {
   width = width;

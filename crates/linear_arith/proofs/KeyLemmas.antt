@@ -1,4 +1,4 @@
--- Keys of rows: one key has the numbers of one row.
+-- Keys of constraints: one key has the numbers of one constraint.
 use Rattle.std.proofs.Common.{◌≡◌, Bool, true, cond, List, [], ◌∷◌, ◌++◌, pos, ℤ, refl, sym, ap, ◌∙◌, subst, inl, inr}
 use Rattle.std.specs.Prelude.{Contains}
 use Rattle.std.specs.BTreeMap.{is_at}
@@ -19,7 +19,7 @@ both_equal Less b e = absurd (false≢true e)
 both_equal Equal b e = (refl, e)
 both_equal Greater b e = absurd (false≢true e)
 
--- numbers that the order does not tell apart are the same
+-- lists of numbers that compare as equal are equal
 exact_numbers : (xs ys : List ℤ) → is_eq (slice_cmp int_cmp xs ys) ≡ true → xs ≡ ys
 exact_numbers [] [] e = refl
 exact_numbers [] (y ∷ ys) e = absurd (false≢true e)
@@ -37,7 +37,7 @@ others (x ∷ xs) = xs
 same_row : (a b : Inequality) → a.bound ∷ a.coefficients ≡ b.bound ∷ b.coefficients → a ≡ b
 same_row a b e = λ i. record { coefficients = ap others e i; bound = ap first e i }
 
--- with one more key and its row, no key is without a row
+-- with one more key and its constraint, each key has a constraint
 pub no_other_with : (old new : BTreeSet (Vec ℤ)) (found : List Inequality) (row : Inequality) (key : Vec ℤ) → key.items ≡ row.bound ∷ row.coefficients → Updates key_cmp old new key true → ((other : Inequality) → HasKey old other → Contains found other) → (other : Inequality) → HasKey new other → Contains (found ++ row ∷ []) other
 no_other_with old new found row key numbers updates before other has =
     elim (cases_Bool (is_at (key_cmp key) has.key)) [

@@ -23,7 +23,7 @@ one_is_within ms k e = elim (below_or_past k (length ms)) [
 divides_one : (ms : List ℤ) (has : HasOne ms) (d : ℕ) → DividesRow d (as_row ms) → d ∣ 1
 divides_one ms has d h = subst (λ (z : ℤ). d ∣ unsigned_abs z) has.is_one (h.coefficients has.place (pos 0) (one_is_within ms has.place has.is_one))
 
--- such a list stands in lowest terms
+-- such a list is in lowest terms
 pub reduced_with_one : (ms : List ℤ) → HasOne ms → IsReduced (as_row ms) (as_row ms)
 reduced_with_one ms has = record {
   divisor = 1;
@@ -35,7 +35,7 @@ reduced_with_one ms has = record {
   zeros = λ e. absurd (omega (arith, e));
 }
 
--- a row with no bound, divided, has no bound
+-- a constraint with bound 0, divided, has bound 0
 pub reduced_list : (ms : List ℤ) (row : Inequality) → IsReduced (as_row ms) row → IsReduced (as_row ms) (as_row row.coefficients)
 reduced_list ms row h = record {
   divisor = h.divisor;
@@ -44,7 +44,7 @@ reduced_list ms row h = record {
   zeros = λ z. ap (λ (r : Inequality). as_row r.coefficients) (h.zeros z);
 }
 
--- what holds of an answer says something else of it
+-- a property of an answer that implies another one
 pub ok_as : {A E : Type 0} (r : Result A E) (P Q : A → Type 0) → ((a : A) → P a → Q a) → IfOk r P → IfOk r Q
 ok_as (Ok a) P Q f h = f a h
 ok_as (Err e) P Q f h = tt

@@ -3,13 +3,13 @@ use Rattle.std.proofs.Common.{◌≡◌, ℕ, zero, suc, ◌+◌, ◌<◌, ◌�
 use Rattle.std.specs.Option.{SomeIff}
 use Rattle.std.proofs.Math.IntN.{*ℤ-zero}
 
--- within a list the default does not matter
+-- at an index of the list the default does not matter
 pub get_or-any_default : {A : Type 0} (xs : List A) (k : ℕ) (d e : A) → k < length xs → get_or xs k d ≡ get_or xs k e
 get_or-any_default [] k d e h = absurd (omega arith)
 get_or-any_default (x ∷ xs) zero d e h = refl
 get_or-any_default (x ∷ xs) (suc k) d e h = get_or-any_default xs k d e (omega arith)
 
--- past its end it is all that there is
+-- at any other index the element is the default
 pub get_or-past : {A : Type 0} (xs : List A) (k : ℕ) (d : A) → length xs ≤ k → get_or xs k d ≡ d
 get_or-past [] k d h = refl
 get_or-past (x ∷ xs) zero d h = absurd (omega arith)
@@ -31,19 +31,19 @@ get_or-push_at [] x (suc n) d h = absurd (omega arith)
 get_or-push_at (y ∷ xs) x zero d h = absurd (omega arith)
 get_or-push_at (y ∷ xs) x (suc n) d h = get_or-push_at xs x n d (omega arith)
 
--- what holds at each place, and of one more element, holds at each place with it
+-- a property of each element, and of one more element
 pub each-push : {A : Type 0} (P : ℕ → A → Type 0) (xs : List A) (x d : A) (n : ℕ) → n ≡ length xs → ((k : ℕ) → k < n → P k (get_or xs k d)) → P n x → (k : ℕ) → k < n + 1 → P k (get_or (xs ++ x ∷ []) k d)
 each-push P xs x d n e before here =
     below_more _ _ (λ k h. subst (P k) (sym (get_or-push_below xs x k d (omega arith))) (before k h)) (subst (P n) (sym (get_or-push_at xs x n d e)) here)
 
--- two lists that stand in a ratio within their length do so at each place, a missing element counting as 0
+-- two lists in a ratio at each index within their length are in the ratio at each index, where a missing element is 0
 pub ratio_everywhere : (m : ℤ) (xs ys : List ℤ) → length xs ≡ length ys → ((k : ℕ) → k < length ys → m *ℤ get_or xs k (pos 0) ≡ get_or ys k (pos 0)) → (k : ℕ) → m *ℤ get_or xs k (pos 0) ≡ get_or ys k (pos 0)
 ratio_everywhere m xs ys e h k = elim (below_or_past k (length ys)) [
   | inl l ↦ h k l
   | inr l ↦ rw (get_or-past xs k (pos 0) (omega arith), get_or-past ys k (pos 0) l) (*ℤ-zero m)
 ]
 
--- a fact of an optional value, from what says when there is one
+-- a property of an optional value, from the condition under which there is one
 pub if_some : {T : Type 0} (r : Option T) (P : Type 0) (v : T) (Q : T → Type 0) → SomeIff r P v → Q v → IfSome r Q
 if_some None P v Q h q = tt
 if_some (Some x) P v Q h q = subst Q (sym h.1) q

@@ -1,4 +1,4 @@
--- Lists of which the numbers other than 0 are kept, number by number.
+-- Sparse lists, number by number.
 use Rattle.std.proofs.Common.{◌≡◌, ℕ, zero, suc, ◌+◌, ◌-◌, ◌<◌, ◌≤◌, List, [], ◌∷◌, ◌++◌, length, replicate, get_or, pos, ℤ, ◌+ℤ◌, ◌*ℤ◌, refl, sym, ap, ◌∙◌, subst, arith, add-one, inl, inr}
 use Rattle.std.proofs.lemmas.List.{append-nil, append_assoc, length-replicate, get_or-replicate, replicate-append-replicate, get_or_append_left, get_or-append-add, get_or-append_right, get_or_at}
 use Rattle.std.proofs.Math.IntN.{*ℤ-zero}
@@ -23,7 +23,7 @@ spread_push entries entry =
 pub spread_zeros : (entries : List Entry) (n m : ℕ) → spread entries ++ zeros (n + m) ≡ (spread entries ++ zeros n) ++ zeros m
 spread_zeros entries n m = ap (λ (xs : List ℤ). spread entries ++ xs) (sym (replicate-append-replicate n m (pos 0))) ∙ sym (append_assoc (spread entries) (zeros n) (zeros m))
 
--- more zeros at the end change no number
+-- more zeros at the end do not change a number
 pub number_trailing : (xs : List ℤ) (n k : ℕ) → number k (xs ++ zeros n) ≡ number k xs
 number_trailing xs n k = elim (below_or_past k (length xs)) [
   | inl l ↦ get_or_append_left xs (zeros n) (pos 0) k l
@@ -36,7 +36,7 @@ number_trailing xs n k = elim (below_or_past k (length xs)) [
       | inr p ↦ get_or-past (zeros n) k (pos 0) (subst (λ (m : ℕ). m ≤ k) (sym (length-replicate n (pos 0))) p)
     ]
 
--- where nothing comes, any number of zeros may be said to come
+-- where no entry comes, any number of zeros comes next
 pub ahead_none : (n : ℕ) (rest : List Entry) → length rest ≡ 0 → ahead n rest ≡ spread rest
 ahead_none n [] e = refl
 ahead_none n (entry ∷ rest) e = absurd (omega (arith, e))
@@ -54,14 +54,14 @@ past_zeros m n k xs =
     let parts : zeros (m + n) ++ xs ≡ zeros m ++ (zeros n ++ xs) = ap (λ (ys : List ℤ). ys ++ xs) (sym (replicate-append-replicate m n (pos 0))) ∙ append_assoc (zeros m) (zeros n) xs in
     ap (λ (ys : List ℤ). number (m + k) ys) parts ∙ ap (λ (j : ℕ). number (j + k) (zeros m ++ (zeros n ++ xs))) (sym (length-replicate m (pos 0))) ∙ get_or-append-add (zeros m) (zeros n ++ xs) k (pos 0)
 
--- with fewer zeros ahead each number comes so much earlier
+-- with fewer zeros next each number comes so much earlier
 pub ahead_skip : (before after count k : ℕ) (rest : List Entry) → before ≡ count + after → number k (ahead after rest) ≡ number (k + count) (ahead before rest)
 ahead_skip before after count k [] e = refl
 ahead_skip before after count k (entry ∷ rest) e =
     let sum : k + count ≡ count + k = omega arith in
     sym (ap (λ (n : ℕ). number (k + count) (zeros n ++ entry.number ∷ spread rest)) e ∙ ap (λ (j : ℕ). number j (zeros (count + after) ++ entry.number ∷ spread rest)) sum ∙ past_zeros count after k (entry.number ∷ spread rest))
 
--- the number that comes next, and those after it
+-- the next number, and those after it
 pub ahead_now : (n : ℕ) (entry : Entry) (rest : List Entry) → n ≡ 0 → number 0 (ahead n (entry ∷ rest)) ≡ entry.number
 ahead_now n entry rest e = ap (λ (m : ℕ). number 0 (ahead m (entry ∷ rest))) e
 
@@ -71,7 +71,7 @@ ahead_later n k entry rest e = sym (ap (λ (m : ℕ). number (k + 1) (ahead m (e
     later : (k : ℕ) → number (k + 1) (entry.number ∷ spread rest) ≡ number k (spread rest)
     later k = rw add-one refl
 
--- each number that is kept stands somewhere in the list
+-- each number other than 0 is at some index of the list
 pub spread_at : (entries : List Entry) (i : ℕ) (entry : Entry) → i < length entries → entry ≡ get_or entries i entry → (place : ℕ) × (number place (spread entries) ≡ entry.number)
 spread_at [] i entry l e = absurd (omega (arith, l))
 spread_at (first ∷ entries) zero entry l e = (first.zeros, get_or_at (zeros first.zeros) first.number (spread entries) (pos 0) first.zeros (length-replicate first.zeros (pos 0)) ∙ sym (ap (λ (it : Entry). it.number) e))
@@ -79,7 +79,7 @@ spread_at (first ∷ entries) (suc i) entry l e =
     let later = spread_at entries i entry (omega (arith, l)) e in
     (length (zeros first.zeros) + suc later.0, get_or-append-add (zeros first.zeros) (first.number ∷ spread entries) (suc later.0) (pos 0) ∙ later.1)
 
--- some zeros at the end, each of which is what it has to be
+-- some zeros at the end, each with the right value
 each_zero : (P : ℕ → ℤ → Type 0) (xs : List ℤ) (n m : ℕ) → length xs ≡ n → ((k : ℕ) → k < n → P k (number k xs)) → ((k : ℕ) → k < m → P (k + n) (pos 0)) → (k : ℕ) → k < n + m → P k (number k (xs ++ zeros m))
 each_zero P xs n m e before here k l = elim (below_or_past k n) [
   | inl b ↦ subst (P k) (sym (number_trailing xs m k)) (before k b)
@@ -95,7 +95,7 @@ no_sum x y a b e f =
     let q : y *ℤ b ≡ pos 0 = ap (λ (z : ℤ). y *ℤ z) f ∙ *ℤ-zero y in
     omega (arith, ints, p, q)
 
--- two lists added number by number, as far as the first n numbers, and some more zeros
+-- the sum of two lists number by number, of the first n numbers, and some more zeros
 pub mixed_past : (x y : ℤ) (first second made : List ℤ) (n m : ℕ) → length made ≡ n → ((k : ℕ) → k < n → number k made ≡ (x *ℤ number k first) +ℤ (y *ℤ number k second)) → ((k : ℕ) → k < m → number (k + n) first ≡ pos 0) → ((k : ℕ) → k < m → number (k + n) second ≡ pos 0) → (k : ℕ) → k < n + m → number k (made ++ zeros m) ≡ (x *ℤ number k first) +ℤ (y *ℤ number k second)
 mixed_past x y first second made n m e before a b =
     each_zero (λ (k : ℕ) (z : ℤ). z ≡ (x *ℤ number k first) +ℤ (y *ℤ number k second)) made n m e before (λ k l. no_sum x y (number (k + n) first) (number (k + n) second) (a k l) (b k l))
@@ -105,7 +105,7 @@ pub mixed_next : (x y : ℤ) (first second made : List ℤ) (n : ℕ) (z : ℤ) 
 mixed_next x y first second made n z e before here =
     each-push (λ (k : ℕ) (w : ℤ). w ≡ (x *ℤ number k first) +ℤ (y *ℤ number k second)) made z (pos 0) n (sym e) before here
 
--- what comes next in a list, of which n numbers have gone by
+-- the rest of a list after n numbers
 pub zero_next : (list : List ℤ) (before : ℕ) (rest : List Entry) (n : ℕ) → ((k : ℕ) → number k (ahead before rest) ≡ number (k + n) list) → (k : ℕ) → k < before → number (k + n) list ≡ pos 0
 zero_next list before rest n at k l = sym (at k) ∙ ahead_zero before k rest l
 

@@ -1,4 +1,5 @@
--- What is left of a row once values are put in: the row with the values but for a factor, and its numbers fit.
+-- Constraints after the substitution of values: up to a factor they are the forms after the substitution, and their
+-- numbers fit.
 use Rattle.std.proofs.Common.{◌≡◌, ℕ, Bool, true, false, List, [], ◌∷◌, ◌++◌, pos, ℤ, ◌*ℤ◌, ◌<ℤ◌, refl, sym, ◌∙◌, subst, arith, inl, inr, length-append}
 use Rattle.std.specs.Prelude.{if◌then◌else◌, ◌==◌, unsigned_abs}
 use Rattle.std.proofs.lemmas.Bool.Decides.{eqb_tells}
@@ -36,7 +37,7 @@ rest_ratio row _ _ p (absent vs v left h z) =
 rest_ratio row _ _ p (put vs v left made h n i) =
     subst (λ (f : LinearForm). IsRatio f made) (sym (left_push vs v row)) (ratio_put_in (left_of vs row) left made v (rest_ratio row vs left (firsts vs v p) h) (put_ratio left made v (last vs v p) i))
 
--- the sum by which a value is put in
+-- the sum by which a value is substituted
 put_fits : (row made : Inequality) (value : Fraction) → IsPut row value made → IsFitting made
 put_fits row made value h = reduced_fits h.sum made h.is_reduced (coefficients, subst (λ (z : ℤ). Fits z) (sym h.is_sum.bound) h.within.bound.difference)
   where

@@ -1,4 +1,4 @@
--- Rows of the stages of an elimination: their multipliers, and what stands when one more is found.
+-- Constraints of the stages of an elimination: their multipliers, and the invariant when one more is found.
 use Rattle.std.proofs.Common.{◌≡◌, ◌≢◌, ℕ, zero, suc, ◌<◌, ◌≤◌, Bool, true, false, cond, not, List, [], ◌∷◌, ◌++◌, length, get_or, pos, ℤ, ◌+ℤ◌, ◌*ℤ◌, ◌≤ℤ◌, ◌<ℤ◌, refl, sym, ap, ◌∙◌, subst, arith, ◌⊎◌, inl, inr, length-append, append-nil, append_assoc}
 use Rattle.std.specs.Prelude.{All, Contains}
 use Rattle.std.specs.List.{list_any}
@@ -45,14 +45,14 @@ size_not_negative n = omega (arith, ints)
 sum_not_negative : (a b : ℤ) → pos 0 ≤ℤ a → pos 0 ≤ℤ b → pos 0 ≤ℤ (a +ℤ b)
 sum_not_negative a b h k = omega (arith, ints, h, k)
 
--- two numbers are one or differ
+-- two numbers are equal or different
 same_or_not : (i k : ℕ) → (i ≡ k) ⊎ (i ≢ k)
 same_or_not zero zero = inl refl
 same_or_not zero (suc k) = inr (λ e. omega (arith, e))
 same_or_not (suc i) zero = inr (λ e. omega (arith, e))
 same_or_not (suc i) (suc k) = elim (same_or_not i k) [ inl e ↦ inl (ap suc e) | inr n ↦ inr (λ e. n (omega (arith, e))) ]
 
--- every number of a list is at least 0, where it is at each place
+-- each number of a list is at least 0, where it is at each index
 each_not_negative : (ms : List ℤ) → ((k : ℕ) → k < length ms → pos 0 ≤ℤ number k ms) → All (λ m. pos 0 ≤ℤ m) ms
 each_not_negative ms h k d l = subst (λ (z : ℤ). pos 0 ≤ℤ z) (get_or-any_default ms k (pos 0) d l) (h k l)
 
@@ -75,7 +75,7 @@ length_of_reduced row reduced h = elim (zero_or_positive h.divisor) [
   | inr p ↦ (h.quotient p).same_unknowns
 ]
 
--- the least whole numbers in the ratio of numbers that are at least 0
+-- the least integers in the ratio of numbers that are at least 0
 least_not_negative : (mixed ms : List ℤ) → IsReduced (as_row mixed) (as_row ms) → ((k : ℕ) → k < length mixed → pos 0 ≤ℤ number k mixed) → (k : ℕ) → k < length mixed → pos 0 ≤ℤ number k ms
 least_not_negative mixed ms h at k l = elim (zero_or_positive h.divisor) [
   | inl z ↦ subst (λ (r : Inequality). pos 0 ≤ℤ number k r.coefficients) (sym (h.zeros z)) (at k l)
@@ -98,7 +98,7 @@ least_multipliers rows x y first second ms a b h =
 pub width_of_combination : (width : ℕ) (ms : List ℤ) (rows : List Inequality) → length (combination width ms rows).coefficients ≡ width
 width_of_combination width ms rows = length-map-range_with_len (λ u. weighted_sum (coefficient u) ms rows) 0 width
 
--- a row with a key that is not there is none of those that have one
+-- a constraint whose key is new is none of those with keys
 not_found : (keys : BTreeSet (Vec ℤ)) (key : Vec ℤ) (row other : Inequality) → contains key_cmp keys key ≡ false → key.items ≡ row.bound ∷ row.coefficients → HasKey keys other → other ≢ row
 not_found keys key row other fresh numbers has same =
     let e : has.key.items ≡ key.items = has.numbers ∙ ap (λ (r : Inequality). r.bound ∷ r.coefficients) same ∙ sym numbers in
@@ -130,7 +130,7 @@ stays old new key updates row has = record {
 found_of_derived : (width : ℕ) (rows : List Inequality) (unknowns : List ℕ) (made : Derived) → IsDerived width rows unknowns made → IsFound width rows unknowns made.row
 found_of_derived width rows unknowns made d = record { before = unknowns; after = []; parts = append-nil unknowns; multipliers = made.multipliers; of_stage = d.of_stage }
 
--- a row that is no contradiction says nothing false where no unknown stands in it
+-- a constraint that is no contradiction is true where it has no unknown
 pub sound_of : (row : Inequality) → ¬ ((row.bound <ℤ pos 0) × All (λ c. c ≡ pos 0) row.coefficients) → IsSound row
 sound_of row h none = by_lt_z row.bound (pos 0) (λ l. absurd (h (l, λ k d b. get_or-any_default row.coefficients k d (pos 0) b ∙ none k))) (λ l. l)
 
@@ -138,7 +138,7 @@ sound_of_multiple : (row total : Inequality) → IsMultiple row total → IsSoun
 sound_of_multiple row total m h none =
     sign_of_multiple (pos m.scale) row.bound (size_positive m.scale m.positive) (subst (λ (z : ℤ). pos 0 ≤ℤ z) (sym m.is_scaled.bound) (h (λ u. sym (m.is_scaled.coefficients u) ∙ ap (λ (z : ℤ). pos m.scale *ℤ z) (none u) ∙ *ℤ-zero (pos m.scale))))
 
--- the rows found with one more, of which no key was there
+-- the found constraints and one more with a new key
 pub found_with : (width : ℕ) (rows : List Inequality) (unknowns : List ℕ) (old new : BTreeSet (Vec ℤ)) (found : List Inequality) (made : Derived) (key : Vec ℤ) → AreFound width rows unknowns old found → IsDerived width rows unknowns made → key.items ≡ made.row.bound ∷ made.row.coefficients → contains key_cmp old key ≡ false → Updates key_cmp old new key true → AreFound width rows unknowns new (found ++ made.row ∷ [])
 found_with width rows unknowns old new found made key f d numbers fresh updates = record {
   of_stages = All-push (IsFound width rows unknowns) found made.row f.of_stages (found_of_derived width rows unknowns made d);
@@ -149,7 +149,7 @@ found_with width rows unknowns old new found made key f d numbers fresh updates 
   sound = All-push IsSound found made.row f.sound d.sound;
 }
 
--- an elimination with one more row
+-- an elimination with one more constraint
 pub under_way_with : (width : ℕ) (rows : List Inequality) (old new : Elimination) (made : Derived) (key : Vec ℤ) → IsUnderWay width rows old → IsDerived width rows old.unknowns.items made → new.unknowns.items ≡ old.unknowns.items → new.live.items ≡ old.live.items ++ made ∷ [] → new.found ≡ old.found ++ made.row ∷ [] → new.stages.items ≡ old.stages.items → key.items ≡ made.row.bound ∷ made.row.coefficients → contains key_cmp old.keys key ≡ false → Updates key_cmp old.keys new.keys key true → length new.found < 5000 → IsUnderWay width rows new
 under_way_with width rows old new made key u d unknowns live found stages numbers fresh updates limit = record {
   within = u.within;
@@ -160,7 +160,7 @@ under_way_with width rows old new made key u d unknowns live found stages number
   below_limit = limit;
 }
 
--- and where its rows reach the limit
+-- an elimination whose constraints reach the limit
 pub limit_with : (width : ℕ) (rows : List Inequality) (old : Elimination) (keys : BTreeSet (Vec ℤ)) (found : List Inequality) (made : Derived) (key : Vec ℤ) → IsUnderWay width rows old → IsDerived width rows old.unknowns.items made → found ≡ old.found ++ made.row ∷ [] → key.items ≡ made.row.bound ∷ made.row.coefficients → contains key_cmp old.keys key ≡ false → Updates key_cmp old.keys keys key true → 5000 ≤ length found → ReachesLimit rows found
 limit_with width rows old keys found made key u d is numbers fresh updates limit =
     let f = subst (λ (rs : List Inequality). AreFound width rows old.unknowns.items keys rs) (sym is) (found_with width rows old.unknowns.items old.keys keys old.found made key u.are_found d numbers fresh updates) in
@@ -175,7 +175,7 @@ limit_with width rows old keys found made key u d is numbers fresh updates limit
       count = omega (arith, len, limit, u.below_limit);
     }
 
--- an elimination whose keys changed in their places alone
+-- an elimination whose keys are only stored elsewhere
 pub under_way_same : (width : ℕ) (rows : List Inequality) (old : Elimination) (keys : BTreeSet (Vec ℤ)) → IsUnderWay width rows old → old.keys.keys ≡ keys.keys → IsUnderWay width rows (record old { keys = keys })
 under_way_same width rows old keys u same = record {
   within = u.within;
@@ -196,7 +196,7 @@ under_way_same width rows old keys u same = record {
 multiple_of_row : (width : ℕ) (rows : List Inequality) (unknowns : List ℕ) (made : Derived) → IsDerived width rows unknowns made → IsMultiple made.row made.total
 multiple_of_row width rows unknowns made d = record { scale = d.scale; positive = d.positive; is_scaled = d.is_scaled }
 
--- the row that is made of two others by their multipliers is their sum
+-- the combination of two constraints by their multipliers is their sum
 pub sum_of_derived : (width : ℕ) (rows found : List Inequality) (unknowns : List ℕ) (unknown x y : ℕ) (upper lower made : Derived) → AreBefore width rows found unknowns unknown upper lower → Cancels (coefficient unknown upper.total) (coefficient unknown lower.total) x y → IsLeastMix x y upper.multipliers lower.multipliers made.multipliers → made.total ≡ combination width made.multipliers rows → IsReduced made.total made.row → IsSumOf unknown upper.row lower.row made.row
 sum_of_derived width rows found unknowns unknown x y upper lower made b cancels least is reduced =
     let u = b.upper_of_stage in
@@ -219,7 +219,7 @@ cancelling_sum width rows found unknowns unknown x y upper lower ms b cancels le
       least = least;
     }
 
--- the sum is due in the elimination that has the two rows
+-- the sum is due in the elimination that has the two constraints
 pub sum_due : (width : ℕ) (rows found : List Inequality) (unknowns : List ℕ) (unknown x y : ℕ) (upper lower : Derived) (ms : List ℤ) → AreBefore width rows found unknowns unknown upper lower → Cancels (coefficient unknown upper.total) (coefficient unknown lower.total) x y → IsLeastMix x y upper.multipliers lower.multipliers ms → IsDue rows ms
 sum_due width rows found unknowns unknown x y upper lower ms b cancels least = due (record {
   width = width;
@@ -238,7 +238,7 @@ sum_due width rows found unknowns unknown x y upper lower ms b cancels least = d
   is_sum = cancelling_sum width rows found unknowns unknown x y upper lower ms b cancels least;
 })
 
--- the sum of two rows that cancels an unknown, as a row of the next stage
+-- the sum of two constraints that cancels an unknown, as a constraint of the next stage
 pub sum_derived : (width : ℕ) (rows found : List Inequality) (unknowns : List ℕ) (unknown x y : ℕ) (upper lower made : Derived) → AreBefore width rows found unknowns unknown upper lower → Cancels (coefficient unknown upper.total) (coefficient unknown lower.total) x y → IsLeastMix x y upper.multipliers lower.multipliers made.multipliers → made.total ≡ combination width made.multipliers rows → IsReduced made.total made.row → IsSound made.total → CombinesWithin width made.multipliers rows → IsDerived width rows unknowns made
 sum_derived width rows found unknowns unknown x y upper lower made b cancels least is reduced sound within =
     let u = b.upper_of_stage in
@@ -293,7 +293,7 @@ stage_with_lower width rows unknowns old new made s d below same upper lower =
       below = subst (λ (u : ℕ). All (Q u) new.lower.items) (sym same) (subst (λ (ds : List Derived). All (Q old.unknown) ds) (sym lower) (All-push (Q old.unknown) old.lower.items made s.below below));
     }
 
--- a row without the unknown is one of the next stage
+-- a constraint without the unknown is one of the next stage
 pub kept_derived : (width : ℕ) (rows : List Inequality) (unknowns : List ℕ) (unknown : ℕ) (made : Derived) → IsDerived width rows unknowns made → coefficient unknown made.total ≡ pos 0 → IsDerived width rows (unknowns ++ unknown ∷ []) made
 kept_derived width rows unknowns unknown made d none = record {
   of_stage = kept unknowns unknown made.row made.multipliers d.of_stage (subst (λ (r : Inequality). coefficient unknown r ≡ pos 0) d.is_total none);
@@ -338,7 +338,7 @@ under_way_next width rows unknown old new u unknowns found keys stages live from
   below_limit = subst (λ (rs : List Inequality). length rs < 5000) (sym found) u.below_limit;
 }
 
--- an elimination that keeps what a stage left behind
+-- an elimination that keeps the constraints removed from a stage
 pub under_way_kept : (width : ℕ) (rows : List Inequality) (unknowns : List ℕ) (stage : Stage) (old new : Elimination) → IsUnderWay width rows old → IsStage width rows unknowns stage → new.unknowns.items ≡ old.unknowns.items → new.live.items ≡ old.live.items → new.found ≡ old.found → new.keys ≡ old.keys → new.stages.items ≡ old.stages.items ++ stage ∷ [] → IsUnderWay width rows new
 under_way_kept width rows unknowns stage old new u is_stage same live found keys stages = record {
   within = u.within;
@@ -349,7 +349,7 @@ under_way_kept width rows unknowns stage old new u is_stage same live found keys
   below_limit = subst (λ (rs : List Inequality). length rs < 5000) (sym found) u.below_limit;
 }
 
--- two rows whose sum leaves 128 bits
+-- two constraints whose sum is not in 128 bits
 pub wide_sum : (width : ℕ) (rows found : List Inequality) (unknowns : List ℕ) (unknown x y : ℕ) (upper lower : Derived) → AreBefore width rows found unknowns unknown upper lower → Cancels (coefficient unknown upper.total) (coefficient unknown lower.total) x y → SumLeaves width rows x y upper.multipliers lower.multipliers → IsWide rows upper.row lower.row
 wide_sum width rows found unknowns unknown x y upper lower b cancels leaves =
     let u = b.upper_of_stage in

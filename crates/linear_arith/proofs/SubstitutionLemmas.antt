@@ -1,4 +1,4 @@
--- Rows into which values were put, against the same without a division.
+-- Constraints after the substitution of values, compared with forms without a division.
 use Rattle.std.proofs.Common.{◌≡◌, ℕ, zero, suc, ◌<◌, Bool, true, false, pos, ℤ, ◌-ℤ◌, ◌*ℤ◌, ◌<ℤ◌, refl, sym, ap, ◌∙◌, subst, arith, ◌⊎◌, inl, inr}
 use Rattle.std.specs.Prelude.{if◌then◌else◌, ◌==◌}
 use Rattle.std.proofs.Math.IntN.{*ℤ-zero, zero-*ℤ}
@@ -25,7 +25,7 @@ itself row = record {
   bound = one_mul row.bound;
 }
 
--- a reduced row is the row but for a positive factor
+-- a reduced constraint is the constraint up to a positive factor
 pub ratio_of_reduced : (row reduced : Inequality) → IsReduced row reduced → IsRatio (form_of row) reduced
 ratio_of_reduced row reduced h = elim (zero_or_positive h.divisor) [
   | inl z ↦ subst (λ (r : Inequality). IsRatio (form_of row) r) (sym (h.zeros z)) (itself row)
@@ -49,7 +49,8 @@ scaled_choice : (t : Bool) (g a q c : ℤ) → g *ℤ a ≡ q → g *ℤ (if t t
 scaled_choice true g a q c e = *ℤ-zero g
 scaled_choice false g a q c e = sym (mul_assoc g a c) ∙ ap (λ (z : ℤ). z *ℤ c) e
 
--- a row times a factor, less a weight times the value, times the common divisor of both is the row with the value put in
+-- a constraint times a factor, minus a weight times the value, times the common divisor of both is the constraint after
+-- the substitution of the value
 pub ratio_of_put_in : (g : ℕ) (row made reduced : Inequality) (value : Fraction) (factor weight : ℤ) → 0 < g → pos g *ℤ factor ≡ value.denominator → pos g *ℤ weight ≡ coefficient value.unknown row → ((k : ℕ) → coefficient k made ≡ (if k == value.unknown then pos 0 else (factor *ℤ coefficient k row))) → made.bound ≡ (factor *ℤ row.bound) -ℤ (weight *ℤ value.numerator) → IsReduced made reduced → IsRatio (put_in (form_of row) value) reduced
 ratio_of_put_in g row made reduced value factor weight p f w cs b r =
     ratio_scaled (pos g) (form_of made) (put_in (form_of row) value) reduced (positive_pos g p) (ratio_of_reduced made reduced r)
@@ -60,7 +61,7 @@ choice_times : (t : Bool) (k q c f : ℤ) → k *ℤ c ≡ f → k *ℤ (if t th
 choice_times true k q c f e = *ℤ-zero k
 choice_times false k q c f e = mul_swap k q c ∙ ap (λ (z : ℤ). q *ℤ z) e
 
--- a value put into a row that is a form but for a factor
+-- the substitution of a value in a constraint that is a form up to a factor
 pub ratio_put_in : (form : LinearForm) (left next : Inequality) (value : Fraction) → IsRatio form left → IsRatio (put_in (form_of left) value) next → IsRatio (put_in form value) next
 ratio_put_in form left next value r s =
     ratio_scaled r.scale (put_in (form_of left) value) (put_in form value) next r.positive s
@@ -71,7 +72,7 @@ choice_zero : (k u : ℕ) (t : Bool) → (k == u) ≡ t → (q f : ℤ) → ((k 
 choice_zero k u true e q f h = ap (λ (z : ℤ). q *ℤ z) (h (eqb-true k u e)) ∙ *ℤ-zero q
 choice_zero k u false e q f h = refl
 
--- and where the row has not that unknown
+-- the same where the constraint does not have that unknown
 pub ratio_skip : (form : LinearForm) (left : Inequality) (value : Fraction) → IsRatio form left → pos 0 <ℤ value.denominator → coefficient value.unknown left ≡ pos 0 → IsRatio (put_in form value) left
 ratio_skip form left value r p z =
     let none : form.at value.unknown ≡ pos 0 = sym (r.coefficients value.unknown) ∙ ap (λ (c : ℤ). r.scale *ℤ c) z ∙ *ℤ-zero r.scale in

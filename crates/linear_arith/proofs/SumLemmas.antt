@@ -53,7 +53,7 @@ cancels_by_sizes a b g m n p e f h above below =
       least = quotients_coprime g m n p h;
     }
 
--- two numbers of which one is above 0 have a common divisor above 0
+-- two numbers of which one is above 0 have a greatest common divisor above 0
 pub no_zero_divisor : (a : ℤ) (m n : ℕ) → m ≡ unsigned_abs a → IsGcd m n 0 → pos 0 <ℤ a → ⊥
 no_zero_divisor a m n e h above =
     let z = eq-zero_of_zero-dvd h.0 in

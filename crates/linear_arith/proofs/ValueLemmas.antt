@@ -37,7 +37,7 @@ contains_none [] u n (k, l, e) = absurd (omega (arith, l))
 contains_none (s ∷ ss) u n (zero, l, e) = n 0 s (omega arith) e
 contains_none (s ∷ ss) u n (suc k, l, e) = contains_none ss u (λ i d m. n (suc i) d (omega (arith, m))) (k, omega (arith, l), e)
 
--- values for the first unknowns that no stage eliminated
+-- values for the first unknowns that no stage eliminates
 pub record AreBegun (stages : List Stage) (count : ℕ) (values : List Fraction) : Type 0 where
   pub positive : ArePositive values
   pub covered : (u : ℕ) → u < count → Contains (unknowns_of stages) u ⊎ HasValue values u
@@ -121,7 +121,7 @@ solved width rows stages values all c = record {
       subst (λ (f : LinearForm). IsTrueForm (put_in_all f values)) (padded_form width row (all.within k d l)) (c.met (padded width row) (all.begins k d l) (All-nil (λ (u : ℕ). coefficient u (padded width row) ≡ pos 0)));
 }
 
--- with the value of a stage's unknown, chosen between its rows
+-- one more value, of a stage's unknown, chosen between its constraints
 pub values_back : (width : ℕ) (rows : List Inequality) (stages : List Stage) (values : List Fraction) (value : Fraction) (i : ℕ) (d : Stage) (all : HasAllStages width rows stages) → i < length stages → AreChosen width all.found (unknowns_of (take (i + 1) stages)) values → AreValues all.found (unknowns_of stages) (unknowns_of (take (i + 1) stages)) values → value.unknown ≡ (get_or stages i d).unknown → IsChosen all.found (unknowns_of (take i stages)) values value → AreValues all.found (unknowns_of stages) (unknowns_of (take i stages)) (values ++ value ∷ [])
 values_back width rows stages values value i d all l c v same chosen =
     let us = unknowns_of (take i stages) in
@@ -144,7 +144,7 @@ all_chosen width rows stages values all c v = record {
   covered = λ u l. elim (c.covered u l) [ inl h ↦ absurd (let b = h.1 in omega (arith, b)) | inr h ↦ h ];
 }
 
--- the rows of a stage fit, and are found
+-- the constraints of a stage fit, and are found
 pub stage_fits : (width : ℕ) (rows : List Inequality) (stage : Stage) → IsOfStages width rows stage → IsFittingStage stage
 stage_fits width rows stage s = record { upper = λ k d l. (s.is_stage.upper k d l).fits; lower = λ k d l. (s.is_stage.lower k d l).fits }
 

@@ -1,4 +1,4 @@
--- The stages that an elimination keeps: each left behind all rows in which its unknown stood.
+-- The stages that an elimination keeps: all constraints on its unknown were removed from each.
 use Rattle.std.proofs.Common.{◌≡◌, ◌≢◌, ℕ, ◌<◌, List, [], ◌∷◌, ◌++◌, length, get_or, take, pos, refl, sym, ap, ◌∙◌, subst, arith, ◌⊎◌, inl, inr, length-append}
 use Rattle.std.specs.Prelude.{Contains}
 use Rattle.std.specs.List.{AllPairs}
@@ -30,7 +30,7 @@ unknown_is_one stages k d row l w =
     let len = length-map stages f in
     subst (λ (n : ℕ). coefficient n row ≡ pos 0) (get_or-map f stages k d) (w k d.unknown (omega (arith, len, l)))
 
--- where rows without all unknowns of the stages are found, the stages stay whole
+-- where constraints without the unknowns of all stages are found, the stages are still whole
 whole_stays : (old new : List Inequality) (stages : List Stage) → ((row : Inequality) → Contains old row → Contains new row) → ((row : Inequality) → Contains new row → Contains old row ⊎ IsWithout (unknowns_of stages) row) → AreWhole old stages → AreWhole new stages
 whole_stays old new stages keep fresh w = λ k d l. record {
   is_found = λ row s. keep row ((w k d l).is_found row s);
@@ -42,7 +42,7 @@ whole_stays old new stages keep fresh w = λ k d l. record {
   sums = sums_stay old new (unknowns_of (take k stages)) (get_or stages k d).unknown keep (λ row h. elim (fresh row h) [ inl o ↦ inl o | inr all ↦ inr (unknown_is_one stages k d row l all) ]) (w k d l).sums;
 }
 
--- and with one more stage
+-- one more stage
 whole_push : (found : List Inequality) (stages : List Stage) (stage : Stage) → AreWhole found stages → IsWhole found (unknowns_of stages) stage → AreWhole found (stages ++ stage ∷ [])
 whole_push found stages stage w h = λ k d l.
     let len = length-append stages (stage ∷ []) in
@@ -56,7 +56,7 @@ stands_found width rows old part row u from s = subst (λ (r : Inequality). Cont
 stands_without : (width : ℕ) (rows : List Inequality) (old : Elimination) (part : List Derived) (row : Inequality) → IsUnderWay width rows old → ((made : Derived) → Contains part made → Contains old.live.items made) → StandsIn part row → IsWithout old.unknowns.items row
 stands_without width rows old part row u from s = subst (λ (r : Inequality). IsWithout old.unknowns.items r) s.same (All-contains (IsDerived width rows old.unknowns.items) old.live.items s.made u.live (from s.made s.is_live)).without
 
--- the stage that is left is whole, once its sums were added
+-- the stage that is eliminated is whole after its sums are added
 stage_whole : (width : ℕ) (rows : List Inequality) (stage : Stage) (old mid new : Elimination) → IsUnderWay width rows old → IsCaughtUp width rows old → AreParted stage.unknown old.live.items stage.upper.items stage.lower.items mid.live.items → mid.found ≡ old.found → mid.unknowns.items ≡ old.unknowns.items ++ stage.unknown ∷ [] → HasGrown mid new → HaveSums new.found stage.unknown stage.upper.items stage.lower.items → IsWhole new.found old.unknowns.items stage
 stage_whole width rows stage old mid new u c parted found unknowns g sums = record {
   is_found = λ row s. next_keeps old mid new found g row (elim s [
@@ -76,7 +76,7 @@ stage_whole width rows stage old mid new u c parted found unknowns g sums = reco
   sums = next_sums width rows stage.unknown stage.upper.items stage.lower.items old mid new u c parted found unknowns g sums;
 }
 
--- the stages with the one that is left
+-- the stages with the one that is eliminated
 pub stages_next : (width : ℕ) (rows : List Inequality) (stage : Stage) (old mid new : Elimination) → IsUnderWay width rows old → IsCaughtUp width rows old → KeepsStages old → AreParted stage.unknown old.live.items stage.upper.items stage.lower.items mid.live.items → mid.found ≡ old.found → mid.unknowns.items ≡ old.unknowns.items ++ stage.unknown ∷ [] → new.stages.items ≡ old.stages.items → HasGrown mid new → HaveSums new.found stage.unknown stage.upper.items stage.lower.items → AreWhole new.found (new.stages.items ++ stage ∷ []) × (unknowns_of (new.stages.items ++ stage ∷ []) ≡ new.unknowns.items)
 stages_next width rows stage old mid new u c k parted found unknowns stages g sums =
     let us = unknowns_of old.stages.items in

@@ -1,4 +1,4 @@
--- What an answer to a system of rows shows.
+-- The answers to a system of constraints.
 use Rattle.std.specs.Prelude.{List, All}
 use Rattle.std.proofs.Common.{ℤ}
 use Rattle.linear_arith.specs.Inequality.{Inequality}
@@ -14,40 +14,40 @@ use Rattle.linear_arith.specs.declared.rows.LinAnswer.TheVariants.{Infeasible, F
 use Rattle.linear_arith.specs.declared.stop.Stop.{Stop}
 use Rattle.linear_arith.specs.declared.stop.Stop.TheVariants.{Answered, OutOfMemory}
 
--- a fact of the multipliers, where the answer has some
+-- a property of the multipliers, if the answer has some
 abbrev pub IfInfeasible : LinAnswer → (List ℤ → Type 0) → Type 0
 IfInfeasible (Infeasible multipliers) P = P multipliers
 IfInfeasible (Feasible values) P = Unit {0}
 IfInfeasible (Wide first second) P = Unit {0}
 IfInfeasible (TooManyRows rows) P = Unit {0}
 
--- a fact of the values, where the answer has some
+-- a property of the values, if the answer has some
 abbrev pub IfFeasible : LinAnswer → (List Fraction → Type 0) → Type 0
 IfFeasible (Infeasible multipliers) P = Unit {0}
 IfFeasible (Feasible values) P = P values
 IfFeasible (Wide first second) P = Unit {0}
 IfFeasible (TooManyRows rows) P = Unit {0}
 
--- a fact of the two rows, where the answer has some
+-- a property of the two constraints, if the answer has some
 abbrev pub IfWide : LinAnswer → (Inequality → Inequality → Type 0) → Type 0
 IfWide (Infeasible multipliers) P = Unit {0}
 IfWide (Feasible values) P = Unit {0}
 IfWide (Wide first second) P = P first second
 IfWide (TooManyRows found) P = Unit {0}
 
--- a fact of the rows, where the answer has some
+-- a property of the constraints, if the answer has some
 abbrev pub IfTooManyRows : LinAnswer → (List Inequality → Type 0) → Type 0
 IfTooManyRows (Infeasible multipliers) P = Unit {0}
 IfTooManyRows (Feasible values) P = Unit {0}
 IfTooManyRows (Wide first second) P = Unit {0}
 IfTooManyRows (TooManyRows found) P = P found
 
--- values that meet every row
+-- values that meet all constraints
 pub record IsSolution (rows : List Inequality) (values : List Fraction) : Type 0 where
   pub positive : ArePositive values
   pub met : All (Meets values) rows
 
--- the answer shows what it says of the rows
+-- the answer carries valid evidence
 abbrev pub Shows : List Inequality → LinAnswer → Type 0
 Shows rows answer = IfInfeasible answer (IsContradiction rows) × IfFeasible answer (IsSolution rows) × IfTooManyRows answer (ReachesLimit rows) × IfWide answer (IsWide rows) × IfFeasible answer (AreAllChosen rows) × IfInfeasible answer (IsDue rows)
 

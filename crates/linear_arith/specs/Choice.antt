@@ -1,4 +1,4 @@
--- What is left of the rows of a stage when the values chosen before are put in, and what a value makes of it.
+-- The constraints of a stage after the substitution of the values chosen before, and the choice of the next value.
 use Rattle.std.specs.Prelude.{◌≡◌, ◌≢◌, ℕ, List, pos, ◌*ℤ◌, ◌≤ℤ◌, Contains}
 use Rattle.std.proofs.Common.{ℤ, ◌<ℤ◌}
 use Rattle.linear_arith.specs.Inequality.{Inequality, coefficient}
@@ -13,24 +13,24 @@ use Rattle.linear_arith.specs.declared.rows.Fraction.{Fraction}
 abbrev pub left_of : List Fraction → Inequality → LinearForm
 left_of values row = put_in_all (form_of row) values
 
--- but for a positive factor, the bound is what a form says of an unknown
+-- up to a positive factor, the bound is that of a form on an unknown
 pub record IsBoundOf (form : LinearForm) (unknown : ℕ) (bound : Bound) : Type 0 where
   pub scale : ℤ
   pub positive : pos 0 <ℤ scale
   pub coefficient : scale *ℤ bound.coefficient ≡ form.at unknown
   pub is_most : scale *ℤ bound.bound ≡ form.bound
 
--- one of the bounds is what the form says
+-- one of the bounds is that of the form
 pub record HasBound (form : LinearForm) (unknown : ℕ) (bounds : List Bound) : Type 0 where
   pub bound : Bound
   pub is_in : Contains bounds bound
   pub is_bound_of : IsBoundOf form unknown bound
 
--- each row in which the unknown is left has its bound
+-- each constraint in which the unknown is left has its bound
 abbrev pub HaveBounds : List Derived → List Fraction → ℕ → List Bound → Type 0
 HaveBounds rows values unknown bounds = (row : Inequality) → StandsIn rows row → (left_of values row).at unknown ≢ pos 0 → HasBound (left_of values row) unknown bounds
 
--- the bound is what is left of one of the rows, with its numbers
+-- the bound is that of one of the constraints after the substitution
 pub record IsOfRow (rows : List Derived) (values : List Fraction) (unknown : ℕ) (bound : Bound) : Type 0 where
   pub row : Inequality
   pub stands : StandsIn rows row
@@ -40,10 +40,10 @@ pub record IsOfRow (rows : List Derived) (values : List Fraction) (unknown : ℕ
   pub same_coefficient : bound.coefficient ≡ coefficient unknown rest
   pub same_bound : bound.bound ≡ rest.bound
 
--- in what is left of the stage's rows, each upper bound of its unknown is at least each lower one
+-- after the substitution in the stage's constraints, each upper bound of its unknown is at least each lower one
 abbrev pub AreCompatible : Stage → List Fraction → Type 0
 AreCompatible stage values = (upper lower : Inequality) → StandsInStage stage upper → StandsInStage stage lower → pos 0 <ℤ (left_of values upper).at stage.unknown → (left_of values lower).at stage.unknown <ℤ pos 0 → ((left_of values lower).at stage.unknown *ℤ (left_of values upper).bound) ≤ℤ ((left_of values upper).at stage.unknown *ℤ (left_of values lower).bound)
 
--- the value meets what is left of the stage's rows
+-- the value meets the stage's constraints after the substitution
 abbrev pub MeetsStage : Stage → List Fraction → Fraction → Type 0
 MeetsStage stage values value = (row : Inequality) → StandsInStage stage row → (left_of values row).at stage.unknown ≢ pos 0 → pos 0 ≤ℤ (put_in (left_of values row) value).bound

@@ -1,4 +1,4 @@
--- What the rows that an elimination keeps are to the given rows.
+-- The invariants of an elimination.
 use Rattle.std.specs.Prelude.{◌≡◌, ◌≢◌, ◌⊎◌, ℕ, ◌<◌, true, List, [], ◌∷◌, ◌++◌, length, map, pos, ◌≤ℤ◌, All, Contains}
 use Rattle.std.proofs.Common.{get_or, take}
 use Rattle.std.specs.List.{AllPairs}
@@ -18,16 +18,16 @@ use Rattle.linear_arith.specs.declared.elimination.Derived.{Derived}
 use Rattle.linear_arith.specs.declared.elimination.Stage.{Stage}
 use Rattle.linear_arith.specs.declared.elimination.Elimination.{Elimination}
 
--- multipliers of the given rows, of which none is negative
+-- multipliers of the given constraints, none of them negative
 pub record AreMultipliers (rows : List Inequality) (ms : List ℤ) : Type 0 where
   pub one_each : length ms ≡ length rows
   pub not_negative : All (λ m. pos 0 ≤ℤ m) ms
 
--- where no unknown stands in the row, 0 is at most its bound
+-- a constraint without unknowns has a bound of at least 0
 abbrev pub IsSound : Inequality → Type 0
 IsSound row = ((unknown : ℕ) → coefficient unknown row ≡ pos 0) → pos 0 ≤ℤ row.bound
 
--- a row of the stage after these unknowns
+-- a constraint of the stage after these unknowns
 pub record IsDerived (width : ℕ) (rows : List Inequality) (unknowns : List ℕ) (made : Derived) : Type 0 where
   pub of_stage : IsRowOfStage width rows unknowns made.row made.multipliers
   pub is_total : made.total ≡ combination width made.multipliers rows
@@ -40,8 +40,8 @@ pub record IsDerived (width : ℕ) (rows : List Inequality) (unknowns : List ℕ
   pub sound : IsSound made.row
   pub fits : IsFitting made.row
 
--- two rows that an elimination has found, of the stage after these unknowns, all but the last, and the last one cancels
--- between them
+-- two constraints that an elimination has found, of the stage after all of these unknowns but the last, which cancels
+-- in their sum
 pub record AreBefore (width : ℕ) (rows found : List Inequality) (unknowns : List ℕ) (unknown : ℕ) (upper lower : Derived) : Type 0 where
   pub before : List ℕ
   pub is_last : before ++ unknown ∷ [] ≡ unknowns
@@ -53,19 +53,19 @@ pub record AreBefore (width : ℕ) (rows found : List Inequality) (unknowns : Li
   pub upper_found : Contains found upper.row
   pub lower_found : Contains found lower.row
 
--- what the stage after these unknowns left behind when the next one was eliminated
+-- the constraints that were removed from the stage after these unknowns when the next one was eliminated
 pub record IsStage (width : ℕ) (rows : List Inequality) (unknowns : List ℕ) (stage : Stage) : Type 0 where
   pub upper : All (IsDerived width rows unknowns) stage.upper.items
   pub lower : All (IsDerived width rows unknowns) stage.lower.items
   pub above : All (λ (made : Derived). pos 0 <ℤ coefficient stage.unknown made.total) stage.upper.items
   pub below : All (λ (made : Derived). coefficient stage.unknown made.total <ℤ pos 0) stage.lower.items
 
--- what some stage left behind
+-- the constraints that were removed from some stage
 pub record IsOfStages (width : ℕ) (rows : List Inequality) (stage : Stage) : Type 0 where
   pub unknowns : List ℕ
   pub is_stage : IsStage width rows unknowns stage
 
--- the same as `IsStage`, where that unknown is the last of these, and an elimination has found the rows
+-- the same as `IsStage`, where that unknown is the last of these, and an elimination has found the constraints
 pub record IsStageBefore (width : ℕ) (rows found : List Inequality) (unknowns : List ℕ) (stage : Stage) : Type 0 where
   pub before : List ℕ
   pub is_last : before ++ stage.unknown ∷ [] ≡ unknowns
@@ -77,13 +77,13 @@ pub record IsStageBefore (width : ℕ) (rows found : List Inequality) (unknowns 
 abbrev pub key_cmp : Vec ℤ → Vec ℤ → Ordering
 key_cmp first second = slice_cmp int_cmp first.items second.items
 
--- one of the keys has the numbers of the row, the bound first
+-- one of the keys has the numbers of the constraint, the bound first
 pub record HasKey (keys : BTreeSet (Vec ℤ)) (row : Inequality) : Type 0 where
   pub key : Vec ℤ
   pub numbers : key.items ≡ row.bound ∷ row.coefficients
   pub stands : contains key_cmp keys key ≡ true
 
--- different rows of the stages, each with its key, and no other keys
+-- different constraints of the stages, each with its key, and no other keys
 pub record AreFound (width : ℕ) (rows : List Inequality) (unknowns : List ℕ) (keys : BTreeSet (Vec ℤ)) (found : List Inequality) : Type 0 where
   pub of_stages : All (IsFound width rows unknowns) found
   pub same_width : All (λ row. length row.coefficients ≡ width) found
@@ -92,7 +92,7 @@ pub record AreFound (width : ℕ) (rows : List Inequality) (unknowns : List ℕ)
   pub no_other : (row : Inequality) → HasKey keys row → Contains found row
   pub sound : All IsSound found
 
--- what an elimination under way keeps
+-- the invariant of an elimination in progress
 pub record IsUnderWay (width : ℕ) (rows : List Inequality) (elimination : Elimination) : Type 0 where
   pub within : IsWithinWidth width rows
   pub live : All (IsDerived width rows elimination.unknowns.items) elimination.live.items
@@ -101,17 +101,17 @@ pub record IsUnderWay (width : ℕ) (rows : List Inequality) (elimination : Elim
   pub stages : All (IsOfStages width rows) elimination.stages.items
   pub below_limit : length elimination.found < 5000
 
--- the numbers of the row are those of one of these
+-- one of these is this constraint
 pub record StandsIn (live : List Derived) (row : Inequality) : Type 0 where
   pub made : Derived
   pub is_live : Contains live made
   pub same : made.row ≡ row
 
--- of the rows found so far, those without the eliminated unknowns stand in the stage that is reached
+-- the found constraints without the eliminated unknowns are in the current stage
 abbrev pub KeepsRows : Elimination → Type 0
 KeepsRows elimination = (row : Inequality) → Contains elimination.found row → IsWithout elimination.unknowns.items row → StandsIn elimination.live.items row
 
--- the rows of a stage, by the sign of an unknown's coefficient
+-- the constraints of a stage, by the sign of an unknown's coefficient
 pub record AreParted (unknown : ℕ) (live uppers lowers others : List Derived) : Type 0 where
   pub upper : (made : Derived) → Contains live made → pos 0 <ℤ coefficient unknown made.total → Contains uppers made
   pub lower : (made : Derived) → Contains live made → coefficient unknown made.total <ℤ pos 0 → Contains lowers made
@@ -119,12 +119,12 @@ pub record AreParted (unknown : ℕ) (live uppers lowers others : List Derived) 
   pub upper_from : (made : Derived) → Contains uppers made → Contains live made
   pub lower_from : (made : Derived) → Contains lowers made → Contains live made
 
--- a row of the stage that is reached
+-- a constraint of the current stage
 pub record IsFresh (elimination : Elimination) (row : Inequality) : Type 0 where
   pub is_live : StandsIn elimination.live.items row
   pub without : IsWithout elimination.unknowns.items row
 
--- rows were added to the stage that is reached, and none was taken away
+-- constraints were added to the current stage, and none was removed
 pub record HasGrown (old new : Elimination) : Type 0 where
   pub unknowns : new.unknowns.items ≡ old.unknowns.items
   pub found : (row : Inequality) → Contains old.found row → Contains new.found row
@@ -132,11 +132,11 @@ pub record HasGrown (old new : Elimination) : Type 0 where
   pub fresh : (row : Inequality) → Contains new.found row → Contains old.found row ⊎ IsFresh new row
   pub stages : new.stages.items ≡ old.stages.items
 
--- the numbers of the row are those of a row that the stage left behind
+-- the constraint is one of those that were removed from the stage
 abbrev pub StandsInStage : Stage → Inequality → Type 0
 StandsInStage stage row = StandsIn stage.upper.items row ⊎ StandsIn stage.lower.items row
 
--- of the rows found, the stage after these unknowns left behind all in which its own unknown stands, and each sum that
+-- the found constraints on the unknown of the stage after these unknowns were removed from it, and each sum that
 -- cancels it is found
 pub record IsWhole (found : List Inequality) (unknowns : List ℕ) (stage : Stage) : Type 0 where
   pub is_found : (row : Inequality) → StandsInStage stage row → Contains found row
@@ -147,11 +147,11 @@ pub record IsWhole (found : List Inequality) (unknowns : List ℕ) (stage : Stag
 abbrev pub unknowns_of : List Stage → List ℕ
 unknowns_of stages = map (λ (stage : Stage). stage.unknown) stages
 
--- each of the stages is so, after the unknowns of those before it
+-- each of the stages is such a stage, after the unknowns of those before it
 abbrev pub AreWhole : List Inequality → List Stage → Type 0
 AreWhole found stages = (k : ℕ) (d : Stage) → k < length stages → IsWhole found (unknowns_of (take k stages)) (get_or stages k d)
 
--- the elimination has the given rows and, for the unknowns that were eliminated, all sums
+-- the elimination has the given constraints and all sums for the eliminated unknowns
 pub record IsCaughtUp (width : ℕ) (rows : List Inequality) (elimination : Elimination) : Type 0 where
   pub begins : All (λ row. Contains elimination.found (padded width row)) rows
   pub keeps : KeepsRows elimination
@@ -159,27 +159,27 @@ pub record IsCaughtUp (width : ℕ) (rows : List Inequality) (elimination : Elim
   pub below : All (λ unknown. unknown < width) elimination.unknowns.items
   pub different : AllPairs (λ first second. first ≢ second) elimination.unknowns.items
 
--- it keeps a stage for each unknown that was eliminated
+-- it keeps a stage for each eliminated unknown
 pub record KeepsStages (elimination : Elimination) : Type 0 where
   pub whole : AreWhole elimination.found elimination.stages.items
   pub unknowns : unknowns_of elimination.stages.items ≡ elimination.unknowns.items
 
--- an unknown stands in one of the rows
+-- an unknown is in one of the constraints
 pub record IsLeft (live : List Derived) (unknown : ℕ) : Type 0 where
   pub made : Derived
   pub is_live : Contains live made
   pub stands : coefficient unknown made.row ≢ pos 0
 
--- none of the first `width` unknowns stands in one of the rows
+-- none of the first `width` unknowns is in one of the constraints
 abbrev pub NoneIsLeft : ℕ → List Derived → Type 0
 NoneIsLeft width live = (unknown : ℕ) → unknown < width → All (λ (made : Derived). coefficient unknown made.row ≡ pos 0) live
 
--- each row that the stage left behind fits
+-- all constraints that were removed from the stage fit
 pub record IsFittingStage (stage : Stage) : Type 0 where
   pub upper : All (λ (made : Derived). IsFitting made.row) stage.upper.items
   pub lower : All (λ (made : Derived). IsFitting made.row) stage.lower.items
 
--- all stages of an elimination that came to its end, and the rows that it has found
+-- all stages of a complete elimination, and the constraints that it has found
 pub record HasAllStages (width : ℕ) (rows : List Inequality) (stages : List Stage) : Type 0 where
   pub found : List Inequality
   pub within : IsWithinWidth width rows

@@ -1,4 +1,4 @@
--- Two rows of an elimination whose sum leaves 128 bits.
+-- Two constraints of an elimination whose sum is not in 128 bits.
 use Rattle.std.specs.Prelude.{◌≡◌, ◌≢◌, ℕ, List, [], ◌∷◌, ◌++◌, Contains, pos}
 use Rattle.std.proofs.Common.{ℤ, ◌<ℤ◌}
 use Rattle.linear_arith.specs.Inequality.{Inequality, coefficient}
@@ -9,15 +9,15 @@ use Rattle.linear_arith.specs.declared.rows.Fraction.{Fraction}
 use Rattle.linear_arith.specs.Rest.{IsRest, IsValueRow, PutInLeaves}
 use Rattle.linear_arith.specs.Values.{IsChoosing}
 
--- a number leaves 128 bits where x times the first multipliers and y times the second are added, or where the given
--- rows are added, in their order, with the least whole numbers in the ratio of these sums
+-- a number is not in 128 bits when x times the first multipliers and y times the second are added, or when the given
+-- constraints are added, in their order, with the least integers in the ratio of these sums
 pub data SumLeaves (width : ℕ) (rows : List Inequality) (x y : ℕ) (first second : List ℤ) : Type 0 where
   multiplier : MixLeaves x y first second → SumLeaves width rows x y first second
   number : (ms : List ℤ) → IsLeastMix x y first second ms → ¬ (CombinesWithin width ms rows) → SumLeaves width rows x y first second
 
--- two rows that an elimination with fewer than 5,000 rows has found, of the stage that it has reached, in which the next
--- unknown stands with a coefficient above 0 and with one below, and whose sum with the least multipliers that cancel it
--- leaves 128 bits
+-- two constraints that an elimination with fewer than 5,000 constraints has found, of its current stage, in which the
+-- next unknown has a coefficient above 0 and one below, and whose sum with the least multipliers that cancel it is not
+-- in 128 bits
 pub record IsWideSum (rows : List Inequality) (first second : Inequality) : Type 0 where
   pub width : ℕ
   pub unknowns : List ℕ
@@ -37,8 +37,8 @@ pub record IsWideSum (rows : List Inequality) (first second : Inequality) : Type
   pub cancels : Cancels (coefficient unknown (combination width upper rows)) (coefficient unknown (combination width lower rows)) x y
   pub leaves : SumLeaves width rows x y upper lower
 
--- a row of an elimination that came to its end, with the first of the values put in that were chosen so far, and the
--- next value as a row, where its unknown stands in what is left of the row, and their sum leaves 128 bits
+-- a constraint of a complete elimination after the substitution of the first of the values chosen so far, and the next
+-- value as a constraint, where its unknown is left in the constraint, and their sum is not in 128 bits
 pub record IsWideValue (rows : List Inequality) (first second : Inequality) : Type 0 where
   pub values : List Fraction
   pub choosing : IsChoosing rows values
@@ -53,7 +53,7 @@ pub record IsWideValue (rows : List Inequality) (first second : Inequality) : Ty
   pub is_value_row : IsValueRow value second
   pub leaves : PutInLeaves first value
 
--- two rows of an elimination whose sum leaves 128 bits
+-- two constraints of an elimination whose sum is not in 128 bits
 pub data IsWide (rows : List Inequality) (first second : Inequality) : Type 0 where
   sum : IsWideSum rows first second → IsWide rows first second
   value : IsWideValue rows first second → IsWide rows first second

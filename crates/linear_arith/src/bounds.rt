@@ -15,16 +15,15 @@ pub struct Bound {
     pub bound: i128,
 }
 
-/// Where a bound lets the unknown lie: below an upper one, above a lower one.
+/// The side of a bound: above or below the unknown.
 #[derive(Clone, Copy, Debug)]
 pub enum Side {
     Upper,
     Lower,
 }
 
-/// A value that meets the bounds: a whole number where one does, and then 0 or the one nearest to a
-/// bound; else the least upper bound. None where the least whole number that meets the lower bounds
-/// leaves 128 bits.
+/// Returns a value that meets the bounds: an integer if one does, and then 0 or the one nearest to a bound; else the
+/// least upper bound. None where the least integer that meets the lower bounds is not in 128 bits.
 pub fn chosen(unknown: usize, bounds: &[Bound]) -> Option<Fraction>
     requires { AreNonzero bounds.now }
     ensures unknown { IfSome result (λ value. value.unknown ≡ unknown) }
@@ -53,7 +52,7 @@ pub fn chosen(unknown: usize, bounds: &[Bound]) -> Option<Fraction>
     })
 }
 
-/// The least whole number of 128 bits that meets the lower bounds. None where it leaves 128 bits.
+/// Returns the least integer of 128 bits that meets the lower bounds; none where there is none.
 fn least_whole(bounds: &[Bound]) -> Option<i128>
     ensures met { IfSome result (λ least. (z : ℤ) → least ≤ℤ z → All (λ b. IsOn Lower b → IsMetAt z (pos 1) b) bounds.now) }
     ensures least { IfSome result (λ least. (z : ℤ) → FitsSigned w128 z → All (λ b. IsOn Lower b → IsMetAt z (pos 1) b) bounds.now → least ≤ℤ z) }
@@ -65,7 +64,7 @@ fn least_whole(bounds: &[Bound]) -> Option<i128>
     }
 }
 
-/// The number between two that is nearest to 0.
+/// Returns the number between two that is nearest to 0.
 fn nearest_to_zero(least: i128, greatest: i128) -> i128
     requires { least ≤ℤ greatest }
     ensures least { least ≤ℤ result }
@@ -81,7 +80,7 @@ fn nearest_to_zero(least: i128, greatest: i128) -> i128
     }
 }
 
-/// What an upper bound is at most, in lowest terms.
+/// Returns the greatest value that an upper bound permits, in lowest terms.
 fn quotient(unknown: usize, upper: Bound) -> Fraction
     requires { pos 0 <ℤ upper.coefficient }
     ensures unknown { result.unknown ≡ unknown }
@@ -100,7 +99,7 @@ fn quotient(unknown: usize, upper: Bound) -> Fraction
     }
 }
 
-/// The bound of one side that leaves the least room, or none where that side has no bound.
+/// Returns the tightest bound of one side, or none if that side has no bound.
 fn tightest(bounds: &[Bound], side: Side) -> Option<Bound>
     ensures none { IfNone result (All (λ b. ¬ IsOn side b) bounds.now) }
     ensures some { IfSome result (IsTightest side bounds.now) }
@@ -114,7 +113,7 @@ fn tightest(bounds: &[Bound], side: Side) -> Option<Bound>
     best
 }
 
-/// Of two bounds of one side, the first of which may be missing, the one that leaves less room.
+/// Returns the tighter one of two bounds of one side, the first of which may be missing.
 fn tighter(side: Side, first: Option<Bound>, second: Bound) -> Bound
     requires first { IfSome first (IsOn side) }
     requires second { IsOn side second }
@@ -129,7 +128,7 @@ fn tighter(side: Side, first: Option<Bound>, second: Bound) -> Bound
     }
 }
 
-/// Whether a bound is one of this side.
+/// Decides whether a bound is on this side.
 fn is_on(side: Side, bound: &Bound) -> bool
     ensures { IsTrue result ↔ IsOn side bound.now }
 {
@@ -139,7 +138,7 @@ fn is_on(side: Side, bound: &Bound) -> bool
     }
 }
 
-/// Whether the first bound leaves at most as much room as the second, of the same side.
+/// Decides whether the first bound is at least as tight as the second, on the same side.
 fn is_as_tight(first: &Bound, second: &Bound) -> bool
     requires { first.now.coefficient ≢ pos 0 }
     ensures { IsTrue result ↔ IsAsTight first.now second.now }

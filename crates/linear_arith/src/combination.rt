@@ -1,4 +1,4 @@
-//! Sums of rows, each times a multiplier.
+//! Linear combinations of constraints.
 
 ghost use Rattle.std.specs.Prelude.{◌≡◌, ℕ, ◌<◌, length, pos, false, IsTrue, IfOk, ◌+ℤ◌, ◌*ℤ◌};
 ghost use Rattle.std.specs.Option.{SomeIff};
@@ -10,7 +10,7 @@ use crate::rows::LinRow;
 use base::memory::NoMemory;
 use std::alloc::Global;
 
-/// The total and a product. None where the product or the sum leaves 128 bits.
+/// Returns the total plus a product. None where the product or the sum is not in 128 bits.
 pub fn plus_product(total: i128, multiplier: i128, number: i128) -> Option<i128>
     ensures { SomeIff result (IsAdded total (multiplier *ℤ number)) (total +ℤ (multiplier *ℤ number)) }
 {
@@ -29,8 +29,8 @@ pub fn plus_product(total: i128, multiplier: i128, number: i128) -> Option<i128>
     }
 }
 
-/// The combination of rows by multipliers, with the coefficients of the first `width` unknowns. None
-/// where a product or a sum on the way leaves 128 bits.
+/// Returns the combination of constraints by multipliers, with the coefficients of the first `width` unknowns. None
+/// where an intermediate product or sum is not in 128 bits.
 pub fn combined(
     alloc: Global,
     width: usize,
@@ -62,8 +62,8 @@ pub fn combined(
     Ok(Some(LinRow::new(totals, bound)))
 }
 
-/// Adds a multiple of a row's coefficients to the totals. Whether each product and each sum stays within
-/// 128 bits: where one does not, the totals are of no more use.
+/// Adds a multiple of a constraint's coefficients to the totals, and returns whether each product and each sum is in
+/// 128 bits. Where one is not, the totals are meaningless.
 fn add_row(totals: &mut Vec<i128>, multiplier: i128, row: &LinRow) -> bool
     ensures len { length totals.new.items ≡ length totals.old.items }
     ensures added { IsTrue result → (u : ℕ) → u < length totals.old.items → IsAddedTo multiplier u row.now (number u totals.old.items) (number u totals.new.items) }

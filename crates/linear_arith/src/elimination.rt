@@ -1,4 +1,4 @@
-//! The elimination of one unknown after another.
+//! The Fourier-Motzkin elimination of one unknown after another.
 
 ghost use Rattle.std.specs.Prelude.{◌≡◌, ◌<◌, ◌∷◌, ◌++◌, [], pos, ◌<ℤ◌, ◌≤ℤ◌, All, Contains, IfErr, IfOk, OnOk, IfSome, IfNone, ℕ, length, get_or, true, List};
 ghost use Rattle.std.specs.Option.{SomeIff};
@@ -22,48 +22,48 @@ use std::alloc::Global;
 use std::collections::BTreeSet;
 use std::mem;
 
-/// How many different rows an elimination may make, over all its stages.
+/// The number of different constraints of all stages at which an elimination stops.
 pub const MOST_ROWS: usize = 5000;
 
-/// A row of a stage.
+/// A constraint of a stage.
 #[derive(Drop)]
 pub struct Derived {
-    /// The row itself.
+    /// The constraint itself.
     pub row: LinRow,
-    /// The given rows times the multipliers, added up: a positive multiple of the row.
+    /// The combination of the given constraints by the multipliers: a positive multiple of the constraint.
     pub total: LinRow,
-    /// One for each given row.
+    /// A multiplier for each given constraint.
     pub multipliers: Packed,
 }
 
-/// What an elimination of an unknown left behind.
+/// The constraints that the elimination of an unknown removes.
 #[derive(Drop)]
 pub struct Stage {
     pub unknown: usize,
-    /// The rows in which the unknown has a coefficient above 0.
+    /// The constraints in which the unknown has a coefficient above 0.
     pub upper: Vec<Derived>,
-    /// The rows in which the unknown has a coefficient below 0.
+    /// The constraints in which the unknown has a coefficient below 0.
     pub lower: Vec<Derived>,
 }
 
-/// An elimination under way.
+/// An elimination in progress.
 #[derive(Drop)]
 pub struct Elimination {
     alloc: Global,
-    /// The unknowns that were eliminated, in order.
+    /// The unknowns that are eliminated, in order.
     unknowns: Vec<usize>,
-    /// The different rows of all stages, in the order in which they were made.
+    /// The different constraints of all stages, in the order in which they are derived.
     found: Rows,
-    /// The numbers of these rows.
+    /// The numbers of these constraints.
     keys: BTreeSet<Vec<i128>>,
-    /// The rows of this stage.
+    /// The constraints of the current stage.
     live: Vec<Derived>,
-    /// The earlier stages, each with the rows that its unknown stood in.
+    /// The earlier stages, each with the constraints on its unknown.
     stages: Vec<Stage>,
 }
 
 impl Elimination {
-    /// The first stage: the given rows, none of them twice.
+    /// Returns the first stage: the given constraints without duplicates.
     pub fn new(alloc: Global, system: &System<'_>) -> Result<Elimination, Stop>
         ensures ok { IfOk result (IsUnderWay system.now.width system.now.rows.now) }
         ensures caught_up { IfOk result (IsCaughtUp system.now.width system.now.rows.now) }
@@ -84,7 +84,7 @@ impl Elimination {
         Ok(elimination)
     }
 
-    /// The stages, once no unknown is left.
+    /// Returns the stages, once no unknown is left.
     pub fn into_stages(self) -> Vec<Stage>
         ensures { result.items ≡ self.stages.items }
     {
@@ -103,7 +103,8 @@ impl Elimination {
         stages
     }
 
-    /// Adds a row to this stage, unless it stands there. Stops where the limit of rows is reached.
+    /// Adds a constraint to the current stage, unless it was derived before. Stops where the limit of constraints is
+    /// reached.
     fn add(&mut self, made: Derived) -> Result<(), Stop>
         ensures ok { (width : ℕ) (rows : List Inequality) → IsUnderWay width rows self.old → IsDerived width rows self.old.unknowns.items made → OnOk result (IsUnderWay width rows self.new) }
         ensures err { (width : ℕ) (rows : List Inequality) → IsUnderWay width rows self.old → IsDerived width rows self.old.unknowns.items made → IfErr result (StopShows rows) }
@@ -122,7 +123,7 @@ impl Elimination {
         Ok(())
     }
 
-    /// Whether a row was made before.
+    /// Returns true only for a constraint that was derived before.
     fn stands(&self, row: &LinRow) -> Result<bool, NoMemory>
         ensures { IfOk result (λ stands. stands ≡ true → HasKey self.now.keys row.now) }
     {
@@ -130,7 +131,7 @@ impl Elimination {
         Ok(self.keys.contains(&key))
     }
 
-    /// The unknown with the fewest sums, or none where none is left.
+    /// Returns the unknown with the fewest sums, or none if none is left.
     fn next_unknown(&self, width: usize) -> Option<usize>
         ensures some { IfSome result (λ unknown. (unknown < width) × IsLeft self.now.live.items unknown) }
         ensures none { IfNone result (NoneIsLeft width self.now.live.items) }
@@ -148,7 +149,7 @@ impl Elimination {
         best
     }
 
-    /// Goes to the next stage, and takes the rows with the unknown out of it.
+    /// Goes to the next stage, and removes the constraints on the unknown from it.
     fn split(&mut self, unknown: usize) -> Result<Stage, NoMemory>
         ensures unknown { IfOk result (λ stage. stage.unknown ≡ unknown) }
         ensures parted { IfOk result (λ stage. AreParted unknown self.old.live.items stage.upper.items stage.lower.items self.new.live.items) }
@@ -178,7 +179,7 @@ impl Elimination {
         Ok(stage)
     }
 
-    /// Goes to the next stage: the rows without the unknown, and the sums of two rows that cancel it.
+    /// Goes to the next stage: the constraints without the unknown, and the sums of two constraints that cancel it.
     fn eliminate(&mut self, system: &System<'_>, unknown: usize) -> Result<(), Stop>
         requires under_way { IsUnderWay system.now.width system.now.rows.now self.old }
         requires caught_up { IsCaughtUp system.now.width system.now.rows.now self.old }
@@ -197,7 +198,7 @@ impl Elimination {
         Ok(())
     }
 
-    /// Adds the sums of two rows that cancel the stage's unknown.
+    /// Adds the sums of two constraints that cancel the stage's unknown.
     fn add_sums(&mut self, system: &System<'_>, stage: &Stage) -> Result<(), Stop>
         requires under_way { IsUnderWay system.now.width system.now.rows.now self.old }
         requires before { IsStageBefore system.now.width system.now.rows.now self.old.found self.old.unknowns.items stage.now }
@@ -214,7 +215,7 @@ impl Elimination {
         Ok(())
     }
 
-    /// Adds the sum of two rows that cancels an unknown.
+    /// Adds the sum of two constraints that cancels an unknown.
     fn add_sum(
         &mut self,
         system: &System<'_>,
@@ -238,7 +239,7 @@ impl Elimination {
         self.add(sum_without(self.alloc, system, unknown, upper, lower)?)
     }
 
-    /// Eliminates every unknown.
+    /// Eliminates all unknowns.
     pub fn run(&mut self, system: &System<'_>) -> Result<(), Stop>
         requires under_way { IsUnderWay system.now.width system.now.rows.now self.old }
         requires caught_up { IsCaughtUp system.now.width system.now.rows.now self.old }
@@ -254,7 +255,7 @@ impl Elimination {
     }
 }
 
-/// How many sums eliminate an unknown from these rows. None where it stands in no row.
+/// Returns how many sums eliminate an unknown from these constraints. None where it is in no constraint.
 fn sums_with(live: &[Derived], unknown: usize) -> Option<usize>
     ensures some { IfSome result (λ _. IsLeft live.now unknown) }
     ensures none { IfNone result (All (λ (made : Derived). coefficient unknown made.row ≡ pos 0) live.now) }
@@ -276,7 +277,7 @@ fn sums_with(live: &[Derived], unknown: usize) -> Option<usize>
     }
 }
 
-/// The numbers of a row, the bound first.
+/// Returns the numbers of a constraint, the bound first.
 fn key_of(alloc: Global, row: &LinRow) -> Result<Vec<i128>, NoMemory>
     ensures { IfOk result (λ key. key.items ≡ row.now.bound ∷ row.now.coefficients) }
 {
@@ -286,7 +287,7 @@ fn key_of(alloc: Global, row: &LinRow) -> Result<Vec<i128>, NoMemory>
     Ok(key)
 }
 
-/// A given row, as one of the first stage. Where it is a contradiction, that is the answer.
+/// Returns a given constraint as one of the first stage. If it is a contradiction, that is the answer.
 fn given(alloc: Global, system: &System<'_>, i: usize) -> Result<Derived, Stop>
     requires { i < length system.now.rows.now }
     ensures ok { IfOk result (IsDerived system.now.width system.now.rows.now []) }
@@ -307,7 +308,7 @@ fn given(alloc: Global, system: &System<'_>, i: usize) -> Result<Derived, Stop>
     })
 }
 
-/// The multipliers of a given row: 1 for itself.
+/// Returns the multipliers of a given constraint: 1 for itself.
 fn unit(alloc: Global, count: usize, i: usize) -> Result<Vec<i128>, NoMemory>
     requires { i < count }
     ensures { IfOk result (λ ms. IsUnit count i ms.items) }
@@ -317,7 +318,8 @@ fn unit(alloc: Global, count: usize, i: usize) -> Result<Vec<i128>, NoMemory>
     Ok(multipliers)
 }
 
-/// The sum of two rows, in which the unknown has a coefficient above 0 and one below, without it.
+/// Returns the sum of two constraints that cancels the unknown, whose coefficient is above 0 in one and below 0 in the
+/// other.
 fn sum_without(
     alloc: Global,
     system: &System<'_>,
@@ -350,8 +352,8 @@ fn sum_without(
     })
 }
 
-/// The combination of the given rows by these multipliers. None where a product or a sum on the way
-/// leaves 128 bits. Where it is a contradiction, that is the answer.
+/// Returns the combination of the given constraints by these multipliers. None where an intermediate product or sum is
+/// not in 128 bits. If it is a contradiction, that is the answer.
 fn total_of(
     alloc: Global,
     system: &System<'_>,

@@ -1,4 +1,4 @@
-//! Arithmetic within 128 bits, common divisors, and quotients rounded to a side.
+//! Arithmetic in 128 bits, common divisors, and quotients rounded down.
 
 ghost use Rattle.std.specs.Prelude.{All, ◌+ℤ◌, ◌-ℤ◌, ◌≡◌, ◌≤◌, ◌<◌, ◌^◌, pos, ◌<ℤ◌, ◌*ℤ◌, ◌*◌, ◌↔◌, IsTrue, unsigned_abs};
 ghost use Rattle.std.specs.Int.{IsGcd, ◌∣◌};
@@ -6,7 +6,7 @@ ghost use Rattle.linear_arith.specs.Floor.{IsFloor};
 ghost use Rattle.linear_arith.specs.Fits.{Fits};
 ghost use Rattle.std.specs.Option.{SomeIff};
 
-/// The number. None where it is -2^127, whose negation does not fit.
+/// Returns the number. None where it is -2^127, whose negation does not fit.
 pub fn fitting(number: i128) -> Option<i128>
     ensures { SomeIff result (Fits number) number }
 {
@@ -17,7 +17,7 @@ pub fn fitting(number: i128) -> Option<i128>
     }
 }
 
-/// Whether each of the numbers fits.
+/// Decides whether all the numbers fit.
 pub fn are_fitting(numbers: &[i128]) -> bool
     ensures { IsTrue result ↔ All Fits numbers.now }
 {
@@ -29,7 +29,7 @@ pub fn are_fitting(numbers: &[i128]) -> bool
     true
 }
 
-/// The sum of two numbers. None where it does not fit.
+/// Returns the sum of two numbers. None where it does not fit.
 pub fn sum(first: i128, second: i128) -> Option<i128>
     ensures { SomeIff result (Fits (first +ℤ second)) (first +ℤ second) }
 {
@@ -39,7 +39,7 @@ pub fn sum(first: i128, second: i128) -> Option<i128>
     }
 }
 
-/// The first number less the second. None where it does not fit.
+/// Returns the first number minus the second. None where the difference does not fit.
 pub fn difference(first: i128, second: i128) -> Option<i128>
     ensures { SomeIff result (Fits (first -ℤ second)) (first -ℤ second) }
 {
@@ -49,7 +49,7 @@ pub fn difference(first: i128, second: i128) -> Option<i128>
     }
 }
 
-/// The product of two numbers. None where it does not fit.
+/// Returns the product of two numbers. None where it does not fit.
 pub fn product(first: i128, second: i128) -> Option<i128>
     ensures { SomeIff result (Fits (first *ℤ second)) (first *ℤ second) }
 {
@@ -59,7 +59,7 @@ pub fn product(first: i128, second: i128) -> Option<i128>
     }
 }
 
-/// The greatest common divisor; 0 where both numbers are 0.
+/// Returns the greatest common divisor; 0 if both numbers are 0.
 pub fn greatest_common_divisor(a: u128, b: u128) -> u128
     ensures { IsGcd a b result }
 {
@@ -76,7 +76,7 @@ pub fn greatest_common_divisor(a: u128, b: u128) -> u128
     greater
 }
 
-/// The number divided by a divisor of it.
+/// Returns the number divided by one of its divisors.
 pub fn exact_quotient(number: i128, divisor: u128) -> i128
     requires nonzero { 0 < divisor }
     requires divides { divisor ∣ unsigned_abs number }
@@ -90,7 +90,7 @@ pub fn exact_quotient(number: i128, divisor: u128) -> i128
     }
 }
 
-/// The greatest whole number that is at most `number / divisor`.
+/// Returns the greatest integer that is at most `number / divisor`.
 pub fn floor_quotient(number: i128, divisor: u128) -> i128
     requires { 0 < divisor }
     ensures { IsFloor number divisor result }
@@ -102,15 +102,15 @@ pub fn floor_quotient(number: i128, divisor: u128) -> i128
     }
 }
 
-/// Whether a times b is less than c times d.
+/// Decides whether a times b is less than c times d.
 pub fn is_product_less(a: u128, b: u128, c: u128, d: u128) -> bool
     ensures { IsTrue result ↔ (a * b < c * d) }
 {
     if b == 0 || c == 0 {
         return b == 0 && c != 0 && d != 0;
     }
-    // The same question is whether a/c is less than d/b. Where both have one whole part, their rests
-    // decide, and these are compared upside down.
+    // This is equivalent to a/c being less than d/b. Where both have the same integer part, their fractional parts
+    // decide, and the reciprocals of these are compared.
     let (mut left, mut left_by, mut right, mut right_by) = (a, c, d, b);
     loop {
         let whole = left / left_by;

@@ -1,4 +1,4 @@
-//! Lists of numbers of which most are 0.
+//! Sparse lists of numbers.
 
 ghost use Rattle.std.specs.Prelude.{◌≡◌, ◌∷◌, ◌++◌, [], ◌≤◌, ◌<◌, ◌+◌, ◌^◌, ◌-◌, ℕ, pos, length, replicate, IfOk, OnOk, IsTrue};
 ghost use Rattle.linear_arith.specs.Combination.{number};
@@ -8,18 +8,18 @@ use base::memory::NoMemory;
 use std::alloc::Global;
 use std::marker::Model;
 
-/// A number of a list, and how many zeros stand between it and the number before.
+/// A number of a list, and the number of zeros between it and the entry before.
 #[derive(Clone, Copy, Debug)]
 pub struct Entry {
     pub zeros: usize,
     pub number: i128,
 }
 
-/// A list of numbers in which zeros take no room.
+/// A list of numbers in which zeros take no memory.
 #[derive(Drop)]
 pub struct Packed {
     entries: Vec<Entry>,
-    /// How many zeros stand after the last entry.
+    /// The number of zeros after the last entry.
     zeros: usize,
 }
 
@@ -35,7 +35,7 @@ impl Model for Packed {
 }
 
 impl Packed {
-    /// An empty list, with room for some numbers other than 0.
+    /// Returns the empty list, with capacity for some numbers other than 0.
     pub fn with_room(alloc: Global, room: usize) -> Result<Packed, NoMemory>
         ensures { IfOk result (λ list. list ≡ []) }
     {
@@ -45,7 +45,7 @@ impl Packed {
         })
     }
 
-    /// The list of these numbers.
+    /// Returns the list of these numbers.
     pub fn of(alloc: Global, numbers: &[i128]) -> Result<Packed, NoMemory>
         ensures { IfOk result (λ list. list ≡ numbers.now) }
     {
@@ -56,7 +56,7 @@ impl Packed {
         Ok(list)
     }
 
-    /// Puts a number at the end.
+    /// Adds a number at the end.
     pub fn push(&mut self, number: i128) -> Result<(), NoMemory>
         requires { length self.old < 2 ^ 64 - 1 }
         ensures { OnOk result (self.new ≡ self.old ++ number ∷ []) }
@@ -71,7 +71,7 @@ impl Packed {
         Ok(())
     }
 
-    /// Puts zeros at the end.
+    /// Adds zeros at the end.
     pub fn push_zeros(&mut self, count: usize)
         requires { length self.old + count < 2 ^ 64 }
         ensures { self.new ≡ self.old ++ replicate count (pos 0) }
@@ -79,12 +79,12 @@ impl Packed {
         self.zeros += count;
     }
 
-    /// How many of the numbers are kept: those other than 0, and no more.
+    /// The number of entries: the numbers other than 0, and no more.
     pub fn room(&self) -> usize {
         self.entries.len()
     }
 
-    /// The list from its first number on.
+    /// Returns an iteration over the list from its first number on.
     pub fn walk(&self) -> Walk<'_>
         ensures { (k : ℕ) → number k (ahead result.zeros result.rest.now) ≡ number k self.now }
     {
@@ -95,7 +95,7 @@ impl Packed {
         }
     }
 
-    /// Whether 1 stands in the list.
+    /// Returns true only where 1 is in the list.
     pub fn has_one(&self) -> bool
         ensures { IsTrue result → HasOne self.now }
     {
@@ -107,7 +107,7 @@ impl Packed {
         false
     }
 
-    /// The first `count` numbers, with the zeros.
+    /// Returns the `count` numbers of the list, including the zeros.
     pub fn numbers(&self, alloc: Global, count: usize) -> Result<Vec<i128>, NoMemory>
         requires { length self.now ≡ count }
         ensures { IfOk result (λ numbers. numbers.items ≡ self.now) }
@@ -121,17 +121,17 @@ impl Packed {
     }
 }
 
-/// What is left of a list while one goes over it. Past its end a list has zeros alone.
+/// An iteration over a list. After its end a list has only zeros.
 #[derive(Clone, Copy)]
 pub struct Walk<'a> {
-    /// How many zeros come next; as many as a number can be where no other number comes.
+    /// The number of zeros that come next; the greatest number where only zeros come.
     pub zeros: usize,
-    /// The numbers other than 0 that come.
+    /// The remaining entries.
     pub rest: &'a [Entry],
 }
 
 impl<'a> Walk<'a> {
-    /// The next number.
+    /// Returns the next number.
     pub fn next(&mut self) -> i128
         ensures first { result ≡ number 0 (ahead self.old.zeros self.old.rest.now) }
         ensures rest { (k : ℕ) → number k (ahead self.new.zeros self.new.rest.now) ≡ number (k + 1) (ahead self.old.zeros self.old.rest.now) }
@@ -150,7 +150,7 @@ impl<'a> Walk<'a> {
         }
     }
 
-    /// Goes past some of the zeros that come next.
+    /// Skips some of the zeros that come next.
     pub fn skip(&mut self, count: usize)
         requires { count ≤ self.old.zeros }
         ensures { (k : ℕ) → number k (ahead self.new.zeros self.new.rest.now) ≡ number (k + count) (ahead self.old.zeros self.old.rest.now) }
@@ -159,7 +159,7 @@ impl<'a> Walk<'a> {
     }
 }
 
-/// How many zeros stand before the first number; as many as a number can be where there is none.
+/// Returns the number of zeros before the first entry; the greatest number where there is none.
 fn zeros_before(rest: &[Entry]) -> usize
     ensures { ahead result rest.now ≡ spread rest.now }
 {

@@ -1,4 +1,4 @@
-//! Rows divided by the greatest common divisor of their numbers.
+//! Constraints divided by the greatest common divisor of their numbers.
 
 ghost use Rattle.std.specs.Prelude.{IfOk, ◌<◌};
 ghost use Rattle.linear_arith.specs.Reduction.{DividesRow, IsGcdOfRow, IsReduced, IsTimes};
@@ -8,7 +8,7 @@ use crate::rows::LinRow;
 use base::memory::NoMemory;
 use std::alloc::Global;
 
-/// The row with its numbers divided by their greatest common divisor.
+/// Returns the constraint with its numbers divided by their greatest common divisor.
 pub fn reduced(alloc: Global, row: LinRow) -> Result<LinRow, NoMemory>
     ensures { IfOk result (IsReduced row) }
 {
@@ -20,7 +20,7 @@ pub fn reduced(alloc: Global, row: LinRow) -> Result<LinRow, NoMemory>
     }
 }
 
-/// The greatest common divisor of a row's numbers; 0 where all are 0.
+/// Returns the greatest common divisor of a constraint's numbers; 0 if all are 0.
 fn divisor_of(row: &LinRow) -> u128
     ensures { IsGcdOfRow row.now result }
 {
@@ -34,7 +34,7 @@ fn divisor_of(row: &LinRow) -> u128
     divisor
 }
 
-/// The row with each of its numbers divided by a divisor of all.
+/// Returns the constraint with each of its numbers divided by a common divisor.
 fn divided(alloc: Global, row: &LinRow, divisor: u128) -> Result<LinRow, NoMemory>
     requires nonzero { 0 < divisor }
     requires divides { DividesRow divisor row.now }

@@ -1,4 +1,4 @@
-//! Rows, systems of rows, and what an elimination answers.
+//! Linear constraints, systems of them, and the answers of an elimination.
 
 ghost use Rattle.std.specs.Prelude.{◌≡◌, ◌∷◌, ◌++◌, [], OnOk, OnErr, IfOk, map, FitsSigned};
 ghost use Rattle.std.specs.List.{range_with_len};
@@ -12,8 +12,8 @@ use base::memory::NoMemory;
 use std::alloc::Global;
 use std::marker::Model;
 
-/// A row: the sum of coefficient times unknown is at most the bound. Unknowns go by their numbers, from
-/// 0; a missing coefficient counts as 0.
+/// A linear constraint: the sum of the coefficients times the unknowns is at most the bound. Unknowns are numbered from
+/// 0; a missing coefficient is 0.
 #[derive(Drop)]
 pub struct LinRow {
     coefficients: Vec<i128>,
@@ -29,7 +29,7 @@ impl Model for LinRow {
 }
 
 impl LinRow {
-    /// The row with these coefficients and this bound.
+    /// Returns the constraint with these coefficients and this bound.
     pub fn new(coefficients: Vec<i128>, bound: i128) -> LinRow
         ensures { result ≡ record { coefficients = coefficients.items; bound = bound } }
     {
@@ -39,21 +39,21 @@ impl LinRow {
         }
     }
 
-    /// The coefficients of the unknowns 0, 1, ..
+    /// Returns the coefficients of the unknowns 0, 1, ..
     pub fn coefficients(&self) -> &[i128]
         ensures { result.now ≡ self.now.coefficients }
     {
         self.coefficients.as_slice()
     }
 
-    /// What the sum is at most.
+    /// Returns the bound of the sum.
     pub fn bound(&self) -> i128
         ensures { result ≡ self.now.bound }
     {
         self.bound
     }
 
-    /// The coefficients, without the row.
+    /// Returns the coefficients, and drops the constraint.
     pub fn into_coefficients(self) -> Vec<i128>
         ensures { result.items ≡ self.coefficients }
     {
@@ -64,7 +64,7 @@ impl LinRow {
         coefficients
     }
 
-    /// A second copy of the row.
+    /// Returns a copy of the constraint.
     pub fn try_clone(&self, alloc: Global) -> Result<LinRow, NoMemory>
         ensures { IfOk result (λ row. row ≡ self.now) }
     {
@@ -75,7 +75,7 @@ impl LinRow {
     }
 }
 
-/// Rows, in order.
+/// Constraints, in order.
 #[derive(Drop)]
 pub struct Rows {
     items: Vec<LinRow>,
@@ -91,7 +91,7 @@ impl Model for Rows {
 }
 
 impl Rows {
-    /// No rows.
+    /// Returns the empty list.
     pub fn new(alloc: Global) -> Rows
         ensures { result ≡ [] }
     {
@@ -100,21 +100,21 @@ impl Rows {
         }
     }
 
-    /// The rows, in order.
+    /// Returns the constraints, in order.
     pub fn as_slice(&self) -> &[LinRow]
         ensures { result.now ≡ self.now }
     {
         self.items.as_slice()
     }
 
-    /// Whether all numbers of the rows fit 128 bits, as their negations do.
+    /// Decides whether all numbers of the constraints fit 128 bits, as their negations do.
     pub fn fit(&self) -> bool
         ensures { IsTrue result ↔ All IsFitting self.now }
     {
         self.items.iter().all(|row| row.fits())
     }
 
-    /// Puts a row at the end. After `NoMemory` the rows are as they were.
+    /// Adds a constraint at the end. After `NoMemory` the list is unchanged.
     pub fn push(&mut self, row: LinRow) -> Result<(), NoMemory>
         ensures ok { OnOk result (self.new ≡ self.old ++ row ∷ []) }
         ensures err { OnErr result (self.new ≡ self.old) }
@@ -124,7 +124,7 @@ impl Rows {
     }
 }
 
-/// Multipliers of given rows, one for each, in their order.
+/// Multipliers of given constraints, one for each, in order.
 #[derive(Drop)]
 pub struct Multipliers {
     items: Vec<i128>,
@@ -140,14 +140,14 @@ impl Model for Multipliers {
 }
 
 impl Multipliers {
-    /// These multipliers.
+    /// Returns these multipliers.
     pub fn new(items: Vec<i128>) -> Multipliers
         ensures { result ≡ items.items }
     {
         Multipliers { items }
     }
 
-    /// The multipliers, in order.
+    /// Returns the multipliers, in order.
     pub fn as_slice(&self) -> &[i128]
         ensures { result.now ≡ self.now }
     {
@@ -155,8 +155,8 @@ impl Multipliers {
     }
 }
 
-/// A value of an unknown: its number, and the value's numerator and denominator. The denominator is at
-/// least 1.
+/// The value of an unknown: the number of the unknown, and the numerator and denominator of the value. The denominator
+/// is at least 1.
 #[derive(Clone, Copy, Debug)]
 pub struct Fraction {
     pub unknown: usize,
@@ -164,7 +164,7 @@ pub struct Fraction {
     pub denominator: i128,
 }
 
-/// Values of unknowns, in the order in which they were chosen.
+/// Values of unknowns, in the order in which they are chosen.
 #[derive(Drop)]
 pub struct Fractions {
     items: Vec<Fraction>,
@@ -180,7 +180,7 @@ impl Model for Fractions {
 }
 
 impl Fractions {
-    /// No values.
+    /// Returns the empty list.
     pub fn new(alloc: Global) -> Fractions
         ensures { result ≡ [] }
     {
@@ -189,21 +189,21 @@ impl Fractions {
         }
     }
 
-    /// These values.
+    /// Returns these values.
     pub fn from_values(items: Vec<Fraction>) -> Fractions
         ensures { result ≡ items.items }
     {
         Fractions { items }
     }
 
-    /// The values, in the order in which they were chosen.
+    /// Returns the values, in the order in which they are chosen.
     pub fn as_slice(&self) -> &[Fraction]
         ensures { result.now ≡ self.now }
     {
         self.items.as_slice()
     }
 
-    /// Puts a value at the end. After `NoMemory` the values are as they were.
+    /// Adds a value at the end. After `NoMemory` the list is unchanged.
     pub fn push(&mut self, value: Fraction) -> Result<(), NoMemory>
         ensures ok { OnOk result (self.new ≡ self.old ++ value ∷ []) }
         ensures err { OnErr result (self.new ≡ self.old) }
@@ -213,28 +213,28 @@ impl Fractions {
     }
 }
 
-/// What an elimination answers.
+/// The answer of an elimination.
 #[derive(Drop)]
 pub enum LinAnswer {
-    /// The rows have no solution: these multipliers combine them to a contradiction.
+    /// The constraints have no solution: these multipliers combine them to a contradiction.
     Infeasible(Multipliers),
-    /// These values meet every row.
+    /// These values meet all constraints.
     Feasible(Fractions),
-    /// The sum of these two rows leaves 128 bits.
+    /// The sum of these two constraints is not in 128 bits.
     Wide(LinRow, LinRow),
-    /// The elimination reached 5,000 rows: these.
+    /// The elimination reaches 5,000 constraints, which are these.
     TooManyRows(Rows),
 }
 
 impl LinRow {
-    /// The coefficient of an unknown; a missing one counts as 0.
+    /// Returns the coefficient of an unknown; a missing one is 0.
     pub fn coefficient(&self, unknown: usize) -> i128
         ensures { result ≡ coefficient unknown self.now }
     {
         self.coefficients.get(unknown).copied().unwrap_or(0)
     }
 
-    /// The row with the coefficients of the first `width` unknowns.
+    /// Returns the constraint with the coefficients of the first `width` unknowns.
     pub fn padded(&self, alloc: Global, width: usize) -> Result<LinRow, NoMemory>
         ensures padded { IfOk result (λ row. row ≡ record { coefficients = map (λ u. coefficient u self.now) (range_with_len 0 width); bound = self.now.bound }) }
         ensures fits { FitsSigned w128 self.now.bound }
@@ -250,7 +250,7 @@ impl LinRow {
         })
     }
 
-    /// Whether all numbers of the row fit 128 bits, as their negations do.
+    /// Decides whether all numbers of the constraint fit 128 bits, as their negations do.
     pub fn fits(&self) -> bool
         ensures { IsTrue result ↔ IsFitting self.now }
     {
@@ -260,14 +260,14 @@ impl LinRow {
         }
     }
 
-    /// Whether no unknown is left.
+    /// Decides whether no unknown is left.
     pub fn is_without_unknowns(&self) -> bool
         ensures { IsTrue result ↔ All (λ c. c ≡ pos 0) self.now.coefficients }
     {
         self.coefficients.iter().all(|c| *c == 0)
     }
 
-    /// Whether the row says that a positive number is at most 0.
+    /// Decides whether the constraint is that 0 is at most a negative number.
     pub fn is_contradiction(&self) -> bool
         ensures { IsTrue result
             ↔ ((self.now.bound <ℤ pos 0) × All (λ c. c ≡ pos 0) self.now.coefficients) }

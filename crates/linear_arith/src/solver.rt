@@ -1,4 +1,4 @@
-//! The answer to a system of rows.
+//! The solution of a system of linear constraints.
 
 ghost use Rattle.std.specs.Prelude.{◌≡◌, ◌≢◌, ◌⊎◌, ◌↔◌, pos, ◌<ℤ◌, ℕ, All, Contains, IsTrue, IfOk, IfErr, OnOk, List};
 ghost use Rattle.linear_arith.specs.Fits.{IsFitting};
@@ -26,20 +26,21 @@ use crate::system::System;
 use base::memory::NoMemory;
 use std::alloc::Global;
 
-/// Whether rows have a solution in fractions, with what shows it: an elimination of one unknown after
-/// another, as Fourier and Motzkin found it. A number fits 128 bits where its negation does too.
+/// Decides whether constraints have a solution in fractions, with evidence, by the Fourier-Motzkin elimination of one
+/// unknown after another. A number fits 128 bits where its negation does too.
 ///
-/// `Infeasible` carries multipliers whose combination of the rows is a contradiction, with every product
-/// and sum on the way within 128 bits. `Feasible` carries values that meet every row, put in one after
-/// another: one for each unknown, chosen last unknown first, the whole number nearest to 0 that meets the
-/// bounds where there is one, else a bound. `Wide` carries two rows whose sum leaves 128 bits: two of one
-/// stage; or a row with values put in that were so chosen, and the next one as a row. `TooManyRows` carries
-/// 5,000 different rows of the stages of one elimination. `NoMemory` comes where memory ran out.
+/// `Infeasible` carries multipliers whose combination of the constraints is a contradiction, with all intermediate
+/// products and sums in 128 bits. `Feasible` carries values that meet all constraints when they are substituted one
+/// after another: one for each unknown, chosen last unknown first, the integer nearest to 0 that meets the bounds if
+/// there is one, else a bound. `Wide` carries two constraints whose sum is not in 128 bits: two of one stage; or a
+/// constraint after the substitution of values that were chosen in this way, and the next value as a constraint.
+/// `TooManyRows` carries 5,000 different constraints of the stages of one elimination. `NoMemory` is returned where
+/// there is not enough memory.
 ///
-/// `TooManyRows` comes exactly where 5,000 different rows are reached: each other answer comes with an
-/// elimination that has all rows of its stages so far, and fewer than 5,000 different ones. `Infeasible`
-/// and a `Wide` pair of one stage come where that row or sum is due next, the other answers where the
-/// elimination has come to its end.
+/// `TooManyRows` is returned exactly where 5,000 different constraints are reached: each other answer comes with an
+/// elimination that has all constraints of its stages so far, and fewer than 5,000 different ones. `Infeasible` and a
+/// `Wide` pair of one stage are returned where that constraint or sum is due next, the other answers where the
+/// elimination is complete.
 pub fn solve(alloc: Global, rows: &Rows) -> Result<LinAnswer, NoMemory>
     requires { All IsFitting rows.now }
     ensures infeasible { IfOk result (λ answer. IfInfeasible answer (IsContradiction rows.now)) }
@@ -69,7 +70,7 @@ fn answered(alloc: Global, rows: &[LinRow]) -> Result<LinAnswer, Stop>
     Ok(LinAnswer::Feasible(Fractions::from_values(values)))
 }
 
-/// The values, last unknown first. An unknown that no stage eliminated stands before all, and is 0.
+/// Returns the values, last unknown first. An unknown that no stage eliminates comes before all others, and is 0.
 fn values(alloc: Global, system: &System<'_>, stages: &[Stage]) -> Result<Vec<Fraction>, Stop>
     requires { HasAllStages system.now.width system.now.rows.now stages.now }
     ensures ok { IfOk result (λ values. IsSolution system.now.rows.now values.items) }
@@ -93,14 +94,14 @@ fn values(alloc: Global, system: &System<'_>, stages: &[Stage]) -> Result<Vec<Fr
     Ok(values)
 }
 
-/// Whether no stage eliminated the unknown.
+/// Decides whether no stage eliminates the unknown.
 fn is_kept(unknown: usize, stages: &[Stage]) -> bool
     ensures { IsTrue result ↔ All (λ (stage : Stage). stage.unknown ≢ unknown) stages.now }
 {
     stages.iter().all(|stage| stage.unknown != unknown)
 }
 
-/// The value of a stage's unknown, after those that were chosen before.
+/// Returns the value of a stage's unknown, given those chosen before.
 fn value_at(alloc: Global, stage: &Stage, values: &[Fraction]) -> Result<Fraction, Stop>
     requires values { ArePositive values.now }
     requires compatible { AreCompatible stage.now values.now }
@@ -132,7 +133,7 @@ fn value_at(alloc: Global, stage: &Stage, values: &[Fraction]) -> Result<Fractio
     }
 }
 
-/// Puts what rows say of an unknown at the end of the bounds.
+/// Adds the bounds of an unknown, which are its constraints after the substitution of the values.
 fn put_bounds(
     alloc: Global,
     unknown: usize,

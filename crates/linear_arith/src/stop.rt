@@ -1,4 +1,4 @@
-//! Why an elimination ends before its last stage.
+//! Early ends of an elimination.
 
 ghost use Rattle.std.specs.Prelude.{◌≡◌};
 ghost use Rattle.std.specs.Prelude.{List, IfOk};
@@ -11,7 +11,7 @@ use crate::rows::{LinAnswer, LinRow};
 use base::memory::NoMemory;
 use std::alloc::{AllocError, AllocFailed, Global};
 
-/// An answer was reached, or memory ran out.
+/// An answer is reached, or there is not enough memory.
 #[derive(Drop)]
 pub enum Stop {
     Answered(LinAnswer),
@@ -42,7 +42,7 @@ impl<T: Drop> From<AllocFailed<T>> for Stop {
     }
 }
 
-/// The answer that the sum of two rows leaves 128 bits.
+/// Returns the answer that the sum of two constraints is not in 128 bits.
 pub fn wide(alloc: Global, first: &LinRow, second: &LinRow) -> Result<Stop, NoMemory>
     ensures { (rows : List Inequality) → IsWide rows first.now second.now → IfOk result (StopShows rows) }
 {

@@ -1,4 +1,4 @@
-//! Values put into rows.
+//! The substitution of values in constraints.
 
 ghost use Rattle.std.specs.Prelude.{IfOk, IfErr, IfSome, IfNone, pos, ◌<ℤ◌, ◌≢◌, ◌≡◌, ◌==◌, ℕ, ◌*ℤ◌, ◌-ℤ◌, if◌then◌else◌, slice_index_or, List, Contains};
 ghost use Rattle.linear_arith.specs.Fits.{Fits};
@@ -17,8 +17,8 @@ use crate::stop::Stop;
 use base::memory::NoMemory;
 use std::alloc::Global;
 
-/// The row with the value put in for its unknown: the sum of the row and of the value as a row. None
-/// where it leaves 128 bits.
+/// Returns the constraint after the substitution of the value for its unknown: the sum of the constraint and of the
+/// value as a constraint. None where it is not in 128 bits.
 fn put_in(alloc: Global, row: &LinRow, value: &Fraction) -> Result<Option<LinRow>, NoMemory>
     requires { pos 0 <ℤ value.now.denominator }
     ensures some { IfOk result (λ made. IfSome made (IsPut row.now value.now)) }
@@ -39,7 +39,7 @@ fn put_in(alloc: Global, row: &LinRow, value: &Fraction) -> Result<Option<LinRow
     Ok(Some(reduced(alloc, LinRow::new(coefficients, bound))?))
 }
 
-/// The difference of two products. None where a product or the difference leaves 128 bits.
+/// Returns the difference of two products. None where a product or the difference is not in 128 bits.
 fn difference(factor: i128, bound: i128, weight: i128, numerator: i128) -> Option<i128>
     ensures { SomeIff result (DifferenceWithin factor bound weight numerator) ((factor *ℤ bound) -ℤ (weight *ℤ numerator)) }
 {
@@ -52,7 +52,7 @@ fn difference(factor: i128, bound: i128, weight: i128, numerator: i128) -> Optio
     numbers::difference(left, right)
 }
 
-/// The row's coefficients times a factor, and 0 for the unknown. None where one leaves 128 bits.
+/// Returns the constraint's coefficients times a factor, and 0 for the unknown. None where one is not in 128 bits.
 fn scaled_without(
     alloc: Global,
     row: &LinRow,
@@ -77,7 +77,7 @@ fn scaled_without(
     Ok(Some(coefficients))
 }
 
-/// The row with all values put in, one after another.
+/// Returns the constraint after the substitution of all values, one after another.
 pub fn put_in_all(alloc: Global, row: &LinRow, values: &[Fraction]) -> Result<LinRow, Stop>
     requires { ArePositive values.now }
     ensures ok { IfOk result (IsRest row.now values.now) }
@@ -95,7 +95,7 @@ pub fn put_in_all(alloc: Global, row: &LinRow, values: &[Fraction]) -> Result<Li
     Ok(left)
 }
 
-/// A value as a row: its denominator times its unknown is at most its numerator.
+/// Returns a value as a constraint: its denominator times its unknown is at most its numerator.
 fn value_row(alloc: Global, value: &Fraction) -> Result<LinRow, NoMemory>
     ensures { IfOk result (IsValueRow value.now) }
 {

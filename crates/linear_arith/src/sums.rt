@@ -1,4 +1,4 @@
-//! Sums of two lists of numbers, with multipliers that cancel an unknown.
+//! Sums of two lists of numbers by multipliers that cancel an unknown.
 
 ghost use Rattle.std.specs.Prelude.{◌<◌, ◌≡◌, length, pos, ◌<ℤ◌, ◌+ℤ◌, ◌*ℤ◌, IfOk, IfSome, IfNone};
 ghost use Rattle.std.specs.Option.{SomeIff};
@@ -15,14 +15,14 @@ use crate::rows::LinRow;
 use base::memory::NoMemory;
 use std::alloc::Global;
 
-/// Multipliers of two rows.
+/// The multipliers of two constraints.
 #[derive(Clone, Copy, Debug)]
 pub struct Weights {
     pub first: u128,
     pub second: u128,
 }
 
-/// The least positive multipliers with which a number above 0 and one below cancel.
+/// Returns the least positive multipliers with which a number above 0 and one below cancel.
 pub fn cancelling(above: i128, below: i128) -> Weights
     ensures { pos 0 <ℤ above → below <ℤ pos 0 → Cancels above below result.first result.second }
 {
@@ -41,7 +41,7 @@ pub fn cancelling(above: i128, below: i128) -> Weights
     }
 }
 
-/// Two numbers times their multipliers, added. None where a multiplier, a product or the sum leaves 128
+/// Returns the sum of two numbers times their multipliers. None where a multiplier, a product or the sum is not in 128
 /// bits.
 pub fn mixed_number(weights: Weights, first: i128, second: i128) -> Option<i128>
     ensures { SomeIff result (MixFits weights.first weights.second first second)
@@ -59,7 +59,7 @@ pub fn mixed_number(weights: Weights, first: i128, second: i128) -> Option<i128>
     }
 }
 
-/// The same, with no product for two numbers of 0 or two multipliers of 1.
+/// Returns the same, without products for two numbers of 0 or two multipliers of 1.
 fn mixed_at_once(weights: Weights, first: i128, second: i128) -> Option<i128>
     ensures some { IfSome result (λ number. number ≡ (pos weights.first *ℤ first) +ℤ (pos weights.second *ℤ second)) }
     ensures none { IfNone result (¬ (MixFits weights.first weights.second first second)) }
@@ -73,7 +73,7 @@ fn mixed_at_once(weights: Weights, first: i128, second: i128) -> Option<i128>
     mixed_number(weights, first, second)
 }
 
-/// Two lists times their multipliers, added number by number. None where one leaves 128 bits.
+/// Returns the sum of two lists times their multipliers, number by number. None where one is not in 128 bits.
 pub fn mixed(
     alloc: Global,
     weights: Weights,
@@ -94,7 +94,7 @@ pub fn mixed(
     Ok(Some(numbers))
 }
 
-/// Two lists of `count` numbers times their multipliers, added number by number. None where one leaves
+/// Returns the sum of two lists of `count` numbers times their multipliers, number by number. None where one is not in
 /// 128 bits.
 fn mixed_lists(
     alloc: Global,
@@ -128,8 +128,8 @@ fn mixed_lists(
     }
 }
 
-/// The least whole numbers in the ratio of two lists of `count` numbers times their multipliers, added.
-/// None where a number on the way leaves 128 bits.
+/// Returns the least integers in the ratio of the sum of two lists of `count` numbers times their multipliers. None
+/// where an intermediate number is not in 128 bits.
 pub fn least_mixed(
     alloc: Global,
     weights: Weights,
@@ -147,7 +147,7 @@ pub fn least_mixed(
     Ok(Some(least(alloc, count, numbers)?))
 }
 
-/// The least whole numbers in the ratio of these `count`.
+/// Returns the least integers in the ratio of these `count` numbers.
 fn least(alloc: Global, count: usize, numbers: Packed) -> Result<Packed, NoMemory>
     requires { length numbers ≡ count }
     ensures { IfOk result (λ ms. IsReduced (as_row numbers) (as_row ms)) }
@@ -160,8 +160,8 @@ fn least(alloc: Global, count: usize, numbers: Packed) -> Result<Packed, NoMemor
     Packed::of(alloc, least.as_slice())
 }
 
-/// The sum of two rows that cancels an unknown, divided by the greatest common divisor of its numbers.
-/// None where a number on the way leaves 128 bits.
+/// Returns the sum of two constraints that cancels an unknown, divided by the greatest common divisor of its numbers.
+/// None where an intermediate number is not in 128 bits.
 pub fn sum_of_rows(
     alloc: Global,
     unknown: usize,

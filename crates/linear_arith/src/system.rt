@@ -1,4 +1,4 @@
-//! A system of rows and its width.
+//! A system of constraints and its width.
 
 ghost use Rattle.std.specs.Prelude.{◌≡◌, ◌≤◌, ◌<◌, ℕ, length, All};
 ghost use Rattle.linear_arith.specs.Fits.{IsFitting};
@@ -6,7 +6,7 @@ ghost use Rattle.linear_arith.specs.Inequality.{IsWithinWidth};
 
 use crate::rows::LinRow;
 
-/// Rows of numbers that fit, and a number above that of each unknown in them.
+/// Constraints whose numbers fit, and a number above that of each unknown in them.
 #[derive(Clone, Copy)]
 pub struct System<'a> {
     pub rows: &'a [LinRow],
@@ -16,7 +16,7 @@ pub struct System<'a> {
 }
 
 impl<'a> System<'a> {
-    /// The system of these rows.
+    /// Returns the system of these constraints.
     pub fn new(rows: &'a [LinRow]) -> System<'a>
         requires { All IsFitting rows.now }
         ensures { result.rows.now ≡ rows.now }

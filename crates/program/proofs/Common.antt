@@ -1,4 +1,4 @@
--- What sets of abilities have in common.
+-- The common abilities of sets.
 use Rattle.std.proofs.Common.{◌≡◌, Bool, true, false, ◌&&◌, refl}
 use Rattle.program.specs.declared.declaration.AbilitySet.{AbilitySet}
 use Rattle.program.specs.Sets.{all_abilities, both}

@@ -1,10 +1,10 @@
--- The first place of two groups is the earlier one of their first places.
+-- The first span of two groups is the earlier one of their first spans.
 use Rattle.std.proofs.Common.{◌⊎◌, inl, inr, Option, Some, None, sym, subst, arith}
 use Rattle.std.proofs.lemmas.Bool.{cases_lt}
 use Rattle.base.specs.declared.span.Span.{Span}
 use Rattle.program.specs.Order.{IsBefore, IsFirstOrNone, IsEarlier}
 
--- what stands before a place stands before another one, or that one before the place
+-- where p is before r, p is before q, or q is before r
 pub before_split : (p q r : Span) → IsBefore p r → IsBefore p q ⊎ IsBefore q r
 before_split p q r (inl h) = elim (cases_lt p.file q.file) [
   | inl a ↦ inl (inl a)
@@ -64,7 +64,7 @@ first_of_both P Q (Some p) (Some q) o f g (inr e) =
       ];
     })
 
--- what is so in other words has the same first place
+-- equivalent properties have the same first span
 pub first_renamed : (P Q : Span → Type 0) (o : Option Span)
     → ((p : Span) → P p → Q p) → ((p : Span) → Q p → P p) → IsFirstOrNone P o → IsFirstOrNone Q o
 first_renamed P Q None there back f = λ p h. f p (back p h)

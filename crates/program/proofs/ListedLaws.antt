@@ -1,4 +1,4 @@
--- The nodes of a tree stand for the trees inside it and, last, for the tree itself.
+-- The nodes of a tree represent its proper subtrees and, last, the tree itself.
 use Rattle.std.proofs.Common.{◌≡◌, ℕ, ◌+◌, List, [], ◌∷◌, ◌++◌, length, map, refl, sym, ap, ◌∙◌, arith, length-append, append_assoc, append-nil}
 use Rattle.std.proofs.Math.Seq.{get_or-append_seam}
 use Rattle.program.specs.declared.arena.Node.{Node}
@@ -11,18 +11,18 @@ module _ {L U B M : Type 0} where
   trees_in-append done [] ys = refl
   trees_in-append done (x ∷ xs) ys = trees_in-append (done ++ tree_of done x ∷ []) xs ys
 
-  -- where a tree stands behind those inside it
+  -- the index of a tree after its proper subtrees
   seat : (done rest : List (Tree L U B M)) (t : Tree L U B M) (i : ℕ) → i ≡ length done + before t → at ((done ++ subtrees t) ++ rest) i ≡ t
   seat done rest t i e =
       let place : i ≡ length (done ++ inner t) = omega (arith, length-append done (inner t)) in
       let list : (done ++ subtrees t) ++ rest ≡ (done ++ inner t) ++ t ∷ rest = ap (λ xs. xs ++ rest) (sym (append_assoc done (inner t) (t ∷ []))) ∙ append_assoc (done ++ inner t) (t ∷ []) rest in
       ap (λ xs. at xs i) list ∙ ap (at ((done ++ inner t) ++ t ∷ rest)) place ∙ get_or-append_seam (done ++ inner t) t rest BadTree
 
-  -- where the last of all stands
+  -- the index of the last tree
   last_seat : (done : List (Tree L U B M)) (t : Tree L U B M) (i : ℕ) → i ≡ length done + before t → at (done ++ subtrees t) i ≡ t
   last_seat done t i e = ap (λ xs. at xs i) (sym (append-nil (done ++ subtrees t))) ∙ seat done [] t i e
 
-  -- how many stand where one more tree stands
+  -- the length after one more tree
   longer : (done : List (Tree L U B M)) (t : Tree L U B M) (n : ℕ) → n ≡ length done → n + (before t + 1) ≡ length (done ++ subtrees t)
   longer done t n e = omega (arith, length-append done (subtrees t), length-append (inner t) (t ∷ []))
 
@@ -35,7 +35,7 @@ module _ {L U B M : Type 0} where
       let others : trees_of (map (at ((done ++ (subtrees t ++ inner_all ts)) ++ rest)) (places (n + (before t + 1)) ts)) ≡ ts = ap (λ xs. trees_of (map (at xs) (places (n + (before t + 1)) ts))) there ∙ seats (done ++ subtrees t) rest ts (n + (before t + 1)) (longer done t n e) in
       λ i. MoreTrees (first i) (others i)
 
-  -- one more node behind nodes whose trees are known
+  -- one more node after nodes whose trees are known
   one_more : (done known : List (Tree L U B M)) (xs : List (Node L U B M)) (n : Node L U B M) (t : Tree L U B M) → trees_in done xs ≡ known → tree_of known n ≡ t → trees_in done (xs ++ n ∷ []) ≡ known ++ t ∷ []
   one_more done known xs n t e f = trees_in-append done xs (n ∷ []) ∙ ap (λ ts. ts ++ tree_of ts n ∷ []) e ∙ ap (λ x. known ++ x ∷ []) f
 
@@ -94,7 +94,7 @@ module _ {L U B M : Type 0} where
   last_of-push (u ∷ []) t = refl
   last_of-push (u ∷ v ∷ ts) t = last_of-push (v ∷ ts) t
 
-  -- nodes are of one tree at most
+  -- nodes are those of at most one tree
   pub one_tree : (t u : Tree L U B M) → IsSound t → IsSound u → nodes_of t ≡ nodes_of u → t ≡ u
   one_tree t u s r e =
       sym (last_of-push (inner t) t) ∙ ap last_of (sym (trees-nodes_of t s) ∙ ap trees e ∙ trees-nodes_of u r) ∙ last_of-push (inner u) u

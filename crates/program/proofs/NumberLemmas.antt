@@ -1,4 +1,4 @@
--- Maps to which the number of one more field is put.
+-- Maps to which the number of one more field is added.
 use Rattle.std.proofs.Common.{◌≡◌, ℕ, suc, ◌+◌, ◌<◌, ◌≤◌, Bool, true, false, cond, List, [], ◌∷◌, ◌++◌, length, take, get_or, Option, Some, None, refl, sym, ap, subst, ◌∙◌, arith, add-one}
 use Rattle.std.specs.Prelude.{◌↔◌, IsTrue, if◌then◌else◌, slice_get, option_and_then}
 use Rattle.std.specs.Map.{lookup, keys_of}
@@ -16,7 +16,7 @@ use Rattle.program.specs.declared.declaration.Struct.{Struct}
 use Rattle.program.specs.Same.{same_struct}
 use Rattle.program.specs.FieldNumbers.{AreNumbers, field_number, field_number_in}
 
--- the first one that there is
+-- the first value that is present
 abbrev first_of : {A : Type 0} → Option A → Option A → Option A
 first_of (Some x) other = Some x
 first_of None other = other
@@ -45,12 +45,12 @@ number_next fields field name =
     let p : TypedName → Bool = λ f. same_name name f.name in
     position_from-zero p (fields ++ field ∷ []) ∙ position_next p 0 fields field ∙ ap (λ n. first_of (position_from p 0 fields) (cond (p field) (Some n) None)) (omega (arith)) ∙ ap (λ o. first_of o (cond (p field) (Some (length fields)) None)) (sym (position_from-zero p fields))
 
--- where there is one, no other is looked for
+-- a value that is present is the first
 first_stays : {A : Type 0} (o other : Option A) → (o ≡ None → ⊥) → first_of o other ≡ o
 first_stays (Some x) other some = refl
 first_stays None other some = absurd (some refl)
 
--- one more field, whose name is put in where it is new
+-- one more field, whose name is added if it is new
 pub put_next : (fields : List TypedName) (field : TypedName) (es fs : List (List ℕ × ℕ)) (name : List ℕ) (is_new : Bool) (place : ℕ) → AreNumbers fields es → place ≡ length fields → name ≡ field.name → IsTrue is_new ↔ (lookup (same_name name) es ≡ None)
     → fs ≡ (if is_new then es ++ (name, place) ∷ [] else es) → AreNumbers (fields ++ field ∷ []) fs
 put_next fields field es fs name true place are at same new is = record {
@@ -73,9 +73,9 @@ put_next fields field es fs name false place are at same new is = record {
         let same = same_text q field.name (sym e) in
         first_stays (field_number fields q) _ (λ none. known (sym (ap (λ n. lookup (same_name n) es) same) ∙ are.each q ∙ none))
 
--- ---- the fields of a struct that is found
+-- ---- the fields of a given struct
 
--- the numbers of one of these structs, so many places behind `i`, answer this
+-- the table of the struct at this index after `i` gives this answer
 record Answers (tables : List (List (List ℕ × ℕ))) (name : List ℕ) (i at : ℕ) (answer : Option ℕ) : Type 0 where
   k : ℕ
   is : at ≡ i + k
@@ -111,7 +111,7 @@ found_from owner name i at (s ∷ ss) (t ∷ ts) p e = by (same_struct owner s.0
         some_is x y h = cc
     by false e more = let a = more e in record { k = suc a.k; is = (let same = a.is in omega (arith, same)); table = a.table; found = a.found; answers = a.answers }
 
--- no struct of this name
+-- no struct with this name
 pub no_struct : (structs : List (StructId × Struct)) (owner : StructId) (name : List ℕ) → position (same_struct owner) (keys_of structs) ≡ None → field_number_in structs owner name ≡ None
 no_struct structs owner name e = ap (option_and_then (λ (s : Struct). field_number s.fields name)) (none_from (same_struct owner) 0 structs (sym (position_from-zero (same_struct owner) (keys_of structs)) ∙ e))
 

@@ -1,4 +1,4 @@
--- What stands in a list of nodes stays, and each tree is made of those before it.
+-- The trees of an arena do not change when nodes are added, and each tree is made of those before it.
 use Rattle.std.proofs.Common.{◌≡◌, ℕ, zero, suc, ◌+◌, ◌<◌, List, [], ◌∷◌, ◌++◌, length, get_or, map, All, refl, sym, ◌∙◌, subst, arith, length-append, append_assoc, append-nil, add-zero, zero-add, below_more, Some}
 use Rattle.std.specs.Prelude.{slice_get}
 use Rattle.std.proofs.lemmas.Option.{get_or_from_slice_get, slice_get_within}
@@ -17,7 +17,7 @@ module _ {L U B M : Type 0} where
   map_at-append ts more [] h = refl
   map_at-append ts more (x ∷ xs) h = λ i. at-append ts more x (All-head (λ x. x < length ts) x xs h) i ∷ map_at-append ts more xs (All-tail (λ x. x < length ts) x xs h) i
 
-  -- trees behind those of its parts change no tree
+  -- trees after those of its children do not change a tree
   pub tree_of-append : (ts more : List (Tree L U B M)) (n : Node L U B M) → IsBelow (length ts) n → tree_of (ts ++ more) n ≡ tree_of ts n
   tree_of-append ts more (Leaf l) h = refl
   tree_of-append ts more (Unary u a) h = λ i. UnaryTree u (at-append ts more a h i)
@@ -60,7 +60,7 @@ module _ {L U B M : Type 0} where
       let P : ℕ → Type 0 = λ k. IsBelow k (get_or ns i d) → at (trees ns) k ≡ tree_of (trees ns) (get_or ns i d) in
       subst P (zero-add i) (at-trees_in [] ns i d h) b
 
-  -- the tree of the node that is read at a place
+  -- the tree of the node at an index
   pub tree_read : (ns : List (Node L U B M)) (i : ℕ) (n : Node L U B M) → slice_get ns i ≡ Some n → IsBelow i n → at (trees ns) i ≡ tree_of (trees ns) n
   tree_read ns i n e b =
       let same : get_or ns i n ≡ n = get_or_from_slice_get ns i n n e in
@@ -74,7 +74,7 @@ module _ {L U B M : Type 0} where
   pub trees-length : (ns : List (Node L U B M)) → length (trees ns) ≡ length ns
   trees-length ns = omega (arith, trees_in-length [] ns)
 
-  -- one more node behind its parts
+  -- one more node after its children
   pub below-push : (ns : List (Node L U B M)) (n : Node L U B M) → AreBelow ns → IsBelow (length ns) n → AreBelow (ns ++ n ∷ [])
   below-push ns n all b i d h =
       below_more (λ k. IsBelow k (get_or (ns ++ n ∷ []) k d)) (length ns)
@@ -82,7 +82,7 @@ module _ {L U B M : Type 0} where
       (rw (get_or-append_seam ns n [] d) b)
       i (omega (arith, length-append ns (n ∷ [])))
 
-  -- what stood stays when a node is put behind it
+  -- each tree is unchanged when a node is added
   pub stays-push : (ns : List (Node L U B M)) (n : Node L U B M) → Stays ns (ns ++ n ∷ [])
   stays-push ns n = record {
     same = λ i h.

@@ -10,11 +10,11 @@ use Rattle.program.specs.declared.declaration.Struct.{Struct}
 use Rattle.program.specs.Same.{same_struct}
 use Rattle.program.specs.declared.field_numbers.FieldNumbers.{FieldNumbers}
 
--- how many fields stand before the first one of this name, where there is one
+-- how many fields are before the first one with this name, if there is one
 abbrev pub field_number : List TypedName → List ℕ → Option ℕ
 field_number fields name = position (λ f. same_name name f.name) fields
 
--- the number of the field of this name of a struct of the list
+-- the number of the field with this name of a struct of the list
 abbrev pub field_number_in : List (StructId × Struct) → StructId → List ℕ → Option ℕ
 field_number_in structs owner name = option_and_then (λ s. field_number s.fields name) (lookup (same_struct owner) structs)
 
@@ -22,6 +22,6 @@ field_number_in structs owner name = option_and_then (λ s. field_number s.field
 pub record AreNumbers (fields : List TypedName) (numbers : List (List ℕ × ℕ)) : Type 0 where
   pub each : (name : List ℕ) → lookup (same_name name) numbers ≡ field_number fields name
 
--- of each struct, in their order
+-- the same for each struct, in order
 abbrev pub AreFieldNumbers : List (StructId × Struct) → FieldNumbers → Type 0
 AreFieldNumbers structs numbers = Paired (λ s n. AreNumbers s.1.fields n) structs numbers.structs.items

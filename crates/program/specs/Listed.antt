@@ -1,10 +1,10 @@
--- The one list of nodes of a tree: each part before its whole, the parts in their order, and nothing else.
+-- The list of nodes of a tree: each child before its parent, the children in order, and nothing else.
 use Rattle.std.specs.Prelude.{ℕ, ◌+◌, List, [], ◌∷◌, ◌++◌, length}
 use Rattle.program.specs.declared.arena.Node.{Node}
 use Rattle.program.specs.declared.arena.Node.TheVariants.{Leaf, Unary, Binary, If, Many}
 use Rattle.program.specs.Trees.{Tree, LeafTree, UnaryTree, BinaryTree, IfTree, ManyTree, BadTree, Trees, NoTrees, MoreTrees}
 
--- no part is missing
+-- no subtree is missing
 abbrev mutual
   pub IsSound : {L U B M : Type 0} → Tree L U B M → Type 0
   IsSound (LeafTree l) = Unit {0}
@@ -18,7 +18,7 @@ abbrev mutual
   AreSound NoTrees = Unit {0}
   AreSound (MoreTrees t ts) = IsSound t × AreSound ts
 
--- the trees inside a tree, each behind those inside it
+-- the proper subtrees of a tree, each after its own
 abbrev mutual
   pub inner : {L U B M : Type 0} → Tree L U B M → List (Tree L U B M)
   inner (LeafTree l) = []
@@ -32,20 +32,20 @@ abbrev mutual
   inner_all NoTrees = []
   inner_all (MoreTrees t ts) = (inner t ++ t ∷ []) ++ inner_all ts
 
--- the trees inside a tree, and then the tree itself
+-- the proper subtrees of a tree, and then the tree itself
 abbrev pub subtrees : {L U B M : Type 0} → Tree L U B M → List (Tree L U B M)
 subtrees t = inner t ++ t ∷ []
 
--- how many nodes stand before that of the whole
+-- how many nodes are before the root
 abbrev pub before : {L U B M : Type 0} → Tree L U B M → ℕ
 before t = length (inner t)
 
--- the numbers of the nodes of trees, whose nodes stand one tree after another, the first with the number n
+-- the indices of the roots of trees, whose nodes follow one another, from the index n on
 abbrev pub places : {L U B M : Type 0} → ℕ → Trees L U B M → List ℕ
 places n NoTrees = []
 places n (MoreTrees t ts) = (n + before t) ∷ places (n + (before t + 1)) ts
 
--- the nodes of a tree, the first with the number n
+-- the nodes of a tree, from the index n on
 abbrev mutual
   pub nodes_from : {L U B M : Type 0} → ℕ → Tree L U B M → List (Node L U B M)
   nodes_from n (LeafTree l) = Leaf l ∷ []

@@ -1,4 +1,4 @@
--- When two names of members are the same: where their addresses, their modules and their own names are.
+-- The equality of names of members: their addresses, their modules and their own names are equal.
 use Rattle.std.specs.Prelude.{◌==◌, Bool, ◌&&◌}
 use Rattle.base.specs.Names.{same_name}
 use Rattle.base.specs.declared.types.StructId.{StructId}

@@ -8,7 +8,7 @@ all_abilities = record { has_copy = true; has_drop = true; has_store = true; has
 abbrev pub no_abilities : AbilitySet
 no_abilities = record { has_copy = false; has_drop = false; has_store = false; has_key = false }
 
--- the abilities that both have
+-- the abilities that are in both sets
 abbrev pub both : AbilitySet → AbilitySet → AbilitySet
 both a b = record {
   has_copy = a.has_copy && b.has_copy;

@@ -1,5 +1,5 @@
--- The abilities of types. Source: The Move Book, "Abilities": those of the types that the language has, "Annotating Structs",
--- and "Conditional Abilities and Generic Types".
+-- The abilities of types. Source: The Move Book, "Abilities": those of builtin types, "Annotating Structs", and
+-- "Conditional Abilities and Generic Types".
 use Rattle.std.specs.Prelude.{ℕ, ◌+◌, Bool, true, false, ◌&&◌, List, [], Option, Some, None, if◌then◌else◌, slice_get}
 use Rattle.std.specs.Map.{lookup}
 use Rattle.base.specs.declared.types.StructId.{StructId}
@@ -23,21 +23,21 @@ of_signer = record { has_copy = false; has_drop = true; has_store = false; has_k
 abbrev pub of_reference : AbilitySet
 of_reference = record { has_copy = true; has_drop = true; has_store = false; has_key = false }
 
--- a vector has copy, drop and store as its elements have
+-- a vector has those of copy, drop and store that its elements have
 abbrev pub of_vector : AbilitySet → AbilitySet
 of_vector a = both of_value a
 
--- a tuple is taken along and let go part by part, and stored nowhere
+-- a tuple has those of copy and drop that its items have, and is never stored
 abbrev pub of_tuple : AbilitySet → AbilitySet
 of_tuple a = both of_reference a
 
--- A type parameter has the abilities that it counts as having
+-- a type parameter has its given abilities
 abbrev pub of_parameter : Option AbilitySet → AbilitySet
 of_parameter None = no_abilities
 of_parameter (Some a) = a
 
--- A struct has what it declares, and of that copy, drop and store only where all of its arguments, phantom ones aside, have
--- them, and key only where these have store.
+-- a struct has those of its declared abilities that its arguments, except phantom ones, support: copy, drop and store
+-- where all of them have it, and key where all of them have store
 abbrev pub applied : AbilitySet → AbilitySet → AbilitySet
 applied declared common = record {
   has_copy = declared.has_copy && common.has_copy;
@@ -50,7 +50,7 @@ abbrev pub is_phantom : Option TypeParameter → Bool
 is_phantom None = false
 is_phantom (Some p) = p.is_phantom
 
--- the abilities of a struct of which the declaration and what its arguments have in common are known
+-- the abilities of a struct, given its declaration and the abilities that its arguments have in common
 abbrev pub declared_applied : Option Struct → (List TypeParameter → AbilitySet) → AbilitySet
 declared_applied None common = no_abilities
 declared_applied (Some s) common = applied s.abilities (common s.type_parameters)
@@ -69,7 +69,8 @@ abbrev mutual
   of_type structs params (MutableType t) = of_reference
   of_type structs params (TupleType ts) = of_tuple (common structs params [] 0 ts)
 
-  -- what those of these types have in common that do not stand for phantom parameters, the first one being that with number n
+  -- the abilities that these types have in common, except those for phantom parameters, where the first type is that of
+  -- the parameter with number n
   pub common : Structs → List AbilitySet → List TypeParameter → ℕ → TypesData → AbilitySet
   common structs params parameters n NoTypes = all_abilities
   common structs params parameters n (MoreTypes t ts) =

@@ -11,7 +11,7 @@ use crate::declaration::{AbilitySet, Struct, TypeParameter};
 use crate::table::Table;
 use base::types::{StructId, TypeNode, TypeTerm};
 
-/// Those of integers, of `bool` and of `address`.
+/// Returns the abilities of integers, of `bool` and of `address`.
 fn of_value() -> AbilitySet
     ensures { result ≡ of_value }
 {
@@ -23,7 +23,7 @@ fn of_value() -> AbilitySet
     }
 }
 
-/// Those of `signer`.
+/// Returns the abilities of `signer`.
 fn of_signer() -> AbilitySet
     ensures { result ≡ of_signer }
 {
@@ -35,7 +35,7 @@ fn of_signer() -> AbilitySet
     }
 }
 
-/// Those of references.
+/// Returns the abilities of references.
 fn of_reference() -> AbilitySet
     ensures { result ≡ of_reference }
 {
@@ -47,7 +47,7 @@ fn of_reference() -> AbilitySet
     }
 }
 
-/// Those of the type parameter with this number.
+/// Returns the abilities of the type parameter with this number; none if there is no such parameter.
 fn of_parameter(params: &[AbilitySet], number: u32) -> AbilitySet
     ensures { result ≡ of_parameter (slice_get params.now number) }
 {
@@ -57,7 +57,8 @@ fn of_parameter(params: &[AbilitySet], number: u32) -> AbilitySet
     }
 }
 
-/// Those of a struct that declares some of them, where its arguments, phantom ones aside, have these in common.
+/// Returns the abilities of a struct with these declared abilities, given those that its arguments, except phantom
+/// ones, have in common.
 fn applied(declared: AbilitySet, common: AbilitySet) -> AbilitySet
     ensures { result ≡ applied declared common }
 {
@@ -69,7 +70,7 @@ fn applied(declared: AbilitySet, common: AbilitySet) -> AbilitySet
     }
 }
 
-/// Whether the parameter with this number is there and phantom.
+/// Decides whether there is a parameter with this number and it is phantom.
 fn is_phantom(parameters: &[TypeParameter], number: usize) -> bool
     ensures { result ≡ is_phantom (slice_get parameters.now number) }
 {
@@ -79,8 +80,8 @@ fn is_phantom(parameters: &[TypeParameter], number: usize) -> bool
     }
 }
 
-/// The abilities of a type, where the type parameters count as having these, by their numbers. What is not declared
-/// has none. It takes no memory.
+/// Returns the abilities of a type, given the abilities of the type parameters by number. A struct that is not declared
+/// has none. The function allocates nothing.
 #[cycle(of_type)]
 pub fn of_type(
     structs: &Table<StructId, Struct>,

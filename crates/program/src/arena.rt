@@ -1,4 +1,4 @@
-//! Trees that stand in one list, node by node, each node behind its parts.
+//! Trees as one list of nodes, each node after its children.
 
 ghost use Rattle.std.specs.Prelude.{◌≡◌, ◌<◌, ◌++◌, ◌∷◌, [], length, IfOk, OnOk, OnErr, slice_get, Some};
 ghost use Rattle.program.specs.Listed.{IsSound, nodes_of, subtrees};
@@ -10,7 +10,7 @@ use base::span::Span;
 use std::alloc::Global;
 use std::marker::Model;
 
-/// A node: what it is, and the places of its parts. A form is one for each number of parts.
+/// A node, with the indices of its children. There is a variant for each number of children.
 #[derive(Drop)]
 pub enum Node<L, U, B, M> {
     Leaf(L),
@@ -21,7 +21,7 @@ pub enum Node<L, U, B, M> {
     Many(M, Sequence<usize>),
 }
 
-/// Nodes, each behind its parts and with its place in the text.
+/// Nodes, each after its children and with its span.
 #[derive(Drop)]
 pub struct Arena<L, U, B, M> {
     nodes: Vec<Node<L, U, B, M>>,
@@ -40,7 +40,7 @@ impl<L, U, B, M> Model for Arena<L, U, B, M> {
     ghost invariant = { λ a. (AreBelow a.nodes.items) × (length a.spans.items ≡ length a.nodes.items) };
 }
 
-/// A node and its place in the text, behind the others.
+/// Adds a node and its span at the end. After an error both lists are unchanged.
 fn push_both<N: Drop>(
     nodes: &mut Vec<N>,
     spans: &mut Vec<Span>,
@@ -60,7 +60,7 @@ fn push_both<N: Drop>(
 }
 
 impl<L: Drop, U: Drop, B: Drop, M: Drop> Arena<L, U, B, M> {
-    /// No nodes.
+    /// Returns the empty arena.
     pub fn new(alloc: Global) -> Arena<L, U, B, M>
         ensures nodes { result.nodes ≡ [] }
         ensures spans { result.spans ≡ [] }
@@ -71,7 +71,7 @@ impl<L: Drop, U: Drop, B: Drop, M: Drop> Arena<L, U, B, M> {
         }
     }
 
-    /// How many nodes there are.
+    /// The number of nodes.
     pub fn len(&self) -> usize
         ensures { result ≡ length self.now.nodes }
     {
@@ -86,7 +86,7 @@ impl<L: Drop, U: Drop, B: Drop, M: Drop> Arena<L, U, B, M> {
         &self.nodes[place]
     }
 
-    /// The node at a place.
+    /// Returns the node at an index.
     pub fn node(&self, place: usize) -> &Node<L, U, B, M>
         requires { place < length self.now.nodes }
         ensures node { slice_get self.now.nodes place ≡ Some result.now }
@@ -96,8 +96,8 @@ impl<L: Drop, U: Drop, B: Drop, M: Drop> Arena<L, U, B, M> {
         self.stored(place)
     }
 
-    /// One more node behind the others, whose parts stand already, with its place in the text. Answers its
-    /// number. After `NoMemory` the nodes are as they were.
+    /// Adds a node, whose children are in the arena, with its span, and returns its index. After `NoMemory` the nodes
+    /// are unchanged.
     pub fn add(&mut self, node: Node<L, U, B, M>, span: Span) -> Result<usize, NoMemory>
         requires { IsBelow (length self.old.nodes) node }
         ensures place { IfOk result (λ place. place ≡ length self.old.nodes) }
@@ -112,7 +112,7 @@ impl<L: Drop, U: Drop, B: Drop, M: Drop> Arena<L, U, B, M> {
         Ok(place)
     }
 
-    /// The place in the text of the node at a place.
+    /// Returns the span of the node at an index.
     pub fn span(&self, place: usize) -> Span
         requires { place < length self.now.nodes }
         ensures { slice_get self.now.spans place ≡ Some result }
@@ -121,8 +121,8 @@ impl<L: Drop, U: Drop, B: Drop, M: Drop> Arena<L, U, B, M> {
     }
 }
 
-/// A law: the nodes of a tree stand for the trees inside it and, last, for the tree itself. So no list of nodes is
-/// that of two trees.
+/// A law: the nodes of a tree represent the subtrees and, last, the tree itself. So no list of nodes is that of two
+/// trees.
 pub fn one_tree<L, U, B, M>()
     ensures trees { (tree : Tree L U B M) → IsSound tree → trees (nodes_of tree) ≡ subtrees tree }
     ensures one { (tree other : Tree L U B M)

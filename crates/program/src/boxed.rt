@@ -1,4 +1,4 @@
-//! Things on the heap that contracts see as themselves.
+//! Values on the heap that contracts see as themselves.
 
 ghost use Rattle.std.specs.Prelude.{◌≡◌, IfOk};
 
@@ -6,7 +6,7 @@ use base::memory::NoMemory;
 use std::alloc::Global;
 use std::marker::Model;
 
-/// A thing on the heap.
+/// A value on the heap.
 #[derive(Drop)]
 pub struct Boxed<T> {
     inner: Box<T>,
@@ -19,7 +19,7 @@ impl<T> Model for Boxed<T> {
 }
 
 impl<T: Drop> Boxed<T> {
-    /// This thing, on the heap.
+    /// Returns the value on the heap.
     pub fn new(alloc: Global, item: T) -> Result<Boxed<T>, NoMemory>
         ensures { IfOk result (λ boxed. boxed ≡ item) }
     {
@@ -28,7 +28,7 @@ impl<T: Drop> Boxed<T> {
         })
     }
 
-    /// The thing.
+    /// Returns the value.
     pub fn get(&self) -> &T
         ensures { result.now ≡ self.now }
     {

@@ -17,19 +17,19 @@ pub enum ConditionKind {
     UpdateInvariant,
 }
 
-/// The forms of a clause, with the places of its expressions among its nodes.
+/// The forms of a clause, with the indices of its expressions among its nodes.
 #[derive(Drop)]
 pub enum ClauseForm {
     Condition(ConditionKind, usize),
-    /// Places of storage that may change.
+    /// Locations of global storage that may change.
     Modifies(Sequence<usize>),
     /// `let` or, where `is_post` is true, `let post`
     Let {
         is_post: bool,
         value: usize,
     },
-    /// The clauses of a schema, with what stands for each of its variables, in their order. Type arguments are
-    /// those that are written: none where they are left out.
+    /// The clauses of a schema, with the values of its variables, in their order. Type arguments are those that are
+    /// written; there are none where they are omitted.
     Include {
         schema: SchemaId,
         types: TypeList,
@@ -37,7 +37,7 @@ pub enum ClauseForm {
     },
 }
 
-/// A clause, its first token, and that of the spec block that it belongs to.
+/// A clause, with the span of its first token and that of its spec block.
 #[derive(Drop)]
 pub struct Clause {
     pub block: Span,
@@ -47,7 +47,7 @@ pub struct Clause {
     pub body: SpecBody,
 }
 
-/// A clause of the spec block of a loop, with the loop's place among the nodes of the body.
+/// A clause of the spec block of a loop, with the loop's index among the nodes of the body.
 #[derive(Drop)]
 pub struct LoopClause {
     pub at: usize,

@@ -15,7 +15,7 @@ pub struct Number {
     pub width: Option<Width>,
 }
 
-/// How the value of a local is taken: as its type says, or as `move` or `copy` says.
+/// How the value of a local is used: as its type determines, or by `move` or `copy`.
 #[derive(Clone, Copy, Debug, PartialEq, Eq)]
 pub enum LocalUse {
     Plain,
@@ -23,13 +23,13 @@ pub enum LocalUse {
     Copy,
 }
 
-/// What has no parts.
+/// The nodes without children.
 #[derive(Drop)]
 pub enum CodeLeaf {
     Number(Number),
     Truth(bool),
     Address(u128),
-    /// A local by its number, also where it is a place that is borrowed or assigned.
+    /// A local by its number, also where it is borrowed or assigned.
     Local(LocalUse, usize),
     Constant(Boxed<ConstantId>),
     /// `return` without a value
@@ -42,7 +42,7 @@ pub enum CodeLeaf {
     Ignore,
 }
 
-/// What has one part.
+/// The nodes with one child.
 #[derive(Drop)]
 pub enum CodeUnary {
     Not,
@@ -57,27 +57,27 @@ pub enum CodeUnary {
     Loop,
     /// An item of a block whose value is not used.
     Discard,
-    /// `let` with a pattern alone, and with the type that is written.
+    /// `let` without a value, with the type that is written, if any.
     Declare(Option<Boxed<TypeTerm>>),
 }
 
-/// What has two parts.
+/// The nodes with two children.
 #[derive(Drop)]
 pub enum CodeBinary {
     Operator(BinaryOperator),
-    /// A place, and its new value.
+    /// An assignment: its target, and its new value.
     Assign,
     /// `if` without `else`
     If,
     /// A condition, and a body.
     While,
-    /// A condition, and the code of the abort where it is false.
+    /// A condition, and the code of the abort if it is false.
     Assert,
-    /// `let` with a pattern and its value, and with the type that is written.
+    /// `let` with a value, with the type that is written, if any.
     Let(Option<Boxed<TypeTerm>>),
 }
 
-/// What is called.
+/// The callee of a call.
 #[derive(Drop)]
 pub enum Callee {
     Function(FunctionId),
@@ -87,14 +87,14 @@ pub enum Callee {
     AddressOf,
 }
 
-/// What is called, with the type arguments that are written: none where they are left out.
+/// A callee, with the type arguments that are written; there are none where they are omitted.
 #[derive(Drop)]
 pub struct Call {
     pub callee: Callee,
     pub types: TypeList,
 }
 
-/// A struct whose fields are named, with the type arguments that are written: none where they are left out.
+/// A struct with the names of fields, and the type arguments that are written; there are none where they are omitted.
 #[derive(Drop)]
 pub struct NamedFields {
     pub owner: StructId,
@@ -102,24 +102,24 @@ pub struct NamedFields {
     pub fields: Sequence<Name>,
 }
 
-/// What has a list of parts.
+/// The nodes with a list of children.
 #[derive(Drop)]
 pub enum CodeMany {
-    /// A call, whose parts are its arguments.
+    /// A call, whose children are its arguments.
     Call(Boxed<Call>),
-    /// A vector of its parts, with the type arguments that are written.
+    /// A vector of its children, with the type arguments that are written.
     Vector(TypeList),
-    /// A struct, whose parts are the values of the named fields.
+    /// A struct, whose children are the values of the named fields.
     Pack(Boxed<NamedFields>),
-    /// A pattern for a struct, whose parts are patterns for the named fields.
+    /// A pattern for a struct, whose children are patterns for the named fields.
     Unpack(Boxed<NamedFields>),
-    /// None or several expressions between parentheses.
+    /// No or several expressions between parentheses.
     Tuple,
     /// Several patterns between parentheses.
     TuplePattern,
-    /// A block, whose parts are its items, and last its value where it has one.
+    /// A block, whose children are its items, and last its value if it has one.
     Block { has_value: bool },
 }
 
-/// A body. Its nodes stand in the order of their last tokens, so the last one is the whole.
+/// A body. Its nodes are in the order of their last tokens, so the last node is the root.
 pub type Body = Arena<CodeLeaf, CodeUnary, CodeBinary, CodeMany>;

@@ -1,4 +1,4 @@
-//! Declarations. The place of each is that of its first token, attributes aside.
+//! Declarations. The span of each is that of its first token after its attributes.
 
 use crate::clause::{Clause, LoopClause};
 use crate::code::Body;
@@ -18,7 +18,7 @@ pub struct AbilitySet {
     pub has_key: bool,
 }
 
-/// A type parameter, with the abilities that its arguments must have. Only one of a struct may be phantom.
+/// A type parameter, with the abilities that its arguments must have. Only that of a struct may be phantom.
 #[derive(Drop)]
 pub struct TypeParameter {
     pub name: Name,
@@ -33,7 +33,7 @@ pub struct TypedName {
     pub annotation: TypeTerm,
 }
 
-/// A module. What it declares stands in the tables of its program.
+/// A module. Its declarations are in the tables of its program.
 #[derive(Drop)]
 pub struct Module {
     pub place: Span,
@@ -60,7 +60,7 @@ pub struct Constant {
     pub value: Body,
 }
 
-/// Where a function may be called: in its module, in its friends too, everywhere.
+/// The visibility of a function: in its module, also in the friends of its module, or everywhere.
 #[derive(Clone, Copy, Debug, PartialEq, Eq)]
 pub enum Visibility {
     Private,
@@ -68,7 +68,7 @@ pub enum Visibility {
     Public,
 }
 
-/// The pragmas that hold for a function: its own, and those of its module that it does not set.
+/// The values of the pragmas of a function: its own, and those of its module that it does not set.
 #[derive(Clone, Copy, Debug, PartialEq, Eq)]
 pub struct Pragmas {
     pub verify: bool,
@@ -84,19 +84,19 @@ pub struct Function {
     pub visibility: Visibility,
     pub type_parameters: Sequence<TypeParameter>,
     pub parameters: Sequence<TypedName>,
-    /// The empty tuple where none is written.
+    /// The empty tuple if no type is written.
     pub result: TypeTerm,
     pub acquires: Sequence<StructId>,
-    /// The names of its locals, by their numbers.
+    /// The names of its locals, by number.
     pub locals: Sequence<Name>,
     pub body: Body,
     pub pragmas: Pragmas,
     pub clauses: Sequence<Clause>,
-    /// The clauses of its loops, in the order of the text.
+    /// The clauses of its loops, in source order.
     pub loop_clauses: Sequence<LoopClause>,
 }
 
-/// A function for specifications alone. The last node of its body is the whole.
+/// A spec function. The last node of its body is the root.
 #[derive(Drop)]
 pub struct SpecFunction {
     pub place: Span,

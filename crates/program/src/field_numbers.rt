@@ -1,4 +1,4 @@
-//! The numbers of fields, found without a walk over a struct.
+//! The numbers of fields, by look-ups in tables.
 
 ghost use Rattle.std.specs.Prelude.{◌≡◌, IfOk};
 ghost use Rattle.program.specs.FieldNumbers.{AreFieldNumbers, AreNumbers, field_number_in};
@@ -10,14 +10,14 @@ use base::name::Name;
 use base::types::StructId;
 use std::alloc::Global;
 
-/// The numbers of the fields of all structs of a program: how many fields of the struct are declared before it.
+/// The number of each field of each struct of a program: how many fields of the struct are declared before it.
 #[derive(Drop)]
 pub struct FieldNumbers {
-    /// Of each struct, in their order, the numbers of its fields by their names.
+    /// For each struct, in order, the numbers of its fields by name.
     pub structs: Vec<Table<Name, usize>>,
 }
 
-/// The numbers of the fields of one struct.
+/// Returns the numbers of the fields of one struct.
 fn numbers_of(alloc: Global, fields: &[TypedName]) -> Result<Table<Name, usize>, NoMemory>
     ensures { IfOk result (AreNumbers fields.now) }
 {
@@ -29,11 +29,12 @@ fn numbers_of(alloc: Global, fields: &[TypedName]) -> Result<Table<Name, usize>,
 }
 
 impl FieldNumbers {
-    /// Reads the fields of all structs, each once.
+    /// Returns the numbers of the fields of all structs, and reads each field once.
     ///
     /// # Errors
     ///
-    /// Only where memory for the names and the numbers is refused.
+    ///
+    /// Only where there is not enough memory for the names and the numbers.
     pub fn new(alloc: Global, structs: &Table<StructId, Struct>) -> Result<FieldNumbers, NoMemory>
         ensures { IfOk result (AreFieldNumbers structs.now) }
     {
@@ -46,8 +47,8 @@ impl FieldNumbers {
         Ok(FieldNumbers { structs: all })
     }
 
-    /// The number of the field of this name of the struct: none where the program has no such struct, or the struct no
-    /// such field. It takes two look-ups, however many fields there are.
+    /// Returns the number of the field with this name of the struct; none if the program has no such struct, or the
+    /// struct no such field. It takes two look-ups, for any number of fields.
     pub fn number(
         &self,
         structs: &Table<StructId, Struct>,

@@ -10,7 +10,7 @@ use base::types::{FunctionId, StructId};
 use std::alloc::Global;
 use std::marker::Model;
 
-/// The name of a module, where it stands in that of one of its members.
+/// The name of a module, borrowed from that of one of its members.
 #[derive(Drop)]
 pub struct Home<'a> {
     address: u128,
@@ -26,7 +26,7 @@ impl<'a> Model for Home<'a> {
 }
 
 impl<'a> Home<'a> {
-    /// The module of a struct.
+    /// Returns the module of a struct.
     pub fn of_struct(id: &'a StructId) -> Home<'a>
         ensures { result ≡ struct_home id.now }
     {
@@ -36,7 +36,7 @@ impl<'a> Home<'a> {
         }
     }
 
-    /// The module of a constant.
+    /// Returns the module of a constant.
     pub fn of_constant(id: &'a ConstantId) -> Home<'a>
         ensures { result ≡ constant_home id.now }
     {
@@ -46,7 +46,7 @@ impl<'a> Home<'a> {
         }
     }
 
-    /// The module of a function or of a spec function.
+    /// Returns the module of a function or of a spec function.
     pub fn of_function(id: &'a FunctionId) -> Home<'a>
         ensures { result ≡ function_home id.now }
     {
@@ -56,7 +56,7 @@ impl<'a> Home<'a> {
         }
     }
 
-    /// The module of a schema.
+    /// Returns the module of a schema.
     pub fn of_schema(id: &'a SchemaId) -> Home<'a>
         ensures { result ≡ schema_home id.now }
     {
@@ -66,14 +66,14 @@ impl<'a> Home<'a> {
         }
     }
 
-    /// Whether it is this module.
+    /// Decides whether it is this module.
     pub fn is(&self, other: &ModuleId) -> bool
         ensures { IsTrue result ↔ (self.now ≡ other.now) }
     {
         self.address == other.address && *self.name == other.name
     }
 
-    /// Its name, as one of its own.
+    /// Returns an owned copy of its name.
     pub fn to_id(&self, alloc: Global) -> Result<ModuleId, NoMemory>
         ensures { IfOk result (λ id. id ≡ self.now) }
     {

@@ -1,4 +1,4 @@
-//! Operators, in the groups that rules of typing speak of.
+//! Operators, grouped by their typing rules.
 
 /// An operator between two integers of one type, whose result has that type.
 #[derive(Clone, Copy, Debug, PartialEq, Eq)]
@@ -10,7 +10,7 @@ pub enum Arithmetic {
     Remainder,
 }
 
-/// An operator bit by bit.
+/// A bitwise operator.
 #[derive(Clone, Copy, Debug, PartialEq, Eq)]
 pub enum Bitwise {
     BitAnd,
@@ -50,7 +50,7 @@ pub enum BinaryOperator {
 /// An operator between two spec expressions.
 #[derive(Clone, Copy, Debug, PartialEq, Eq)]
 pub enum SpecOperator {
-    /// One that Move has too.
+    /// An operator of Move.
     Common(BinaryOperator),
     /// `==>`
     Implies,
@@ -90,7 +90,7 @@ pub enum VectorFunction {
     Swap,
 }
 
-/// A function that specifications have by themselves.
+/// A builtin function of specifications.
 #[derive(Clone, Copy, Debug, PartialEq, Eq)]
 pub enum SpecBuiltin {
     Old,

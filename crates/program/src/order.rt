@@ -1,18 +1,18 @@
-//! The order of places in files.
+//! The order of spans.
 
 ghost use Rattle.std.specs.Prelude.{◌↔◌, IsTrue};
 ghost use Rattle.program.specs.Order.{IsBefore, IsEarlier};
 
 use base::span::Span;
 
-/// Whether a place is in an earlier file, or earlier in the same file.
+/// Decides whether the left span is in an earlier file, or begins earlier in the same file.
 pub fn is_before(left: Span, right: Span) -> bool
     ensures { IsTrue result ↔ IsBefore left right }
 {
     left.file < right.file || (left.file == right.file && left.start < right.start)
 }
 
-/// The earlier one of two places: the left one, where none stands before the other.
+/// Returns the earlier one of two spans: the left one, if neither is before the other.
 pub fn earlier(left: Option<Span>, right: Option<Span>) -> Option<Span>
     ensures { IsEarlier left right result }
 {

@@ -1,4 +1,4 @@
-//! Programs, and the names of what they declare.
+//! Programs, and the names of their declarations.
 
 ghost use Rattle.std.specs.Prelude.{◌≡◌, [], IfOk};
 
@@ -33,7 +33,7 @@ pub struct SchemaId {
 }
 
 impl ModuleId {
-    /// A second copy of the name of a module.
+    /// Returns a copy of the name of a module.
     pub fn try_clone(&self, alloc: Global) -> Result<ModuleId, NoMemory>
         ensures { IfOk result (λ copy. copy ≡ self.now) }
     {
@@ -45,7 +45,7 @@ impl ModuleId {
 }
 
 impl ConstantId {
-    /// A second copy of the name of a constant.
+    /// Returns a copy of the name of a constant.
     pub fn try_clone(&self, alloc: Global) -> Result<ConstantId, NoMemory>
         ensures { IfOk result (λ copy. copy ≡ self.now) }
     {
@@ -58,7 +58,7 @@ impl ConstantId {
 }
 
 impl SchemaId {
-    /// A second copy of the name of a schema.
+    /// Returns a copy of the name of a schema.
     pub fn try_clone(&self, alloc: Global) -> Result<SchemaId, NoMemory>
         ensures { IfOk result (λ copy. copy ≡ self.now) }
     {
@@ -70,7 +70,7 @@ impl SchemaId {
     }
 }
 
-/// A program: what its files declare, kind by kind, in the order of the files and of their texts.
+/// A program: the declarations of its files by kind, in the order of the files and of their text.
 #[derive(Drop)]
 pub struct Program {
     pub modules: Table<ModuleId, Module>,
@@ -82,7 +82,7 @@ pub struct Program {
 }
 
 impl Program {
-    /// A program that declares nothing.
+    /// Returns the program without declarations.
     pub fn new(alloc: Global) -> Program
         ensures modules { result.modules ≡ [] }
         ensures structs { result.structs ≡ [] }

@@ -6,7 +6,7 @@ use base::memory::NoMemory;
 use std::alloc::Global;
 use std::marker::Model;
 
-/// Things in order.
+/// A list of items.
 #[derive(Drop)]
 pub struct Sequence<T> {
     items: Vec<T>,
@@ -21,7 +21,7 @@ impl<T> Model for Sequence<T> {
 }
 
 impl<T: Drop> Sequence<T> {
-    /// No things.
+    /// Returns the empty list.
     pub fn new(alloc: Global) -> Sequence<T>
         ensures { result ≡ [] }
     {
@@ -30,14 +30,14 @@ impl<T: Drop> Sequence<T> {
         }
     }
 
-    /// The things, in order.
+    /// Returns the items, in order.
     pub fn as_slice(&self) -> &[T]
         ensures { result.now ≡ self.now }
     {
         self.items.as_slice()
     }
 
-    /// Puts a thing at the end. After `NoMemory` the list is as it was.
+    /// Adds an item at the end. After `NoMemory` the list is unchanged.
     pub fn push(&mut self, item: T) -> Result<(), NoMemory>
         ensures ok { OnOk result (self.new ≡ self.old ++ item ∷ []) }
         ensures err { OnErr result (self.new ≡ self.old) }

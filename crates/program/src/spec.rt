@@ -9,7 +9,7 @@ use crate::sequence::Sequence;
 use base::name::Name;
 use base::types::{FunctionId, TypeList, TypeTerm, Width};
 
-/// What a name in a spec expression means, by its number among its like.
+/// The meaning of a name in a spec expression, by its number among the names of its kind.
 #[derive(Clone, Copy, Debug, PartialEq, Eq)]
 pub enum SpecName {
     /// A parameter of the function or of the spec function.
@@ -22,13 +22,13 @@ pub enum SpecName {
     Let(usize),
     /// A variable of the schema.
     Variable(usize),
-    /// A field of the struct that an invariant is of.
+    /// A field of the struct that an invariant specifies.
     Field(usize),
     /// A variable of a quantifier.
     Quantified(usize),
 }
 
-/// What has no parts.
+/// The nodes without children.
 #[derive(Drop)]
 pub enum SpecLeaf {
     Number(Number),
@@ -36,11 +36,11 @@ pub enum SpecLeaf {
     Address(u128),
     Name(SpecName),
     Constant(Boxed<ConstantId>),
-    /// The greatest value of an integer type, as `MAX_U64`.
+    /// The greatest value of an integer type, such as `MAX_U64`.
     Max(Width),
 }
 
-/// What has one part.
+/// The nodes with one child.
 #[derive(Drop)]
 pub enum SpecUnary {
     Not,
@@ -48,7 +48,7 @@ pub enum SpecUnary {
     Field(Name),
 }
 
-/// What has two parts.
+/// The nodes with two children.
 #[derive(Clone, Copy, Debug, PartialEq, Eq)]
 pub enum SpecBinary {
     Operator(SpecOperator),
@@ -56,43 +56,43 @@ pub enum SpecBinary {
     Index,
 }
 
-/// What is called.
+/// The callee of a call.
 #[derive(Drop)]
 pub enum SpecCallee {
     Function(FunctionId),
     Builtin(SpecBuiltin),
 }
 
-/// What a variable of a quantifier ranges over: the values of a type, or a range, which is a part.
+/// The domain of a quantified variable: the values of a type, or a range, which is a child.
 #[derive(Drop)]
 pub enum Domain {
     Of(TypeTerm),
     In,
 }
 
-/// A variable of a quantifier, by its number, and what it ranges over.
+/// A quantified variable, by its number, and its domain.
 #[derive(Drop)]
 pub struct Bind {
     pub variable: usize,
     pub domain: Domain,
 }
 
-/// What is called, with the type arguments that are written: none where they are left out.
+/// A callee, with the type arguments that are written; there are none where they are omitted.
 #[derive(Drop)]
 pub struct SpecCall {
     pub callee: SpecCallee,
     pub types: TypeList,
 }
 
-/// What has a list of parts.
+/// The nodes with a list of children.
 #[derive(Drop)]
 pub enum SpecMany {
-    /// A call, whose parts are its arguments.
+    /// A call, whose children are its arguments.
     Call(Boxed<SpecCall>),
-    /// A struct, whose parts are the values of the named fields.
+    /// A struct, whose children are the values of the named fields.
     Pack(Boxed<NamedFields>),
-    /// Its parts are the ranges of its variables, the terms of its triggers, each of which has as many as is
-    /// said, and its body.
+    /// A quantifier, whose children are the ranges of its variables, the terms of its triggers, with the number of
+    /// terms of each, and its body.
     Quantified {
         quantifier: Quantifier,
         binds: Sequence<Bind>,
@@ -100,5 +100,5 @@ pub enum SpecMany {
     },
 }
 
-/// Spec expressions. Their nodes stand in the order of their last tokens.
+/// Spec expressions. Their nodes are in the order of their last tokens.
 pub type SpecBody = Arena<SpecLeaf, SpecUnary, SpecBinary, SpecMany>;

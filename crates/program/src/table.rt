@@ -12,7 +12,7 @@ use std::alloc::Global;
 use std::hash::Hash;
 use std::marker::Model;
 
-/// Declarations by their names, in the order in which they were put in.
+/// Declarations by name, in the order in which they are added.
 #[derive(Drop)]
 pub struct Table<K: Eq + Hash, T> {
     map: IndexMap<K, T>,
@@ -27,7 +27,7 @@ impl<K: Eq + Hash, T> Model for Table<K, T> {
 }
 
 impl<K: Eq + Hash + Drop, T: Drop> Table<K, T> {
-    /// No declarations.
+    /// Returns the empty table.
     pub fn new(alloc: Global) -> Table<K, T>
         ensures { result ≡ [] }
     {
@@ -36,35 +36,35 @@ impl<K: Eq + Hash + Drop, T: Drop> Table<K, T> {
         }
     }
 
-    /// How many declarations there are.
+    /// The number of declarations.
     pub fn len(&self) -> usize
         ensures { result ≡ length self.now }
     {
         self.map.len()
     }
 
-    /// The declaration with this name.
+    /// Returns the declaration with this name.
     pub fn get(&self, name: &K) -> Option<&T>
         ensures { option_copied result ≡ lookup (K.eq name.now) self.now }
     {
         self.map.get(name)
     }
 
-    /// The number of the declaration with this name: how many stand before it.
+    /// Returns the number of the declaration with this name: how many are before it.
     pub fn number(&self, name: &K) -> Option<usize>
         ensures { result ≡ position (K.eq name.now) (keys_of self.now) }
     {
         self.map.get_index_of(name)
     }
 
-    /// The name and the declaration with this number.
+    /// Returns the name and the declaration with this number.
     pub fn entry(&self, number: usize) -> Option<(&K, &T)>
         ensures { option_map deref_pair result ≡ slice_get self.now number }
     {
         self.map.get_index(number)
     }
 
-    /// Puts a declaration behind the others, which have other names. After `NoMemory` the table is as it was.
+    /// Adds a declaration at the end, whose name is new. After `NoMemory` the table is unchanged.
     pub fn push(&mut self, name: K, declaration: T) -> Result<(), NoMemory>
         requires { lookup (K.eq name) self.old ≡ None }
         ensures ok { OnOk result (self.new ≡ self.old ++ (name, declaration) ∷ []) }
@@ -74,8 +74,8 @@ impl<K: Eq + Hash + Drop, T: Drop> Table<K, T> {
         Ok(())
     }
 
-    /// Puts a declaration behind the others and answers true, unless one of them has its name. After `NoMemory`
-    /// the table is as it was.
+    /// Adds a declaration at the end and returns true if its name is new; else returns false. After `NoMemory` the
+    /// table is unchanged.
     pub fn put(&mut self, name: K, declaration: T) -> Result<bool, NoMemory>
         ensures new { IfOk result (λ is_new. IsTrue is_new ↔ (lookup (K.eq name) self.old ≡ None)) }
         ensures put { IfOk result (λ is_new. self.new ≡ (if is_new then self.old ++ (name, declaration) ∷ [] else self.old)) }

@@ -1,7 +1,7 @@
--- What the functions and the clauses of this form mean, apart from any code.
--- Source: The Move Book, integers (arithmetic aborts where u64 can't hold the result; operands are evaluated from
--- left to right), and the Move Specification Language reference (numbers in specs are unbounded whole numbers; the
--- meaning of `requires`, `ensures` and `aborts_if`).
+-- The meaning of functions and clauses, independent of any code. Source: The Move Book, "Integers" (arithmetic aborts
+-- where the result is not in the range of u64; operands are evaluated from left to right), and the Move Specification
+-- Language reference, "Type System" (numbers in specs are integers of any size), "Requires", "Ensures" and "AbortsIf
+-- Condition".
 use Rattle.std.specs.Prelude.{◌≡◌, ℕ, ◌+◌, ◌-◌, ◌^◌, ◌<◌, Bool, ℤ, pos, ◌+ℤ◌, ◌-ℤ◌, ◌≤ℤ◌, ◌<ℤ◌, nat_lt, if◌then◌else◌, List, [], ◌∷◌, ◌⊎◌, Option, Some, None, option_and_then, codes}
 use Rattle.std.specs.List.{list_any}
 use Rattle.fol.specs.Val.{Val}
@@ -21,20 +21,20 @@ use Rattle.sum_tree.specs.SumFunctionData.{SumFunctionData}
 
 -- ---- runs
 
--- the values of the parameters, by their names
+-- the values of the parameters, by name
 abbrev pub Arguments : Type 0
 Arguments = List ℕ → ℕ
 
--- each is a u64
+-- each value is a u64
 abbrev pub AreU64 : Arguments → Type 0
 AreU64 arguments = (name : List ℕ) → arguments name < 2 ^ 64
 
--- a result in u64, and else an abort
+-- the result if it is a u64, or else an abort
 abbrev pub operator_result : Operator → ℕ → ℕ → Option ℕ
 operator_result Plus a b = if nat_lt (a + b) (2 ^ 64) then Some (a + b) else None
 operator_result Minus a b = if nat_lt a b then None else Some (a - b)
 
--- A run of a sum: what it returns, or None where it aborts. The left side is run before the right one.
+-- the result of a run of a sum, or none where it aborts; the left operand is evaluated before the right one
 abbrev pub run_sum : Arguments → SumData → Option ℕ
 run_sum arguments (NumberSum n) = Some n
 run_sum arguments (WordSum name) = Some (arguments name)
@@ -43,7 +43,7 @@ run_sum arguments (JoinedSum left operator right) =
 
 -- ---- truth of clauses
 
--- the whole numbers that the names of a clause stand for
+-- the integers that are the values of the names of a clause
 abbrev pub Names : Type 0
 Names = List ℕ → ℤ
 
@@ -68,7 +68,8 @@ Holds names True = Unit {0}
 Holds names False = ⊥
 Holds names (Compares left comparison right) = ComparesBy comparison (sum_number names left) (sum_number names right)
 
--- A parameter's name means its value. Where no parameter has the name, `MAX_U64` and `result` mean what they say.
+-- the value of a parameter; of a name that is not that of a parameter, `MAX_U64` is the greatest u64 and `result` the
+-- result
 abbrev pub names_of : SumFunctionData → Arguments → ℕ → Names
 names_of f arguments result name =
     if list_any (same_name name) f.parameters then pos (arguments name)
@@ -92,18 +93,18 @@ abbrev pub HasKind : ClauseKind → List SumClause → Type 0
 HasKind kind [] = ⊥
 HasKind kind (c ∷ cs) = (c.kind ≡ kind) ⊎ HasKind kind cs
 
--- A run that returns meets each `ensures`, and no `aborts_if` held at its start. Where a run aborts, some `aborts_if`
--- held at its start, unless the function has none.
+-- a run that returns meets each `ensures`, and no `aborts_if` held at its start; where a run aborts, some `aborts_if`
+-- held at its start, unless the function has none
 abbrev pub MeetsClauses : SumFunctionData → List SumClause → Arguments → Option ℕ → Type 0
 MeetsClauses f clauses arguments (Some result) =
     AllHold Ensures (names_of f arguments result) clauses × (SomeHolds AbortsIf (names_of f arguments 0) clauses → ⊥)
 MeetsClauses f clauses arguments None = HasKind AbortsIf clauses → SomeHolds AbortsIf (names_of f arguments 0) clauses
 
--- The function keeps its contract: each run meets the clauses that starts with u64 arguments that meet each `requires`.
+-- each run with u64 arguments that meet each `requires` meets the clauses
 pub record KeepsContract (f : SumFunctionData) (clauses : List SumClause) : Type 0 where
   pub each_run : (arguments : Arguments) → AreU64 arguments → AllHold Requires (names_of f arguments 0) clauses → MeetsClauses f clauses arguments (run_sum arguments f.body)
 
--- The same, read classically: where a property either holds of all values or fails of one, which a test of all values
--- that answers right says. No program can test all values, and to a classical reader there is just one such test.
+-- the same in classical logic, given a test that decides which properties all values have; no program can compute such
+-- a test, and in classical logic there is exactly one
 abbrev pub Keeps : SumFunctionData → List SumClause → Type 0
 Keeps f clauses = (all : (Val → Bool) → Bool) → AnswersRight all → KeepsContract f clauses

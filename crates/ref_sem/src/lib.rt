@@ -1,2 +1,2 @@
-//! Reference semantics: what functions and the clauses of their specs mean.
+//! Reference semantics: the meaning of functions and of the clauses of their specs.
 #![tactic(auto)]

@@ -1,5 +1,5 @@
--- The terms and formulas that sums and the conditions of clauses stand for. The parameters of a function are variables,
--- numbered in their order.
+-- The terms and formulas of sums and of the conditions of clauses. The parameters of a function are variables, numbered
+-- in order. Source: the Move Specification Language reference, "Expressions".
 use Rattle.std.specs.Prelude.{ℕ, ◌-◌, ◌^◌, pos, List, Option, Some, None, codes, if◌then◌else◌}
 use Rattle.std.specs.List.{position}
 use Rattle.fol.specs.FormulaData.{TermData, VarTerm, NumTerm, AddTerm, SubTerm, FormulaData, EqFormula, LeFormula, NotFormula, AllOfFormula, AnyOfFormula, NoFormulas}
@@ -18,7 +18,7 @@ zero_term = NumTerm (pos 0)
 abbrev pub greatest_term : TermData
 greatest_term = NumTerm (pos (2 ^ 64 - 1))
 
--- a word that no parameter has: `MAX_U64`, or `result`, which stands for what is returned
+-- a name that is not that of a parameter: `MAX_U64`, or `result`, which is the returned term
 abbrev pub free_term : TermData → List ℕ → TermData
 free_term returned word =
     if same_name word (codes "MAX_U64") then greatest_term else (if same_name word (codes "result") then returned else zero_term)

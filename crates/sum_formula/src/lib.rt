@@ -1,4 +1,4 @@
-//! The formulas that sums and clauses stand for, and what the conditions of a function suppose.
+//! The formulas of sums and clauses, and the premises of the verification conditions of a function.
 #![tactic(auto)]
 
 pub mod premises;

@@ -1,8 +1,8 @@
-//! What the conditions of a function suppose.
+//! The premises of the verification conditions of a function.
 //!
-//! A function has at most 2^32 parameters, and the only error is that memory ran out. When a sum aborts is told in
-//! The Move Book, "Integers"; what `requires` and `aborts_if` speak of, in the Move Specification Language
-//! reference, "Requires" and "AbortsIf Condition".
+//! A function has at most 2^32 parameters, and the only error is that there is not enough memory. The Move Book,
+//! "Integers", defines when a sum aborts; the Move Specification Language reference, "Requires" and "AbortsIf
+//! Condition", defines `requires` and `aborts_if`.
 
 ghost use Rattle.std.specs.Prelude.{◌≡◌, ◌^◌, ◌≤◌, ◌++◌, IfOk, OnOk, length, map};
 ghost use Rattle.fol.specs.FormulaData.{ImpliesFormula};
@@ -21,7 +21,7 @@ use sum_tree::clause::{ClauseKind, SumClause};
 use sum_tree::function::SumFunction;
 use sum_tree::sum::{Operator, Sum, SumNode};
 
-/// That each parameter has a value of its type.
+/// Returns the formulas that each parameter has a value of its type.
 fn arguments(alloc: Global, parameters: &[Name]) -> Result<Vec<Formula>, NoMemory>
     requires { length parameters.now ≤ 2 ^ 32 }
     ensures { IfOk result (λ made. made.items ≡ map (argument_formula parameters.now) parameters.now) }
@@ -37,7 +37,7 @@ fn arguments(alloc: Global, parameters: &[Name]) -> Result<Vec<Formula>, NoMemor
     Ok(formulas)
 }
 
-/// The condition of a clause of a kind, read at the entry; none of another clause.
+/// Adds the condition of a clause at the entry, if the clause is of this kind.
 fn push_if_kind(
     alloc: Global,
     kind: ClauseKind,
@@ -54,7 +54,7 @@ fn push_if_kind(
     Ok(())
 }
 
-/// The conditions of the clauses of a kind, read at the entry.
+/// Returns the conditions of the clauses of a kind at the entry.
 pub fn entry_conditions(
     alloc: Global,
     kind: ClauseKind,
@@ -72,7 +72,7 @@ pub fn entry_conditions(
     Ok(formulas)
 }
 
-/// That what an operator made of u64 values is one.
+/// Returns the formula that the result of an operator at u64 values is a u64.
 fn range(alloc: Global, operator: Operator, term: &Term) -> Result<Formula, NoMemory>
     ensures { IfOk result (λ made. made ≡ range_formula operator term.now) }
 {
@@ -83,8 +83,7 @@ fn range(alloc: Global, operator: Operator, term: &Term) -> Result<Formula, NoMe
     }
 }
 
-/// That each value on the way to that of a sum is a u64: these formulas are put behind the others. The term of the
-/// sum comes back.
+/// Adds the formulas that the value of each operator in a sum is a u64, and returns the term of the sum.
 #[cycle(push_ranges)]
 fn push_ranges(
     alloc: Global,
@@ -116,7 +115,7 @@ fn push_ranges(
     }
 }
 
-/// That the body's run returns.
+/// Returns the formula that the run of the body returns.
 pub fn returns(alloc: Global, function: &SumFunction) -> Result<Formula, NoMemory>
     requires { length function.now.parameters ≤ 2 ^ 32 }
     ensures { IfOk result (λ made. made ≡ returns_formula function.now) }
@@ -131,7 +130,8 @@ pub fn returns(alloc: Global, function: &SumFunction) -> Result<Formula, NoMemor
     Ok(Formula::all_of(formulas))
 }
 
-/// That the function starts as it may, and that its run ends so.
+/// Returns the conjunction of the premises at the entry, that the arguments have their types and meet each `requires`,
+/// and this outcome of the run.
 pub fn start(
     alloc: Global,
     function: &SumFunction,
@@ -150,7 +150,7 @@ pub fn start(
     Ok(Formula::all_of(parts))
 }
 
-/// That a premise implies a claim.
+/// Returns the formula that a premise implies a claim.
 pub fn implication(alloc: Global, premise: &Formula, claim: Formula) -> Result<Formula, NoMemory>
     ensures { IfOk result (λ made. made ≡ ImpliesFormula premise.now claim) }
 {
@@ -161,7 +161,7 @@ pub fn implication(alloc: Global, premise: &Formula, claim: Formula) -> Result<F
     })
 }
 
-/// What the conditions at returns suppose.
+/// Returns the premise of the conditions at a return.
 pub fn premise_at_return(
     alloc: Global,
     function: &SumFunction,
@@ -177,7 +177,7 @@ pub fn premise_at_return(
     Ok(Box::new(alloc, premise)?)
 }
 
-/// What the body's run returns.
+/// Returns the term of the returned value.
 pub fn returned_sum(alloc: Global, function: &SumFunction) -> Result<Box<Term>, NoMemory>
     requires { length function.now.parameters ≤ 2 ^ 32 }
     ensures { IfOk result (λ made. made.value ≡ returned_term function.now) }

@@ -1,7 +1,7 @@
 //! Sums and the conditions of clauses as terms and formulas.
 //!
-//! A parameter is the variable of its number, so a function has at most 2^32 parameters. The only error is that
-//! memory ran out. What words mean in clauses is told in the Move Specification Language reference, "Expressions".
+//! A parameter is the variable with its number, so a function has at most 2^32 parameters. The only error is that there
+//! is not enough memory. The Move Specification Language reference, "Expressions", defines the names in clauses.
 
 ghost use Rattle.std.specs.Prelude.{◌≡◌, ◌^◌, ◌≤◌, IfOk, length};
 ghost use Rattle.std.specs.List.{position};
@@ -19,21 +19,21 @@ use sum_tree::sum::{Operator, Sum, SumNode};
 /// The greatest value of a parameter.
 const MAX_U64: i128 = 0xffff_ffff_ffff_ffff;
 
-/// The number 0.
+/// Returns the term of 0.
 pub fn zero() -> Term
     ensures { result ≡ zero_term }
 {
     Term::number(0)
 }
 
-/// The greatest u64.
+/// Returns the term of the greatest u64.
 pub fn greatest() -> Term
     ensures { result ≡ greatest_term }
 {
     Term::number(MAX_U64)
 }
 
-/// The term of a word that no parameter has.
+/// Returns the term of a name that is not that of a parameter.
 fn free(alloc: Global, returned: &Term, word: &[u8]) -> Result<Term, NoMemory>
     ensures { IfOk result (λ made. made ≡ free_term returned.now word.now) }
 {
@@ -46,14 +46,14 @@ fn free(alloc: Global, returned: &Term, word: &[u8]) -> Result<Term, NoMemory>
     }
 }
 
-/// The number of the first parameter that has this name.
+/// Returns the number of the first parameter with this name.
 pub fn position_of(parameters: &[Name], word: &[u8]) -> Option<usize>
     ensures { result ≡ position (same_name word.now) parameters.now }
 {
     parameters.iter().position(|name| word == name.as_slice())
 }
 
-/// The term of a word: the variable of a parameter, or what else the word stands for.
+/// Returns the term of a name: the variable of a parameter, or the term of another name.
 pub fn word(
     alloc: Global,
     parameters: &[Name],
@@ -69,7 +69,7 @@ pub fn word(
     }
 }
 
-/// The term of an operator at two terms.
+/// Returns the term of an operator at two terms.
 fn operation(operator: Operator, left: Box<Term>, right: Box<Term>) -> Term
     ensures { result ≡ operator_term operator left.value right.value }
 {
@@ -79,7 +79,7 @@ fn operation(operator: Operator, left: Box<Term>, right: Box<Term>) -> Term
     }
 }
 
-/// The term of a sum.
+/// Returns the term of a sum.
 #[cycle(sum_term)]
 pub fn sum(
     alloc: Global,
@@ -108,7 +108,7 @@ pub fn sum(
     }
 }
 
-/// The term of an operator at two terms, in a box.
+/// Returns the term of an operator at two terms, in a box.
 pub fn join(
     alloc: Global,
     operator: Operator,
@@ -120,7 +120,7 @@ pub fn join(
     Ok(Box::new(alloc, operation(operator, left, right))?)
 }
 
-/// That the first term is not at most the second.
+/// Returns the formula that the first term is not at most the second.
 fn not_at_most(alloc: Global, left: Box<Term>, right: Box<Term>) -> Result<Formula, NoMemory>
     ensures { IfOk result (λ made. made ≡ NotFormula (LeFormula left.value right.value)) }
 {
@@ -128,7 +128,7 @@ fn not_at_most(alloc: Global, left: Box<Term>, right: Box<Term>) -> Result<Formu
     Ok(Formula::not(at_most))
 }
 
-/// The formula of a comparison of two terms.
+/// Returns the formula of a comparison of two terms.
 fn comparison(
     alloc: Global,
     comparison: Comparison,
@@ -146,7 +146,7 @@ fn comparison(
     }
 }
 
-/// The formula of a clause's condition, in which `result` stands for the term that is returned.
+/// Returns the formula of a clause's condition, in which `result` is the returned term.
 pub fn condition(
     alloc: Global,
     parameters: &[Name],

@@ -9,7 +9,7 @@ use Rattle.sum_tree.specs.declared.sum.Operator.{Operator}
 use Rattle.sum_tree.specs.declared.sum.Operator.TheVariants.{Plus, Minus}
 
 pub data SumData : Type 0 where
-  -- a u64, a name, or two sums that are joined
+  -- a u64, a name, or an operator with two sums
   NumberSum : ℕ → SumData
   WordSum : List ℕ → SumData
   JoinedSum : SumData → Operator → SumData → SumData
@@ -31,7 +31,7 @@ pub operator_back-code : (o : Operator) → operator_back (operator_code o) ≡ 
 operator_back-code Plus = refl
 operator_back-code Minus = refl
 
--- a numbered tree with three places
+-- a numbered tree with three subtrees
 abbrev pub tree : ℕ → Gv → Gv → Gv → Gv
 tree n a b c = gcons (gnum n) (gcons a (gcons b c))
 

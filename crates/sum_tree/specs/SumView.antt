@@ -1,4 +1,4 @@
--- One level of a sum, with its parts as pure data.
+-- One level of a sum, with its children as pure data.
 use Rattle.sum_tree.specs.SumData.{SumData, NumberSum, WordSum, JoinedSum}
 use Rattle.sum_tree.specs.declared.sum.SumNode.{SumNode}
 use Rattle.sum_tree.specs.declared.sum.SumNode.TheVariants.{Number, Word, Joined}

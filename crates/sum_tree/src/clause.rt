@@ -2,7 +2,7 @@
 
 use crate::sum::Sum;
 
-/// How two sums are compared.
+/// The relation in a comparison of two sums.
 #[derive(Clone, Copy, Debug, PartialEq, Eq)]
 pub enum Comparison {
     Equal,
@@ -12,7 +12,7 @@ pub enum Comparison {
     GreaterEqual,
 }
 
-/// What a clause claims.
+/// The condition of a clause.
 #[derive(Drop)]
 pub enum Condition {
     True,
@@ -20,14 +20,14 @@ pub enum Condition {
     Compares(Sum, Comparison, Sum),
 }
 
-/// What a clause is for.
+/// The kind of a clause.
 #[derive(Clone, Copy, Debug, PartialEq, Eq)]
 pub enum ClauseKind {
-    /// It holds where the function is called.
+    /// The condition holds where the function is called.
     Requires,
-    /// It holds where the function returns.
+    /// The condition holds where the function returns.
     Ensures,
-    /// The function aborts where it holds, and, of the clauses of this kind together, nowhere else.
+    /// The function aborts exactly where one of the conditions of this kind holds.
     AbortsIf,
 }
 
@@ -35,11 +35,11 @@ pub enum ClauseKind {
 pub struct SumClause {
     pub kind: ClauseKind,
     pub condition: Condition,
-    /// The place of its first byte, counted from 0 in its file.
+    /// The index of its first byte, counted from 0 in its file.
     pub start: u32,
 }
 
-// Its own, so that letting one go is a call wherever it is done, and not the cases of all forms below it.
+// A separate impl, so that each drop is a call and not the cases of all forms below it.
 impl Drop for SumClause {
     fn drop(self) {
         let SumClause {

@@ -11,7 +11,7 @@ pub struct SumFunction {
     pub name: Name,
     pub parameters: Vec<Name>,
     pub body: Sum,
-    /// The place of its first byte, counted from 0 in its file.
+    /// The index of its first byte, counted from 0 in its file.
     pub start: u32,
 }
 
@@ -27,7 +27,7 @@ impl Model for SumFunction {
     ghost view = { λ f. record { name = f.name; parameters = f.parameters.items; body = f.body; start = f.start } };
 }
 
-/// A function, and the clauses of its spec blocks in their order.
+/// A function, and the clauses of its spec blocks in order.
 #[derive(Drop)]
 pub struct SpecifiedFunction {
     pub function: SumFunction,

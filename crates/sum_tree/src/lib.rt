@@ -1,5 +1,5 @@
-//! The form of programs that is built so far: modules of functions that are sums of u64 values, with the
-//! clauses of their spec blocks.
+//! The programs that are supported so far: modules of functions that are sums of u64 values, with the clauses of their
+//! spec blocks.
 #![tactic(auto)]
 
 pub mod clause;

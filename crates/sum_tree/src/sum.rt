@@ -3,7 +3,7 @@
 use base::name::Name;
 use std::marker::Model;
 
-/// How two sums are joined.
+/// The operator of two sums.
 #[derive(Clone, Copy, Debug, PartialEq, Eq)]
 pub enum Operator {
     Plus,
@@ -16,7 +16,7 @@ pub struct Sum {
     pub node: SumNode,
 }
 
-// Its own, so that letting one go is a call wherever it is done, and not the cases of all forms below it.
+// A separate impl, so that each drop is a call and not the cases of all forms below it.
 impl Drop for Sum {
     #[cycle(drop_sum)]
     fn drop(self) {

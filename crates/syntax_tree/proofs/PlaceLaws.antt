@@ -1,4 +1,4 @@
--- The place of a tree is that of the first token that spells it.
+-- The span of a tree is that of the first token that spells it.
 use Rattle.std.proofs.Common.{◌≡◌, true, false, List, [], ◌∷◌, ◌++◌, Some, refl}
 use Rattle.base.specs.declared.span.Span.{Span}
 use Rattle.tokens.specs.declared.token.Punctuation.TheVariants.{LeftParenthesis, RightParenthesis, LeftBracket, RightBracket, LeftBrace, RightBrace, Colon, Period, Equal}
@@ -27,7 +27,7 @@ use Rattle.syntax_tree.specs.SpecOperatorSpelling.{spec_operator_spelling}
 use Rattle.syntax_tree.specs.SpecExpressionSpelling.{spec_spelling, spec_spellings, spec_field_spellings, ends_in_path as spec_ends_in_path}
 use Rattle.syntax_tree.specs.TreePlaces.{first_token_place, path_place, literal_place, type_place, expression_place, spec_expression_place}
 
--- what stands behind the first token plays no part
+-- the lexemes after the first do not matter
 behind : (ls ms : List Lexeme) (place : Span) → first_token_place ls ≡ Some place → first_token_place (ls ++ ms) ≡ Some place
 behind [] ms place e = absurd (cc)
 behind (l ∷ ls) ms place e = e

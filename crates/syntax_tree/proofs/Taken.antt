@@ -1,4 +1,4 @@
--- The blocks and the names of a list's first things, and of all.
+-- The blocks and the names of a list's first items, and of all its items.
 use Rattle.std.proofs.Common.{◌≡◌, ℕ, zero, suc, ◌≤◌, List, [], ◌∷◌, ◌++◌, length, take, refl, ap, arith}
 use Rattle.std.specs.List.{flat_map}
 use Rattle.syntax_tree.specs.ExpressionData.{ExpressionData, expressions_of, ItemData, items_of, FieldValueData, field_values_of}

@@ -1,5 +1,5 @@
--- Tokens whose brackets match, each kind with its own. A file tree keeps the inside of an attribute and of a spec block
--- as such tokens.
+-- Tokens with balanced brackets, each closed by one of its own kind. A file tree keeps the content of an attribute and
+-- of a spec block as such tokens.
 use Rattle.std.specs.Prelude.{◌≡◌, List, [], ◌∷◌, Option, Some, None}
 use Rattle.tokens.specs.declared.token.Token.{Token}
 use Rattle.tokens.specs.declared.token.TokenKind.{TokenKind}
@@ -7,14 +7,14 @@ use Rattle.tokens.specs.declared.token.TokenKind.TheVariants.{Punctuation}
 use Rattle.tokens.specs.declared.token.Punctuation.{Punctuation as Sign}
 use Rattle.tokens.specs.declared.token.Punctuation.TheVariants.{LeftParenthesis, RightParenthesis, LeftBrace, RightBrace, LeftBracket, RightBracket}
 
--- the brackets that are still wanted, the next one first, behind one more that closes
+-- the closing brackets that are still expected, the next one first, after a closing bracket
 abbrev pub closed : Sign → List Sign → Option (List Sign)
 closed RightParenthesis (RightParenthesis ∷ wanted) = Some wanted
 closed RightBrace (RightBrace ∷ wanted) = Some wanted
 closed RightBracket (RightBracket ∷ wanted) = Some wanted
 closed _ _ = None
 
--- the same behind one more token; nothing where a bracket did not match
+-- the same after a token; none where brackets do not match
 abbrev pub wanted_behind : Option (List Sign) → TokenKind → Option (List Sign)
 wanted_behind None kind = None
 wanted_behind (Some wanted) (Punctuation LeftParenthesis) = Some (RightParenthesis ∷ wanted)

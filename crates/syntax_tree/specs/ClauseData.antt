@@ -1,4 +1,4 @@
--- The parts of clauses that hold lists, as pure data that contracts see.
+-- The parts of clauses that contain lists, as pure data that contracts see.
 use Rattle.std.specs.Prelude.{Bool, List}
 use Rattle.syntax_tree.specs.SpecExpressionData.{SpecExpressionData, SpecFieldData}
 use Rattle.syntax_tree.specs.declared.clause.Pragma.{Pragma}

@@ -1,5 +1,5 @@
--- Which source tokens denote: the file that they are, with the tree of each spec block in it.
--- Source: The Move Book, "Modules and Scripts"; the Move Specification Language reference.
+-- The source that tokens denote: their file, with the tree of each spec block. Source: The Move Book, "Modules and
+-- Scripts"; the Move Specification Language reference, "Spec Blocks and Conditions".
 use Rattle.std.specs.Prelude.{List}
 use Rattle.base.specs.Pairs.{Paired}
 use Rattle.tokens.specs.declared.token.Token.{Token}
@@ -8,7 +8,7 @@ use Rattle.syntax_tree.specs.DenotedFiles.{IsFileOf}
 use Rattle.syntax_tree.specs.SourceModuleData.{SourceModuleData}
 use Rattle.syntax_tree.specs.Members.{IsSourceModule}
 
--- the tokens are of a file, and the source has the trees of its spec blocks in their places
+-- the tokens denote a file, and the source has the trees of its spec blocks
 pub record IsSourceOf (source : List SourceModuleData) (tokens : List Token) : Type 0 where
   pub file : List ModuleData
   pub is_file : IsFileOf file tokens

@@ -42,7 +42,7 @@ mutual
     NoExpression : MaybeExpressionData
     SomeExpression : ExpressionData → MaybeExpressionData
 
-  -- the items between the braces and the value behind them; in a loop, its invariants stand before the items
+  -- the items between the braces and the value after them; in a loop, its spec block comes before the items
   pub data BlockData : Type 0 where
     BlockOf : Span → (Option KeptSpec) → ItemsData → MaybeExpressionData → BlockData
 
@@ -50,7 +50,7 @@ mutual
     ExpressionItem : ExpressionData → ItemData
     LetItem : Span → PatternData → (Option SourceTypeData) → MaybeExpressionData → ItemData
 
-  -- a field that is set to a local of its name, or one with a value of its own
+  -- a field whose value is a local of its name, or one with a value of its own
   pub data FieldValueData : Type 0 where
     ShortFieldValue : Identifier → FieldValueData
     LongFieldValue : Identifier → ExpressionData → FieldValueData

@@ -14,7 +14,7 @@
 --           | "vector" [ TArgs ] "[" [ Exp, .. ] "]"
 --           | "assert" "!" "(" Exp "," Exp ")"
 --           | "(" ")" | "(" Exp ")" | "(" Exp "," Exp, .. ")" | "(" Exp "as" Type ")" | Block
--- A block with the invariants of a loop is spelled as any other; where it may stand is a matter of proper trees.
+-- A block with the spec block of a loop is spelled as any other; ProperExpressions.antt says where it is allowed.
 use Rattle.std.specs.Prelude.{Bool, true, false, List, [], ◌∷◌, ◌++◌, Option, None, Some, codes}
 use Rattle.tokens.specs.declared.token.Punctuation.TheVariants.{LeftParenthesis, RightParenthesis, LeftBrace, RightBrace, LeftBracket, RightBracket, Colon, Comma, Semicolon, Period, Exclaim, Equal}
 use Rattle.syntax_tree.specs.declared.lexeme.Lexeme.{Lexeme}
@@ -29,19 +29,19 @@ use Rattle.syntax_tree.specs.OperatorSpelling.{operator_spelling, unary_spelling
 use Rattle.syntax_tree.specs.SpecTokenSpelling.{kept_spelling}
 use Rattle.syntax_tree.specs.ExpressionData.{ExpressionData, BinaryExpression, AssignExpression, IfExpression, WhileExpression, LoopExpression, ReturnExpression, AbortExpression, BreakExpression, ContinueExpression, UnaryExpression, UseExpression, FieldExpression, LiteralExpression, PathExpression, CallExpression, PackExpression, VectorExpression, AssertExpression, TupleExpression, CastExpression, BlockExpression, MaybeExpressionData, NoExpression, SomeExpression, BlockData, BlockOf, ItemData, ExpressionItem, LetItem, FieldValueData, ShortFieldValue, LongFieldValue, ExpressionsData, NoExpressions, MoreExpressions, ItemsData, NoItems, MoreItems, FieldValuesData, NoFieldValues, MoreFieldValues}
 
--- whether the last token belongs to a path, so that a glued `<` behind it would open type arguments
+-- decides whether the last token belongs to a path, so that a glued `<` after it would open type arguments
 abbrev pub ends_in_path : ExpressionData → Bool
 ends_in_path (PathExpression path) = true
 ends_in_path (BinaryExpression left operator place right) = ends_in_path right
 ends_in_path (UnaryExpression operator place operand) = ends_in_path operand
 ends_in_path _ = false
 
--- the type behind a colon, where there is one
+-- the type after a colon, if there is one
 abbrev pub annotation_spelling : Option SourceTypeData → List Lexeme
 annotation_spelling None = []
 annotation_spelling (Some t) = sign Colon ∷ type_spelling t
 
--- the spec block of a loop and its semicolon, where there is one
+-- the spec block of a loop and its semicolon, if there is one
 abbrev pub maybe_loop_spec_spelling : Option KeptSpec → List Lexeme
 maybe_loop_spec_spelling None = []
 maybe_loop_spec_spelling (Some spec) = kept_spelling spec ++ sign Semicolon ∷ []
@@ -99,7 +99,7 @@ abbrev mutual
       sign_at place LeftBrace ∷ maybe_loop_spec_spelling spec ++ items_spelling items
       ++ maybe_expression_spelling value ++ sign RightBrace ∷ []
 
-  -- each item, with the semicolon behind it
+  -- each item, with the semicolon after it
   pub items_spelling : ItemsData → List Lexeme
   items_spelling NoItems = []
   items_spelling (MoreItems one more) = item_spelling one ++ items_spelling more

@@ -1,4 +1,4 @@
--- One level of an expression and of an item, with what stands below as pure data.
+-- One level of an expression and of an item, with its children as pure data.
 use Rattle.std.specs.Prelude.{Box, Option, Some, None}
 use Rattle.syntax_tree.specs.declared.lexeme.Identifier.{Identifier}
 use Rattle.syntax_tree.specs.TypeTreeData.{maybe_arguments_of}

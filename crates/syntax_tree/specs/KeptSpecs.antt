@@ -1,4 +1,5 @@
--- Which spec blocks the grammar has, as far as a file tree looks into them.
+-- The spec blocks of the grammar, as far as a file tree parses them. Source: the Move Specification Language reference,
+-- "Spec Blocks and Conditions".
 --     of a member  "spec" tokens with balanced brackets, no brace among them, "{" tokens with balanced brackets "}"
 --     of a loop    "spec" "{" tokens with balanced brackets "}"
 use Rattle.std.specs.Prelude.{◌≢◌, List, [], ◌∷◌, ◌++◌, None, codes, map}
@@ -12,11 +13,11 @@ use Rattle.syntax_tree.specs.Lexemes.{AreTokens, word, sign}
 use Rattle.syntax_tree.specs.SpecTokenSpelling.{kept}
 use Rattle.syntax_tree.specs.Balance.{IsBalanced}
 
--- the word, what stands before the first brace, and what stands between the braces
+-- the word, the tokens before the first brace, and the tokens between the braces
 abbrev pub block_form : List Token → List Token → List Lexeme
 block_form head body = word (codes "spec") None ∷ (map kept head ++ sign LeftBrace ∷ []) ++ (map kept body ++ sign RightBrace ∷ [])
 
--- the first brace behind `spec` opens the block
+-- the first brace after `spec` opens the block
 abbrev pub IsNoBrace : Token → Type 0
 IsNoBrace t = t.kind ≢ Punctuation LeftBrace
 

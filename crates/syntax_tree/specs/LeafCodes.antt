@@ -1,4 +1,4 @@
--- The codes by which the logic stores the parts of a tree that hold no trees: places, names, numbers, paths.
+-- The codes by which the logic stores the parts of a tree without subtrees: spans, names, numbers, paths.
 use base.Stored.{Gv, gnil, gnum, gcons, num}
 use Rattle.std.specs.Prelude.{◌≡◌, Bool, true, false, [], ◌∷◌, refl}
 use Rattle.base.specs.Codes.{pick, numbers_code, numbers_back, numbers_back-code}

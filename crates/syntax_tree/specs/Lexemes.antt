@@ -1,4 +1,4 @@
--- What a tree says of each token that spells it, and when tokens are those that it speaks of.
+-- What a tree determines of each token that spells it, and the tokens that agree with it.
 use Rattle.std.specs.Prelude.{◌≡◌, ℕ, Bool, true, false, List, [], ◌∷◌, ◌++◌, Option, Some, None}
 use Rattle.base.specs.declared.span.Span.{Span}
 use Rattle.tokens.specs.declared.token.Token.{Token}
@@ -30,12 +30,12 @@ identifier i = word i.text (Some i.place)
 abbrev pub numeral : Numeral → Lexeme
 numeral n = lexeme (Number n.literal) (Some n.place) None
 
--- things with commas between them, of which each is spelled by some tokens
+-- sequences of lexemes, each after a comma
 abbrev pub after_commas : List (List Lexeme) → List Lexeme
 after_commas [] = []
 after_commas (one ∷ more) = sign Comma ∷ one ++ after_commas more
 
--- whether a comma follows the last thing
+-- the comma after the last item, if there is one
 abbrev pub last_comma : Bool → List Lexeme
 last_comma false = []
 last_comma true = sign Comma ∷ []
@@ -46,7 +46,7 @@ comma_list (one ∷ more) last = one ++ after_commas more ++ last_comma last
 
 -- ---- tokens of a text
 
--- what is said holds of the token
+-- the value is the given one, if one is given
 abbrev pub Says : {A : Type 0} → Option A → A → Type 0
 Says None x = Unit {0}
 Says (Some y) x = x ≡ y
@@ -56,7 +56,7 @@ pub record IsToken (token : Token) (said : Lexeme) : Type 0 where
   pub placed : Says said.place token.span
   pub glued : Says said.glued token.glued
 
--- the tokens are those that the tree speaks of, one for one
+-- the tokens agree with the lexemes, one by one
 abbrev pub AreTokens : List Token → List Lexeme → Type 0
 AreTokens [] [] = Unit {0}
 AreTokens [] (said ∷ more) = ⊥

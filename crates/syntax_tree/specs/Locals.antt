@@ -1,4 +1,4 @@
--- The locals that `let` brings in. Source: The Move Book, "Variables".
+-- The locals that `let` declares. Source: The Move Book, "Variables".
 use Rattle.std.specs.Prelude.{List, [], ◌∷◌, ◌++◌}
 use Rattle.std.specs.List.{flat_map}
 use Rattle.syntax_tree.specs.declared.lexeme.Identifier.{Identifier}
@@ -35,10 +35,10 @@ abbrev pub names_of_items : ItemsData → List Identifier
 names_of_items NoItems = []
 names_of_items (MoreItems one more) = names_of_item one ++ names_of_items more
 
--- the names that the block's own items bring in
+-- the names that the block's own items declare
 abbrev pub names_of_block : BlockData → List Identifier
 names_of_block (BlockOf place spec items value) = names_of_items items
 
--- the names that the `let`s of a body bring in, those of the blocks in it too
+-- the names that the `let`s of a body declare, including the blocks in it
 abbrev pub locals_of : BlockData → List Identifier
 locals_of body = flat_map names_of_block (blocks_of_block body)

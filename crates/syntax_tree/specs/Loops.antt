@@ -11,7 +11,7 @@ use Rattle.syntax_tree.specs.declared.clause.Spec.{Spec as SpecTree}
 use Rattle.syntax_tree.specs.DenotedClauses.{IsSpecBlockOf}
 use Rattle.syntax_tree.specs.Blocks.{blocks_of, blocks_of_block}
 
--- the blocks of Move code in a member, each before those that stand in it
+-- the blocks of Move code in a member, each before those in it
 abbrev pub blocks_of_form : MemberForm → List BlockData
 blocks_of_form (Use u) = []
 blocks_of_form (Friend f) = []
@@ -20,7 +20,7 @@ blocks_of_form (Constant c) = blocks_of c.value
 blocks_of_form (Function f) = blocks_of_block f.body
 blocks_of_form (Spec s) = []
 
--- the spec block of a block of a loop that has one
+-- the spec block of a block, if it has one
 abbrev pub spec_of_block : BlockData → List KeptSpec
 spec_of_block (BlockOf place None items value) = []
 spec_of_block (BlockOf place (Some spec) items value) = spec ∷ []
@@ -29,6 +29,6 @@ spec_of_block (BlockOf place (Some spec) items value) = spec ∷ []
 abbrev pub loop_specs : MemberForm → List KeptSpec
 loop_specs form = flat_map spec_of_block (blocks_of_form form)
 
--- the tokens of a loop's spec block are those of this tree
+-- the tokens of a loop's spec block denote this tree
 abbrev pub IsLoopTree : KeptSpec → SpecTree → Type 0
 IsLoopTree kept tree = IsSpecBlockOf Loop tree kept.tokens

@@ -1,4 +1,4 @@
--- The parts of members that hold lists, as pure data that contracts see.
+-- The parts of members that contain lists, as pure data that contracts see.
 use Rattle.std.specs.Prelude.{Bool, List}
 use Rattle.syntax_tree.specs.declared.lexeme.Identifier.{Identifier}
 use Rattle.syntax_tree.specs.declared.path.Path.{Path}

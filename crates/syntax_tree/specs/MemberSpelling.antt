@@ -14,7 +14,7 @@
 --     Fun     = [ "public" [ "(" "friend" ")" ] ] [ "entry" ] "fun" Word [ TParams ]
 --               "(" [ Word ":" Type, .. ] ")" [ ":" Type ] [ "acquires" Path, .. ] Block
 --     TParams = "<" TParam, .. ">"      TParam = Word [ ":" Ability { "+" Ability } ]
---     SParams = "<" [ "phantom" ] TParam, .. ">"  (phantom may stand before each)
+--     SParams = "<" [ "phantom" ] TParam, .. ">"  (phantom may come before each)
 --     Ability = "copy" | "drop" | "store" | "key"
 --     Spec    = "spec" tokens with balanced brackets "{" tokens with balanced brackets "}"     (kept as tokens)
 use Rattle.std.specs.Prelude.{Bool, true, false, List, [], ◌∷◌, ◌++◌, Option, None, Some, codes, map}

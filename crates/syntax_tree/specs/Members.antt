@@ -1,5 +1,5 @@
--- Which tree stands for a spec block that a file keeps as tokens, and the members and modules with such trees.
--- Source: The Move Book, "Modules and Scripts"; the Move Specification Language reference, "Spec Blocks and Conditions".
+-- The tree of a spec block that a file keeps as tokens, and the members and modules with such trees. Source: The Move
+-- Book, "Modules and Scripts"; the Move Specification Language reference, "Spec Blocks and Conditions".
 use Rattle.std.specs.Prelude.{◌≡◌, ℕ, List}
 use Rattle.syntax_tree.specs.FileData.{MemberData, ModuleData}
 use Rattle.syntax_tree.specs.declared.member.MemberForm.{MemberForm}
@@ -17,13 +17,13 @@ use Rattle.syntax_tree.specs.FunctionNames.{function_names}
 use Rattle.syntax_tree.specs.Loops.{loop_specs, IsLoopTree}
 use Rattle.base.specs.Pairs.{Paired}
 
--- in a module with functions of these names, the block is of a slot for which its tokens denote this tree
+-- in a module with functions of these names, the tree is of a kind for which the tokens of the block denote it
 pub record IsSpecOf (functions : List (List ℕ)) (block : KeptSpec) (tree : SpecTree) : Type 0 where
   pub slot : Slot
   pub slot_is : IsSlotOf functions tree slot
   pub denoted : IsSpecBlockOf slot tree block.tokens
 
--- a spec block has its tree, and every other member is itself
+-- a spec block becomes its tree, and each other member is unchanged
 abbrev pub IsSourceForm : List (List ℕ) → MemberForm → SourceForm → Type 0
 IsSourceForm functions (kept_use u) found = found ≡ Use u
 IsSourceForm functions (kept_friend f) found = found ≡ Friend f

@@ -1,5 +1,5 @@
--- Which words are names, and how names of each kind begin. Source: The Move Book, lexical structure, and "Structs",
--- "Constants" and "Variables" on naming.
+-- The words that are names, and the first letters of names of each kind. Source: The Move Book, "Structs and
+-- Resources", "Constants" and "Variables", on naming.
 use Rattle.std.specs.Prelude.{◌≢◌, ℕ, ◌≤◌, ◌⊎◌, ◌≡◌, List, [], ◌∷◌, codes}
 use Rattle.std.specs.List.{AllByRecursion}
 
@@ -10,7 +10,7 @@ keywords =
     ∷ codes "mut" ∷ codes "native" ∷ codes "phantom" ∷ codes "public" ∷ codes "return" ∷ codes "spec" ∷ codes "struct" ∷ codes "true"
     ∷ codes "use" ∷ codes "while" ∷ []
 
--- a word that is no keyword
+-- a word that is not a keyword
 abbrev pub IsName : List ℕ → Type 0
 IsName word = AllByRecursion (λ keyword. word ≢ keyword) keywords
 

@@ -1,7 +1,6 @@
--- How the operators of Move's expressions are spelled. Source: The Move Book, "Integers", "Bool", "References" and
--- "Variables".
--- A `<` or `<<` behind a path is not glued to it, since a glued `<` opens type arguments; the second `>` of a shift is
--- glued to the first.
+-- The spelling of the operators of Move's expressions. Source: The Move Book, "Integers", "Bool", "References" and
+-- "Variables". A `<` or `<<` after a path is not glued to it, since a glued `<` opens type arguments; the second `>` of
+-- a shift is glued to the first.
 use Rattle.std.specs.Prelude.{Bool, true, false, List, [], ◌∷◌, Option, Some, None, codes}
 use Rattle.base.specs.declared.span.Span.{Span}
 use Rattle.tokens.specs.declared.token.TokenKind.TheVariants.{Punctuation}
@@ -16,7 +15,7 @@ use Rattle.syntax_tree.specs.declared.operator.UseKind.{UseKind}
 use Rattle.syntax_tree.specs.declared.operator.UseKind.TheVariants.{Move, Copy}
 use Rattle.syntax_tree.specs.Lexemes.{lexeme, word, sign_at}
 
--- the sign of an operator, or the first one
+-- the sign of an operator, or the first of its two signs
 abbrev pub sign_of : BinaryOperator → Sign
 sign_of Or = PipePipe
 sign_of And = AmpersandAmpersand

@@ -30,7 +30,7 @@ abbrev mutual
   field_pattern_spellings NoFieldPatterns = []
   field_pattern_spellings (MoreFieldPatterns one more) = field_pattern_spelling one ∷ field_pattern_spellings more
 
--- a pattern with a comma before it
+-- a pattern after a comma
 abbrev pub pattern_after_comma : PatternData → List Lexeme
 pattern_after_comma one = sign Comma ∷ pattern_spelling one
 

@@ -1,4 +1,4 @@
--- Where members and modules begin: the byte of the first token, of a module that of its first attribute.
+-- The spans of members and modules: that of the first token, which for a module may be that of its first attribute.
 use Rattle.std.specs.Prelude.{List, [], ◌∷◌, Option, Some, None}
 use Rattle.base.specs.declared.span.Span.{Span}
 use Rattle.syntax_tree.specs.declared.member.Attribute.{Attribute}

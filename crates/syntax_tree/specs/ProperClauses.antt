@@ -1,5 +1,6 @@
--- Proper clauses and spec blocks: those that the grammar has. What stands beside the grammar's text are its rules on
--- names, on last commas, on which clauses a block may hold, and on the word `update`.
+-- Proper clauses and spec blocks: those of the grammar. Beside the spelling, the grammar has rules on names, on last
+-- commas, on the clauses that are allowed in a block, and on the word `update`. Source: the Move Specification Language
+-- reference, "Spec Blocks and Conditions".
 use Rattle.std.specs.Prelude.{◌≡◌, ℕ, true, false, List, Option, Some, None, codes}
 use Rattle.std.specs.List.{AllByRecursion}
 use Rattle.syntax_tree.specs.declared.path.Path.{Path}
@@ -40,7 +41,7 @@ IsProperPragma p = IsName p.name.text × IsProperPragmaValue p.value
 abbrev pub AreProperPragmas : PragmasData → Type 0
 AreProperPragmas p = AllByRecursion IsProperPragma p.items × AreAny p.items
 
--- the profile has no codes of aborts yet
+-- abort codes are not supported yet
 abbrev pub IsProperCode : AbortCode → Type 0
 IsProperCode Bare = Unit {0}
 IsProperCode _ = ⊥
@@ -70,7 +71,7 @@ BeginsAsCall word _ = ⊥
 
 -- ---- clauses
 
--- `update` is the sign where what follows it can begin an expression
+-- `update` is a keyword where the token after it can begin an expression
 abbrev pub IsProperForm : Clause → Type 0
 IsProperForm (pragma_clause place p) = AreProperPragmas p
 IsProperForm (requires_clause place e) = IsProperSpec e
@@ -101,7 +102,7 @@ IsProperSpecFunction f =
     × AllByRecursion IsProperInput f.inputs.items × (f.inputs.last_comma ≡ true → AreAny f.inputs.items)
     × IsProperType f.result × IsProperSpec f.body
 
--- a block of this slot
+-- a block of this kind
 abbrev pub IsProperBlock : Slot → Spec → Type 0
 IsProperBlock of_function (named_spec place name clauses) = IsName name.text × AreProperClauses of_function clauses
 IsProperBlock of_struct (named_spec place name clauses) = IsName name.text × AreProperClauses of_struct clauses

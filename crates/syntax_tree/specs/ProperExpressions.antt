@@ -1,6 +1,6 @@
--- Proper expressions, blocks and items: those that the grammar has. What stands beside the grammar's text are the levels
--- of the operators, and its rules on `else`, on names, on last commas and on the blocks of loops.
--- Source: The Move Book, "Integers" and "Bool" for the operators; the levels are those of Move's compiler.
+-- Proper expressions, blocks and items: those of the grammar. Beside the spelling, the grammar has the levels of the
+-- operators, and rules on `else`, on names, on last commas and on the blocks of loops. Source: The Move Book,
+-- "Integers" and "Bool" for the operators; the levels are those of Move's compiler.
 use Rattle.std.specs.Prelude.{◌≡◌, ◌≤◌, ℕ, suc, Bool, true, false, Option, Some, None, codes}
 use Rattle.syntax_tree.specs.declared.path.Path.{Path}
 use Rattle.syntax_tree.specs.declared.literal.Literal.{Literal}
@@ -37,14 +37,14 @@ operator_level Multiply = 12
 operator_level Divide = 12
 operator_level Remainder = 12
 
--- operators before an expression are tighter than those between two, and a term is tightest
+-- unary operators are tighter than binary ones, and a term is tightest
 abbrev pub unary_level : ℕ
 unary_level = 13
 
 abbrev pub term_level : ℕ
 term_level = 14
 
--- an assignment and a control form have the level 0: as operands they stand in parentheses
+-- an assignment and a control form have the level 0: as operands they need parentheses
 abbrev pub level : ExpressionData → ℕ
 level (BinaryExpression left operator place right) = operator_level operator
 level (UnaryExpression operator place operand) = unary_level
@@ -59,7 +59,8 @@ level (BreakExpression place) = 0
 level (ContinueExpression place) = 0
 level _ = term_level
 
--- all operators of Move associate to the left: on the left stands the own level or a tighter one, on the right a tighter one
+-- all operators of Move associate to the left: the left operand has the operator's level or a tighter one, the right
+-- operand a tighter one
 abbrev pub left_level : BinaryOperator → ℕ
 left_level operator = operator_level operator
 
@@ -68,7 +69,7 @@ right_level operator = suc (operator_level operator)
 
 -- ---- `else` belongs to the nearest `if` that has none
 
--- whether an `else` behind the expression would belong to an `if` in it
+-- decides whether an `else` after the expression would belong to an `if` in it
 abbrev pub takes_else : ExpressionData → Bool
 takes_else (IfExpression place condition then_branch NoExpression) = true
 takes_else (IfExpression place condition then_branch (SomeExpression else_branch)) = takes_else else_branch
@@ -83,9 +84,9 @@ abbrev pub LeavesElse : ExpressionData → MaybeExpressionData → Type 0
 LeavesElse then_branch NoExpression = Unit {0}
 LeavesElse then_branch (SomeExpression else_branch) = takes_else then_branch ≡ false
 
--- ---- `vector` before a `<` is the sign of a vector
+-- ---- `vector` before a `<` begins a vector
 
--- the expression does not end in the word `vector` as a path
+-- the expression does not end in the path `vector`
 abbrev pub EndsInOther : ExpressionData → Type 0
 EndsInOther (PathExpression path) = IsOther (codes "vector") path
 EndsInOther (BinaryExpression left operator place right) = EndsInOther right
@@ -96,7 +97,7 @@ abbrev pub MayStandBefore : BinaryOperator → ExpressionData → Type 0
 MayStandBefore Less left = EndsInOther left
 MayStandBefore _ left = Unit {0}
 
--- a call with type arguments is none of the word `vector`
+-- the path of a call with type arguments is not the word `vector`
 abbrev pub MayHaveArguments : Path → MaybeArgumentsData → Type 0
 MayHaveArguments path NoArguments = Unit {0}
 MayHaveArguments path (SomeArguments arguments) = IsOther (codes "vector") path
@@ -107,7 +108,7 @@ abbrev pub AreSomeExpressions : ExpressionsData → Type 0
 AreSomeExpressions NoExpressions = ⊥
 AreSomeExpressions (MoreExpressions one more) = Unit {0}
 
--- one expression between parentheses has no comma
+-- a single expression between parentheses has no comma after it
 abbrev pub AreSeveral : ExpressionsData → Type 0
 AreSeveral NoExpressions = ⊥
 AreSeveral (MoreExpressions one more) = AreSomeExpressions more
@@ -129,7 +130,7 @@ IsProperAnnotation (Some t) = IsProperType t
 
 -- ---- the spec block of a loop
 
--- where an expression stands: as the condition of a `while`, as the body of a `loop`, or elsewhere
+-- the role of an expression: the condition of a `while`, the body of a `loop`, or any other
 pub data Role : Type 0 where
   elsewhere : Role
   condition_of_while : Role
@@ -139,7 +140,8 @@ abbrev pub HasValue : MaybeExpressionData → Type 0
 HasValue NoExpression = ⊥
 HasValue (SomeExpression value) = Unit {0}
 
--- a block may begin with a spec block where it is the condition of a `while`, which has a value, or the body of a `loop`
+-- a block may begin with a spec block where it is the condition of a `while`, which has a value, or the body of a
+-- `loop`
 abbrev pub MayHoldSpec : Role → Option KeptSpec → MaybeExpressionData → Type 0
 MayHoldSpec role None value = Unit {0}
 MayHoldSpec elsewhere (Some spec) value = ⊥

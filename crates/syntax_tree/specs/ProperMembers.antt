@@ -1,5 +1,6 @@
--- Proper files, modules and members: those that the grammar has. What stands beside the grammar's text are its rules on
--- names, on last commas and on brackets.
+-- Proper files, modules and members: those of the grammar. Beside the spelling, the grammar has rules on names, on last
+-- commas and on brackets. Source: The Move Book, "Modules and Scripts", "Structs and Resources", "Constants",
+-- "Functions" and "Generics".
 use Rattle.std.specs.Prelude.{◌≡◌, Bool, true, false, List, [], ◌∷◌, Option, Some, None}
 use Rattle.std.specs.List.{AllByRecursion}
 use Rattle.syntax_tree.specs.declared.lexeme.Identifier.{Identifier}
@@ -23,7 +24,7 @@ use Rattle.syntax_tree.specs.ExpressionData.{BlockExpression}
 use Rattle.syntax_tree.specs.MemberData.{AbilitiesData, TypeParameterData, TypeParametersData, PathsData}
 use Rattle.syntax_tree.specs.FileData.{MemberData, ModuleData}
 
--- a comma list of the grammar has one thing at least
+-- a comma list of the grammar has at least one item
 abbrev pub AreAny : {A : Type 0} → List A → Type 0
 AreAny [] = ⊥
 AreAny (one ∷ more) = Unit {0}
@@ -54,7 +55,7 @@ abbrev pub AreProperAbilities : Option AbilitiesData → Type 0
 AreProperAbilities None = Unit {0}
 AreProperAbilities (Some a) = AreAny a.items
 
--- `phantom` stands before parameters of structs alone
+-- `phantom` is allowed for type parameters of structs alone
 abbrev pub IsProperParameter : Bool → TypeParameterData → Type 0
 IsProperParameter of_struct p = IsName p.name.text × (of_struct ≡ false → p.is_phantom ≡ false)
 

@@ -1,4 +1,5 @@
--- Proper patterns: those that the grammar has. A lone `_` is no name here, and what a pattern binds is named as a local.
+-- Proper patterns: those of the grammar. A lone `_` is no name here, and a name that a pattern binds is that of a
+-- local. Source: The Move Book, "Variables" and "Structs".
 use Rattle.std.specs.Prelude.{◌≡◌, ◌≢◌, true, codes}
 use Rattle.syntax_tree.specs.NameRules.{IsName, IsSmall}
 use Rattle.syntax_tree.specs.ProperTypes.{IsProperPath, AreProperMaybeArguments}

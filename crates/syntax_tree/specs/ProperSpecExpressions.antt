@@ -1,7 +1,6 @@
--- Proper spec expressions: those that the grammar has. What stands beside the grammar's text are the levels of the
--- operators and the rules on names, last commas, packs and binds.
--- Source: the Move Specification Language reference, "Expressions"; the levels and sides of `==>` and `<==>` are this
--- project's profile.
+-- Proper spec expressions: those of the grammar. Beside the spelling, the grammar has the levels of the operators and
+-- rules on names, last commas, packs and binds. Source: the Move Specification Language reference, "Expressions"; the
+-- levels and the associativity of `==>` and `<==>` are this project's profile.
 use Rattle.std.specs.Prelude.{◌≡◌, ◌≤◌, ℕ, suc, true}
 use Rattle.syntax_tree.specs.NameRules.{IsName, IsCapital}
 use Rattle.syntax_tree.specs.ProperTypes.{IsProperPath, last_name, IsProperType, AreProperMaybeArguments}
@@ -34,7 +33,7 @@ level (SpecQuantified quantifier place binds _ body) = 0
 level (SpecIf place condition then_branch else_branch) = 0
 level _ = term_level
 
--- ---- the range of a bind: a pack stands only inside brackets of it, since a `{` outside them opens triggers
+-- ---- the range of a bind: a pack is allowed only inside its brackets, since a `{` outside them opens triggers
 
 abbrev pub HasNoOpenPack : SpecExpressionData → Type 0
 HasNoOpenPack (SpecBinary left operator place right) = HasNoOpenPack left × HasNoOpenPack right

@@ -1,5 +1,5 @@
--- Proper paths and types: those that the grammar has. What stands beside the grammar's text are its rules on names,
--- last commas and numbers.
+-- Proper paths and types: those of the grammar. Beside the spelling, the grammar has rules on names, last commas and
+-- numbers. Source: The Move Book, "Uses and Aliases", "References", "Tuples and Unit" and "Generics".
 use Rattle.std.specs.Prelude.{◌≡◌, ◌≢◌, ℕ, true, List, codes}
 use Rattle.tokens.specs.declared.token.NumberSuffix.TheVariants.{Absent, U256}
 use Rattle.syntax_tree.specs.declared.lexeme.Numeral.{Numeral}
@@ -15,7 +15,7 @@ use Rattle.syntax_tree.specs.TypeTreeData.{SourceTypeData, SharedSourceType, Mut
 abbrev pub IsProperNumeral : Numeral → Type 0
 IsProperNumeral n = n.literal.suffix ≢ U256
 
--- a number as an address has no suffix
+-- an address that is a number has no suffix
 abbrev pub IsProperAddress : Address → Type 0
 IsProperAddress (number_address n) = n.literal.suffix ≡ Absent
 IsProperAddress (name_address n) = IsName n.text

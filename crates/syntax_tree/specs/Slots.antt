@@ -1,5 +1,5 @@
--- Which clauses a block may hold, by what the block is of.
--- Source: the Move Specification Language reference, "Spec Blocks and Conditions", "Invariants" and "Schemas".
+-- The clauses that are allowed in a block of each kind. Source: the Move Specification Language reference, "Spec Blocks
+-- and Conditions", "Invariants" and "Schemas".
 use Rattle.std.specs.Prelude.{false}
 use Rattle.syntax_tree.specs.declared.slot.Slot.{Slot}
 use Rattle.syntax_tree.specs.declared.slot.Slot.TheVariants.{Function, Struct, Module, Schema, Loop}

@@ -1,6 +1,6 @@
--- What the spec blocks of a module are of. A block with a name is a struct's where the name begins with A to Z and is that
--- of no function of the module, and else a function's. Source: the Move Specification Language reference, "Spec Blocks and
--- Conditions"; this project's profile.
+-- The kinds of the spec blocks of a module. A block with a name is a struct's if the name begins with A to Z and is not
+-- that of a function of the module, or else a function's. Source: the Move Specification Language reference, "Spec
+-- Blocks and Conditions"; this project's profile.
 use Rattle.std.specs.Prelude.{◌≢◌, ℕ, List}
 use Rattle.std.specs.List.{AllByRecursion}
 use Rattle.syntax_tree.specs.NameRules.{IsCapital}
@@ -12,7 +12,7 @@ use Rattle.syntax_tree.specs.declared.clause.Spec.TheVariants.{Module as module_
 abbrev pub IsOfStruct : List (List ℕ) → List ℕ → Type 0
 IsOfStruct functions name = IsCapital name × AllByRecursion (λ other. name ≢ other) functions
 
--- in a module with functions of these names, a block that is this tree is of this slot; a loop's block is no member
+-- in a module with functions of these names, a block with this tree is of this kind; a loop's block is no member
 abbrev pub IsSlotOf : List (List ℕ) → Spec → Slot → Type 0
 IsSlotOf functions (module_spec place clauses) Module = Unit {0}
 IsSlotOf functions (named_spec place name clauses) Struct = IsOfStruct functions name.text

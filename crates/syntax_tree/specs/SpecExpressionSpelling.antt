@@ -1,7 +1,7 @@
 -- How spec expressions are spelled. Source: the Move Specification Language reference, "Expressions".
 --     SExp   = SBinary | ( "forall" | "exists" ) Bind, .. { "{" SExp, .. "}" } ":" SExp
 --            | "if" "(" SExp ")" SExp "else" SExp
---     Bind   = Word ":" Type | Word "in" SExp          (no comma behind the last)
+--     Bind   = Word ":" Type | Word "in" SExp          (no comma after the last)
 --     SUnary = "!" SUnary | STerm { "." Word | "[" SExp "]" }
 --     STerm  = Number | "true" | "false" | "@" Addr | Path
 --            | Path [ TArgs ] "(" [ SExp, .. ] ")"
@@ -16,7 +16,7 @@ use Rattle.syntax_tree.specs.LiteralSpelling.{literal_spelling}
 use Rattle.syntax_tree.specs.SpecOperatorSpelling.{spec_operator_spelling, quantifier_spelling}
 use Rattle.syntax_tree.specs.SpecExpressionData.{SpecExpressionData, SpecBinary, SpecQuantified, SpecIf, SpecNot, SpecField, SpecIndex, SpecLiteral, SpecPath, SpecCall, SpecPack, SpecParenthesized, BindData, TypedBind, RangeBind, TriggerData, TriggerOf, SpecFieldData, ShortSpecField, LongSpecField, SpecExpressionsData, NoSpecExpressions, MoreSpecExpressions, BindsData, NoBinds, MoreBinds, TriggersData, NoTriggers, MoreTriggers, SpecFieldsData, NoSpecFields, MoreSpecFields}
 
--- whether the last token belongs to a path, so that a glued `<` behind it would open type arguments
+-- decides whether the last token belongs to a path, so that a glued `<` after it would open type arguments
 abbrev pub ends_in_path : SpecExpressionData → Bool
 ends_in_path (SpecPath path) = true
 ends_in_path (SpecBinary left operator place right) = ends_in_path right
@@ -73,7 +73,7 @@ abbrev mutual
   spec_field_spellings NoSpecFields = []
   spec_field_spellings (MoreSpecFields one more) = spec_field_spelling one ∷ spec_field_spellings more
 
--- things with a comma before them
+-- parts after a comma
 abbrev pub spec_after_comma : SpecExpressionData → List Lexeme
 spec_after_comma one = sign Comma ∷ spec_spelling one
 

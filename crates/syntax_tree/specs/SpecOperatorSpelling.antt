@@ -1,5 +1,5 @@
--- How the operators of specifications are spelled. Source: the Move Specification Language reference, "Expressions";
--- `==>` and `<==>` as well.
+-- The spelling of the operators of specifications. Source: the Move Specification Language reference, "Expressions",
+-- including `==>` and `<==>`.
 use Rattle.std.specs.Prelude.{Bool, List, [], ◌∷◌, Some, codes}
 use Rattle.base.specs.declared.span.Span.{Span}
 use Rattle.tokens.specs.declared.token.Punctuation.TheVariants.{LessEqualEqualGreater, EqualEqualGreater, PeriodPeriod}

@@ -1,4 +1,4 @@
--- The codes by which the logic stores tokens that a tree keeps as they are.
+-- The codes by which the logic stores the tokens that a tree keeps.
 use base.Stored.{Gv, gnil, gnum, gcons, num}
 use Rattle.std.specs.Prelude.{◌≡◌, List, [], ◌∷◌, refl, Option, Some, None}
 use Rattle.base.specs.Codes.{pick, numbers_code, numbers_back, numbers_back-code}

@@ -1,11 +1,11 @@
--- How a spec block that a file tree keeps as tokens is spelled: by these tokens.
+-- The spelling of a spec block that a file tree keeps as tokens: these tokens.
 use Rattle.std.specs.Prelude.{List, Some, map}
 use Rattle.tokens.specs.declared.token.Token.{Token}
 use Rattle.syntax_tree.specs.declared.lexeme.Lexeme.{Lexeme}
 use Rattle.syntax_tree.specs.declared.spec_tokens.KeptSpec.{KeptSpec}
 use Rattle.syntax_tree.specs.Lexemes.{lexeme}
 
--- a token as it is
+-- a token that the tree keeps
 abbrev pub kept : Token → Lexeme
 kept t = lexeme t.kind (Some t.span) (Some t.glued)
 

@@ -1,4 +1,4 @@
--- Where paths, types and expressions begin: the place of the first token that spells them.
+-- The spans of paths, types and expressions: that of the first token that spells them.
 use Rattle.std.specs.Prelude.{List, [], ◌∷◌, Option, None}
 use Rattle.base.specs.declared.span.Span.{Span}
 use Rattle.syntax_tree.specs.declared.lexeme.Lexeme.{Lexeme}
@@ -12,7 +12,7 @@ use Rattle.syntax_tree.specs.TypeTreeData.{SourceTypeData, SharedSourceType, Mut
 use Rattle.syntax_tree.specs.ExpressionData.{ExpressionData, BinaryExpression, AssignExpression, IfExpression, WhileExpression, LoopExpression, ReturnExpression, AbortExpression, BreakExpression, ContinueExpression, UnaryExpression, UseExpression, FieldExpression, LiteralExpression, PathExpression, CallExpression, PackExpression, VectorExpression, AssertExpression, TupleExpression, CastExpression, BlockExpression, BlockData, BlockOf}
 use Rattle.syntax_tree.specs.SpecExpressionData.{SpecExpressionData, SpecBinary, SpecQuantified, SpecIf, SpecNot, SpecField, SpecIndex, SpecLiteral, SpecPath, SpecCall, SpecPack, SpecParenthesized}
 
--- the place that the first token of a spelling keeps
+-- the span that the first lexeme keeps
 abbrev pub first_token_place : List Lexeme → Option Span
 first_token_place [] = None
 first_token_place (l ∷ ls) = l.place

@@ -17,7 +17,7 @@ abbrev mutual
   type_spelling (TupleSourceType place items last) =
       sign_at place LeftParenthesis ∷ comma_list (type_spellings items) last ++ sign RightParenthesis ∷ []
 
-  -- a `<` behind a path is glued to it where it could be a comparison; where it is not, either is fine
+  -- a `<` after a path is glued to it where it could be a comparison; elsewhere it may be glued or not
   pub arguments_spelling : Option Bool → ArgumentsData → List Lexeme
   arguments_spelling glued (Arguments items last) =
       lexeme (Punctuation Less) None glued ∷ comma_list (type_spellings items) last ++ sign Greater ∷ []
@@ -30,6 +30,6 @@ abbrev mutual
   type_spellings NoSourceTypes = []
   type_spellings (MoreSourceTypes one more) = type_spelling one ∷ type_spellings more
 
--- a type with a comma before it
+-- a type after a comma
 abbrev pub type_after_comma : SourceTypeData → List Lexeme
 type_after_comma one = sign Comma ∷ type_spelling one

@@ -1,4 +1,4 @@
--- Types as the source writes them, as pure data that contracts see. Source: The Move Book, "Primitive Types", "References",
+-- Types in source text, as pure data that contracts see. Source: The Move Book, "Primitive Types", "References",
 -- "Tuples and Unit" and "Generics".
 use Rattle.std.specs.Prelude.{◌≡◌, ℕ, ◌+◌, Bool, List, [], ◌∷◌, refl, Option, Some, None}
 use Rattle.std.proofs.Common.{ap, sym, ◌∙◌}

@@ -1,4 +1,4 @@
--- One level of a type, with what stands below as pure data.
+-- One level of a type, with its children as pure data.
 use Rattle.syntax_tree.specs.TypeTreeData.{SourceTypeData, SharedSourceType, MutableSourceType, NamedSourceType, TupleSourceType, source_types_of, maybe_arguments_of}
 use Rattle.syntax_tree.specs.declared.types.SourceTypeNode.{SourceTypeNode}
 use Rattle.syntax_tree.specs.declared.types.SourceTypeNode.TheVariants.{Shared, Mutable, Named, Tuple}

@@ -8,51 +8,51 @@ use crate::types::{SourceType, TypeArguments};
 use base::span::Span;
 use std::marker::Model;
 
-/// What a pragma is set to.
+/// The value of a pragma.
 #[derive(Drop)]
 pub enum PragmaValue {
     Truth { place: Span, value: bool },
     Number(Numeral),
 }
 
-/// A pragma, and what it is set to, where that is written.
+/// A pragma, with its value if one is written.
 #[derive(Drop)]
 pub struct Pragma {
     pub name: Identifier,
     pub value: Option<PragmaValue>,
 }
 
-/// Pragmas between commas.
+/// Pragmas, separated by commas.
 #[derive(Drop)]
 pub struct Pragmas {
     pub items: Vec<Pragma>,
     pub last_comma: bool,
 }
 
-/// The expression of a code, which stands in a box: a contract sees the expression, and no box.
+/// The expression of an abort code, in a box. Contracts see the expression without the box.
 #[derive(Drop)]
 pub struct CodeExpression {
     pub expression: Box<SpecExpression>,
 }
 
-/// The code that an `aborts_if` speaks of.
+/// The abort code of an `aborts_if`.
 #[derive(Drop)]
 pub enum AbortCode {
-    /// None is written.
+    /// No code is written.
     Bare,
-    /// That of an abort without a code.
+    /// The code of an abort without a code of its own.
     Failure,
     Code(CodeExpression),
 }
 
-/// The places of storage that a `modifies` names.
+/// The targets of a `modifies`: locations of global storage.
 #[derive(Drop)]
 pub struct Targets {
     pub items: Vec<SpecExpression>,
     pub last_comma: bool,
 }
 
-/// What stands for the variables of a schema.
+/// The values of the variables of a schema.
 #[derive(Drop)]
 pub struct Bindings {
     pub items: Vec<SpecField>,
@@ -66,7 +66,7 @@ pub struct Include {
     pub bindings: Option<Bindings>,
 }
 
-// Its own, so that letting one go is a call wherever it is done, and not the cases of all forms below it.
+// A separate impl, so that each drop is a call and not the cases of all forms below it.
 impl Drop for Include {
     fn drop(self) {
         let Include {
@@ -120,7 +120,7 @@ pub enum Clause {
     Variable(TypedName),
 }
 
-// Its own, so that letting one go is a call wherever it is done, and not the cases of all forms below it.
+// A separate impl, so that each drop is a call and not the cases of all forms below it.
 impl Drop for Clause {
     fn drop(self) {
         match self {
@@ -175,7 +175,7 @@ pub struct Schema {
     pub clauses: Clauses,
 }
 
-// Its own, so that letting one go is a call wherever it is done, and not the cases of all forms below it.
+// A separate impl, so that each drop is a call and not the cases of all forms below it.
 impl Drop for Schema {
     fn drop(self) {
         let Schema {
@@ -190,7 +190,7 @@ impl Drop for Schema {
     }
 }
 
-/// A function for specifications alone.
+/// A spec function.
 pub struct SpecFunction {
     pub place: Span,
     pub name: Identifier,
@@ -200,7 +200,7 @@ pub struct SpecFunction {
     pub body: SpecExpression,
 }
 
-// Its own, so that letting one go is a call wherever it is done, and not the cases of all forms below it.
+// A separate impl, so that each drop is a call and not the cases of all forms below it.
 impl Drop for SpecFunction {
     fn drop(self) {
         let SpecFunction {
@@ -221,12 +221,12 @@ impl Drop for SpecFunction {
 
 /// A spec block.
 pub enum Spec {
-    /// That of the module around it.
+    /// The block of the module around it.
     Module {
         place: Span,
         clauses: Clauses,
     },
-    /// That of a struct or a function, by its name.
+    /// The block of a struct or a function, by name.
     Named {
         place: Span,
         name: Identifier,
@@ -234,14 +234,14 @@ pub enum Spec {
     },
     Schema(Schema),
     Function(SpecFunction),
-    /// That of the loop of Move code in which it stands.
+    /// The block of the loop of Move code around it.
     Loop {
         place: Span,
         clauses: Clauses,
     },
 }
 
-// Its own, so that letting one go is a call wherever it is done, and not the cases of all forms below it.
+// A separate impl, so that each drop is a call and not the cases of all forms below it.
 impl Drop for Spec {
     fn drop(self) {
         match self {

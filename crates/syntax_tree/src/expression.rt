@@ -19,7 +19,7 @@ pub struct Expression {
     pub node: ExpressionNode,
 }
 
-// Its own, so that letting one go is a call wherever it is done, and not the cases of all forms below it.
+// A separate impl, so that each drop is a call and not the cases of all forms below it.
 impl Drop for Expression {
     #[cycle(drop_expression)]
     fn drop(self) {
@@ -28,7 +28,7 @@ impl Drop for Expression {
     }
 }
 
-/// The forms of an expression. The place of each is that of its own first keyword or sign.
+/// The forms of an expression. The span of each is that of its own first keyword or sign.
 #[cycle(expression)]
 #[derive(Drop)]
 pub enum ExpressionNode {
@@ -92,27 +92,27 @@ pub enum ExpressionNode {
         values: Vec<Expression>,
         last_comma: bool,
     },
-    /// A struct that is put together.
+    /// A struct that is packed.
     Pack {
         path: Path,
         arguments: Option<TypeArguments>,
         fields: Vec<FieldValue>,
         last_comma: bool,
     },
-    /// `vector` and its items between brackets
+    /// `vector` and its items between brackets.
     Vector {
         place: Span,
         arguments: Option<TypeArguments>,
         items: Vec<Expression>,
         last_comma: bool,
     },
-    /// `assert!` with its condition and its code
+    /// `assert!` with its condition and its code.
     Assert {
         place: Span,
         condition: Box<Expression>,
         code: Box<Expression>,
     },
-    /// Expressions between parentheses: one stands for itself.
+    /// Expressions between parentheses: a single one means itself.
     Tuple {
         place: Span,
         items: Vec<Expression>,
@@ -126,17 +126,17 @@ pub enum ExpressionNode {
     Block(Box<Block>),
 }
 
-/// A block: items, and the value behind them.
+/// A block: its items, and the value after them.
 #[cycle(expression)]
 pub struct Block {
     pub place: Span,
-    /// The spec block of the loop whose body or condition this is.
+    /// The spec block of the loop whose body or condition this block is.
     pub spec: Option<KeptSpec>,
     pub items: Vec<Item>,
     pub value: Option<Expression>,
 }
 
-// Its own, so that letting one go is a call wherever it is done, and not the cases of all forms below it.
+// A separate impl, so that each drop is a call and not the cases of all forms below it.
 impl Drop for Block {
     #[cycle(drop_expression)]
     fn drop(self) {
@@ -158,7 +158,7 @@ pub struct Item {
     pub node: ItemNode,
 }
 
-// Its own, so that letting one go is a call wherever it is done, and not the cases of all forms below it.
+// A separate impl, so that each drop is a call and not the cases of all forms below it.
 impl Drop for Item {
     #[cycle(drop_expression)]
     fn drop(self) {
@@ -180,7 +180,7 @@ pub enum ItemNode {
     },
 }
 
-/// What a field of a struct is set to: a local of its name where there is no value.
+/// The value of a field of a struct: a local of the field's name if none is written.
 #[cycle(expression)]
 #[derive(Drop)]
 pub struct FieldValue {

@@ -1,4 +1,4 @@
-//! What a tree says of each token that spells it.
+//! What a tree determines of each token that spells it.
 
 ghost use Rattle.std.specs.Prelude.{◌≡◌, [], ◌∷◌, ◌++◌, None, OnOk, IfOk};
 ghost use Rattle.syntax_tree.specs.Lexemes.{lexeme, word, sign, sign_at, last_comma};
@@ -10,31 +10,31 @@ use std::alloc::Global;
 use std::marker::Model;
 use tokens::token::{NumberLiteral, Punctuation, Token, TokenKind};
 
-/// What a tree says of one token.
+/// What a tree determines of one token.
 #[derive(Drop)]
 pub struct Lexeme {
     pub kind: TokenKind,
-    /// Its place, where the tree keeps it.
+    /// Its span, if the tree keeps it.
     pub place: Option<Span>,
-    /// Whether it is glued, where that decides how it is read.
+    /// Whether it is glued to the token before it, if that affects parsing.
     pub glued: Option<bool>,
 }
 
-/// A name in a source, at its place.
+/// A name in a source, with its span.
 #[derive(Drop)]
 pub struct Identifier {
     pub text: Name,
     pub place: Span,
 }
 
-/// A number in a source, at its place.
+/// A number in a source, with its span.
 #[derive(Drop)]
 pub struct Numeral {
     pub literal: NumberLiteral,
     pub place: Span,
 }
 
-/// What a tree says of the tokens that spell it, in their order.
+/// The lexemes of a tree, in order.
 #[derive(Drop)]
 pub struct Lexemes {
     items: Vec<Lexeme>,
@@ -50,7 +50,7 @@ impl Model for Lexemes {
 }
 
 impl Lexemes {
-    /// No tokens.
+    /// Returns the empty list.
     pub fn new(alloc: Global) -> Lexemes
         ensures { result ≡ [] }
     {
@@ -59,14 +59,14 @@ impl Lexemes {
         }
     }
 
-    /// What is said of each token, in order.
+    /// Returns the lexemes, in order.
     pub fn as_slice(&self) -> &[Lexeme]
         ensures { result.now ≡ self.now }
     {
         self.items.as_slice()
     }
 
-    /// One more token behind the others.
+    /// Adds a lexeme at the end.
     pub fn push(&mut self, lexeme: Lexeme) -> Result<(), NoMemory>
         ensures { OnOk result (self.new ≡ self.old ++ lexeme ∷ []) }
     {
@@ -74,7 +74,7 @@ impl Lexemes {
         Ok(())
     }
 
-    /// One more sign behind the others.
+    /// Adds a sign at the end.
     pub fn push_sign(&mut self, punctuation: Punctuation) -> Result<(), NoMemory>
         ensures { OnOk result (self.new ≡ self.old ++ sign punctuation ∷ []) }
     {
@@ -85,7 +85,7 @@ impl Lexemes {
         })
     }
 
-    /// One more sign, whose place the tree keeps.
+    /// Adds a sign whose span the tree keeps.
     pub fn push_sign_at(&mut self, place: Span, punctuation: Punctuation) -> Result<(), NoMemory>
         ensures { OnOk result (self.new ≡ self.old ++ sign_at place punctuation ∷ []) }
     {
@@ -96,7 +96,7 @@ impl Lexemes {
         })
     }
 
-    /// One more sign, which is glued or not as the grammar asks.
+    /// Adds a sign that is glued or not, as the grammar requires.
     pub fn push_sign_glued(
         &mut self,
         glued: Option<bool>,
@@ -111,7 +111,7 @@ impl Lexemes {
         })
     }
 
-    /// One more word that the tree does not hold: a keyword.
+    /// Adds a word that the tree does not keep: a keyword.
     pub fn push_word(
         &mut self,
         alloc: Global,
@@ -127,7 +127,7 @@ impl Lexemes {
         })
     }
 
-    /// The comma behind the last thing of a list, where there is one.
+    /// Adds the comma after the last item of a list, if there is one.
     pub fn push_last_comma(&mut self, has_comma: bool) -> Result<(), NoMemory>
         ensures { OnOk result (self.new ≡ self.old ++ last_comma has_comma) }
     {

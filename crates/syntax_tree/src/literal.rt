@@ -4,15 +4,15 @@ use crate::lexeme::Numeral;
 use crate::path::Address;
 use base::span::Span;
 
-/// A value that stands in the source.
+/// A literal.
 pub enum Literal {
     Number(Numeral),
     Truth { place: Span, value: bool },
-    /// `@` and an address
+    /// `@` and an address.
     Address { place: Span, address: Address },
 }
 
-// Its own, so that letting one go is a call wherever it is done, and not the cases of all forms below it.
+// A separate impl, so that each drop is a call and not the cases of all forms below it.
 impl Drop for Literal {
     fn drop(self) {
         match self {

@@ -9,7 +9,7 @@ use base::span::Span;
 use std::marker::Model;
 use tokens::token::Tokens;
 
-/// An attribute: a number sign, and brackets with what stands between them.
+/// An attribute: a number sign, and tokens between brackets.
 #[derive(Drop)]
 pub struct Attribute {
     pub place: Span,
@@ -17,24 +17,24 @@ pub struct Attribute {
     pub tokens: Tokens,
 }
 
-/// A name that a `use` brings in, and the name that it has here.
+/// A name that a `use` imports, with its alias.
 #[derive(Drop)]
 pub struct Import {
     pub name: Identifier,
     pub alias: Option<Identifier>,
 }
 
-/// The names that a `use` brings in between braces.
+/// The names that a `use` imports between braces.
 #[derive(Drop)]
 pub struct Imports {
     pub items: Vec<Import>,
     pub last_comma: bool,
 }
 
-/// What a `use` brings in.
+/// What a `use` imports.
 #[derive(Drop)]
 pub enum Imported {
-    /// The module itself, under its name or another one.
+    /// The module itself, with its alias.
     Module(Option<Identifier>),
     One(Import),
     Several(Imports),
@@ -46,7 +46,7 @@ pub struct Use {
     pub imported: Imported,
 }
 
-// Its own, so that letting one go is a call wherever it is done, and not the cases of all forms below it.
+// A separate impl, so that each drop is a call and not the cases of all forms below it.
 impl Drop for Use {
     fn drop(self) {
         let Use {
@@ -65,7 +65,7 @@ pub struct Friend {
     pub owner: ModuleName,
 }
 
-/// What may be done with the values of a type.
+/// An ability of a type.
 #[derive(Clone, Copy, Debug, PartialEq, Eq)]
 pub enum Ability {
     Copy,
@@ -74,14 +74,14 @@ pub enum Ability {
     Key,
 }
 
-/// Abilities between commas, as a struct has them.
+/// The abilities of a struct, separated by commas.
 #[derive(Drop)]
 pub struct Abilities {
     pub items: Vec<Ability>,
     pub last_comma: bool,
 }
 
-/// A type parameter, with the abilities that its types have to have.
+/// A type parameter, with the abilities that its types must have.
 #[derive(Drop)]
 pub struct TypeParameter {
     pub is_phantom: bool,
@@ -103,7 +103,7 @@ pub struct TypedName {
     pub annotation: SourceType,
 }
 
-/// Names with their types, between commas.
+/// Names with their types, separated by commas.
 #[derive(Drop)]
 pub struct TypedNames {
     pub items: Vec<TypedName>,
@@ -118,7 +118,7 @@ pub struct Struct {
     pub fields: TypedNames,
 }
 
-// Its own, so that letting one go is a call wherever it is done, and not the cases of all forms below it.
+// A separate impl, so that each drop is a call and not the cases of all forms below it.
 impl Drop for Struct {
     fn drop(self) {
         let Struct {
@@ -143,17 +143,17 @@ pub struct Constant {
     pub value: Expression,
 }
 
-/// Who may call a function.
+/// The visibility of a function.
 #[derive(Clone, Copy, Debug, PartialEq, Eq)]
 pub enum Visibility {
-    /// The functions of its module.
+    /// In its own module only.
     Module,
     Public(Span),
-    /// Those of the modules that are named as friends.
+    /// Also in the friends of its module.
     Friends(Span),
 }
 
-/// The structs that a function takes out of storage.
+/// The structs in the `acquires` of a function.
 #[derive(Drop)]
 pub struct Paths {
     pub items: Vec<Path>,
@@ -162,7 +162,7 @@ pub struct Paths {
 
 pub struct Function {
     pub visibility: Visibility,
-    /// The place of `entry`, where the function has it.
+    /// The span of `entry`, if the function has it.
     pub entry: Option<Span>,
     pub place: Span,
     pub name: Identifier,
@@ -173,7 +173,7 @@ pub struct Function {
     pub body: Block,
 }
 
-// Its own, so that letting one go is a call wherever it is done, and not the cases of all forms below it.
+// A separate impl, so that each drop is a call and not the cases of all forms below it.
 impl Drop for Function {
     fn drop(self) {
         let Function {

@@ -37,7 +37,7 @@ pub enum UnaryOperator {
     BorrowMutable,
 }
 
-/// How a local's value is taken out of it.
+/// How the value of a local is used.
 #[derive(Clone, Copy, Debug, PartialEq, Eq)]
 pub enum UseKind {
     Move,

@@ -2,13 +2,13 @@
 
 use crate::lexeme::{Identifier, Numeral};
 
-/// An address: a number, or the name of one.
+/// An address: a number, or a named address.
 pub enum Address {
     Number(Numeral),
     Name(Identifier),
 }
 
-// Its own, so that letting one go is a call wherever it is done, and not the cases of all forms below it.
+// A separate impl, so that each drop is a call and not the cases of all forms below it.
 impl Drop for Address {
     fn drop(self) {
         match self {
@@ -18,7 +18,7 @@ impl Drop for Address {
     }
 }
 
-/// A module by its address and its name.
+/// A module by its address and name.
 #[derive(Drop)]
 pub struct ModuleName {
     pub address: Address,
@@ -29,8 +29,8 @@ pub struct ModuleName {
 #[derive(Drop)]
 pub enum Path {
     Name(Identifier),
-    /// A name behind that of a module in use.
+    /// A name after that of an imported module.
     Member(Identifier, Identifier),
-    /// A name behind the full name of its module.
+    /// A name after the full name of its module.
     Full(ModuleName, Identifier),
 }

@@ -1,4 +1,4 @@
-//! Patterns: what a `let` binds.
+//! Patterns of `let`s.
 
 use crate::lexeme::Identifier;
 use crate::path::Path;
@@ -12,7 +12,7 @@ pub struct Pattern {
     pub node: PatternNode,
 }
 
-// Its own, so that letting one go is a call wherever it is done, and not the cases of all forms below it.
+// A separate impl, so that each drop is a call and not the cases of all forms below it.
 impl Drop for Pattern {
     #[cycle(drop_pattern)]
     fn drop(self) {
@@ -29,14 +29,14 @@ pub enum PatternNode {
     Bind(Identifier),
     /// `_`
     Ignore(Span),
-    /// A struct that is taken apart.
+    /// A struct that is unpacked.
     Unpack {
         path: Path,
         arguments: Option<TypeArguments>,
         fields: Vec<FieldPattern>,
         last_comma: bool,
     },
-    /// Patterns between parentheses: one stands for itself.
+    /// Patterns between parentheses: a single one means itself.
     Tuple {
         place: Span,
         items: Vec<Pattern>,
@@ -44,7 +44,7 @@ pub enum PatternNode {
     },
 }
 
-/// What a field of a struct is bound to: a local of its name where there is no pattern.
+/// The pattern of a field of a struct: a local of the field's name if none is written.
 #[cycle(pattern)]
 #[derive(Drop)]
 pub struct FieldPattern {

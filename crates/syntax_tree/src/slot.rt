@@ -1,13 +1,13 @@
-//! What spec blocks are of.
+//! The kinds of spec blocks.
 
-/// What a spec block is of, which says which form it has and which clauses it may hold.
+/// What a spec block specifies, which determines its form and the clauses that are allowed in it.
 #[derive(Clone, Copy, Debug, PartialEq, Eq)]
 pub enum Slot {
     Function,
     Struct,
     Module,
     Schema,
-    /// A function for specifications alone.
+    /// A spec function.
     SpecFunction,
     /// A loop of Move code.
     Loop,

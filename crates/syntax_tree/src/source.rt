@@ -27,11 +27,11 @@ pub enum SourceForm {
 pub struct SourceMember {
     pub attributes: Vec<Attribute>,
     pub form: SourceForm,
-    /// The trees of the spec blocks of the loops in its code, in the order of the blocks that they begin.
+    /// The trees of the spec blocks of the loops in its code, in the order of the blocks that begin with them.
     pub loops: Vec<Spec>,
 }
 
-// Its own, so that letting one go is a call wherever it is done, and not the cases of all forms below it.
+// A separate impl, so that each drop is a call and not the cases of all forms below it.
 impl Drop for SourceMember {
     fn drop(self) {
         let SourceMember {
@@ -63,7 +63,7 @@ impl Model for SourceMember {
 #[derive(Drop)]
 pub struct SourceModule {
     pub attributes: Vec<Attribute>,
-    /// The place of its word `module`.
+    /// The span of its word `module`.
     pub place: Span,
     pub name: ModuleName,
     pub members: Vec<SourceMember>,

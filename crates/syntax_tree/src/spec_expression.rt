@@ -18,7 +18,7 @@ pub struct SpecExpression {
     pub node: SpecNode,
 }
 
-// Its own, so that letting one go is a call wherever it is done, and not the cases of all forms below it.
+// A separate impl, so that each drop is a call and not the cases of all forms below it.
 impl Drop for SpecExpression {
     #[cycle(drop_spec_expression)]
     fn drop(self) {
@@ -82,7 +82,7 @@ pub enum SpecNode {
     },
 }
 
-/// What a quantified variable ranges over.
+/// A quantified variable and its domain.
 #[cycle(spec_expression)]
 #[derive(Drop)]
 pub struct Bind {
@@ -98,7 +98,7 @@ pub enum Domain {
     In(SpecExpression),
 }
 
-/// Expressions that, found together, call for an instance of a quantifier.
+/// Expressions that, matched together, instantiate a quantifier.
 #[cycle(spec_expression)]
 #[derive(Drop)]
 pub struct Trigger {
@@ -106,7 +106,7 @@ pub struct Trigger {
     pub last_comma: bool,
 }
 
-/// What a field of a struct is set to: a variable of its name where there is no value.
+/// The value of a field of a struct: a variable of the field's name if none is written.
 #[cycle(spec_expression)]
 #[derive(Drop)]
 pub struct SpecField {

@@ -1,4 +1,4 @@
-//! Spec blocks in a file tree: their tokens, as they are.
+//! Spec blocks in a file tree, as tokens.
 
 ghost use Rattle.std.specs.Prelude.{◌≡◌, IfOk};
 
@@ -6,13 +6,13 @@ use base::memory::NoMemory;
 use std::alloc::Global;
 use tokens::token::{NumberLiteral, TokenKind, Tokens};
 
-/// A spec block, as a file tree keeps it: its tokens, from the word `spec` to the brace that closes it.
+/// A spec block of a file tree: its tokens, from the word `spec` to its closing brace.
 #[derive(Drop)]
 pub struct KeptSpec {
     pub tokens: Tokens,
 }
 
-/// A second copy of what a token is.
+/// Returns a copy of the kind of a token.
 pub fn copy_kind(alloc: Global, kind: &TokenKind) -> Result<TokenKind, NoMemory>
     ensures { IfOk result (λ copy. copy ≡ kind.now) }
 {

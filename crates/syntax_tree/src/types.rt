@@ -1,16 +1,16 @@
-//! Types, as a source writes them.
+//! Types in source text.
 
 use crate::path::Path;
 use base::span::Span;
 use std::marker::Model;
 
-/// A type, as the source writes it.
+/// A type in source text.
 #[cycle(source_type)]
 pub struct SourceType {
     pub node: SourceTypeNode,
 }
 
-// Its own, so that letting one go is a call wherever it is done, and not the cases of all forms below it.
+// A separate impl, so that each drop is a call and not the cases of all forms below it.
 impl Drop for SourceType {
     #[cycle(drop_type)]
     fn drop(self) {
@@ -33,12 +33,12 @@ pub enum SourceTypeNode {
         place: Span,
         target: Box<SourceType>,
     },
-    /// A struct, a type parameter or a type that the language has, by its name.
+    /// A struct, a type parameter or a builtin type, by name.
     Named {
         path: Path,
         arguments: Option<TypeArguments>,
     },
-    /// Types between parentheses: one stands for itself.
+    /// Types between parentheses: a single one means itself.
     Tuple {
         place: Span,
         items: Vec<SourceType>,

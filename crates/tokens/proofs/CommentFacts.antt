@@ -1,4 +1,4 @@
--- Block comments: `comment_end` finds the `*/` that belongs to a `/*` exactly where there is one.
+-- Block comments: `comment_end` finds the `*/` that closes a `/*` exactly where there is one.
 use Rattle.std.proofs.Common.{◌≡◌, ℕ, ◌+◌, ◌-◌, true, false, cond, eqb, ◌&&◌, List, [], ◌∷◌, ◌++◌, length, refl, sym, ap, ◌∙◌, inl, inr, arith, suc, Option, Some, codes, append_assoc, length-append}
 use Rattle.std.specs.List.{AllByRecursion}
 use Rattle.std.proofs.lemmas.Bool.{and_parts, and_from, eqb-true, eqb-false, ne_eqb, false_from_ne_true, true≢false, eq-eqb}
@@ -7,7 +7,7 @@ use Rattle.tokens.specs.Comments.Inside.{nothing, byte, comment}
 use Rattle.tokens.specs.Reading.{comment_end}
 use Rattle.tokens.proofs.Runs.{chosen, none_is_some}
 
--- a byte that begins no mark leaves the end where it is
+-- a byte that begins no mark does not change the end
 unmarked : (depth b count c : ℕ) (t rest : List ℕ) → NoMark (b ∷ c ∷ t) → comment_end depth b count (c ∷ t ++ rest) ≡ comment_end depth 0 count (c ∷ t ++ rest)
 unmarked depth b count c t rest unmark =
     let opens : (eqb b 47 && eqb c 42) ≡ false =
@@ -18,13 +18,13 @@ unmarked depth b count c t rest unmark =
     unmark.1 t (ap (λ x. x ∷ c ∷ t) (eqb-true _ _ parts.0) ∙ ap (λ x. 42 ∷ x ∷ t) (eqb-true _ _ parts.1))) in
     rw (opens, closes) refl
 
--- the same before the text of what stands inside and `*/`
+-- the same before the content and `*/`
 unmarked_before : (depth b count : ℕ) (x : Inside) (rest : List ℕ) → NoMark (b ∷ (inside_text x ++ codes "*/")) → comment_end depth b count ((inside_text x ++ codes "*/") ++ rest) ≡ comment_end depth 0 count ((inside_text x ++ codes "*/") ++ rest)
 unmarked_before depth b count nothing rest unmark = unmarked depth b count 42 (codes "/") rest unmark
 unmarked_before depth b count (byte c x) rest unmark = unmarked depth b count c (inside_text x ++ codes "*/") rest unmark
 unmarked_before depth b count (comment x y) rest unmark = unmarked depth b count 47 (codes "*" ++ (inside_text x ++ (codes "*/" ++ inside_text y)) ++ codes "*/") rest unmark
 
--- what is left behind the `*/`
+-- the end after the `*/`
 abbrev behind : ℕ → ℕ → List ℕ → Option ℕ
 behind depth count rest = cond (eqb depth 0) (Some count) (comment_end (depth - 1) 0 count rest)
 
@@ -58,12 +58,12 @@ comment_reads (comment x y) depth count rest is =
     ∙ outer
     ∙ ap (λ n. behind depth n rest) same
 
--- what stands inside block comments that open one round another, up to the end of the outermost
+-- the contents of nested block comments, from the innermost up to the end of the outermost
 abbrev pub insides_text : List Inside → List ℕ
 insides_text [] = []
 insides_text (x ∷ xs) = inside_text x ++ (codes "*/" ++ insides_text xs)
 
--- the text is what stands in the innermost of depth and one more comments, and in those round it
+-- the text is the content of the innermost of depth and one more comments, and of those around it
 pub record IsClosed (depth count : ℕ) (text bytes : List ℕ) (end : ℕ) : Type 0 where
   pub inner : Inside
   pub outer : List Inside
@@ -74,7 +74,7 @@ pub record IsClosed (depth count : ℕ) (text bytes : List ℕ) (end : ℕ) : Ty
   pub deep : length outer ≡ depth
   pub ends : end + length rest ≡ count + length bytes
 
--- what an end that is found says, with a byte before the bytes, and with none
+-- what an end means, with a byte before the bytes, and without
 record AreClosed (bytes : List ℕ) : Type 0 where
   pub behind_byte : (depth last count end : ℕ) → comment_end depth last count bytes ≡ Some end → IsClosed depth count (last ∷ bytes) bytes end
   pub at_start : (depth count end : ℕ) → comment_end depth 0 count bytes ≡ Some end → IsClosed depth count bytes bytes end
@@ -93,7 +93,7 @@ plain_before last b tail nothing rest opens closes split = is_plain last b tail 
 plain_before last b tail (byte c x) rest opens closes split = is_plain last b tail (c ∷ (inside_text x ++ codes "*/")) rest opens closes split c (inside_text x ++ codes "*/") refl
 plain_before last b tail (comment x y) rest opens closes split = is_plain last b tail _ rest opens closes split 47 (codes "*" ++ (inside_text x ++ (codes "*/" ++ inside_text y)) ++ codes "*/") refl
 
--- a byte before
+-- a plain byte before
 with_plain : (depth last b count : ℕ) (tail : List ℕ) (end : ℕ) → (eqb last 47 && eqb b 42) ≡ false → (eqb last 42 && eqb b 47) ≡ false → IsClosed depth (count + 1) (b ∷ tail) tail end → IsClosed depth count (last ∷ b ∷ tail) (b ∷ tail) end
 with_plain depth last b count tail end opens closes more = record {
   inner = byte last more.inner;
@@ -106,7 +106,7 @@ with_plain depth last b count tail end opens closes more = record {
   ends = omega (arith, more.ends);
 }
 
--- a comment that opens
+-- the opening of a comment
 with_opening : (depth last b count : ℕ) (tail : List ℕ) (end : ℕ) → (eqb last 47 && eqb b 42) ≡ true → (inner : Inside) (outer : List Inside) (rest : List ℕ) → tail ≡ inside_text inner ++ (codes "*/" ++ (insides_text outer ++ rest)) → IsInside inner → AllByRecursion IsInside outer → length outer ≡ depth + 1 → end + length rest ≡ count + 1 + length tail → IsClosed depth count (last ∷ b ∷ tail) (b ∷ tail) end
 with_opening depth last b count tail end opens inner [] rest split inner_is outer_are deep ends = absurd (omega arith)
 with_opening depth last b count tail end opens inner (x ∷ outer) rest split inner_is outer_are deep ends =
@@ -125,7 +125,7 @@ with_opening depth last b count tail end opens inner (x ∷ outer) rest split in
     regroup : (inner x : Inside) (outer : List Inside) (rest : List ℕ) → inside_text inner ++ (codes "*/" ++ ((inside_text x ++ (codes "*/" ++ insides_text outer)) ++ rest)) ≡ (inside_text inner ++ (codes "*/" ++ inside_text x)) ++ (codes "*/" ++ (insides_text outer ++ rest))
     regroup inner x outer rest = simp append_assoc
 
--- the end of the outermost
+-- the end of the outermost comment
 with_last : (depth last b count : ℕ) (tail : List ℕ) (end : ℕ) → (eqb last 42 && eqb b 47) ≡ true → eqb depth 0 ≡ true → Some (count + 1) ≡ Some end → IsClosed depth count (last ∷ b ∷ tail) (b ∷ tail) end
 with_last depth last b count tail end closes none h =
     let parts = and_parts (eqb last 42) (eqb b 47) closes in
@@ -141,7 +141,7 @@ with_last depth last b count tail end closes none h =
       ends = omega arith;
     }
 
--- the end of another
+-- the end of an inner comment
 with_closing : (depth last b count : ℕ) (tail : List ℕ) (end : ℕ) → (eqb last 42 && eqb b 47) ≡ true → eqb depth 0 ≡ false → IsClosed (depth - 1) (count + 1) tail tail end → IsClosed depth count (last ∷ b ∷ tail) (b ∷ tail) end
 with_closing depth last b count tail end closes some more =
     let parts = and_parts (eqb last 42) (eqb b 47) closes in
@@ -174,7 +174,7 @@ closed_behind depth last b count tail end more h =
           ]
     ]
 
--- the bytes themselves, where no byte is before them
+-- the bytes themselves, without a byte before them
 without_byte : (depth b count : ℕ) (tail : List ℕ) (end : ℕ) → IsClosed depth (count + 1) (b ∷ tail) tail end → IsClosed depth count (b ∷ tail) (b ∷ tail) end
 without_byte depth b count tail end more = record {
   inner = more.inner;

@@ -1,4 +1,4 @@
--- What `found_at` gives stands there.
+-- Each piece that `found_at` returns is at the front of the bytes.
 use Rattle.std.proofs.Common.{◌≡◌, ℕ, ◌+◌, Bool, true, false, cond, eqb, not, ◌&&◌, ◌||◌, List, [], ◌∷◌, ◌++◌, length, take, drop, get_or, refl, sym, ap, ◌∙◌, inl, inr, arith, suc, Option, Some, None, IfSome, codes, append_assoc, length-append}
 use Rattle.std.specs.List.{prefix_len}
 use Rattle.std.specs.Option.{option_map}
@@ -27,7 +27,7 @@ use Rattle.tokens.proofs.CommentFacts.{insides_text, comment_read}
 use Rattle.tokens.proofs.LongestFacts.{word_no_slash, digit_no_slash, digit_continues, found_word, found_digit, token_long}
 use Rattle.tokens.proofs.PieceFacts.{found_of, IsStringAt, string_at}
 
--- a piece that stands at the front of the bytes, and that was found
+-- a piece at the front of the bytes, which is the one found
 pub record IsPiece (bytes : List ℕ) (f : Found) : Type 0 where
   pub piece : Piece
   pub after : List ℕ
@@ -35,7 +35,7 @@ pub record IsPiece (bytes : List ℕ) (f : Found) : Type 0 where
   pub stands : Stands piece after
   pub found : f ≡ found_of piece
 
--- no comment begins here
+-- no comment begins at the front
 record IsNoComment (bytes : List ℕ) : Type 0 where
   pub no_line : (rest : List ℕ) → bytes ≡ codes "//" ++ rest → ⊥
   pub no_block : (rest : List ℕ) → bytes ≡ codes "/*" ++ rest → ⊥
@@ -187,7 +187,7 @@ slash_stands rest f h same =
 slash_stands_at : (b : ℕ) (rest : List ℕ) (f : Found) → b ≡ 47 → found_at (b ∷ rest) ≡ Some f → slash_at rest ≡ Some f → IsPiece (b ∷ rest) f
 slash_stands_at b rest f slash h same = rw slash (slash_stands rest f (ap (λ c. found_at (c ∷ rest)) (sym slash) ∙ h) same)
 
--- what is found stands
+-- each piece that is found is at the front
 blank_piece : (b : ℕ) (rest : List ℕ) (f : Found) → is_blank b ≡ true → Some (found blank 1) ≡ Some f → IsPiece (b ∷ rest) f
 blank_piece b rest f is same = record {
   piece = space (b ∷ []);

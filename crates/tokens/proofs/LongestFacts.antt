@@ -1,4 +1,4 @@
--- What is found at a place is at least as long as each token that could stand there.
+-- The piece that is found is at least as long as each token at the front.
 use Rattle.std.proofs.Common.{◌≡◌, ℕ, ◌+◌, ◌≤◌, Bool, true, false, cond, eqb, ◌&&◌, ◌||◌, ◌⊎◌, List, [], ◌∷◌, ◌++◌, length, take, drop, get_or, refl, sym, ap, ◌∙◌, inl, inr, arith, suc, Option, Some, None, not, codes, append_assoc, length-append}
 use Rattle.std.specs.List.{prefix_len, list_all, concat}
 use Rattle.std.specs.Option.{option_map}
@@ -23,7 +23,7 @@ use Rattle.tokens.proofs.NumberFacts.{BeginsDigit, number_first, number_word}
 use Rattle.tokens.proofs.QuoteFacts.{quoted_reads, quoted_read}
 use Rattle.tokens.proofs.CommentFacts.{insides_text, comment_read}
 
--- the classes of bytes are apart
+-- the classes of bytes are disjoint
 pub word_no_blank : (b : ℕ) → begins_word b ≡ true → is_blank b ≡ false
 unfolding begins_word is_blank
 word_no_blank b h = grind (arith, nat_tests)
@@ -56,7 +56,7 @@ unfolding begins_word
 string_letter b (inl e) = rw e (refl, refl)
 string_letter b (inr e) = rw e (refl, refl)
 
--- what is found by the first byte
+-- the piece by its first byte
 pub found_word : (b : ℕ) (rest : List ℕ) → begins_word b ≡ true → found_at (b ∷ rest) ≡ Some (word_at b rest)
 unfolding found_at
 found_word b rest h = rw (word_no_blank b h, word_no_slash b h, h) refl
@@ -123,7 +123,7 @@ number_long (b ∷ text) rest f begins all h =
     let reach : length (b ∷ text) ≤ prefix_len continues_word (b ∷ (text ++ rest)) = run_reaches continues_word (b ∷ text) rest all in
     run_length_of (b ∷ (text ++ rest)) f (number_of (take (prefix_len continues_word (b ∷ (text ++ rest))) (b ∷ (text ++ rest)))) refl (sym (found_digit b (text ++ rest) begins) ∙ h) (length (b ∷ text)) reach
 
--- what is found at `/` has a byte
+-- a piece at `/` has a byte
 comment_long : (bytes : List ℕ) (f : Found) (o : Option ℕ) → comment_end 0 0 2 bytes ≡ o → option_map (λ count. found space count) o ≡ Some f → 1 ≤ f.length
 comment_long bytes f None e h = absurd (none_is_some _ h)
 comment_long bytes f (Some end) e h =
@@ -150,7 +150,7 @@ slash_sign : (rest : List ℕ) → sign_front 47 rest ≡ Some Slash
 unfolding sign_at
 slash_sign rest = refl
 
--- what is found where a sign stands is at least as long
+-- the piece at a sign is at least as long as the sign
 sign_is_long : (a : ℕ) (rest : List ℕ) (n : ℕ) (f : Found) (t : Bool) → eqb a 47 ≡ t → IsSignByte a → (s : Punctuation) → sign_front a rest ≡ Some s → n ≤ length (sign_text s) → found_at (a ∷ rest) ≡ Some f → n ≤ f.length
 sign_is_long a rest n f true e is s front long h =
     let a_is : a ≡ 47 = eqb-true _ _ e in
@@ -167,7 +167,7 @@ sign_long : (text rest : List ℕ) (n : ℕ) (f : Found) → BeginsSign text →
 sign_long [] rest n f begins has h = absurd begins
 sign_long (a ∷ text) rest n f begins has h = sign_is_long a (text ++ rest) n f (eqb a 47) refl begins has.0 has.1 has.2 h
 
--- what is found where a token stands is at least as long
+-- the piece at a token is at least as long as the token
 pub token_long : (k : TokenKind) (rest : List ℕ) (f : Found) → IsTokenKind k → found_at (text_of k ++ rest) ≡ Some f → length (text_of k) ≤ f.length
 token_long (Word []) rest f is h = absurd is
 token_long (Word (b ∷ w)) rest f is h =

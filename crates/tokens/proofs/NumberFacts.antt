@@ -1,4 +1,4 @@
--- Numbers: `number_of` reads a run exactly where it is a number, and gives its value and its suffix.
+-- Numbers: `number_of` reads a run exactly where it is a number, and returns its value and its suffix.
 use Rattle.std.proofs.Common.{◌≡◌, ℕ, ◌+◌, ◌*◌, ◌^◌, ◌<◌, ◌≤◌, Bool, true, false, eqb, ltb, ◌&&◌, ◌||◌, List, [], ◌∷◌, ◌++◌, length, drop, get_or, refl, sym, ap, ◌∙◌, inl, inr, arith, suc, add-zero, Option, Some, None, IfSome, codes}
 use Rattle.std.specs.List.{list_all}
 use Rattle.std.specs.Option.{option_map}
@@ -17,7 +17,7 @@ use Rattle.tokens.specs.Texts.{IsDigits, number_from, IsNumber}
 use Rattle.tokens.specs.Reading.{continues_numeral, more_number, numeral_at, suffix_of, suffixed, is_hexadecimal, number_of}
 use Rattle.tokens.proofs.Runs.{Stops, all_joined, all_weaker, front_is, second_is, chosen, same_parts, pair_of, none_is_some}
 
--- more digits make no number less
+-- more digits do not decrease the number
 more_grows : (base before b : ℕ) → 1 ≤ base → before ≤ more_number base before b
 unfolding more_number
 more_grows base before b positive =
@@ -46,7 +46,7 @@ numeral_reads base before count (b ∷ front) rest positive all small stops =
     let same : count + 1 + length front ≡ count + suc (length front) = omega arith in
     rw (parts.0, fits) (more ∙ ap (λ n. Some (number_from base (more_number base before b) front, n)) same)
 
--- what a numeral that is read has
+-- the properties of a numeral that is read
 pub record IsRead (base before count : ℕ) (digits : List ℕ) (value len : ℕ) : Type 0 where
   pub front : List ℕ
   pub rest : List ℕ
@@ -87,7 +87,7 @@ numeral_read base before count (b ∷ digits) value len small h =
           record { front = []; rest = b ∷ digits; split = refl; passes = refl; valued = sym v; long = omega arith; bounded = omega arith }
     ]
 
--- a suffix is read from its text, and from no other
+-- a suffix is read from its text alone
 suffix_reads : (s : NumberSuffix) → suffix_of (suffix_text s) ≡ Some s
 unfolding suffix_of
 suffix_reads Absent = refl
@@ -139,7 +139,7 @@ suffixed_reads base front s positive all small stops =
     let left : drop (0 + length front) (front ++ suffix_text s) ≡ suffix_text s = drop_at front (suffix_text s) (0 + length front) (omega arith) in
     rw (read, left, suffix_reads) refl
 
--- what a numeral with a suffix that is read has
+-- the properties of a numeral with a suffix that is read
 record IsSuffixed (base : ℕ) (digits : List ℕ) (value : ℕ) (s : NumberSuffix) : Type 0 where
   pub front : List ℕ
   pub split : digits ≡ front ++ suffix_text s
@@ -168,7 +168,7 @@ suffixed_read base digits value s None e h = absurd (none_is_some _ h)
 suffixed_read base digits value s (Some n) e h =
     suffix_read base digits n.0 n.1 s (suffix_of (drop n.1 digits)) refl (numeral_read base 0 0 digits n.0 n.1 (omega arith) e) value h
 
--- the first byte of a numeral with a suffix is a digit, so a digit is the first byte of the numeral
+-- the first byte of a numeral with a suffix is a digit, so it is the first byte of the numeral
 digits_begin : (test : ℕ → Bool) (front : List ℕ) (s : NumberSuffix) → test 0 ≡ false → test 117 ≡ false → test (get_or (front ++ suffix_text s) 0 0) ≡ true → list_all (λ c. test c || (eqb c 95)) front ≡ true → IsDigits test front
 digits_begin test [] Absent zero u first all = absurd (true≢false (sym first ∙ zero))
 digits_begin test [] U8 zero u first all = absurd (true≢false (sym first ∙ u))

@@ -1,4 +1,4 @@
--- Which answer a scan gives.
+-- The answers of a scan.
 use Rattle.std.proofs.Common.{◌≡◌, ℕ, ◌<◌, ◌≤◌, Bool, List, length, sym, ap, subst, ◌∙◌, inl, arith, Err}
 use Rattle.std.proofs.lemmas.List.{take_all}
 use Rattle.tokens.specs.declared.token.Token.{Token}
@@ -6,7 +6,7 @@ use Rattle.tokens.specs.declared.token.TokenFault.TheVariants.{BadToken}
 use Rattle.tokens.specs.Spelling.{Spells, IsBadAt, IsUnspelled, Gives}
 use Rattle.tokens.proofs.Rows.{spelled_once, bad_unspelled, bad_once, Progress, progress_spells}
 
--- at a bad token
+-- a bad token
 pub bad_says : (file at : ℕ) (bytes : List ℕ) → IsBadAt at bytes → (place : ℕ) → at ≡ place → IsBadAt place bytes × IsUnspelled file bytes
 bad_says file at bytes bad place e =
     let P : ℕ → Type 0 = λ n. IsBadAt n bytes in
@@ -15,7 +15,7 @@ bad_says file at bytes bad place e =
 pub bad_only : (file at : ℕ) (bytes : List ℕ) → IsBadAt at bytes → (place : ℕ) → IsBadAt place bytes → Gives (Err (BadToken at)) (Err (BadToken place))
 bad_only file at bytes bad place other = inl (ap (λ n. Err (BadToken n)) (bad_once at place bytes bad other))
 
--- at the end, with too many tokens
+-- the end, with too many tokens
 pub many_says : (file : ℕ) (bytes : List ℕ) (found : List Token) (count at : ℕ) (touching : Bool) → Progress file bytes found count at touching → length bytes ≤ at → 200000 < count → (n : ℕ) → count ≡ n → (ts : List Token) × Spells file ts bytes × (length ts ≡ n) × (200000 < n)
 many_says file bytes found count at touching so end many n e =
     (so.tokens, progress_spells file bytes found count at touching so end, sym so.counted ∙ e, omega arith)
@@ -24,7 +24,7 @@ pub many_only : (file : ℕ) (bytes : List ℕ) (found : List Token) (count at :
 many_only file bytes found count at touching so end ts spelled =
     so.counted ∙ ap length (spelled_once file bytes so.tokens ts (progress_spells file bytes found count at touching so end) spelled)
 
--- at the end, with few tokens
+-- the end, with few enough tokens
 pub all_kept : (file : ℕ) (bytes : List ℕ) (found : List Token) (count at : ℕ) (touching : Bool) → (so : Progress file bytes found count at touching) → count ≤ 200000 → found ≡ so.tokens
 all_kept file bytes found count at touching so few = so.kept ∙ take_all 200000 so.tokens (omega (arith, so.counted))
 

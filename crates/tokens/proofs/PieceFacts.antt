@@ -1,4 +1,4 @@
--- `found_at` gives the one piece that stands at a place, and none exactly where none stands.
+-- `found_at` returns the one piece at the front of the bytes, and none exactly where there is none.
 use Rattle.std.proofs.Common.{◌≡◌, ℕ, ◌+◌, ◌≤◌, Bool, true, false, cond, eqb, not, ◌&&◌, ◌||◌, ◌⊎◌, List, [], ◌∷◌, ◌++◌, length, take, drop, get_or, refl, sym, ap, ◌∙◌, inl, inr, arith, suc, Option, Some, None, codes, append_assoc, length-append}
 use Rattle.std.specs.List.{prefix_len, list_all, concat}
 use Rattle.std.specs.Option.{option_map}
@@ -191,7 +191,7 @@ sign_piece_found p (a ∷ text) after own begins has is =
     let p_is : p ≡ has.0 = sign_is p a text after own is has.0 has.1 has.2 in
     sign_found_by p a text after (eqb a 47) refl own begins is (has.1 ∙ ap Some (sym p_is))
 
--- what stands is found
+-- the piece at the front is found
 pub stands_found : (p : Piece) (after : List ℕ) → Stands p after → found_at (piece_text p ++ after) ≡ Some (found_of p)
 stands_found (space text) after is = space_found text after is
 stands_found (lexeme (Word text)) after is = word_found text after is

@@ -6,7 +6,7 @@ use Rattle.tokens.specs.Texts.{IsUnit}
 use Rattle.tokens.specs.Reading.{quoted_end}
 use Rattle.tokens.proofs.Runs.{chosen, none_is_some}
 
--- the quote behind units is found
+-- the quote after units is found
 pub quoted_reads : (units : List (List ℕ)) (count : ℕ) (rest : List ℕ) → AllByRecursion IsUnit units → quoted_end false count (concat units ++ 34 ∷ rest) ≡ Some (count + length (concat units) + 1)
 quoted_reads [] count rest is = ap Some (omega arith)
 quoted_reads ([] ∷ units) count rest is = absurd is.0
@@ -24,7 +24,7 @@ quoted_reads ((b ∷ c ∷ []) ∷ units) count rest is =
     rw (is.0.0, line) (more ∙ ap Some same)
 quoted_reads ((b ∷ c ∷ d ∷ u) ∷ units) count rest is = absurd is.0
 
--- what stands before a quote that is found
+-- the bytes before a quote that is found
 pub record IsQuoted (count : ℕ) (bytes : List ℕ) (end : ℕ) : Type 0 where
   pub units : List (List ℕ)
   pub rest : List ℕ

@@ -1,4 +1,4 @@
--- Rows of pieces: one row at most lies in a text, and the scan lays it piece by piece.
+-- Sequences of pieces: at most one spells a text, and the scan finds it piece by piece.
 use Rattle.std.proofs.Common.{◌≡◌, ℕ, ◌+◌, ◌-◌, ◌<◌, ◌≤◌, Bool, true, false, ◌⊎◌, List, [], ◌∷◌, ◌++◌, length, take, drop, refl, sym, ap, subst, ◌∙◌, inl, inr, arith, zero, suc, Option, Some, None, append_assoc, append-nil, length-append, length-drop}
 use Rattle.std.proofs.lemmas.List.{take_rest, take_at, drop_at, drop_all, drop-drop, append_cancel_left, take_all, take-append-le, length_push}
 use Rattle.tokens.specs.declared.token.TokenKind.{TokenKind}
@@ -46,7 +46,7 @@ piece_long (lexeme (Number n)) after is = digit_long n.text (number_first n is.s
 piece_long (lexeme (ByteString text)) after is = omega (arith, ap length is.spelled.spelled)
 piece_long (lexeme (punctuation p)) after is = sign_long _ (sign_byte p)
 
--- a piece is known by its class and its text
+-- a piece is determined by its class and its text
 abbrev piece_of : Class → List ℕ → Piece
 piece_of blank text = space text
 piece_of (a_token class) text = lexeme (kind_of class text)
@@ -61,7 +61,7 @@ piece_is (lexeme (punctuation p)) = refl
 some_is : (f g : Found) → Some f ≡ Some g → f ≡ g
 some_is f g h = cc
 
--- one piece at most stands at a place
+-- at most one piece is at the front
 record IsSame (p q : Piece) (a b : List ℕ) : Type 0 where
   pub piece : p ≡ q
   pub after : a ≡ b
@@ -77,7 +77,7 @@ one_piece p q a b left right joined =
       after = append_cancel_left (piece_text p) a b (joined ∙ ap (λ t. t ++ b) (sym text));
     }
 
--- no piece stands at the front
+-- no piece is at the front
 abbrev pub IsBlocked : List ℕ → Type 0
 IsBlocked rest = (p : Piece) (after : List ℕ) → rest ≡ piece_text p ++ after → Stands p after → ⊥
 
@@ -89,7 +89,7 @@ end_blocked p after split is =
 pub none_blocked : (rest : List ℕ) → found_at rest ≡ None → IsBlocked rest
 none_blocked rest h p after split is = none_is_some _ (sym h ∙ ap found_at split ∙ stands_found p after is)
 
--- one row at most lies in a text up to where no piece stands
+-- at most one sequence spells a text up to where there is no piece
 record IsOneRow (ps qs : List Piece) (r s : List ℕ) : Type 0 where
   pub row : ps ≡ qs
   pub rest : r ≡ s
@@ -104,7 +104,7 @@ one_row (p ∷ ps) (q ∷ qs) bytes r s left right end_left end_right =
     let more = one_row ps qs right.0 r s behind right.3 end_left end_right in
     record { row = ap (λ t. t ∷ ps) same.piece ∙ ap (λ ts. q ∷ ts) more.row; rest = more.rest }
 
--- two token lists that spell the same bytes are the same
+-- two token lists that spell the same bytes are equal
 pub spelled_once : (file : ℕ) (bytes : List ℕ) (ts us : List Token) → Spells file ts bytes → Spells file us bytes → ts ≡ us
 spelled_once file bytes ts us left right =
     let same = one_row left.pieces right.pieces bytes [] [] left.laid right.laid end_blocked end_blocked in
@@ -116,14 +116,13 @@ bad_unspelled file place bytes bad ts spelled =
     let same = one_row spelled.pieces bad.pieces bytes [] bad.rest spelled.laid bad.laid end_blocked bad.stuck.blocked in
     bad.stuck.left (sym same.rest)
 
--- there is one bad token at most
+-- there is at most one bad token
 pub bad_once : (place other : ℕ) (bytes : List ℕ) → IsBadAt place bytes → IsBadAt other bytes → place ≡ other
 bad_once place other bytes left right =
     let same = one_row left.pieces right.pieces bytes left.rest right.rest left.laid right.laid left.stuck.blocked right.stuck.blocked in
     omega (arith, left.placed, right.placed, ap length same.rest)
 
--- How far the scan has come: these tokens are found in the bytes before `at`, and whatever lies behind
--- goes on with them.
+-- The progress of the scan: these tokens are found in the bytes before `at`, and the tokens of the rest follow them.
 pub record Progress (file : ℕ) (bytes : List ℕ) (found : List Token) (count at : ℕ) (touching : Bool) : Type 0 where
   pub tokens : List Token
   pub kept : found ≡ take 200000 tokens
@@ -142,7 +141,7 @@ progress_start file bytes = record {
   laid = λ ps rest is. (ps, is, refl);
 }
 
--- where the piece found ends
+-- the end of the piece found
 pub record IsNext (bytes : List ℕ) (at : ℕ) (f : Found) : Type 0 where
   pub piece : Piece
   pub class : f.class ≡ class_of piece
@@ -172,7 +171,7 @@ next_is bytes at f h =
       stands = subst P (sym after) is.stands;
     }
 
--- a blank or a comment goes by
+-- a blank or a comment is skipped
 laid_space : (file : ℕ) (bytes : List ℕ) (found : List Token) (count at : ℕ) (touching : Bool) (f : Found) → Progress file bytes found count at touching → IsNext bytes at f → (p : Piece) → class_of p ≡ blank → piece_text p ++ drop (at + f.length) bytes ≡ drop at bytes → Stands p (drop (at + f.length) bytes) → length (piece_text p) ≡ f.length → Progress file bytes found count (at + f.length) false
 laid_space file bytes found count at touching f so next (space text) class split stands long = record {
   tokens = so.tokens;
@@ -194,7 +193,7 @@ progress_space file bytes found count at touching f so h class =
     let next = next_is bytes at f h in
     laid_space file bytes found count at touching f so next next.piece (sym next.class ∙ class) (sym next.split) next.stands (sym next.long)
 
--- a token joins those found, as long as they are few
+-- a token is added to those found, as long as they are few enough
 abbrev pub token_at : ℕ → ℕ → ℕ → Bool → TokenKind → Token
 token_at file start end touching kind = record { kind = kind; span = record { file = file; start = start; end = end }; glued = touching }
 
@@ -259,14 +258,14 @@ progress_bad file bytes found count at touching so more h =
       placed = omega (arith, length-drop at bytes);
     }
 
--- the same of the bytes from `at` on, as a slice to the end
+-- the same for the bytes from `at` on, as a slice to the end
 pub at_rest : (bytes : List ℕ) (at : ℕ) (o : Option Found) → o ≡ found_at (take (length bytes - at) (drop at bytes)) → found_at (drop at bytes) ≡ o
 at_rest bytes at o h = ap found_at (sym (take_rest bytes at)) ∙ sym h
 
 pub rest_take : (bytes : List ℕ) (at n : ℕ) → take n (take (length bytes - at) (drop at bytes)) ≡ take n (drop at bytes)
 rest_take bytes at n = ap (take n) (take_rest bytes at)
 
--- what is left behind pieces is a part of the text
+-- the rest after pieces is a part of the text
 laid_within : (ps : List Piece) (bytes rest : List ℕ) → AreLaid ps bytes rest → length rest ≤ length bytes
 laid_within [] bytes rest laid = omega (arith, ap length laid)
 laid_within (p ∷ ps) bytes rest laid =
@@ -281,7 +280,7 @@ row_from steps bytes few (Some f) h more =
     let row = more is.after (omega (arith, ap length is.split, length-append (piece_text is.piece) is.after)) in
     (is.piece ∷ row.0, row.1, (is.after, is.split, is.stands, row.2), row.3)
 
--- pieces lie in each text up to where none stands
+-- pieces spell each text up to where there is no piece
 pub some_row : (steps : ℕ) (bytes : List ℕ) → length bytes ≤ steps → (ps : List Piece) × (rest : List ℕ) × AreLaid ps bytes rest × IsBlocked rest
 some_row zero [] few = ([], [], refl, end_blocked)
 some_row zero (b ∷ bytes) few = absurd (omega arith)

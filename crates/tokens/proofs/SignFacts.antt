@@ -1,4 +1,4 @@
--- Signs: what `sign_at` finds is the longest sign that stands there.
+-- Signs: `sign_at` finds the longest sign at the front.
 use Rattle.std.proofs.Common.{◌≡◌, ℕ, ◌≤◌, Bool, true, false, cond, eqb, ◌&&◌, List, [], ◌∷◌, ◌++◌, length, drop, get_or, refl, sym, ap, ◌∙◌, arith, suc, Option, Some, None, IfSome}
 use Rattle.std.proofs.lemmas.Bool.{and_parts, cond_both, eqb-true}
 use Rattle.tokens.specs.declared.token.Punctuation.{Punctuation}
@@ -13,7 +13,7 @@ use Rattle.tokens.proofs.Runs.{front_is, second_is, third_is}
 abbrev pub sign_front : ℕ → List ℕ → Option Punctuation
 sign_front a rest = sign_at a (get_or rest 0 0) (get_or rest 1 0) (get_or rest 2 0)
 
--- the sign stands at the front of the bytes
+-- the sign is at the front of the bytes
 abbrev pub Begins : List ℕ → Punctuation → Type 0
 Begins bytes sign = bytes ≡ sign_text sign ++ drop (length (sign_text sign)) bytes
 
@@ -75,11 +75,11 @@ begins_lone : (a : ℕ) (rest : List ℕ) (o : Option Punctuation) → IfSome o 
 begins_lone a rest None h = tt
 begins_lone a rest (Some s) h = begins_one a rest s h
 
--- the same at a first byte that equals another
+-- the same for a first byte that equals another
 at_byte : (a b : ℕ) (rest : List ℕ) (s : Punctuation) → eqb a b ≡ true → Begins (b ∷ rest) s → Begins (a ∷ rest) s
 at_byte a b rest s e h = rw (eqb-true a b e) h
 
--- what is found stands there
+-- the sign that is found is at the front
 pub sign_begins : (a : ℕ) (rest : List ℕ) → IfSome (sign_front a rest) (Begins (a ∷ rest))
 unfolding sign_at
 sign_begins a rest =
@@ -94,7 +94,7 @@ sign_begins a rest =
     (λ _. cond_both (eqb a 124) (Some _) (lookup a lone_signs) P (λ e. at_byte a 124 rest _ e (begins_pair 124 123 rest PipePipe Pipe refl refl))
     (λ _. begins_lone a rest (lookup a lone_signs) (looked_up a lone_signs lone_texts)))))))))
 
--- the front of the bytes has a sign of at least so many bytes
+-- the sign found at the front has at least so many bytes
 abbrev pub HasSign : List ℕ → ℕ → Type 0
 HasSign [] n = ⊥
 HasSign (a ∷ rest) n = (s : Punctuation) × (sign_front a rest ≡ Some s) × (n ≤ length (sign_text s))
@@ -115,7 +115,7 @@ equal_long b c =
     (long_enough 1 (eqb c 62) EqualEqualGreater EqualEqual (omega arith) (omega arith))
     (omega arith)
 
--- where a sign stands, one at least as long is found
+-- at a sign, one at least as long is found
 pub sign_found_at : (p : Punctuation) (rest : List ℕ) → HasSign (sign_text p ++ rest) (length (sign_text p))
 unfolding sign_at
 sign_found_at LeftParenthesis rest = (LeftParenthesis, refl, omega arith)
@@ -196,12 +196,12 @@ own_text Caret = refl
 own_text AtSign = refl
 own_text NumberSign = refl
 
--- a sign is known by its text
+-- a sign is determined by its text
 pub same_sign : (p q : Punctuation) → sign_text p ≡ sign_text q → p ≡ q
 same_sign p q same =
     let e : Some p ≡ Some q = sym (own_text p) ∙ ap front_of same ∙ own_text q in cc
 
--- what the first byte of a sign is not
+-- the first byte of a sign belongs to no other class
 pub record IsSignByte (a : ℕ) : Type 0 where
   pub no_blank : is_blank a ≡ false
   pub no_word : begins_word a ≡ false

@@ -1,4 +1,4 @@
--- The classes of bytes that the source text of Move is made of. Source: the lexer of Move's compiler.
+-- The classes of bytes of Move's source text. Source: the lexer of Move's compiler.
 use Rattle.std.specs.Prelude.{ℕ, Bool, ◌==◌, ◌||◌}
 use Rattle.std.specs.Char.{is_ascii_alphabetic, is_ascii_alphanumeric}
 

@@ -1,5 +1,4 @@
--- Blanks and comments, which separate tokens. Source: the lexer of Move's compiler.
--- Block comments nest.
+-- Blanks and comments, which separate tokens. Source: the lexer of Move's compiler. Block comments nest.
 use Rattle.std.specs.Prelude.{◌≡◌, ℕ, IsTrue, not, ◌==◌, ◌⊎◌, List, [], ◌∷◌, ◌++◌, codes}
 use Rattle.std.specs.List.{list_all}
 use Rattle.tokens.specs.Characters.{is_blank}
@@ -9,7 +8,7 @@ IsBlank [] = ⊥
 IsBlank (b ∷ []) = IsTrue (is_blank b)
 IsBlank (b ∷ c ∷ rest) = ⊥
 
--- the text is at its end, or a line is
+-- the text ends, or its line ends
 abbrev pub IsAtLineEnd : List ℕ → Type 0
 IsAtLineEnd [] = Unit {0}
 IsAtLineEnd (b ∷ rest) = b ≡ 10
@@ -21,7 +20,7 @@ pub record IsLineComment (text after : List ℕ) : Type 0 where
   pub one_line : IsTrue (list_all (λ b. not (b == 10)) body)
   pub ended : IsAtLineEnd after
 
--- what stands in a block comment: bytes and block comments, in any order
+-- the content of a block comment: bytes and block comments, in any order
 pub data Inside : Type 0 where
   nothing : Inside
   byte : ℕ → Inside → Inside
@@ -36,18 +35,18 @@ inside_text (comment inner rest) = codes "/*" ++ (inside_text inner ++ (codes "*
 abbrev pub NoMark : List ℕ → Type 0
 NoMark text = ((rest : List ℕ) → text ≡ codes "/*" ++ rest → ⊥) × ((rest : List ℕ) → text ≡ codes "*/" ++ rest → ⊥)
 
--- no byte by itself is where `/*` or `*/` begins
+-- neither `/*` nor `*/` begins at a single byte of the content
 abbrev pub IsInside : Inside → Type 0
 IsInside nothing = Unit {0}
 IsInside (byte b rest) = NoMark (b ∷ (inside_text rest ++ codes "*/")) × IsInside rest
 IsInside (comment inner rest) = IsInside inner × IsInside rest
 
--- from `/*` to the `*/` that belongs to it
+-- from `/*` to its own `*/`
 pub record IsBlockComment (text : List ℕ) : Type 0 where
   pub inside : Inside
   pub spelled : text ≡ codes "/*" ++ (inside_text inside ++ codes "*/")
   pub marked : IsInside inside
 
--- a blank, or a comment, where `after` follows it
+-- a blank, or a comment, which `after` follows
 abbrev pub IsSpace : List ℕ → List ℕ → Type 0
 IsSpace text after = IsBlank text ⊎ IsLineComment text after ⊎ IsBlockComment text

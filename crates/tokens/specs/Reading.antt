@@ -1,5 +1,5 @@
--- How the bytes at one place are read: by their first bytes, each piece to its end. These functions are the
--- scanner's own; Spelling.antt says what the pieces mean.
+-- The piece at the front of bytes, and its end. These functions are the scanner's own; Spelling.antt defines what the
+-- pieces mean.
 use Rattle.std.specs.Prelude.{ℕ, ◌+◌, ◌*◌, ◌-◌, ◌^◌, Bool, true, false, not, ◌&&◌, ◌||◌, ◌==◌, nat_eq, nat_lt, if◌then◌else◌, Option, Some, None, List, [], ◌∷◌, take, drop, length, slice_index, codes}
 use Rattle.std.specs.List.{prefix_len}
 use Rattle.std.specs.Option.{option_map}
@@ -19,12 +19,12 @@ use Rattle.tokens.specs.declared.piece.Found.{Found}
 use Rattle.tokens.specs.Signs.{sign_text}
 use Rattle.tokens.specs.Characters.{is_blank, begins_word, continues_word}
 
--- the sign with this text among the table's, which have one byte each
+-- the sign with this text in a table of signs of one byte
 abbrev pub lookup : ℕ → List (ℕ × Punctuation) → Option Punctuation
 lookup b [] = None
 lookup b ((text, sign) ∷ rest) = if b == text then Some sign else lookup b rest
 
--- the signs that begin no other
+-- the signs that begin no other sign
 abbrev pub lone_signs : List (ℕ × Punctuation)
 lone_signs =
     (40, LeftParenthesis) ∷ (41, RightParenthesis) ∷ (123, LeftBrace) ∷ (125, RightBrace) ∷ (91, LeftBracket) ∷ (93, RightBracket)
@@ -53,7 +53,7 @@ sign_at a b c d =
     else (if a == 124 then Some (if b == 124 then PipePipe else Pipe)
     else lookup a lone_signs)))))))
 
--- whether a numeral in the base goes on with the byte
+-- decides whether a numeral in the base goes on with the byte
 unfoldable pub continues_numeral : ℕ → ℕ → Bool
 continues_numeral base b = (if base == 16 then is_ascii_hexdigit b else is_ascii_digit b) || (b == 95)
 
@@ -61,7 +61,7 @@ continues_numeral base b = (if base == 16 then is_ascii_hexdigit b else is_ascii
 unfoldable pub more_number : ℕ → ℕ → ℕ → ℕ
 more_number base before b = if b == 95 then before else before * base + digit_value b
 
--- the numeral at the front of the bytes, behind `count` bytes that spell `before`: its number, and its length
+-- the number and the length of the numeral at the front of the bytes, after `count` bytes that spell `before`
 abbrev pub numeral_at : ℕ → ℕ → ℕ → List ℕ → Option (ℕ × ℕ)
 numeral_at base before count [] = Some (before, count)
 numeral_at base before count (b ∷ rest) =
@@ -80,12 +80,12 @@ suffix_of text =
     else (if pointwise nat_eq (codes "u256") text then Some U256
     else None))))))
 
--- the number that `digits` and a suffix spell in the base
+-- the number that a numeral and the suffix after it spell
 abbrev pub suffixed : List ℕ → Option (ℕ × ℕ) → Option (ℕ × NumberSuffix)
 suffixed digits None = None
 suffixed digits (Some numeral) = option_map (λ suffix. (numeral.0, suffix)) (suffix_of (drop numeral.1 digits))
 
--- whether the run begins with `0x` and a hexadecimal digit
+-- decides whether the run begins with `0x` and a hexadecimal digit
 unfoldable pub is_hexadecimal : List ℕ → Bool
 is_hexadecimal run = (slice_index run 0 == 48) && (slice_index run 1 == 120) && is_ascii_hexdigit (slice_index run 2)
 
@@ -95,7 +95,8 @@ number_of run =
     if is_hexadecimal run then suffixed (drop 2 run) (numeral_at 16 0 0 (drop 2 run))
     else suffixed run (numeral_at 10 0 0 run)
 
--- the length up to the closing quote and with it, behind `count` bytes of which the last may be a `\`
+-- the length up to and including the closing quote, after `count` bytes; `escaped` says whether the last of them is an
+-- escaping `\`
 abbrev pub quoted_end : Bool → ℕ → List ℕ → Option ℕ
 quoted_end escaped count [] = None
 quoted_end true count (b ∷ rest) = if b == 10 then None else quoted_end false (count + 1) rest
@@ -104,8 +105,8 @@ quoted_end false count (b ∷ rest) =
     else (if b == 34 then Some (count + 1)
     else quoted_end (b == 92) (count + 1) rest)
 
--- The length up to the `*/` that closes `depth` and one more block comments and with it, behind `count`
--- bytes, of which the last is no part of a `/*` or `*/` before.
+-- the length up to and including the `*/` that closes `depth` and one more block comments, after `count` bytes, where
+-- `last` is the last of them, or 0 if it belongs to an earlier `/*` or `*/`
 abbrev pub comment_end : ℕ → ℕ → ℕ → List ℕ → Option ℕ
 comment_end depth last count [] = None
 comment_end depth last count (b ∷ rest) =
@@ -113,7 +114,7 @@ comment_end depth last count (b ∷ rest) =
     else (if (last == 42) && (b == 47) then (if depth == 0 then Some (count + 1) else comment_end (depth - 1) 0 (count + 1) rest)
     else comment_end depth b (count + 1) rest)
 
--- the classes of tokens, among those of pieces
+-- the classes of pieces that are tokens
 abbrev pub word_class : Class
 word_class = Token Word
 
@@ -126,7 +127,7 @@ string_class = Token ByteString
 abbrev pub sign_class : Punctuation → Class
 sign_class s = Token (Sign s)
 
--- the token of a class that has this text
+-- the token of a class with this text
 abbrev pub kind_of : TokenClass → List ℕ → TokenKind
 kind_of Word text = word_kind text
 kind_of (Number value suffix) text = number_kind (record { text = text; value = value; suffix = suffix })
@@ -136,7 +137,7 @@ kind_of (Sign s) text = sign_kind s
 abbrev pub found : Class → ℕ → Found
 found class count = record { class = class; length = count }
 
--- the comment or the sign at a `/`, with these bytes behind it
+-- the comment or the sign at a `/`, which these bytes follow
 unfoldable pub slash_at : List ℕ → Option Found
 slash_at rest =
     if slice_index rest 0 == 47 then Some (found Space (2 + prefix_len (λ b. not (b == 10)) (drop 1 rest)))
@@ -148,14 +149,14 @@ abbrev pub string_or_word : Option ℕ → ℕ → Found
 string_or_word None count = found word_class count
 string_or_word (Some end) count = found string_class end
 
--- the word or byte string at a letter or `_`, with these bytes behind it
+-- the word or byte string at a letter or `_`, which these bytes follow
 unfoldable pub word_at : ℕ → List ℕ → Found
 word_at b rest =
     string_or_word
     (if ((b == 98) || (b == 120)) && (slice_index rest 0 == 34) then quoted_end false 2 (drop 1 rest) else None)
     (1 + prefix_len continues_word rest)
 
--- the number at a digit, where the run of letters, digits and `_` is one
+-- the number at a digit, if the run of letters, digits and `_` is one
 unfoldable pub number_at : List ℕ → Option Found
 number_at bytes =
     option_map (λ n. found (number_class n.0 n.1) (prefix_len continues_word bytes))
@@ -164,7 +165,7 @@ number_at bytes =
 abbrev pub sign_found : Option Punctuation → Option Found
 sign_found o = option_map (λ s. found (sign_class s) (length (sign_text s))) o
 
--- what stands at the front of the bytes: its class and its length
+-- the piece at the front of the bytes: its class and its length
 unfoldable pub found_at : List ℕ → Option Found
 found_at [] = None
 found_at (b ∷ rest) =

@@ -1,5 +1,5 @@
--- How each sign and each suffix of a number is spelled. Source: the tokens of Move's compiler; `==>`, `<==>`
--- and `..` are signs of the Move Specification Language.
+-- The spelling of each sign and of each suffix of a number. Source: the tokens of Move's compiler; `==>`, `<==>` and
+-- `..` are signs of the Move Specification Language.
 use Rattle.std.specs.Prelude.{ℕ, List, codes}
 use Rattle.tokens.specs.declared.token.Punctuation.{Punctuation}
 use Rattle.tokens.specs.declared.token.Punctuation.TheVariants.{LeftParenthesis, RightParenthesis, LeftBrace, RightBrace, LeftBracket, RightBracket, Comma, Semicolon, Colon, ColonColon, Period, PeriodPeriod, Equal, EqualEqual, EqualEqualGreater, ExclaimEqual, Exclaim, Less, LessEqual, LessEqualEqualGreater, LessLess, Greater, GreaterEqual, Plus, Minus, Star, Slash, Percent, Ampersand, AmpersandAmpersand, Pipe, PipePipe, Caret, AtSign, NumberSign}

@@ -1,5 +1,5 @@
--- What it means that tokens spell a text: the text is a row of pieces, of which some are tokens and the
--- others blanks and comments.
+-- The tokens that spell a text: the text is a sequence of pieces, which are tokens, blanks and comments. Source: the
+-- lexer of Move's compiler, which takes the longest token at each position.
 use Rattle.std.specs.Prelude.{◌≡◌, ℕ, ◌+◌, ◌≤◌, Bool, true, false, ◌⊎◌, ◌≢◌, List, [], ◌∷◌, ◌++◌, length, codes, Result, Err}
 use Rattle.tokens.specs.declared.token.TokenKind.{TokenKind}
 use Rattle.tokens.specs.declared.token.TokenKind.TheVariants.{Word, Number, ByteString, Punctuation}
@@ -31,7 +31,7 @@ IsWhole (Word text) after = Unit {0}
 IsWhole (ByteString text) after = Unit {0}
 IsWhole (Punctuation sign) after = Unit {0}
 
--- a token of this kind stands where `after` follows it
+-- a token of this kind, which `after` follows
 pub record IsLexeme (kind : TokenKind) (after : List ℕ) : Type 0 where
   pub spelled : IsTokenKind kind
   pub whole : IsWhole kind after
@@ -39,12 +39,12 @@ pub record IsLexeme (kind : TokenKind) (after : List ℕ) : Type 0 where
   pub no_line_comment : (rest : List ℕ) → text_of kind ++ after ≡ codes "//" ++ rest → ⊥
   pub no_block_comment : (rest : List ℕ) → text_of kind ++ after ≡ codes "/*" ++ rest → ⊥
 
--- the piece stands where `after` follows it
+-- the piece can be followed by `after`
 abbrev pub Stands : Piece → List ℕ → Type 0
 Stands (space text) after = IsSpace text after
 Stands (lexeme kind) after = IsLexeme kind after
 
--- the pieces stand one behind the other at the front of the bytes, and `rest` is behind them
+-- the bytes are these pieces, one after another, followed by `rest`
 abbrev pub AreLaid : List Piece → List ℕ → List ℕ → Type 0
 AreLaid [] bytes rest = bytes ≡ rest
 AreLaid (p ∷ ps) bytes rest = (after : List ℕ) × (bytes ≡ piece_text p ++ after) × Stands p after × AreLaid ps after rest
@@ -63,13 +63,12 @@ pub record Spells (file : ℕ) (tokens : List Token) (bytes : List ℕ) : Type 0
   pub laid : AreLaid pieces bytes []
   pub in_order : tokens ≡ tokens_of file 0 false pieces
 
--- something is left, and no piece stands at its front
+-- the rest is not empty, and no piece begins it
 pub record IsStuck (rest : List ℕ) : Type 0 where
   pub left : rest ≢ []
   pub blocked : (p : Piece) (after : List ℕ) → rest ≡ piece_text p ++ after → Stands p after → ⊥
 
--- behind whole pieces, at this byte, something begins that is none: an impossible token, or a block comment
--- without an end
+-- after whole pieces, no piece begins at this byte: an impossible token, or an unclosed block comment
 pub record IsBadAt (place : ℕ) (bytes : List ℕ) : Type 0 where
   pub pieces : List Piece
   pub rest : List ℕ
@@ -81,10 +80,10 @@ pub record IsBadAt (place : ℕ) (bytes : List ℕ) : Type 0 where
 abbrev pub IsUnspelled : ℕ → List ℕ → Type 0
 IsUnspelled file bytes = (tokens : List Token) → Spells file tokens bytes → ⊥
 
--- the answer is this one, unless memory ran out
+-- the answer is this one, or there is not enough memory
 abbrev pub Gives : Result (List Token) TokenFault → Result (List Token) TokenFault → Type 0
 Gives answer wanted = (answer ≡ wanted) ⊎ (answer ≡ Err NoMemory)
 
--- the answer is some bad token, unless memory ran out
+-- the answer is some bad token, or there is not enough memory
 abbrev pub GivesBadToken : Result (List Token) TokenFault → Type 0
 GivesBadToken answer = ((place : ℕ) × (answer ≡ Err (BadToken place))) ⊎ (answer ≡ Err NoMemory)

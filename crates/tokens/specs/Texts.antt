@@ -1,6 +1,5 @@
--- Which bytes are the text of a token. Source: The Move Book, "Integers" and "Vector", on literals, and the
--- lexer of Move's compiler. A number is below 2^128, since u128 is the widest
--- integer type of this project.
+-- The texts of tokens. Source: The Move Book, "Integers" and "Vector", on literals, and the lexer of Move's compiler. A
+-- number is below 2^128, since u128 is the widest integer type of this project.
 use Rattle.std.specs.Prelude.{◌≡◌, ℕ, ◌+◌, ◌*◌, ◌<◌, ◌^◌, Bool, IsTrue, ◌||◌, ◌==◌, ◌≢◌, ◌⊎◌, if◌then◌else◌, List, [], ◌∷◌, ◌++◌, codes}
 use Rattle.std.specs.List.{list_all, concat, AllByRecursion}
 use Rattle.std.specs.Char.{is_ascii_digit, is_ascii_hexdigit, digit_value}
@@ -20,7 +19,7 @@ abbrev pub IsDigits : (ℕ → Bool) → List ℕ → Type 0
 IsDigits is_digit [] = ⊥
 IsDigits is_digit (b ∷ rest) = IsTrue (is_digit b) × IsTrue (list_all (λ c. is_digit c || (c == 95)) rest)
 
--- the number that `before` and then the digits spell in the base; `_` stands for nothing
+-- the number that `before` and then the digits spell in the base; `_` is ignored
 abbrev pub number_from : ℕ → ℕ → List ℕ → ℕ
 number_from base before [] = before
 number_from base before (b ∷ rest) = number_from base (if b == 95 then before else before * base + digit_value b) rest
@@ -38,7 +37,7 @@ pub record IsNumber (number : NumberLiteral) : Type 0 where
   pub valued : IsNumeral numeral number.value
   pub bounded : number.value < 2 ^ 128
 
--- what a byte string is made of: a byte other than `"`, `\` and LF, or `\` and a byte other than LF
+-- a unit of a byte string: a byte other than `"`, `\` and LF, or `\` and a byte other than LF
 abbrev pub IsUnit : List ℕ → Type 0
 IsUnit [] = ⊥
 IsUnit (b ∷ []) = (b ≢ 34) × (b ≢ 92) × (b ≢ 10)
@@ -60,7 +59,7 @@ text_of (Number number) = number.text
 text_of (ByteString text) = text
 text_of (Punctuation sign) = sign_text sign
 
--- the bytes are those of a token of this kind
+-- the text of the token is one of its kind
 abbrev pub IsTokenKind : TokenKind → Type 0
 IsTokenKind (Word text) = IsWord text
 IsTokenKind (Number number) = IsNumber number

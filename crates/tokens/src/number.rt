@@ -1,4 +1,4 @@
-//! Numbers as the source writes them.
+//! Numbers in source text.
 
 ghost use Rattle.std.specs.Prelude.{◌≡◌, ◌<◌, ◌≤◌, ◌^◌, IsTrue, IfSome, length, nat_lt, if◌then◌else◌};
 ghost use Rattle.std.specs.Char.{IsAsciiHexdigit, digit_value};
@@ -6,12 +6,12 @@ ghost use Rattle.tokens.specs.Reading.{continues_numeral, more_number, numeral_a
 
 use crate::token::NumberSuffix;
 
-/// The base of a numeral.
+/// The base of a decimal numeral.
 const DECIMAL: u8 = 10;
 
 const HEXADECIMAL: u8 = 16;
 
-/// Whether a numeral in the base goes on with the byte.
+/// Decides whether a numeral in the base goes on with the byte.
 #[tactic(auto, unfolding(crate::specs::Reading::continues_numeral))]
 fn continues_numeral(base: u8, b: u8) -> bool
     ensures { result ≡ continues_numeral base b }
@@ -24,7 +24,7 @@ fn continues_numeral(base: u8, b: u8) -> bool
     is_digit || b == b'_'
 }
 
-/// The value of a decimal or hexadecimal digit.
+/// Returns the value of a decimal or hexadecimal digit.
 fn digit_value(b: u8) -> u8
     requires { IsAsciiHexdigit b }
     ensures { result ≡ digit_value b }
@@ -36,7 +36,7 @@ fn digit_value(b: u8) -> u8
     }
 }
 
-/// The number that `before` and one more byte spell, if it is below 2^128.
+/// Returns the number that `before` and one more byte spell, if it is below 2^128.
 #[tactic(auto, unfolding(crate::specs::Reading::more_number, crate::specs::Reading::continues_numeral))]
 fn more_number(base: u8, before: u128, b: u8) -> Option<u128>
     requires { IsTrue (continues_numeral base b) }
@@ -50,7 +50,7 @@ fn more_number(base: u8, before: u128, b: u8) -> Option<u128>
         .checked_add(u128::from(digit_value(b)))
 }
 
-/// The numeral at the front of the digits: its number and its length, if the number is below 2^128.
+/// Returns the number and the length of the numeral at the front of the digits, if the number is below 2^128.
 fn numeral_at(base: u8, digits: &[u8]) -> Option<(u128, usize)>
     ensures value { result ≡ numeral_at base 0 0 digits.now }
     ensures within { IfSome result (λ numeral. numeral.1 ≤ length digits.now) }
@@ -65,7 +65,7 @@ fn numeral_at(base: u8, digits: &[u8]) -> Option<(u128, usize)>
     Some((value, digits.len()))
 }
 
-/// The suffix that these bytes are.
+/// Returns the suffix with this text.
 #[tactic(auto, unfolding(crate::specs::Reading::suffix_of))]
 fn suffix_of(text: &[u8]) -> Option<NumberSuffix>
     ensures { result ≡ suffix_of text.now }
@@ -89,7 +89,7 @@ fn suffix_of(text: &[u8]) -> Option<NumberSuffix>
     }
 }
 
-/// Whether the run begins with `0x` and a hexadecimal digit.
+/// Decides whether the run begins with `0x` and a hexadecimal digit.
 #[tactic(auto, unfolding(crate::specs::Reading::is_hexadecimal))]
 fn is_hexadecimal(run: &[u8]) -> bool
     ensures value { result ≡ is_hexadecimal run.now }
@@ -98,7 +98,7 @@ fn is_hexadecimal(run: &[u8]) -> bool
     run.len() > 2 && run[0] == b'0' && run[1] == b'x' && run[2].is_ascii_hexdigit()
 }
 
-/// The number that a run of letters, digits and `_` spells, if the whole run is one.
+/// Returns the number that a run of letters, digits and `_` spells, if the whole run is one.
 #[tactic(auto, unfolding(crate::specs::Reading::number_of))]
 pub fn number_of(run: &[u8]) -> Option<(u128, NumberSuffix)>
     ensures { result ≡ number_of run.now }

@@ -1,4 +1,4 @@
-//! The pieces of a text: what stands at one place, and how long it is.
+//! The pieces of a text, with their lengths.
 
 ghost use Rattle.std.specs.Prelude.{◌≡◌, ◌<◌, ◌≤◌, ◌+◌, ◌^◌, ℕ, true, false, not, ◌==◌, length, drop, take, slice_index};
 ghost use Rattle.std.specs.List.{prefix_len};
@@ -9,7 +9,7 @@ ghost use Rattle.tokens.specs.Reading.{lookup, lone_signs, sign_at, quoted_end, 
 use crate::number::number_of;
 use crate::token::{NumberSuffix, Punctuation};
 
-/// What kind of piece it is.
+/// The class of a piece.
 #[derive(Clone, Copy)]
 pub enum Class {
     /// A blank or a comment.
@@ -17,7 +17,7 @@ pub enum Class {
     Token(TokenClass),
 }
 
-/// What kind of token it is, with what the token says besides its text.
+/// The class of a token, with the value and the suffix of a number or the sign.
 #[derive(Clone, Copy)]
 pub enum TokenClass {
     Word,
@@ -30,7 +30,7 @@ pub enum TokenClass {
 #[derive(Clone, Copy)]
 pub struct Found {
     pub class: Class,
-    /// How many bytes it has.
+    /// The number of bytes.
     pub length: usize,
 }
 
@@ -42,7 +42,7 @@ impl Found {
     }
 }
 
-/// Whether the byte is a space, a tab, a line feed or a carriage return.
+/// Decides whether the byte is a space, a tab, a line feed or a carriage return.
 #[tactic(auto, unfolding(crate::specs::Characters::is_blank))]
 fn is_blank(b: u8) -> bool
     ensures { result ≡ is_blank b }
@@ -50,7 +50,7 @@ fn is_blank(b: u8) -> bool
     b == b' ' || b == b'\t' || b == b'\n' || b == b'\r'
 }
 
-/// Whether the byte is a letter or `_`.
+/// Decides whether the byte is a letter or `_`.
 #[tactic(auto, unfolding(crate::specs::Characters::begins_word))]
 fn begins_word(b: u8) -> bool
     ensures { result ≡ begins_word b }
@@ -58,7 +58,7 @@ fn begins_word(b: u8) -> bool
     b.is_ascii_alphabetic() || b == b'_'
 }
 
-/// Whether the byte is a letter, a digit or `_`.
+/// Decides whether the byte is a letter, a digit or `_`.
 #[tactic(auto, unfolding(crate::specs::Characters::continues_word))]
 pub fn continues_word(b: u8) -> bool
     ensures { result ≡ continues_word b }
@@ -66,14 +66,14 @@ pub fn continues_word(b: u8) -> bool
     b.is_ascii_alphanumeric() || b == b'_'
 }
 
-/// The byte at this place, or 0 past the end.
+/// Returns the byte at this index, or 0 past the end.
 fn byte_or_zero(bytes: &[u8], i: usize) -> u8
     ensures { result ≡ slice_index bytes.now i }
 {
     if i < bytes.len() { bytes[i] } else { 0 }
 }
 
-/// How many letters, digits and `_` stand at the front.
+/// Returns the number of letters, digits and `_` at the front.
 fn run_length(bytes: &[u8]) -> usize
     ensures value { result ≡ prefix_len continues_word bytes.now }
     ensures within { result ≤ length bytes.now }
@@ -86,7 +86,7 @@ fn run_length(bytes: &[u8]) -> usize
     bytes.len()
 }
 
-/// How many bytes stand before the next line feed or the end.
+/// Returns the number of bytes before the next line feed or the end.
 fn line_length(bytes: &[u8]) -> usize
     ensures value { result ≡ prefix_len (λ b. not (b == 10)) bytes.now }
     ensures within { result ≤ length bytes.now }
@@ -99,7 +99,7 @@ fn line_length(bytes: &[u8]) -> usize
     bytes.len()
 }
 
-/// The length of the text up to the quote that closes a byte string, with the two bytes before `bytes`.
+/// Returns the length of a byte string up to and including its closing quote, where `bytes` follow its first two bytes.
 fn quoted_end(bytes: &[u8]) -> Option<usize>
     requires { length bytes.now + 2 < 2 ^ 64 }
     ensures { result ≡ quoted_end false 2 bytes.now }
@@ -120,7 +120,7 @@ fn quoted_end(bytes: &[u8]) -> Option<usize>
     None
 }
 
-/// The length of a block comment up to the `*/` that belongs to it, with the two bytes before `bytes`.
+/// Returns the length of a block comment up to and including its `*/`, where `bytes` follow its first two bytes.
 fn comment_end(bytes: &[u8]) -> Option<usize>
     requires { length bytes.now + 2 < 2 ^ 64 }
     ensures { result ≡ comment_end 0 0 2 bytes.now }
@@ -144,7 +144,7 @@ fn comment_end(bytes: &[u8]) -> Option<usize>
     None
 }
 
-/// The longest sign at the front of four bytes, of which those past the end of the text are 0.
+/// Returns the longest sign at the front of four bytes, of which those past the end of the text are 0.
 #[tactic(auto, unfolding(crate::specs::Reading::sign_at))]
 fn sign_at(first: u8, second: u8, third: u8, fourth: u8) -> Option<Punctuation>
     ensures { result ≡ sign_at first second third fourth }
@@ -178,7 +178,7 @@ fn sign_at(first: u8, second: u8, third: u8, fourth: u8) -> Option<Punctuation>
     Some(sign)
 }
 
-/// The sign of one byte that begins no other sign.
+/// Returns the sign of one byte that begins no other sign.
 fn lone_sign_at(first: u8) -> Option<Punctuation>
     ensures { result ≡ lookup first lone_signs }
 {
@@ -203,7 +203,7 @@ fn lone_sign_at(first: u8) -> Option<Punctuation>
     }
 }
 
-/// How many bytes spell the sign.
+/// Returns the number of bytes that spell the sign.
 fn sign_length(sign: Punctuation) -> usize
     ensures { result ≡ length (sign_text sign) }
 {
@@ -223,7 +223,7 @@ fn sign_length(sign: Punctuation) -> usize
     }
 }
 
-/// The comment or the sign at a `/`, with these bytes behind it.
+/// Returns the comment or the sign at a `/`, which these bytes follow.
 #[tactic(auto, unfolding(crate::specs::Reading::slash_at))]
 fn slash_at(rest: &[u8]) -> Option<Found>
     requires { length rest.now + 2 < 2 ^ 64 }
@@ -239,7 +239,7 @@ fn slash_at(rest: &[u8]) -> Option<Found>
     }
 }
 
-/// The word or byte string at a letter or `_`, with these bytes behind it.
+/// Returns the word or byte string at a letter or `_`, which these bytes follow.
 #[tactic(auto, unfolding(crate::specs::Reading::word_at))]
 fn word_at(first: u8, rest: &[u8]) -> Found
     requires { length rest.now + 2 < 2 ^ 64 }
@@ -253,7 +253,7 @@ fn word_at(first: u8, rest: &[u8]) -> Found
     Found::new(Class::Token(TokenClass::Word), 1 + run_length(rest))
 }
 
-/// The number at a digit, where the run of letters, digits and `_` is one.
+/// Returns the number at a digit, if the run of letters, digits and `_` is one.
 #[tactic(auto, unfolding(crate::specs::Reading::number_at))]
 fn number_at(bytes: &[u8]) -> Option<Found>
     ensures { result ≡ number_at bytes.now }
@@ -263,7 +263,7 @@ fn number_at(bytes: &[u8]) -> Option<Found>
     Some(Found::new(Class::Token(TokenClass::Number(value, suffix)), length))
 }
 
-/// The piece at the front of the bytes.
+/// Returns the piece at the front of the bytes.
 #[tactic(auto, unfolding(crate::specs::Reading::found_at))]
 pub fn found_at(bytes: &[u8]) -> Option<Found>
     requires { length bytes.now + 2 < 2 ^ 64 }

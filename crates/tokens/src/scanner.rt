@@ -12,7 +12,7 @@ use base::name::Name;
 use base::span::Span;
 use std::alloc::Global;
 
-/// The most tokens that a file may have.
+/// The greatest number of tokens in a file.
 pub const TOKEN_LIMIT: u32 = 200_000;
 
 impl From<NoMemory> for TokenFault {
@@ -26,7 +26,7 @@ impl From<NoMemory> for TokenFault {
     }
 }
 
-/// The token of this class that the text spells.
+/// Returns the token of this class with this text.
 fn token_kind(alloc: Global, class: TokenClass, text: &[u8]) -> Result<TokenKind, NoMemory>
     ensures { IfOk result (λ kind. kind ≡ kind_of class text.now) }
 {
@@ -42,29 +42,29 @@ fn token_kind(alloc: Global, class: TokenClass, text: &[u8]) -> Result<TokenKind
     }
 }
 
-/// The tokens that the bytes of the file with this number spell.
+/// Returns the tokens that spell the bytes of the file with this number.
 ///
-/// The tokens are those of The Move Book, with the signs `==>`, `<==>` and `..` of specs. The longest
-/// token is taken at each place, except that `>>` is two, and that letters, digits and `_` behind a digit
-/// belong to its number. Blanks and comments separate tokens, and block comments nest.
+/// The tokens are those of The Move Book, with the signs `==>`, `<==>` and `..` of specs. The longest token is taken at
+/// each position, except that `>>` is two, and that letters, digits and `_` after a digit belong to its number. Blanks
+/// and comments separate tokens, and block comments nest.
 ///
 /// # Errors
 ///
-/// - `BadToken` where no token list spells the bytes, with the byte at which the first impossible token
-///   or the first block comment without an end begins.
+/// - `BadToken` where no token list spells the bytes, with the byte at which the first impossible token or the first
+///   unclosed block comment begins.
 /// - `TooMany` where the bytes have more than `TOKEN_LIMIT` tokens, with their count.
-/// - `NoMemory` where memory runs out.
+/// - `NoMemory` where there is not enough memory.
 pub fn tokens(alloc: Global, file: u32, bytes: &[u8]) -> Result<Tokens, TokenFault>
     requires { length bytes.now < 2 ^ 32 }
 
-    // What each answer says.
+    // What each answer means.
     ensures ok { IfOk result (λ found. Spells file found bytes.now × (length found ≤ TOKEN_LIMIT)) }
     ensures bad_token { (place : ℕ) → result ≡ Err (TokenFault.BadToken place)
         → IsBadAt place bytes.now × IsUnspelled file bytes.now }
     ensures too_many { (count : ℕ) → result ≡ Err (TokenFault.TooMany count)
         → (found : List Token) × Spells file found bytes.now × (length found ≡ count) × (TOKEN_LIMIT < count) }
 
-    // Which answer comes, unless memory runs out.
+    // Which answer is returned, unless there is not enough memory.
     ensures spelled { (found : List Token) → Spells file found bytes.now → length found ≤ TOKEN_LIMIT
         → Gives result (Ok found) }
     ensures spelled_long { (found : List Token) → Spells file found bytes.now → TOKEN_LIMIT < length found
@@ -115,7 +115,7 @@ pub fn one_spelling()
         → Spells file one bytes → Spells file other bytes → one ≡ other }
 {}
 
-/// A law: either tokens spell the bytes or a bad token is in them, and never both.
+/// A law: either tokens spell the bytes or the bytes contain a bad token, and never both.
 pub fn spelled_or_bad()
     ensures either { (file : ℕ) (bytes : List ℕ)
         → ((tokens : List Token) × Spells file tokens bytes) ⊎ ((place : ℕ) × IsBadAt place bytes) }

@@ -1,4 +1,4 @@
-//! Tokens: the words, numbers, byte strings and signs that a source file is made of.
+//! Tokens: the words, numbers, byte strings and signs of a source file.
 
 ghost use Rattle.std.specs.Prelude.{◌≡◌, [], ◌∷◌, ◌++◌, ◌==◌, length, OnOk, OnErr};
 
@@ -10,10 +10,10 @@ use std::error::Error;
 use std::fmt;
 use std::marker::Model;
 
-/// The type that a number names behind its digits, as in `7u8`.
+/// The type suffix of a number, as in `7u8`.
 #[derive(Clone, Copy, Debug, PartialEq, Eq)]
 pub enum NumberSuffix {
-    /// The number names no type.
+    /// The number has no suffix.
     Absent,
     U8,
     U16,
@@ -23,12 +23,12 @@ pub enum NumberSuffix {
     U256,
 }
 
-/// A number as the source writes it.
+/// A number in source text.
 #[derive(Drop)]
 pub struct NumberLiteral {
-    /// The bytes that spell it, with its prefix, its underscores and its suffix.
+    /// The bytes that spell it, including its prefix, its underscores and its suffix.
     pub text: Name,
-    /// The number. It may be too large for the type that the suffix names.
+    /// The value. It may be too large for the type that the suffix names.
     pub value: u128,
     pub suffix: NumberSuffix,
 }
@@ -73,18 +73,18 @@ pub enum Punctuation {
     NumberSign,
 }
 
-/// What a token is, with the bytes that spell it.
+/// The kind of a token, with the bytes that spell it.
 #[derive(Drop)]
 pub enum TokenKind {
     /// A name or a keyword.
     Word(Name),
     Number(NumberLiteral),
-    /// A byte string, as `b"hi"` or `x"00ff"`, with its letter, its quotes and its escapes.
+    /// A byte string, such as `b"hi"` or `x"00ff"`, with its letter, its quotes and its escapes.
     ByteString(Name),
     Punctuation(Punctuation),
 }
 
-/// A token at its place.
+/// A token with its span.
 #[derive(Drop)]
 pub struct Token {
     pub kind: TokenKind,
@@ -109,7 +109,7 @@ impl Model for Tokens {
 }
 
 impl Tokens {
-    /// No tokens.
+    /// Returns the empty list of tokens.
     pub fn new(alloc: Global) -> Tokens
         ensures { result ≡ [] }
     {
@@ -118,7 +118,7 @@ impl Tokens {
         }
     }
 
-    /// Puts a token behind the others. Where memory runs out the tokens stay as they were.
+    /// Adds a token at the end. After `NoMemory` the tokens are unchanged.
     pub fn push(&mut self, token: Token) -> Result<(), NoMemory>
         ensures ok { OnOk result (self.new ≡ self.old ++ token ∷ []) }
         ensures err { OnErr result (self.new ≡ self.old) }
@@ -127,21 +127,21 @@ impl Tokens {
         Ok(())
     }
 
-    /// How many tokens there are.
+    /// The number of tokens.
     pub fn len(&self) -> usize
         ensures { result ≡ length self.now }
     {
         self.items.len()
     }
 
-    /// Whether there are none.
+    /// Decides whether there are no tokens.
     pub fn is_empty(&self) -> bool
         ensures { result ≡ (length self.now == 0) }
     {
         self.items.is_empty()
     }
 
-    /// The tokens.
+    /// Returns the tokens.
     pub fn as_slice(&self) -> &[Token]
         ensures { result.now ≡ self.now }
     {
@@ -155,9 +155,9 @@ pub enum TokenFault {
     /// No token list spells the text. The number is the byte, counted from 0, at which the first
     /// impossible token or the first unclosed block comment begins.
     BadToken(u32),
-    /// A token list spells the text, and has more than 200,000 tokens. The number counts them.
+    /// A token list spells the text, and has more than 200,000 tokens. The number is their count.
     TooMany(u32),
-    /// Memory ran out.
+    /// There is not enough memory.
     NoMemory,
 }
 

@@ -1,4 +1,4 @@
-//! The weight of a token list, which bounds how deep a tree of its tokens can be.
+//! The weight of a token list, an upper bound of the depth of each tree with these tokens.
 
 ghost use Rattle.std.specs.Prelude.{◌≡◌, ◌≤◌, ◌<◌, min, length};
 ghost use Rattle.tokens.specs.Weight.{greatest_weight, weight_of, opened, counted, restarted, closed, closed_by_brace, after_sign, after_token, is_counted_word, file_level};
@@ -6,13 +6,13 @@ ghost use Rattle.tokens.specs.Weight.{greatest_weight, weight_of, opened, counte
 use crate::token::{Punctuation, TokenKind, Tokens};
 use std::marker::Model;
 
-/// The weight from which on no tree is made of the tokens.
+/// The least weight at which tokens are refused as too deeply nested.
 pub const WEIGHT_LIMIT: u32 = 201;
 
-/// As many levels as a weight of at most 202 can have.
+/// The number of levels that a weight of at most 202 can have.
 const LEVEL_COUNT: usize = 203;
 
-/// The levels in force, with their counts: that of the file first, and the innermost at `depth`.
+/// The open levels with their counts: that of the file first, and the innermost at `depth`.
 #[derive(Drop)]
 struct Levels {
     counts: [u32; LEVEL_COUNT],
@@ -32,7 +32,7 @@ impl Model for Levels {
 }
 
 impl Levels {
-    /// The level of the file alone.
+    /// Returns the level of the file alone.
     fn new() -> Levels
         ensures { result ≡ file_level }
     {
@@ -66,7 +66,7 @@ impl Levels {
         self.weight += 1;
     }
 
-    /// Opens a `[`, which counts in the level that it stands in.
+    /// Opens a `[`, which counts in the level around it.
     fn open_counted(&mut self)
         requires { weight_of self.old ≤ 200 }
         ensures { self.new ≡ opened (counted self.old) }
@@ -137,7 +137,7 @@ impl Levels {
     }
 }
 
-/// Whether the word is one that counts.
+/// Decides whether the word counts.
 fn is_counted_word(text: &[u8]) -> bool
     ensures { result ≡ is_counted_word text.now }
 {
@@ -152,10 +152,10 @@ fn is_counted_word(text: &[u8]) -> bool
         || b"exists".as_slice() == text
 }
 
-/// The greatest weight at a token, or 201 where it is greater. It is 0 where there are no tokens.
+/// Returns the greatest weight at a token, or 201 if it is greater; 0 if there are no tokens.
 ///
-/// Each open bracket is a level with a count, and the file is a level round them all. The weight at a
-/// token is the sum of the counts behind it, and the number of open brackets.
+/// Each open bracket is a level with a count, and the file is a level around all of them. The weight at a token is the
+/// sum of the counts after it, plus the number of open brackets.
 pub fn weight(tokens: &Tokens) -> u32
     ensures { result ≡ min WEIGHT_LIMIT (greatest_weight tokens.now) }
 {

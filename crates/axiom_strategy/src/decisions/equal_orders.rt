@@ -75,12 +75,11 @@ fn equal_in_groups(
     Ok(None)
 }
 
-/// Returns an instance of the trichotomy axiom that is due for two numbers that index one group of aliasing memories
-/// and vectors and have one value in a solution of the rows: this asks first which of two numbers is the greater where
-/// the rows may force them to be equal. `names` gives each term a name by its number; terms with one name other than 0
-/// have one value. `None` does not mean that no instance is due, since this is only a heuristic choice. `classes` are
-/// those of the branch. The running time is linear in the length of the pool plus the number of pairs of numbers that
-/// index one group. `NoMemory` if memory runs out.
+/// Returns an instance of the trichotomy axiom that is due. This is a heuristic choice: it takes two numbers that index
+/// one group of aliasing memories and vectors and have one value in a solution of the rows, since the rows may force
+/// them to be equal. Only that the instance is due is a clause; `None` does not mean that no instance is due. `names`
+/// gives each term a name by its number; terms with one name other than 0 have one value. `classes` are those of the
+/// branch. `NoMemory` if memory runs out.
 pub fn equal_order(
     alloc: Global,
     pool: &mut Pool,

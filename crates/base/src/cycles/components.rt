@@ -1,4 +1,4 @@
-//! The strongly connected components.
+//! Strongly connected components.
 
 ghost use Rattle.std.specs.Prelude.{◌≡◌, ℕ, ◌<◌, length, slice_index, IfOk};
 ghost use Rattle.base.specs.Circles.{AreRoots};
@@ -10,7 +10,7 @@ use crate::cycles::walk::walk_all;
 use crate::memory::NoMemory;
 use std::alloc::Global;
 
-/// The number at the place that the label tells.
+/// Returns the number at the index that is the label; 0 without a label.
 fn root_of(order: &[usize], label: Option<usize>) -> usize
     ensures { result ≡ root_of order.now label }
 {
@@ -20,7 +20,7 @@ fn root_of(order: &[usize], label: Option<usize>) -> usize
     }
 }
 
-/// The numbers at the places that the labels tell.
+/// Returns for each number the one at the index that is its label.
 fn roots_of(
     alloc: Global,
     labels: &[Option<usize>],
@@ -36,8 +36,8 @@ fn roots_of(
     Ok(roots)
 }
 
-/// For each number the root of its strongly connected component: one of the numbers in it, the same for all of them.
-/// It takes time in proportion to the numbers and edges.
+/// Returns for each number the root of its strongly connected component: one of the numbers in it, the same for all of
+/// them. The time is linear in the numbers and edges.
 pub fn component_roots(alloc: Global, graph: &Graph) -> Result<Vec<usize>, NoMemory>
     ensures { IfOk result (λ roots. AreRoots graph.now roots.items) }
 {

@@ -7,7 +7,7 @@ use crate::memory::NoMemory;
 use std::alloc::Global;
 use std::marker::Model;
 
-/// The numbers that the edges of one number lead to, in order.
+/// The targets of the edges of one number, in order.
 #[derive(Drop)]
 pub(crate) struct Targets {
     items: Vec<usize>,
@@ -22,14 +22,14 @@ impl Model for Targets {
 }
 
 impl Targets {
-    /// The numbers, in order.
+    /// Returns the targets, in order.
     pub(crate) fn as_slice(&self) -> &[usize]
         ensures { result.now ≡ self.now }
     {
         self.items.as_slice()
     }
 
-    /// One more number, at the end. After `NoMemory` they are as they were.
+    /// Adds a target at the end. After `NoMemory` the targets are unchanged.
     fn push(&mut self, target: usize) -> Result<(), NoMemory>
         ensures ok { OnOk result (self.new ≡ self.old ++ target ∷ []) }
         ensures err { OnErr result (self.new ≡ self.old) }
@@ -38,7 +38,7 @@ impl Targets {
         Ok(())
     }
 
-    /// Takes the last number away.
+    /// Removes the last target.
     fn drop_last(&mut self)
         ensures { self.new ≡ take (length self.old - 1) self.old }
     {
@@ -46,7 +46,7 @@ impl Targets {
     }
 }
 
-/// So many numbers without targets.
+/// Returns an empty list of targets for each of so many numbers.
 fn no_targets(alloc: Global, count: usize) -> Result<Vec<Targets>, NoMemory>
     ensures { IfOk result (λ targets. targets.items ≡ replicate count []) }
 {
@@ -60,8 +60,7 @@ fn no_targets(alloc: Global, count: usize) -> Result<Vec<Targets>, NoMemory>
     Ok(targets)
 }
 
-/// The numbers from 0 on, so many as the graph has, with edges from one to another. It is seen as the
-/// list of the targets of each number.
+/// A graph over the numbers from 0 on. Contracts see the list of the targets of each number.
 #[derive(Drop)]
 pub struct Graph {
     targets: Vec<Targets>,
@@ -80,7 +79,7 @@ impl Model for Graph {
 }
 
 impl Graph {
-    /// So many numbers, without edges.
+    /// Returns the graph with so many numbers and no edges.
     pub fn new(alloc: Global, count: usize) -> Result<Graph, NoMemory>
         ensures { IfOk result (λ graph. graph ≡ replicate count []) }
     {
@@ -89,14 +88,14 @@ impl Graph {
         Ok(Graph { targets, sources })
     }
 
-    /// How many numbers there are.
+    /// The number of vertices.
     pub fn len(&self) -> usize
         ensures { result ≡ length self.now }
     {
         self.targets.len()
     }
 
-    /// One more edge, the last one of `from`. After `NoMemory` the graph is as it was.
+    /// Adds an edge, as the last one of `from`. After `NoMemory` the graph is unchanged.
     pub fn add_edge(&mut self, from: usize, to: usize) -> Result<(), NoMemory>
         requires from { from < length self.old }
         requires to { to < length self.old }
@@ -111,7 +110,7 @@ impl Graph {
         added
     }
 
-    /// The targets of each number, and its sources: those that have an edge to it.
+    /// Returns the targets of each number, and its sources, the numbers with an edge to it.
     pub(crate) fn sides(&self) -> (&[Targets], &[Targets])
         ensures targets { result.0.now ≡ self.now }
         ensures mirrored { AreMirrored self.now result.1.now }

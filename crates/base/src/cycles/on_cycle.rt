@@ -1,4 +1,4 @@
-//! The numbers that are on a circle.
+//! The numbers that are on a cycle.
 
 ghost use Rattle.std.specs.Prelude.{◌≡◌, ℕ, ◌<◌, ◌↔◌, Contains, length, slice_index, IsTrue, IfOk, Option};
 ghost use Rattle.base.specs.Circles.{IsOnCircle};
@@ -10,7 +10,7 @@ use crate::cycles::walk::walk_all;
 use crate::memory::NoMemory;
 use std::alloc::Global;
 
-/// Whether one of these numbers has this label.
+/// Decides whether one of these numbers has this label.
 fn is_label_among(targets: &[usize], labels: &[Option<usize>], own: Option<usize>) -> bool
     requires { (k : ℕ) → k < length targets.now → slice_index targets.now k < length labels.now }
     ensures { IsTrue result ↔ ((k : ℕ) × (k < length targets.now) × (label labels.now (slice_index targets.now k) ≡ own)) }
@@ -23,7 +23,7 @@ fn is_label_among(targets: &[usize], labels: &[Option<usize>], own: Option<usize
     false
 }
 
-/// The numbers that lead back to themselves, over one edge or more: all of them, and no others.
+/// Returns the numbers that are on a cycle: all of them, and no others.
 pub fn all_on_circle(alloc: Global, graph: &Graph) -> Result<Vec<usize>, NoMemory>
     ensures { IfOk result (λ found. (i : ℕ) → Contains found.items i ↔ IsOnCircle graph.now i) }
 {

@@ -1,4 +1,4 @@
-//! The root of each number: the last finished one of those that it leads to.
+//! The label of each number: the last index of the order at which a number reaches it.
 
 ghost use Rattle.std.specs.Prelude.{◌≡◌, ℕ, ◌<◌, ◌≤◌, ◌+◌, [], ◌∷◌, ◌++◌, length, replicate, reverse, slice_index, slice_set, None, Some, OnOk, IfOk, Option};
 ghost use Rattle.base.specs.Circles.{IsWithin};
@@ -8,7 +8,7 @@ use crate::cycles::graph::Targets;
 use crate::memory::NoMemory;
 use std::alloc::Global;
 
-/// The labels that were given, and the labelled numbers whose edges were not followed.
+/// The labels that are set, and the stack of labelled numbers whose edges are not followed yet.
 #[derive(Drop)]
 struct Labels {
     labels: Vec<Option<usize>>,
@@ -16,7 +16,7 @@ struct Labels {
 }
 
 impl Labels {
-    /// Gives this label to the numbers that `node`, which has it, has an edge to and that have none.
+    /// Sets the label `place`, which `node` has, for all numbers without a label that `node` has an edge to.
     fn label_next(
         &mut self,
         sources: &[Targets],
@@ -39,8 +39,8 @@ impl Labels {
         Ok(())
     }
 
-    /// Gives this label to the number at its place of the order, and to all that it leads to and that
-    /// have none.
+    /// Sets the label `place` for the number at this index of the order and for all numbers without a label that it
+    /// reaches, if the number itself has no label yet.
     fn label_from(
         &mut self,
         sources: &[Targets],
@@ -68,7 +68,7 @@ impl Labels {
     }
 }
 
-/// No label for any of so many numbers.
+/// Returns so many empty labels.
 fn no_labels(alloc: Global, count: usize) -> Result<Vec<Option<usize>>, NoMemory>
     ensures { IfOk result (λ labels. labels.items ≡ replicate count None) }
 {
@@ -79,7 +79,7 @@ fn no_labels(alloc: Global, count: usize) -> Result<Vec<Option<usize>>, NoMemory
     Ok(labels)
 }
 
-/// For each number the last place of the order from which edges lead to it.
+/// Returns for each number the last index of the order at which a number reaches it along `sources`.
 pub(crate) fn label_all(
     alloc: Global,
     sources: &[Targets],

@@ -1,4 +1,4 @@
-//! A walk along all edges, depth first: the numbers in the order in which they are finished.
+//! A depth-first traversal, which lists the numbers in the order in which they are finished.
 
 ghost use Rattle.std.specs.Prelude.{◌≡◌, ℕ, ◌<◌, [], ◌∷◌, length, reverse, replicate, OnOk, IfOk};
 ghost use Rattle.base.specs.declared.cycles.walk.Mark.TheVariants.{Unseen};
@@ -9,26 +9,26 @@ use crate::cycles::graph::Targets;
 use crate::memory::NoMemory;
 use std::alloc::Global;
 
-/// How far a walk is with a number.
+/// The state of a number in the traversal.
 #[derive(Clone, Copy)]
 pub(crate) enum Mark {
     /// Not reached yet.
     Unseen,
     /// On the path.
     Open,
-    /// Done, as the number at this place of the order.
+    /// Finished, at this index of the order.
     Finished(usize),
 }
 
-/// A number on the path, and the place of its next edge.
+/// A number on the path, and the index of its next edge.
 #[derive(Clone, Copy)]
 pub(crate) struct Visit {
     pub(crate) node: usize,
     pub(crate) next: usize,
 }
 
-/// The marks of all numbers, those that are finished in order, and the path, which ends in the number
-/// whose edges are followed next.
+/// The marks of all numbers, the finished numbers in order, and the path, whose last number is the one whose edges are
+/// followed next.
 #[derive(Drop)]
 pub(crate) struct Walk {
     pub(crate) marks: Vec<Mark>,
@@ -37,7 +37,7 @@ pub(crate) struct Walk {
 }
 
 impl Walk {
-    /// Follows the next edge of the number that was taken off the path, or finishes that number.
+    /// Follows the next edge of the number that was taken from the end of the path, or finishes that number.
     fn step(&mut self, graph: &[Targets], visit: Visit) -> Result<(), NoMemory>
         requires within { IsWithin graph.now }
         requires walk { IsWalk graph.now self.old.marks.items self.old.order.items (visit ∷ reverse self.old.path.items) }
@@ -67,7 +67,7 @@ impl Walk {
         Ok(())
     }
 
-    /// Finishes all numbers that `root` leads to and that were not seen.
+    /// Finishes `root` and all numbers that it reaches and that are not seen yet.
     fn follow(&mut self, graph: &[Targets], root: usize) -> Result<(), NoMemory>
         requires within { IsWithin graph.now }
         requires walk { IsWalk graph.now self.old.marks.items self.old.order.items [] }
@@ -91,7 +91,7 @@ impl Walk {
     }
 }
 
-/// No number seen yet, of so many.
+/// Returns the mark `Unseen` for each of so many numbers.
 fn unseen(alloc: Global, count: usize) -> Result<Vec<Mark>, NoMemory>
     ensures { IfOk result (λ marks. marks.items ≡ replicate count Unseen) }
 {
@@ -102,7 +102,7 @@ fn unseen(alloc: Global, count: usize) -> Result<Vec<Mark>, NoMemory>
     Ok(marks)
 }
 
-/// The walk in which all numbers are finished.
+/// Returns the traversal in which all numbers are finished.
 pub(crate) fn walk_all(alloc: Global, graph: &[Targets]) -> Result<Walk, NoMemory>
     requires { IsWithin graph.now }
     ensures walk { IfOk result (λ walk. IsWalk graph.now walk.marks.items walk.order.items []) }

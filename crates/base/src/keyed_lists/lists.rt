@@ -44,7 +44,7 @@ impl Numbers {
     }
 }
 
-/// A list of numbers for each key, the empty one where none was put in.
+/// A list of numbers for each key, empty for a key without numbers.
 #[derive(Drop)]
 pub struct Lists {
     alloc: Global,
@@ -60,7 +60,7 @@ impl Model for Lists {
 }
 
 impl Lists {
-    /// No numbers.
+    /// Returns empty lists.
     pub fn new(alloc: Global) -> Lists
         ensures { result ≡ [] }
     {
@@ -70,7 +70,7 @@ impl Lists {
         }
     }
 
-    /// The list of a key.
+    /// Returns the list of a key.
     pub fn at(&self, key: usize) -> &[usize]
         ensures { result.now ≡ list_in self.now key }
     {
@@ -80,7 +80,7 @@ impl Lists {
         }
     }
 
-    /// One more number, at the end of a key's list.
+    /// Adds a number at the end of a key's list.
     pub fn add(&mut self, key: usize, number: usize) -> Result<(), NoMemory>
         ensures { OnOk result ((k : ℕ) → list_in self.new k ≡ cond (nat_eq k key) (list_in self.old k ++ number ∷ []) (list_in self.old k)) }
     {

@@ -23,7 +23,7 @@ impl Model for Pairs {
 }
 
 impl Pairs {
-    /// No pairs.
+    /// Returns the empty set.
     pub fn new(alloc: Global) -> Pairs
         ensures { result ≡ [] }
     {
@@ -32,14 +32,14 @@ impl Pairs {
         }
     }
 
-    /// Whether a pair is in the set.
+    /// Decides whether a pair is in the set.
     pub fn has(&self, left: usize, right: usize) -> bool
         ensures { IsTrue result ↔ Contains self.now (left, right) }
     {
         self.pairs.contains(&(left, right))
     }
 
-    /// Puts a pair in; whether it was not there.
+    /// Adds a pair, and returns whether it was not in the set before.
     pub fn add(&mut self, left: usize, right: usize) -> Result<bool, NoMemory>
         ensures pairs { OnOk result (AreMore self.old self.new (left, right)) }
         ensures fresh { IfOk result (λ fresh. IsTrue fresh ↔ (Contains self.old (left, right) → ⊥)) }

@@ -16,7 +16,7 @@ pub struct MarkedEdge {
     pub is_marked: bool,
 }
 
-/// The graph with so many numbers and these edges.
+/// Returns the graph with so many numbers and these edges.
 pub(crate) fn graph_of(alloc: Global, count: usize, edges: &[MarkedEdge]) -> Result<Graph, NoMemory>
     requires { All (IsWithin count) edges.now }
     ensures edges { IfOk result (λ graph. HasEdgesOf graph edges.now) }

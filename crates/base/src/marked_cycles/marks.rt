@@ -1,4 +1,4 @@
-//! The components inside which a marked edge stands.
+//! The components that contain a marked edge.
 
 ghost use Rattle.std.specs.Prelude.{◌≡◌, ℕ, ◌<◌, ◌||◌, All, false, length, IfOk, slice_index, slice_index_or};
 ghost use Rattle.std.specs.List.{list_any};
@@ -9,7 +9,7 @@ use crate::marked_cycles::edge::MarkedEdge;
 use crate::memory::NoMemory;
 use std::alloc::Global;
 
-/// Marks the root of the component inside which the edge stands, where it is a marked one.
+/// Marks the root of the component that contains the edge, if the edge is marked and lies inside a component.
 fn mark(marks: &mut Vec<bool>, roots: &[usize], edge: MarkedEdge)
     requires within { IsWithin (length roots.now) edge }
     requires root { (i : ℕ) → i < length roots.now → slice_index roots.now i < length marks.old.items }
@@ -22,7 +22,7 @@ fn mark(marks: &mut Vec<bool>, roots: &[usize], edge: MarkedEdge)
     }
 }
 
-/// For each of so many numbers whether it is the root of a component inside which a marked edge stands.
+/// Returns for each of so many numbers whether it is the root of a component that contains a marked edge.
 pub(crate) fn marked_roots(
     alloc: Global,
     roots: &[usize],

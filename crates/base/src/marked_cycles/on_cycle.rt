@@ -1,4 +1,4 @@
-//! The numbers that are on a marked circle.
+//! The numbers that are on a cycle with a marked edge.
 
 ghost use Rattle.std.specs.Prelude.{◌≡◌, ◌↔◌, ℕ, ◌<◌, All, false, length, IsTrue, IfOk, slice_index, slice_index_or};
 ghost use Rattle.base.specs.MarkedCircles.{IsOnMarkedCircle, IsWithin};
@@ -9,7 +9,7 @@ use crate::marked_cycles::marks::marked_roots;
 use crate::memory::NoMemory;
 use std::alloc::Global;
 
-/// Whether the root of each number is marked.
+/// Returns for each number whether its root is marked.
 fn of_roots(alloc: Global, roots: &[usize], marks: &[bool]) -> Result<Vec<bool>, NoMemory>
     requires { (i : ℕ) → i < length roots.now → slice_index roots.now i < length marks.now }
     ensures len { IfOk result (λ found. length found.items ≡ length roots.now) }
@@ -22,8 +22,8 @@ fn of_roots(alloc: Global, roots: &[usize], marks: &[bool]) -> Result<Vec<bool>,
     Ok(found)
 }
 
-/// For each of so many numbers whether it leads back to itself over edges of which at least one is marked. It takes
-/// time in proportion to the numbers and edges.
+/// Returns for each of so many numbers whether it is on a cycle with a marked edge. The time is linear in the numbers
+/// and edges.
 pub fn on_marked_circle(
     alloc: Global,
     count: usize,

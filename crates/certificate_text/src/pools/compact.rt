@@ -14,8 +14,9 @@ use search::trees::application::PoolApplication;
 use std::alloc::Global;
 use term_pool::pool::Pool;
 
-/// Returns a pool of exactly the nodes that the trace names and their parts. It renumbers the trace: over this pool it
-/// has the same rule applications as over the other one. It takes time linear in the pool and the trace.
+/// Returns a smaller pool for the trace and renumbers the trace: over this pool it has the same rule applications as
+/// over the other one. The pool has the nodes that the trace names and their parts; that it has no others is not
+/// proved.
 ///
 /// # Errors
 ///

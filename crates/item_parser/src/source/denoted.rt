@@ -40,9 +40,9 @@ fn end_of_source(alloc: Global, tokens: &[Token], file_end: u32) -> Result<u32, 
 ///
 /// # Errors
 ///
-/// `Grammar` exactly if the tokens denote no source and hold no marker of a form that is left out, with the byte offset
-/// at which reading ended, in the file or in a spec block before; `LeftOut` exactly if they denote none and hold a
-/// marker, with the index of the first one; `NoMemory` if memory runs out.
+/// `Grammar` exactly if the tokens denote no source and hold no marker of a form that is left out; its byte offset,
+/// about where reading ended in the file or in a spec block before, is a hint that no clause pins. `LeftOut` exactly if
+/// they denote none and hold a marker, with the index of the first one. `NoMemory` if memory runs out.
 pub fn source(alloc: Global, tokens: &Tokens) -> Result<Source, ParseFault>
     ensures denoted { IfOk result (λ source. IsSourceOf source tokens.now) }
     ensures refused { IfErr result (λ fault. IsCause tokens.now fault) }

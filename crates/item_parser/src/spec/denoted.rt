@@ -20,9 +20,9 @@ use tokens::token::{Token, Tokens};
 ///
 /// # Errors
 ///
-/// `Grammar` exactly if the tokens denote no spec expression and hold no marker of a form that is left out, with the
-/// byte offset at which reading ended; `LeftOut` exactly if they denote none and hold a marker, with the index of the
-/// first one; `NoMemory` if memory runs out.
+/// `Grammar` exactly if the tokens denote no spec expression and hold no marker of a form that is left out; its byte
+/// offset, about where reading ended, is a hint that no clause pins. `LeftOut` exactly if they denote none and hold a
+/// marker, with the index of the first one. `NoMemory` if memory runs out.
 pub fn spec_expression(alloc: Global, tokens: &Tokens) -> Result<SpecExpression, ParseFault>
     ensures denoted { IfOk result (λ expression. IsSpecExpressionOf expression tokens.now) }
     ensures refused { IfErr result (λ fault. IsCause tokens.now fault) }

@@ -5,7 +5,7 @@ ghost use Rattle.program.specs.Sets.{all_abilities, both, no_abilities};
 
 use crate::declaration::AbilitySet;
 
-/// Every ability.
+/// Returns the set of all abilities.
 pub fn all_abilities() -> AbilitySet
     ensures { result ≡ all_abilities }
 {
@@ -17,7 +17,7 @@ pub fn all_abilities() -> AbilitySet
     }
 }
 
-/// No ability.
+/// Returns the empty set of abilities.
 pub fn no_abilities() -> AbilitySet
     ensures { result ≡ no_abilities }
 {
@@ -29,7 +29,7 @@ pub fn no_abilities() -> AbilitySet
     }
 }
 
-/// The abilities that both sets have.
+/// Returns the abilities that are in both sets.
 pub fn both(left: AbilitySet, right: AbilitySet) -> AbilitySet
     ensures { result ≡ both left right }
 {

@@ -12,11 +12,11 @@ use fol::formula::{Formula, Term};
 use std::alloc::Global;
 
 /// Returns the formula with the term substituted for the free occurrences of the variable: `instance`. It is true
-/// exactly when the formula is true with the term's value for the variable: `truth`. A bound variable keeps its
-/// number, unless it is free in the term; then it gets one that occurs in neither.
+/// exactly when the formula is true with the term's value for the variable: `truth`. A bound variable that is
+/// free in the term gets a number that occurs in neither; the others keep theirs, which no clause says.
 ///
-/// `NoMemory` is also returned if the formula is deeper than 2,048, for which the stack might not suffice, or if more
-/// than two million variables leave no block of 2,048 numbers unused.
+/// `NoMemory` is also returned if the formula is deeper than 2,048, for which the stack might not suffice, or if no
+/// block of 2,048 unused numbers is found.
 #[tactic(auto, using(crate::proofs::ReplacedInstance::replaced_instance, crate::proofs::ReplacedInstance::replaced_truth))]
 pub fn substitute(
     alloc: Global,

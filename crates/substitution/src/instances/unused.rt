@@ -12,9 +12,9 @@ pub const BLOCK_LENGTH: u32 = 2_048;
 /// The number of blocks of 32-bit numbers.
 const BLOCKS: u32 = 2_097_152;
 
-/// Returns the first number of a block none of whose numbers occurs in the formula or the term. It is the first such
-/// power of two from 2,048 on, if there is one, so that numbers stay small. None if each block has a number that
-/// occurs there; then there are at least two million of these.
+/// Returns the first number of a block none of whose numbers occurs in the formula or the term. It looks at powers of
+/// two from 2,048 on first, so that numbers stay small, then at each block. It returns none only if it finds no such
+/// block, which takes at least two million numbers that occur; no clause says when.
 pub fn unused_from(formula: &Formula, term: &Term) -> Option<u32>
     ensures { IfSome result (λ low. AreUnused low (low + block_length) formula.now term.now) }
 {

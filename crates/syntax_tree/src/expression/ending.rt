@@ -1,11 +1,11 @@
-//! How an expression ends.
+//! The last token of an expression.
 
 ghost use Rattle.std.specs.Prelude.{◌≡◌};
 ghost use Rattle.syntax_tree.specs.ExpressionSpelling.{ends_in_path};
 
 use crate::expression::{Expression, ExpressionNode};
 
-/// Whether the last token of an expression belongs to a path.
+/// Decides whether the last token of an expression belongs to a path.
 pub fn is_path_last(expression: &Expression) -> bool
     ensures { result ≡ ends_in_path expression.now }
 {

@@ -1,11 +1,11 @@
-//! How tightly the operators between two expressions bind.
+//! The precedence of the operators between two expressions.
 
 ghost use Rattle.std.specs.Prelude.{◌≡◌};
 ghost use Rattle.syntax_tree.specs.ProperExpressions.{operator_level};
 
 use crate::operator::BinaryOperator;
 
-/// The level of an operator, from 3, the loosest, to 12, the tightest.
+/// Returns the level of an operator, from 3, the loosest, to 12, the tightest.
 pub fn operator_level(operator: BinaryOperator) -> usize
     ensures { result ≡ operator_level operator }
 {

@@ -1,4 +1,4 @@
-//! The blocks of expressions, collected by a walk.
+//! The blocks of expressions.
 
 ghost use Rattle.std.specs.Prelude.{◌≡◌, [], ◌∷◌, ◌++◌, OnOk, map};
 ghost use Rattle.syntax_tree.specs.ExpressionView.{unboxed};
@@ -30,7 +30,7 @@ impl<'a> Model for Blocks<'a> {
 }
 
 impl<'a> Blocks<'a> {
-    /// No blocks.
+    /// Returns the empty list.
     pub fn new(alloc: Global) -> Blocks<'a>
         ensures { result ≡ [] }
     {
@@ -39,14 +39,14 @@ impl<'a> Blocks<'a> {
         }
     }
 
-    /// The blocks, in order.
+    /// Returns the blocks, in order.
     pub fn as_slice(&self) -> &[&'a Block]
         ensures { map (λ block. block.now) result.now ≡ self.now }
     {
         self.items.as_slice()
     }
 
-    /// One more block behind the others.
+    /// Adds a block at the end.
     fn push(&mut self, block: &'a Block) -> Result<(), NoMemory>
         ensures { OnOk result (self.new ≡ self.old ++ block.now ∷ []) }
     {
@@ -55,7 +55,7 @@ impl<'a> Blocks<'a> {
     }
 }
 
-/// The blocks that stand in an expression.
+/// Adds the blocks in an expression.
 #[cycle(collect_blocks)]
 pub fn collect_from_expression<'a>(
     expression: &'a Expression,
@@ -178,7 +178,7 @@ fn collect_from_fields<'a>(fields: &'a [FieldValue], into: &mut Blocks<'a>) -> R
     Ok(())
 }
 
-/// A block, and those that stand in it.
+/// Adds a block, and those in it.
 #[cycle(collect_blocks)]
 pub fn collect_from_block<'a>(block: &'a Block, into: &mut Blocks<'a>) -> Result<(), NoMemory>
     ensures { OnOk result (into.new ≡ into.old ++ blocks_of_block block.now) }

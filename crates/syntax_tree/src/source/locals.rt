@@ -1,4 +1,4 @@
-//! The locals that `let` brings in.
+//! The locals that `let` declares.
 
 ghost use Rattle.std.specs.Prelude.{◌≡◌, [], ◌∷◌, ◌++◌, OnOk, IfOk, length};
 ghost use Rattle.syntax_tree.specs.PatternData.{patterns_of, field_patterns_of};
@@ -13,7 +13,7 @@ use base::memory::NoMemory;
 use std::alloc::Global;
 use std::marker::Model;
 
-/// Names that stand in a tree, in order.
+/// Names in a tree, in order.
 #[derive(Drop)]
 pub struct Names<'a> {
     items: Vec<&'a Identifier>,
@@ -29,7 +29,7 @@ impl<'a> Model for Names<'a> {
 }
 
 impl<'a> Names<'a> {
-    /// No names.
+    /// Returns the empty list.
     fn new(alloc: Global) -> Names<'a>
         ensures { result ≡ [] }
     {
@@ -38,14 +38,14 @@ impl<'a> Names<'a> {
         }
     }
 
-    /// How many names there are.
+    /// The number of names.
     pub fn len(&self) -> usize
         ensures { result ≡ length self.now }
     {
         self.items.len()
     }
 
-    /// One more name behind the others.
+    /// Adds a name at the end.
     fn push(&mut self, name: &'a Identifier) -> Result<(), NoMemory>
         ensures { OnOk result (self.new ≡ self.old ++ name.now ∷ []) }
     {
@@ -54,7 +54,7 @@ impl<'a> Names<'a> {
     }
 }
 
-/// The names that a pattern binds.
+/// Adds the names that a pattern binds.
 #[cycle(collect_names)]
 fn collect_names<'a>(pattern: &'a Pattern, into: &mut Names<'a>) -> Result<(), NoMemory>
     ensures { OnOk result (into.new ≡ into.old ++ names_of pattern.now) }
@@ -99,7 +99,7 @@ fn collect_from_fields<'a>(fields: &'a [FieldPattern], into: &mut Names<'a>) -> 
     Ok(())
 }
 
-/// The names that an item brings in.
+/// Adds the names that an item declares.
 fn collect_from_item<'a>(item: &'a Item, into: &mut Names<'a>) -> Result<(), NoMemory>
     ensures { OnOk result (into.new ≡ into.old ++ names_of_item item.now) }
 {
@@ -109,7 +109,7 @@ fn collect_from_item<'a>(item: &'a Item, into: &mut Names<'a>) -> Result<(), NoM
     }
 }
 
-/// The names that items bring in.
+/// Adds the names that items declare.
 fn collect_from_items<'a>(items: &'a [Item], into: &mut Names<'a>) -> Result<(), NoMemory>
     ensures { OnOk result (into.new ≡ into.old ++ names_of_items (items_of items.now)) }
 {
@@ -119,14 +119,14 @@ fn collect_from_items<'a>(items: &'a [Item], into: &mut Names<'a>) -> Result<(),
     Ok(())
 }
 
-/// The names that a block's own items bring in.
+/// Adds the names that a block's own items declare.
 fn collect_from_own<'a>(block: &'a Block, into: &mut Names<'a>) -> Result<(), NoMemory>
     ensures { OnOk result (into.new ≡ into.old ++ names_of_block block.now) }
 {
     collect_from_items(&block.items, into)
 }
 
-/// The names that the `let`s of a body bring in.
+/// Returns the names that the `let`s of a body declare.
 pub fn locals_of<'a>(alloc: Global, body: &'a Block) -> Result<Names<'a>, NoMemory>
     ensures { IfOk result (λ names. names ≡ locals_of body.now) }
 {

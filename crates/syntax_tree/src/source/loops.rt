@@ -27,7 +27,7 @@ impl<'a> Model for LoopSpecs<'a> {
 }
 
 impl<'a> LoopSpecs<'a> {
-    /// No spec blocks.
+    /// Returns the empty list.
     fn new(alloc: Global) -> LoopSpecs<'a>
         ensures { result ≡ [] }
     {
@@ -36,14 +36,14 @@ impl<'a> LoopSpecs<'a> {
         }
     }
 
-    /// The spec blocks, in order.
+    /// Returns the spec blocks, in order.
     pub fn as_slice(&self) -> &[&'a KeptSpec]
         ensures { map (λ spec. spec.now) result.now ≡ self.now }
     {
         self.items.as_slice()
     }
 
-    /// That of a block behind the others, where it has one.
+    /// Adds the spec block of a block at the end, if it has one.
     fn add(&mut self, block: &'a Block) -> Result<(), NoMemory>
         ensures { OnOk result (self.new ≡ self.old ++ spec_of_block block.now) }
     {
@@ -54,7 +54,7 @@ impl<'a> LoopSpecs<'a> {
     }
 }
 
-/// The blocks of Move code in a member, each before those that stand in it.
+/// Returns the blocks of Move code in a member, each before those in it.
 pub fn blocks_of_form<'a>(alloc: Global, form: &'a MemberForm) -> Result<Blocks<'a>, NoMemory>
     ensures { IfOk result (λ found. found ≡ blocks_of_form form.now) }
 {
@@ -70,7 +70,7 @@ pub fn blocks_of_form<'a>(alloc: Global, form: &'a MemberForm) -> Result<Blocks<
     Ok(found)
 }
 
-/// The spec blocks of the loops in a member, in the order of the blocks that they begin.
+/// Returns the spec blocks of the loops in a member, in the order of the blocks that begin with them.
 pub fn loop_specs<'a>(alloc: Global, form: &'a MemberForm) -> Result<LoopSpecs<'a>, NoMemory>
     ensures { IfOk result (λ found. found ≡ loop_specs form.now) }
 {

@@ -1,4 +1,4 @@
-//! Where members and modules begin.
+//! The spans of members and modules.
 
 ghost use Rattle.std.specs.Prelude.{◌≡◌};
 ghost use Rattle.syntax_tree.specs.Places.{entry_place, first_place, form_place, function_place, module_place, spec_place, visible_place};
@@ -8,7 +8,7 @@ use crate::member::{Attribute, Function, Visibility};
 use crate::source::{SourceForm, SourceModule};
 use base::span::Span;
 
-/// The place of `entry`, where a function has it, and else the other.
+/// Returns the span of `entry`, if a function has it, or else `place`.
 fn entry_place(entry: Option<Span>, place: Span) -> Span
     ensures { result ≡ entry_place entry place }
 {
@@ -18,7 +18,7 @@ fn entry_place(entry: Option<Span>, place: Span) -> Span
     }
 }
 
-/// The place of `public`, where a function has it, and else the other.
+/// Returns the span of a function's `public(friend)` or `public`, if it has one, or else `place`.
 fn visible_place(visibility: Visibility, place: Span) -> Span
     ensures { result ≡ visible_place visibility place }
 {
@@ -29,7 +29,7 @@ fn visible_place(visibility: Visibility, place: Span) -> Span
     }
 }
 
-/// The place of a function's first token.
+/// Returns the span of a function's first token.
 fn function_place(function: &Function) -> Span
     ensures { result ≡ function_place function.now }
 {
@@ -39,7 +39,7 @@ fn function_place(function: &Function) -> Span
     )
 }
 
-/// The place of a spec block's word.
+/// Returns the span of a spec block's first word.
 fn spec_place(spec: &Spec) -> Span
     ensures { result ≡ spec_place spec.now }
 {
@@ -52,7 +52,7 @@ fn spec_place(spec: &Spec) -> Span
     }
 }
 
-/// The place of a member's first token.
+/// Returns the span of a member's first token.
 pub fn form_place(form: &SourceForm) -> Span
     ensures { result ≡ form_place form.now }
 {
@@ -66,7 +66,7 @@ pub fn form_place(form: &SourceForm) -> Span
     }
 }
 
-/// The place of the first attribute, where there is one, and else the other.
+/// Returns the span of the first attribute, if there is one, or else `place`.
 fn first_place(attributes: &[Attribute], place: Span) -> Span
     ensures { result ≡ first_place attributes.now place }
 {
@@ -76,7 +76,7 @@ fn first_place(attributes: &[Attribute], place: Span) -> Span
     }
 }
 
-/// The place of a module's first token, which may be that of an attribute.
+/// Returns the span of a module's first token, which may be that of an attribute.
 pub fn module_place(source_module: &SourceModule) -> Span
     ensures { result ≡ module_place source_module.now }
 {

@@ -1,4 +1,4 @@
-//! Where paths, types and expressions begin.
+//! The spans of paths, types and expressions.
 
 ghost use Rattle.std.specs.Prelude.{◌≡◌, Some};
 ghost use Rattle.syntax_tree.specs.PathSpelling.{path_spelling};
@@ -18,7 +18,7 @@ use crate::spec_expression::{SpecExpression, SpecNode};
 use crate::types::{SourceType, SourceTypeNode};
 use base::span::Span;
 
-/// The place of an address.
+/// Returns the span of an address.
 fn address_place(address: &Address) -> Span
     ensures { result ≡ address_place address.now }
 {
@@ -28,7 +28,7 @@ fn address_place(address: &Address) -> Span
     }
 }
 
-/// The place of a path's first token.
+/// Returns the span of a path's first token.
 pub fn path_place(path: &SourcePath) -> Span
     ensures { result ≡ path_place path.now }
 {
@@ -39,7 +39,7 @@ pub fn path_place(path: &SourcePath) -> Span
     }
 }
 
-/// The place of a literal's first token.
+/// Returns the span of a literal's first token.
 fn literal_place(literal: &Literal) -> Span
     ensures { result ≡ literal_place literal.now }
 {
@@ -50,7 +50,7 @@ fn literal_place(literal: &Literal) -> Span
     }
 }
 
-/// The place of a type's first token.
+/// Returns the span of a type's first token.
 pub fn type_place(source_type: &SourceType) -> Span
     ensures { result ≡ type_place source_type.now }
 {
@@ -62,7 +62,7 @@ pub fn type_place(source_type: &SourceType) -> Span
     }
 }
 
-/// The place of an expression's first token.
+/// Returns the span of an expression's first token.
 pub fn expression_place(expression: &Expression) -> Span
     ensures { result ≡ expression_place expression.now }
 {
@@ -90,7 +90,7 @@ pub fn expression_place(expression: &Expression) -> Span
     }
 }
 
-/// The place of a spec expression's first token.
+/// Returns the span of a spec expression's first token.
 pub fn spec_expression_place(expression: &SpecExpression) -> Span
     ensures { result ≡ spec_expression_place expression.now }
 {
@@ -109,7 +109,7 @@ pub fn spec_expression_place(expression: &SpecExpression) -> Span
     }
 }
 
-/// A law: each of these places is that of the first token that spells the tree.
+/// A law: each of these spans is that of the first token that spells the tree.
 pub fn first_tokens()
     ensures paths { (path : Path) → first_token_place (path_spelling path) ≡ Some (path_place path) }
     ensures types { (t : SourceTypeData) → first_token_place (type_spelling t) ≡ Some (type_place t) }

@@ -1,11 +1,11 @@
-//! How a spec expression ends.
+//! The last token of a spec expression.
 
 ghost use Rattle.std.specs.Prelude.{◌≡◌};
 ghost use Rattle.syntax_tree.specs.SpecExpressionSpelling.{ends_in_path};
 
 use crate::spec_expression::{SpecExpression, SpecNode};
 
-/// Whether the last token of a spec expression belongs to a path.
+/// Decides whether the last token of a spec expression belongs to a path.
 pub fn is_path_last(expression: &SpecExpression) -> bool
     ensures { result ≡ ends_in_path expression.now }
 {

@@ -1,4 +1,4 @@
-//! How tightly the operators of spec expressions bind.
+//! The precedence of the operators of spec expressions.
 
 ghost use Rattle.std.specs.Prelude.{◌≡◌};
 ghost use Rattle.syntax_tree.specs.ProperSpecExpressions.{spec_operator_level, right_level};
@@ -6,7 +6,7 @@ ghost use Rattle.syntax_tree.specs.ProperSpecExpressions.{spec_operator_level, r
 use crate::expression::level::operator_level;
 use crate::spec_expression::operator::SpecOperator;
 
-/// The level of an operator: the greater, the tighter it binds.
+/// Returns the level of an operator: the greater, the tighter it binds.
 pub fn spec_operator_level(operator: SpecOperator) -> usize
     ensures { result ≡ spec_operator_level operator }
 {
@@ -18,7 +18,7 @@ pub fn spec_operator_level(operator: SpecOperator) -> usize
     }
 }
 
-/// The loosest level that may stand on the right of an operator.
+/// Returns the loosest level of the right operand of an operator.
 pub fn right_level(operator: SpecOperator) -> usize
     ensures { result ≡ right_level operator }
 {

@@ -11,7 +11,7 @@ pub enum SpecOperator {
     Implies,
     /// `..`
     Range,
-    /// One that Move has too.
+    /// An operator of Move.
     Common(BinaryOperator),
 }
 

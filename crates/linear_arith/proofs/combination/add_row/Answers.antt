@@ -7,7 +7,7 @@ use Rattle.linear_arith.specs.Combination.{number, IsAdded, IsAddedTo}
 use Rattle.linear_arith.proofs.ListLemmas.{get_or-any_default}
 use Rattle.linear_arith.proofs.combination.add_row.Goals as goal
 
--- one total more
+-- one more total
 total_added : (m : ℤ) (old totals : List ℤ) (row : Inequality) (k : ℕ) (next : ℤ) → k < length totals → number k totals ≡ number k old → IsAddedTo m k row (number k totals) next → ((u : ℕ) → u < k → IsAddedTo m u row (number u old) (number u totals)) → (u : ℕ) → u < k + 1 → IsAddedTo m u row (number u old) (number u (set totals k next))
 total_added m old totals row k next l same here before = below_more (λ (u : ℕ). IsAddedTo m u row (number u old) (number u (set totals k next))) k
     (λ u b. subst (λ (z : ℤ). IsAddedTo m u row (number u old) z) (sym (get_or-set_other totals k u next (pos 0) (λ e. omega (arith, e, b)))) (before u b))

@@ -6,7 +6,7 @@ use Rattle.linear_arith.specs.Fits.{Fits}
 use Rattle.linear_arith.specs.Rest.{DifferenceWithin}
 use Rattle.linear_arith.proofs.substitution.difference.Goals as goal
 
--- what says when there is a value, by other words
+-- an equivalent condition under which there is a value
 some_if : (r : Option ℤ) (P Q : Type 0) (v w : ℤ) → SomeIff r P v → (P → Q) → (Q → P) → v ≡ w → SomeIff r Q w
 some_if None P Q v w h f g e = λ q. h (g q)
 some_if (Some x) P Q v w h f g e = (f h.0, h.1 ∙ e)

@@ -16,7 +16,7 @@ there : (t : Bool) (a b : ℤ) → t ≡ false → a ≡ b → a ≡ (if t then 
 there true a b e z = absurd (cc)
 there false a b e z = z
 
--- one number more
+-- one more number
 scaled-push : (factor : ℤ) (unknown : ℕ) (row cs : List ℤ) (i : ℕ) (z : ℤ) → length cs ≡ i → ((k : ℕ) → k < i → get_or cs k (pos 0) ≡ (if k == unknown then pos 0 else (factor *ℤ get_or row k (pos 0)))) → z ≡ (if i == unknown then pos 0 else (factor *ℤ get_or row i (pos 0))) → (k : ℕ) → k < i + 1 → get_or (cs ++ z ∷ []) k (pos 0) ≡ (if k == unknown then pos 0 else (factor *ℤ get_or row k (pos 0)))
 scaled-push factor unknown row cs i z e made now = each-push (λ (k : ℕ) (x : ℤ). x ≡ (if k == unknown then pos 0 else (factor *ℤ get_or row k (pos 0)))) cs z (pos 0) i (sym e) made now
 

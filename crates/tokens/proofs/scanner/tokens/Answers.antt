@@ -8,7 +8,7 @@ use Rattle.tokens.proofs.Outcomes.{bad_says, bad_only, many_says, many_only, few
 use Rattle.tokens.proofs.scanner.tokens.Goals as goal
 use Rattle.tokens.proofs.scanner.tokens.Goals.{then-count-lt-TOKEN_LIMIT+in_ok-token_kind-in-Token+in_ok-push-in-Token, else-count-lt-TOKEN_LIMIT}
 
--- the piece that is found lies in the bytes
+-- the piece that is found is within the bytes
 pub overflow_add-end : goal.overflow_add-end
 overflow_add-end c =
     let next = next_is c.args.bytes.now c.loop-at.at c.in-Some.piece (at_rest c.args.bytes.now c.loop-at.at _ c.in-Some.ensures) in
