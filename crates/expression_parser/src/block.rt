@@ -1,8 +1,8 @@
 //! Readers of blocks and their items.
 
-ghost use Rattle.std.specs.Prelude.{◌≡◌, None, Some, length, MatchResult};
+ghost use Rattle.std.specs.Prelude.{length};
 ghost use Rattle.syntax_tree.specs.ExpressionView.{unboxed};
-ghost use Rattle.parser_base.specs.ReadFault.{IfNoTree};
+ghost use Rattle.parser_base.specs.ReadFault.{Reads};
 ghost use Rattle.expression_parser.specs.ExpressionReading.{body_at, body_block_at, initial_at, let_at, readers, step_at, step_behind, whole_contents_at};
 
 use crate::expression::{read_boxed, read_expression};
@@ -32,7 +32,7 @@ pub fn read_contents(
     tokens: &[Token],
     budget: usize,
 ) -> Result<(Vec<Item>, Option<Expression>, &[Token]), ReadFault>
-    ensures { MatchResult result (λ read. whole_contents_at (readers budget) tokens.now ≡ Some ((read.0.items, read.1), read.2.now)) (λ fault. IfNoTree fault (whole_contents_at (readers budget) tokens.now ≡ None)) }
+    ensures { Reads result (λ read. ((read.0.items, read.1), read.2.now)) (whole_contents_at (readers budget) tokens.now) }
 {
     let mut items = Vec::new(alloc);
     let mut rest = tokens;
@@ -55,7 +55,7 @@ fn read_step(
     tokens: &[Token],
     budget: usize,
 ) -> Result<(BlockStep, &[Token]), ReadFault>
-    ensures { MatchResult result (λ read. step_at (readers budget) tokens.now ≡ Some (read.0, read.1.now)) (λ fault. IfNoTree fault (step_at (readers budget) tokens.now ≡ None)) }
+    ensures { Reads result (λ read. (read.0, read.1.now)) (step_at (readers budget) tokens.now) }
 {
     if let Some(rest) = skip_sign(tokens, Punctuation::RightBrace) {
         return Ok((BlockStep::End(None), rest));
@@ -74,7 +74,7 @@ fn step_behind(
     expression: Box<Expression>,
     tokens: &[Token],
 ) -> Result<(BlockStep, &[Token]), ReadFault>
-    ensures { MatchResult result (λ read. step_behind expression.value tokens.now ≡ Some (read.0, read.1.now)) (λ fault. IfNoTree fault (step_behind expression.value tokens.now ≡ None)) }
+    ensures { Reads result (λ read. (read.0, read.1.now)) (step_behind expression.value tokens.now) }
 {
     if let Some(rest) = skip_sign(tokens, Punctuation::Semicolon) {
         let node = ItemNode::Expression(expression);
@@ -95,7 +95,7 @@ fn read_let(
     tokens: &[Token],
     budget: usize,
 ) -> Result<(Item, &[Token]), ReadFault>
-    ensures { MatchResult result (λ read. let_at (readers budget) place tokens.now ≡ Some (read.0, read.1.now)) (λ fault. IfNoTree fault (let_at (readers budget) place tokens.now ≡ None)) }
+    ensures { Reads result (λ read. (read.0, read.1.now)) (let_at (readers budget) place tokens.now) }
 {
     let (pattern, rest) = read_pattern(alloc, tokens, budget)?;
     let (annotation, rest) = read_annotation(alloc, rest, budget)?;
@@ -118,7 +118,7 @@ fn read_initial(
     tokens: &[Token],
     budget: usize,
 ) -> Result<(Option<Box<Expression>>, &[Token]), ReadFault>
-    ensures { MatchResult result (λ read. initial_at (readers budget) tokens.now ≡ Some (unboxed read.0, read.1.now)) (λ fault. IfNoTree fault (initial_at (readers budget) tokens.now ≡ None)) }
+    ensures { Reads result (λ read. (unboxed read.0, read.1.now)) (initial_at (readers budget) tokens.now) }
 {
     match skip_sign(tokens, Punctuation::Equal) {
         Some(rest) => {
@@ -139,7 +139,7 @@ pub fn read_body(
     tokens: &[Token],
     budget: usize,
 ) -> Result<(Expression, &[Token]), ReadFault>
-    ensures { MatchResult result (λ read. body_at (readers budget) valued tokens.now ≡ Some (read.0, read.1.now)) (λ fault. IfNoTree fault (body_at (readers budget) valued tokens.now ≡ None)) }
+    ensures { Reads result (λ read. (read.0, read.1.now)) (body_at (readers budget) valued tokens.now) }
 {
     let Some((place, rest)) = read_spec_opening(tokens) else {
         return read_expression(alloc, 0, tokens, budget);
@@ -167,7 +167,7 @@ pub fn read_block(
     tokens: &[Token],
     budget: usize,
 ) -> Result<(Block, &[Token]), ReadFault>
-    ensures { MatchResult result (λ read. body_block_at (readers budget) place tokens.now ≡ Some (read.0, read.1.now)) (λ fault. IfNoTree fault (body_block_at (readers budget) place tokens.now ≡ None)) }
+    ensures { Reads result (λ read. (read.0, read.1.now)) (body_block_at (readers budget) place tokens.now) }
 {
     let (items, value, rest) = read_contents(alloc, tokens, budget)?;
     let block = Block {

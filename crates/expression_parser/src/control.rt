@@ -1,7 +1,6 @@
 //! Readers of control forms.
 
-ghost use Rattle.std.specs.Prelude.{◌≡◌, None, Some, MatchResult};
-ghost use Rattle.parser_base.specs.ReadFault.{IfNoTree};
+ghost use Rattle.parser_base.specs.ReadFault.{Reads};
 ghost use Rattle.expression_parser.specs.ExpressionReading.{control_form, if_at, readers, while_at};
 
 use crate::block::read_body;
@@ -24,7 +23,7 @@ pub fn read_control(
     tokens: &[Token],
     budget: usize,
 ) -> Result<(Expression, &[Token]), ReadFault>
-    ensures { MatchResult result (λ read. control_form (readers budget) control place tokens.now ≡ Some (read.0, read.1.now)) (λ fault. IfNoTree fault (control_form (readers budget) control place tokens.now ≡ None)) }
+    ensures { Reads result (λ read. (read.0, read.1.now)) (control_form (readers budget) control place tokens.now) }
 {
     match control {
         Control::If => read_if(alloc, place, tokens, budget),
@@ -70,7 +69,7 @@ fn read_if(
     tokens: &[Token],
     budget: usize,
 ) -> Result<(Expression, &[Token]), ReadFault>
-    ensures { MatchResult result (λ read. if_at (readers budget) place tokens.now ≡ Some (read.0, read.1.now)) (λ fault. IfNoTree fault (if_at (readers budget) place tokens.now ≡ None)) }
+    ensures { Reads result (λ read. (read.0, read.1.now)) (if_at (readers budget) place tokens.now) }
 {
     let rest = expect_sign(tokens, Punctuation::LeftParenthesis)?;
     let (condition, rest) = read_boxed(alloc, 0, rest, budget)?;
@@ -104,7 +103,7 @@ fn read_while(
     tokens: &[Token],
     budget: usize,
 ) -> Result<(Expression, &[Token]), ReadFault>
-    ensures { MatchResult result (λ read. while_at (readers budget) place tokens.now ≡ Some (read.0, read.1.now)) (λ fault. IfNoTree fault (while_at (readers budget) place tokens.now ≡ None)) }
+    ensures { Reads result (λ read. (read.0, read.1.now)) (while_at (readers budget) place tokens.now) }
 {
     let rest = expect_sign(tokens, Punctuation::LeftParenthesis)?;
     let (condition, rest) = read_body(alloc, true, rest, budget)?;

@@ -1,7 +1,6 @@
 //! Readers of expressions: control forms, assignments, and operands joined by operators.
 
-ghost use Rattle.std.specs.Prelude.{◌≡◌, None, Some, MatchResult};
-ghost use Rattle.parser_base.specs.ReadFault.{IfNoTree};
+ghost use Rattle.parser_base.specs.ReadFault.{Reads};
 ghost use Rattle.parser_base.specs.ChainReading.{whole_chain_at};
 ghost use Rattle.parser_base.specs.OperatorReading.{joints};
 ghost use Rattle.expression_parser.specs.ExpressionReading.{any_form, expression_at, expression_form, readers};
@@ -25,7 +24,7 @@ pub fn read_expression(
     tokens: &[Token],
     budget: usize,
 ) -> Result<(Expression, &[Token]), ReadFault>
-    ensures { MatchResult result (λ read. expression_at budget minimum tokens.now ≡ Some (read.0, read.1.now)) (λ fault. IfNoTree fault (expression_at budget minimum tokens.now ≡ None)) }
+    ensures { Reads result (λ read. (read.0, read.1.now)) (expression_at budget minimum tokens.now) }
 {
     if budget == 0 {
         return Err(ReadFault::NoTree { left: tokens.len() });
@@ -42,7 +41,7 @@ pub(crate) fn read_boxed(
     tokens: &[Token],
     budget: usize,
 ) -> Result<(Box<Expression>, &[Token]), ReadFault>
-    ensures { MatchResult result (λ read. expression_at budget minimum tokens.now ≡ Some (read.0.value, read.1.now)) (λ fault. IfNoTree fault (expression_at budget minimum tokens.now ≡ None)) }
+    ensures { Reads result (λ read. (read.0.value, read.1.now)) (expression_at budget minimum tokens.now) }
 {
     let (expression, rest) = read_expression(alloc, minimum, tokens, budget)?;
     Ok((Box::new(alloc, expression)?, rest))
@@ -57,7 +56,7 @@ fn read_expression_form(
     tokens: &[Token],
     budget: usize,
 ) -> Result<(Expression, &[Token]), ReadFault>
-    ensures { MatchResult result (λ read. expression_form (readers budget) minimum tokens.now ≡ Some (read.0, read.1.now)) (λ fault. IfNoTree fault (expression_form (readers budget) minimum tokens.now ≡ None)) }
+    ensures { Reads result (λ read. (read.0, read.1.now)) (expression_form (readers budget) minimum tokens.now) }
 {
     if minimum == 0 {
         return read_any_form(alloc, tokens, budget);
@@ -76,7 +75,7 @@ fn read_any_form(
     tokens: &[Token],
     budget: usize,
 ) -> Result<(Expression, &[Token]), ReadFault>
-    ensures { MatchResult result (λ read. any_form (readers budget) tokens.now ≡ Some (read.0, read.1.now)) (λ fault. IfNoTree fault (any_form (readers budget) tokens.now ≡ None)) }
+    ensures { Reads result (λ read. (read.0, read.1.now)) (any_form (readers budget) tokens.now) }
 {
     if let Some((control, place, rest)) = read_control_word(tokens) {
         return read_control(alloc, control, place, rest, budget);
@@ -106,7 +105,7 @@ fn read_chain(
     tokens: &[Token],
     budget: usize,
 ) -> Result<(Box<Expression>, &[Token]), ReadFault>
-    ensures { MatchResult result (λ read. whole_chain_at joints (expression_at budget) minimum operand.value tokens.now ≡ Some (read.0.value, read.1.now)) (λ fault. IfNoTree fault (whole_chain_at joints (expression_at budget) minimum operand.value tokens.now ≡ None)) }
+    ensures { Reads result (λ read. (read.0.value, read.1.now)) (whole_chain_at joints (expression_at budget) minimum operand.value tokens.now) }
 {
     let mut left = operand;
     let mut rest = tokens;

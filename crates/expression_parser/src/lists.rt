@@ -1,7 +1,7 @@
 //! Readers of lists of expressions and of the fields of a pack.
 
-ghost use Rattle.std.specs.Prelude.{◌≡◌, None, Some, length, MatchResult};
-ghost use Rattle.parser_base.specs.ReadFault.{IfNoTree};
+ghost use Rattle.std.specs.Prelude.{length};
+ghost use Rattle.parser_base.specs.ReadFault.{Reads};
 ghost use Rattle.parser_base.specs.TokenReading.{after_sign};
 ghost use Rattle.parser_base.specs.ListReading.{comma_list_at};
 ghost use Rattle.expression_parser.specs.ExpressionReading.{any, field_value_at, readers};
@@ -24,7 +24,7 @@ pub fn read_expressions(
     tokens: &[Token],
     budget: usize,
 ) -> Result<(Vec<Expression>, bool, &[Token]), ReadFault>
-    ensures { MatchResult result (λ read. comma_list_at (after_sign close) (any (readers budget)) tokens.now ≡ Some ((read.0.items, read.1), read.2.now)) (λ fault. IfNoTree fault (comma_list_at (after_sign close) (any (readers budget)) tokens.now ≡ None)) }
+    ensures { Reads result (λ read. ((read.0.items, read.1), read.2.now)) (comma_list_at (after_sign close) (any (readers budget)) tokens.now) }
 {
     let mut items = Vec::new(alloc);
     if let Some(rest) = skip_sign(tokens, close) {
@@ -52,7 +52,7 @@ pub fn read_field_values(
     tokens: &[Token],
     budget: usize,
 ) -> Result<(Vec<FieldValue>, bool, &[Token]), ReadFault>
-    ensures { MatchResult result (λ read. comma_list_at (after_sign Punctuation.RightBrace) (field_value_at (any (readers budget))) tokens.now ≡ Some ((read.0.items, read.1), read.2.now)) (λ fault. IfNoTree fault (comma_list_at (after_sign Punctuation.RightBrace) (field_value_at (any (readers budget))) tokens.now ≡ None)) }
+    ensures { Reads result (λ read. ((read.0.items, read.1), read.2.now)) (comma_list_at (after_sign Punctuation.RightBrace) (field_value_at (any (readers budget))) tokens.now) }
 {
     let mut items = Vec::new(alloc);
     if let Some(rest) = skip_sign(tokens, Punctuation::RightBrace) {
@@ -79,7 +79,7 @@ fn read_field_value(
     tokens: &[Token],
     budget: usize,
 ) -> Result<(FieldValue, &[Token]), ReadFault>
-    ensures { MatchResult result (λ read. field_value_at (any (readers budget)) tokens.now ≡ Some (read.0, read.1.now)) (λ fault. IfNoTree fault (field_value_at (any (readers budget)) tokens.now ≡ None)) }
+    ensures { Reads result (λ read. (read.0, read.1.now)) (field_value_at (any (readers budget)) tokens.now) }
 {
     let (name, rest) = read_identifier(alloc, tokens)?;
     match skip_sign(rest, Punctuation::Colon) {

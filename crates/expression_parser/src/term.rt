@@ -1,8 +1,7 @@
 //! Readers of operands: unary operators, terms, and the fields after terms.
 
-ghost use Rattle.std.specs.Prelude.{◌≡◌, None, Some, MatchResult};
 ghost use Rattle.syntax_tree.specs.TypeTreeData.{maybe_arguments_of};
-ghost use Rattle.parser_base.specs.ReadFault.{IfNoTree};
+ghost use Rattle.parser_base.specs.ReadFault.{Reads};
 ghost use Rattle.expression_parser.specs.ExpressionReading.{assert_at, operand_at, parenthesized_at, path_term_at, readers, term_at, vector_at, whole_fields_at};
 
 use crate::block::read_contents;
@@ -34,7 +33,7 @@ pub fn read_operand(
     tokens: &[Token],
     budget: usize,
 ) -> Result<(Expression, &[Token]), ReadFault>
-    ensures { MatchResult result (λ read. operand_at (readers budget) tokens.now ≡ Some (read.0, read.1.now)) (λ fault. IfNoTree fault (operand_at (readers budget) tokens.now ≡ None)) }
+    ensures { Reads result (λ read. (read.0, read.1.now)) (operand_at (readers budget) tokens.now) }
 {
     if let Some((operator, place, rest)) = read_prefix(tokens) {
         let (operand, rest) = read_boxed(alloc, UNARY_LEVEL, rest, budget)?;
@@ -60,7 +59,7 @@ fn read_fields(
     term: Expression,
     tokens: &[Token],
 ) -> Result<(Expression, &[Token]), ReadFault>
-    ensures { MatchResult result (λ read. whole_fields_at term tokens.now ≡ Some (read.0, read.1.now)) (λ fault. IfNoTree fault (whole_fields_at term tokens.now ≡ None)) }
+    ensures { Reads result (λ read. (read.0, read.1.now)) (whole_fields_at term tokens.now) }
 {
     let mut base = Box::new(alloc, term)?;
     let mut rest = tokens;
@@ -84,7 +83,7 @@ fn read_term(
     tokens: &[Token],
     budget: usize,
 ) -> Result<(Expression, &[Token]), ReadFault>
-    ensures { MatchResult result (λ read. term_at (readers budget) tokens.now ≡ Some (read.0, read.1.now)) (λ fault. IfNoTree fault (term_at (readers budget) tokens.now ≡ None)) }
+    ensures { Reads result (λ read. (read.0, read.1.now)) (term_at (readers budget) tokens.now) }
 {
     if let Some((place, rest)) = place_of_sign(tokens, Punctuation::LeftParenthesis) {
         return read_parenthesized(alloc, place, rest, budget);
@@ -127,7 +126,7 @@ fn read_parenthesized(
     tokens: &[Token],
     budget: usize,
 ) -> Result<(Expression, &[Token]), ReadFault>
-    ensures { MatchResult result (λ read. parenthesized_at (readers budget) place tokens.now ≡ Some (read.0, read.1.now)) (λ fault. IfNoTree fault (parenthesized_at (readers budget) place tokens.now ≡ None)) }
+    ensures { Reads result (λ read. (read.0, read.1.now)) (parenthesized_at (readers budget) place tokens.now) }
 {
     if let Some(rest) = skip_sign(tokens, Punctuation::RightParenthesis) {
         let node = ExpressionNode::Tuple {
@@ -178,7 +177,7 @@ fn read_path_term(
     tokens: &[Token],
     budget: usize,
 ) -> Result<(Expression, &[Token]), ReadFault>
-    ensures { MatchResult result (λ read. path_term_at (readers budget) tokens.now ≡ Some (read.0, read.1.now)) (λ fault. IfNoTree fault (path_term_at (readers budget) tokens.now ≡ None)) }
+    ensures { Reads result (λ read. (read.0, read.1.now)) (path_term_at (readers budget) tokens.now) }
 {
     let (path, rest) = read_path_of_term(alloc, tokens)?;
     let (arguments, rest) = read_glued_arguments(alloc, rest, budget)?;
@@ -224,7 +223,7 @@ fn read_vector(
     tokens: &[Token],
     budget: usize,
 ) -> Result<(Expression, &[Token]), ReadFault>
-    ensures { MatchResult result (λ read. vector_at (readers budget) place tokens.now ≡ Some (read.0, read.1.now)) (λ fault. IfNoTree fault (vector_at (readers budget) place tokens.now ≡ None)) }
+    ensures { Reads result (λ read. (read.0, read.1.now)) (vector_at (readers budget) place tokens.now) }
 {
     let (arguments, rest) = read_maybe_arguments(alloc, tokens, budget)?;
     let rest = expect_sign(rest, Punctuation::LeftBracket)?;
@@ -252,7 +251,7 @@ fn read_assert(
     tokens: &[Token],
     budget: usize,
 ) -> Result<(Expression, &[Token]), ReadFault>
-    ensures { MatchResult result (λ read. assert_at (readers budget) place tokens.now ≡ Some (read.0, read.1.now)) (λ fault. IfNoTree fault (assert_at (readers budget) place tokens.now ≡ None)) }
+    ensures { Reads result (λ read. (read.0, read.1.now)) (assert_at (readers budget) place tokens.now) }
 {
     let rest = expect_sign(tokens, Punctuation::LeftParenthesis)?;
     let (condition, rest) = read_boxed(alloc, 0, rest, budget)?;

@@ -1,7 +1,7 @@
 //! Readers of attributes.
 
-ghost use Rattle.std.specs.Prelude.{◌≡◌, None, Some, length, MatchResult};
-ghost use Rattle.parser_base.specs.ReadFault.{IfNoTree};
+ghost use Rattle.std.specs.Prelude.{length};
+ghost use Rattle.parser_base.specs.ReadFault.{Reads};
 ghost use Rattle.item_parser.specs.AttributeReading.{attribute_at, attributes_at};
 
 use base::span::Span;
@@ -19,7 +19,7 @@ pub fn read_attribute(
     place: Span,
     tokens: &[Token],
 ) -> Result<(Attribute, &[Token]), ReadFault>
-    ensures { MatchResult result (λ read. attribute_at place tokens.now ≡ Some (read.0, read.1.now)) (λ fault. IfNoTree fault (attribute_at place tokens.now ≡ None)) }
+    ensures { Reads result (λ read. (read.0, read.1.now)) (attribute_at place tokens.now) }
 {
     let inside = expect_sign(tokens, Punctuation::LeftBracket)?;
     let (kept, rest) = read_balanced(alloc, Punctuation::RightBracket, inside)?;
@@ -38,7 +38,7 @@ pub fn read_attributes(
     alloc: Global,
     tokens: &[Token],
 ) -> Result<(Vec<Attribute>, &[Token]), ReadFault>
-    ensures { MatchResult result (λ read. attributes_at tokens.now ≡ Some (read.0.items, read.1.now)) (λ fault. IfNoTree fault (attributes_at tokens.now ≡ None)) }
+    ensures { Reads result (λ read. (read.0.items, read.1.now)) (attributes_at tokens.now) }
 {
     let mut items = Vec::new(alloc);
     let mut rest = tokens;

@@ -1,7 +1,6 @@
 //! Readers of constants.
 
-ghost use Rattle.std.specs.Prelude.{◌≡◌, None, Some, MatchResult};
-ghost use Rattle.parser_base.specs.ReadFault.{IfNoTree};
+ghost use Rattle.parser_base.specs.ReadFault.{Reads};
 ghost use Rattle.item_parser.specs.MemberReading.{constant_at, constant_behind_name};
 
 use base::span::Span;
@@ -23,7 +22,7 @@ fn read_behind_name(
     tokens: &[Token],
     budget: usize,
 ) -> Result<(Constant, &[Token]), ReadFault>
-    ensures { MatchResult result (λ read. constant_behind_name budget place name tokens.now ≡ Some (read.0, read.1.now)) (λ fault. IfNoTree fault (constant_behind_name budget place name tokens.now ≡ None)) }
+    ensures { Reads result (λ read. (read.0, read.1.now)) (constant_behind_name budget place name tokens.now) }
 {
     let rest = expect_sign(tokens, Punctuation::Colon)?;
     let (annotation, rest) = read_type(alloc, rest, budget)?;
@@ -47,7 +46,7 @@ pub fn read_constant(
     tokens: &[Token],
     budget: usize,
 ) -> Result<(Constant, &[Token]), ReadFault>
-    ensures { MatchResult result (λ read. constant_at budget place tokens.now ≡ Some (read.0, read.1.now)) (λ fault. IfNoTree fault (constant_at budget place tokens.now ≡ None)) }
+    ensures { Reads result (λ read. (read.0, read.1.now)) (constant_at budget place tokens.now) }
 {
     let (name, rest) = read_identifier(alloc, tokens)?;
     if begins_capital(name.text.as_slice()) {

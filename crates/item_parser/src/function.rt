@@ -1,7 +1,6 @@
 //! Readers of functions.
 
-ghost use Rattle.std.specs.Prelude.{◌≡◌, None, Some, MatchResult};
-ghost use Rattle.parser_base.specs.ReadFault.{IfNoTree};
+ghost use Rattle.parser_base.specs.ReadFault.{Reads};
 ghost use Rattle.item_parser.specs.MemberReading.{function_at, function_behind, signature_at};
 
 use crate::header::{read_acquires, read_entry, read_visibility};
@@ -35,7 +34,7 @@ fn read_signature(
     tokens: &[Token],
     budget: usize,
 ) -> Result<(Signature, &[Token]), ReadFault>
-    ensures { MatchResult result (λ read. signature_at budget tokens.now ≡ Some (read.0, read.1.now)) (λ fault. IfNoTree fault (signature_at budget tokens.now ≡ None)) }
+    ensures { Reads result (λ read. (read.0, read.1.now)) (signature_at budget tokens.now) }
 {
     let (name, rest) = read_identifier(alloc, tokens)?;
     let (parameters, rest) = read_parameters(alloc, false, rest)?;
@@ -63,7 +62,7 @@ fn read_function_behind(
     tokens: &[Token],
     budget: usize,
 ) -> Result<(Function, &[Token]), ReadFault>
-    ensures { MatchResult result (λ read. function_behind budget visibility entry place tokens.now ≡ Some (read.0, read.1.now)) (λ fault. IfNoTree fault (function_behind budget visibility entry place tokens.now ≡ None)) }
+    ensures { Reads result (λ read. (read.0, read.1.now)) (function_behind budget visibility entry place tokens.now) }
 {
     let (signature, rest) = read_signature(alloc, tokens, budget)?;
     let Some((brace, rest)) = place_of_sign(rest, Punctuation::LeftBrace) else {
@@ -98,7 +97,7 @@ pub fn read_function(
     tokens: &[Token],
     budget: usize,
 ) -> Result<(Function, &[Token]), ReadFault>
-    ensures { MatchResult result (λ read. function_at budget tokens.now ≡ Some (read.0, read.1.now)) (λ fault. IfNoTree fault (function_at budget tokens.now ≡ None)) }
+    ensures { Reads result (λ read. (read.0, read.1.now)) (function_at budget tokens.now) }
 {
     let (visibility, rest) = read_visibility(tokens)?;
     let (entry, rest) = read_entry(rest);

@@ -1,7 +1,7 @@
 //! Readers of the parts of a function before its name and after its inputs.
 
-ghost use Rattle.std.specs.Prelude.{◌≡◌, None, Some, length, MatchResult};
-ghost use Rattle.parser_base.specs.ReadFault.{IfNoTree};
+ghost use Rattle.std.specs.Prelude.{◌≡◌, length};
+ghost use Rattle.parser_base.specs.ReadFault.{Reads};
 ghost use Rattle.parser_base.specs.TokenReading.{before_sign};
 ghost use Rattle.parser_base.specs.ListReading.{some_items_at};
 ghost use Rattle.parser_base.specs.PathReading.{path_at};
@@ -23,7 +23,7 @@ use tokens::token::{Punctuation, Token};
 /// Reads `friend` after its parenthesis, for a `public` at `place`.
 #[tactic(auto, unfolding(crate::specs::HeaderReading::friends_at))]
 fn read_friends(place: Span, tokens: &[Token]) -> Result<(Visibility, &[Token]), ReadFault>
-    ensures { MatchResult result (λ read. friends_at place tokens.now ≡ Some (read.0, read.1.now)) (λ fault. IfNoTree fault (friends_at place tokens.now ≡ None)) }
+    ensures { Reads result (λ read. (read.0, read.1.now)) (friends_at place tokens.now) }
 {
     let rest = expect_word(tokens, b"friend")?;
     let rest = expect_sign(rest, Punctuation::RightParenthesis)?;
@@ -33,7 +33,7 @@ fn read_friends(place: Span, tokens: &[Token]) -> Result<(Visibility, &[Token]),
 /// Reads the visibility of a `public` at `place`, by what follows it.
 #[tactic(auto, unfolding(crate::specs::HeaderReading::public_at))]
 fn read_public(place: Span, tokens: &[Token]) -> Result<(Visibility, &[Token]), ReadFault>
-    ensures { MatchResult result (λ read. public_at place tokens.now ≡ Some (read.0, read.1.now)) (λ fault. IfNoTree fault (public_at place tokens.now ≡ None)) }
+    ensures { Reads result (λ read. (read.0, read.1.now)) (public_at place tokens.now) }
 {
     match skip_sign(tokens, Punctuation::LeftParenthesis) {
         Some(inside) => read_friends(place, inside),
@@ -44,7 +44,7 @@ fn read_public(place: Span, tokens: &[Token]) -> Result<(Visibility, &[Token]), 
 /// Reads the visibility of a function. Returns it and the remaining tokens.
 #[tactic(auto, unfolding(crate::specs::HeaderReading::visibility_at))]
 pub fn read_visibility(tokens: &[Token]) -> Result<(Visibility, &[Token]), ReadFault>
-    ensures { MatchResult result (λ read. visibility_at tokens.now ≡ Some (read.0, read.1.now)) (λ fault. IfNoTree fault (visibility_at tokens.now ≡ None)) }
+    ensures { Reads result (λ read. (read.0, read.1.now)) (visibility_at tokens.now) }
 {
     match place_of_word(tokens, b"public") {
         Some((place, rest)) => read_public(place, rest),
@@ -66,7 +66,7 @@ pub fn read_entry(tokens: &[Token]) -> (Option<Span>, &[Token])
 /// Reads paths separated by commas up to the brace of a function. Returns the paths, whether a comma follows the last,
 /// and the tokens from the brace on.
 fn read_path_list(alloc: Global, tokens: &[Token]) -> Result<(Vec<Path>, bool, &[Token]), ReadFault>
-    ensures { MatchResult result (λ read. some_items_at (before_sign Punctuation.LeftBrace) path_at tokens.now ≡ Some ((read.0.items, read.1), read.2.now)) (λ fault. IfNoTree fault (some_items_at (before_sign Punctuation.LeftBrace) path_at tokens.now ≡ None)) }
+    ensures { Reads result (λ read. ((read.0.items, read.1), read.2.now)) (some_items_at (before_sign Punctuation.LeftBrace) path_at tokens.now) }
 {
     let mut items = Vec::new(alloc);
     let mut rest = tokens;
@@ -85,7 +85,7 @@ fn read_path_list(alloc: Global, tokens: &[Token]) -> Result<(Vec<Path>, bool, &
 /// Reads the paths after `acquires`. Returns them and the tokens from the brace on.
 #[tactic(auto, unfolding(crate::specs::HeaderReading::listed_paths_at))]
 fn read_listed_paths(alloc: Global, tokens: &[Token]) -> Result<(Paths, &[Token]), ReadFault>
-    ensures { MatchResult result (λ read. listed_paths_at tokens.now ≡ Some (read.0, read.1.now)) (λ fault. IfNoTree fault (listed_paths_at tokens.now ≡ None)) }
+    ensures { Reads result (λ read. (read.0, read.1.now)) (listed_paths_at tokens.now) }
 {
     let (items, last_comma, rest) = read_path_list(alloc, tokens)?;
     Ok((Paths { items, last_comma }, rest))
@@ -98,7 +98,7 @@ pub fn read_acquires(
     alloc: Global,
     tokens: &[Token],
 ) -> Result<(Option<Paths>, &[Token]), ReadFault>
-    ensures { MatchResult result (λ read. acquires_at tokens.now ≡ Some (read.0, read.1.now)) (λ fault. IfNoTree fault (acquires_at tokens.now ≡ None)) }
+    ensures { Reads result (λ read. (read.0, read.1.now)) (acquires_at tokens.now) }
 {
     let Some(rest) = skip_word(tokens, b"acquires") else {
         return Ok((None, tokens));

@@ -1,7 +1,7 @@
 //! Readers of uses and friends.
 
-ghost use Rattle.std.specs.Prelude.{◌≡◌, None, Some, length, MatchResult};
-ghost use Rattle.parser_base.specs.ReadFault.{IfNoTree};
+ghost use Rattle.std.specs.Prelude.{length};
+ghost use Rattle.parser_base.specs.ReadFault.{Reads};
 ghost use Rattle.parser_base.specs.TokenReading.{after_sign};
 ghost use Rattle.parser_base.specs.ListReading.{some_items_at};
 ghost use Rattle.item_parser.specs.ImportReading.{alias_at, friend_at, import_at, imported_at, imported_names_at, imports_at, use_at};
@@ -19,7 +19,7 @@ use tokens::token::{Punctuation, Token};
 /// Reads the alias after `as`, if an `as` is here. Returns the alias and the remaining tokens.
 #[tactic(auto, unfolding(crate::specs::ImportReading::alias_at))]
 fn read_alias(alloc: Global, tokens: &[Token]) -> Result<(Option<Identifier>, &[Token]), ReadFault>
-    ensures { MatchResult result (λ read. alias_at tokens.now ≡ Some (read.0, read.1.now)) (λ fault. IfNoTree fault (alias_at tokens.now ≡ None)) }
+    ensures { Reads result (λ read. (read.0, read.1.now)) (alias_at tokens.now) }
 {
     let Some(rest) = skip_word(tokens, b"as") else {
         return Ok((None, tokens));
@@ -31,7 +31,7 @@ fn read_alias(alloc: Global, tokens: &[Token]) -> Result<(Option<Identifier>, &[
 /// Reads an imported name. Returns it and the remaining tokens.
 #[tactic(auto, unfolding(crate::specs::ImportReading::import_at))]
 fn read_import(alloc: Global, tokens: &[Token]) -> Result<(Import, &[Token]), ReadFault>
-    ensures { MatchResult result (λ read. import_at tokens.now ≡ Some (read.0, read.1.now)) (λ fault. IfNoTree fault (import_at tokens.now ≡ None)) }
+    ensures { Reads result (λ read. (read.0, read.1.now)) (import_at tokens.now) }
 {
     let (name, rest) = read_identifier(alloc, tokens)?;
     let (alias, rest) = read_alias(alloc, rest)?;
@@ -44,7 +44,7 @@ fn read_import_list(
     alloc: Global,
     tokens: &[Token],
 ) -> Result<(Vec<Import>, bool, &[Token]), ReadFault>
-    ensures { MatchResult result (λ read. some_items_at (after_sign Punctuation.RightBrace) import_at tokens.now ≡ Some ((read.0.items, read.1), read.2.now)) (λ fault. IfNoTree fault (some_items_at (after_sign Punctuation.RightBrace) import_at tokens.now ≡ None)) }
+    ensures { Reads result (λ read. ((read.0.items, read.1), read.2.now)) (some_items_at (after_sign Punctuation.RightBrace) import_at tokens.now) }
 {
     let mut items = Vec::new(alloc);
     let mut rest = tokens;
@@ -63,7 +63,7 @@ fn read_import_list(
 /// Reads imported names after their brace.
 #[tactic(auto, unfolding(crate::specs::ImportReading::imports_at))]
 fn read_imports(alloc: Global, tokens: &[Token]) -> Result<(Imports, &[Token]), ReadFault>
-    ensures { MatchResult result (λ read. imports_at tokens.now ≡ Some (read.0, read.1.now)) (λ fault. IfNoTree fault (imports_at tokens.now ≡ None)) }
+    ensures { Reads result (λ read. (read.0, read.1.now)) (imports_at tokens.now) }
 {
     let (items, last_comma, rest) = read_import_list(alloc, tokens)?;
     Ok((Imports { items, last_comma }, rest))
@@ -72,7 +72,7 @@ fn read_imports(alloc: Global, tokens: &[Token]) -> Result<(Imports, &[Token]), 
 /// Reads the name or the names that are imported from a module.
 #[tactic(auto, unfolding(crate::specs::ImportReading::imported_names_at))]
 fn read_imported_names(alloc: Global, tokens: &[Token]) -> Result<(Imported, &[Token]), ReadFault>
-    ensures { MatchResult result (λ read. imported_names_at tokens.now ≡ Some (read.0, read.1.now)) (λ fault. IfNoTree fault (imported_names_at tokens.now ≡ None)) }
+    ensures { Reads result (λ read. (read.0, read.1.now)) (imported_names_at tokens.now) }
 {
     if let Some(inside) = skip_sign(tokens, Punctuation::LeftBrace) {
         let (imports, rest) = read_imports(alloc, inside)?;
@@ -85,7 +85,7 @@ fn read_imported_names(alloc: Global, tokens: &[Token]) -> Result<(Imported, &[T
 /// Reads what is imported, after the name of its module.
 #[tactic(auto, unfolding(crate::specs::ImportReading::imported_at))]
 fn read_imported(alloc: Global, tokens: &[Token]) -> Result<(Imported, &[Token]), ReadFault>
-    ensures { MatchResult result (λ read. imported_at tokens.now ≡ Some (read.0, read.1.now)) (λ fault. IfNoTree fault (imported_at tokens.now ≡ None)) }
+    ensures { Reads result (λ read. (read.0, read.1.now)) (imported_at tokens.now) }
 {
     if let Some(rest) = skip_sign(tokens, Punctuation::ColonColon) {
         return read_imported_names(alloc, rest);
@@ -97,7 +97,7 @@ fn read_imported(alloc: Global, tokens: &[Token]) -> Result<(Imported, &[Token])
 /// Reads a use after its word at `place`. Returns it and the tokens after its semicolon.
 #[tactic(auto, unfolding(crate::specs::ImportReading::use_at))]
 pub fn read_use(alloc: Global, place: Span, tokens: &[Token]) -> Result<(Use, &[Token]), ReadFault>
-    ensures { MatchResult result (λ read. use_at place tokens.now ≡ Some (read.0, read.1.now)) (λ fault. IfNoTree fault (use_at place tokens.now ≡ None)) }
+    ensures { Reads result (λ read. (read.0, read.1.now)) (use_at place tokens.now) }
 {
     let (owner, rest) = read_module_name(alloc, tokens)?;
     let (imported, rest) = read_imported(alloc, rest)?;
@@ -119,7 +119,7 @@ pub fn read_friend(
     place: Span,
     tokens: &[Token],
 ) -> Result<(Friend, &[Token]), ReadFault>
-    ensures { MatchResult result (λ read. friend_at place tokens.now ≡ Some (read.0, read.1.now)) (λ fault. IfNoTree fault (friend_at place tokens.now ≡ None)) }
+    ensures { Reads result (λ read. (read.0, read.1.now)) (friend_at place tokens.now) }
 {
     let (owner, rest) = read_module_name(alloc, tokens)?;
     let rest = expect_sign(rest, Punctuation::Semicolon)?;

@@ -1,7 +1,6 @@
 //! Readers of members of modules.
 
-ghost use Rattle.std.specs.Prelude.{◌≡◌, None, Some, MatchResult};
-ghost use Rattle.parser_base.specs.ReadFault.{IfNoTree};
+ghost use Rattle.parser_base.specs.ReadFault.{Reads};
 ghost use Rattle.item_parser.specs.MemberReading.{form_at, member_at};
 
 use crate::attributes::read_attributes;
@@ -23,7 +22,7 @@ fn read_form(
     tokens: &[Token],
     budget: usize,
 ) -> Result<(MemberForm, &[Token]), ReadFault>
-    ensures { MatchResult result (λ read. form_at budget tokens.now ≡ Some (read.0, read.1.now)) (λ fault. IfNoTree fault (form_at budget tokens.now ≡ None)) }
+    ensures { Reads result (λ read. (read.0, read.1.now)) (form_at budget tokens.now) }
 {
     if let Some((place, rest)) = place_of_word(tokens, b"use") {
         let (member, rest) = read_use(alloc, place, rest)?;
@@ -56,7 +55,7 @@ pub fn read_member(
     tokens: &[Token],
     budget: usize,
 ) -> Result<(Member, &[Token]), ReadFault>
-    ensures { MatchResult result (λ read. member_at budget tokens.now ≡ Some (read.0, read.1.now)) (λ fault. IfNoTree fault (member_at budget tokens.now ≡ None)) }
+    ensures { Reads result (λ read. (read.0, read.1.now)) (member_at budget tokens.now) }
 {
     let (attributes, rest) = read_attributes(alloc, tokens)?;
     let (form, rest) = read_form(alloc, rest, budget)?;

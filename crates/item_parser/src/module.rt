@@ -1,7 +1,7 @@
 //! Readers of modules and files.
 
 ghost use Rattle.std.specs.Prelude.{◌≡◌, None, Some, MatchResult};
-ghost use Rattle.parser_base.specs.ReadFault.{IfNoTree};
+ghost use Rattle.parser_base.specs.ReadFault.{IfNoTree, Reads};
 ghost use Rattle.item_parser.specs.FileReading.{file_at, members_at, module_behind};
 
 use crate::attributes::read_attributes;
@@ -19,7 +19,7 @@ fn read_members(
     tokens: &[Token],
     budget: usize,
 ) -> Result<(Vec<Member>, &[Token]), ReadFault>
-    ensures { MatchResult result (λ read. members_at budget tokens.now ≡ Some (read.0.items, read.1.now)) (λ fault. IfNoTree fault (members_at budget tokens.now ≡ None)) }
+    ensures { Reads result (λ read. (read.0.items, read.1.now)) (members_at budget tokens.now) }
 {
     let mut members = Vec::new(alloc);
     let mut rest = tokens;
@@ -41,7 +41,7 @@ fn read_module(
     tokens: &[Token],
     budget: usize,
 ) -> Result<(Module, &[Token]), ReadFault>
-    ensures { MatchResult result (λ read. module_behind budget tokens.now ≡ Some (read.0, read.1.now)) (λ fault. IfNoTree fault (module_behind budget tokens.now ≡ None)) }
+    ensures { Reads result (λ read. (read.0, read.1.now)) (module_behind budget tokens.now) }
 {
     let (attributes, rest) = read_attributes(alloc, tokens)?;
     let Some((place, rest)) = place_of_word(rest, b"module") else {

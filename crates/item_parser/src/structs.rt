@@ -1,7 +1,6 @@
 //! Readers of structs.
 
-ghost use Rattle.std.specs.Prelude.{◌≡◌, None, Some, MatchResult};
-ghost use Rattle.parser_base.specs.ReadFault.{IfNoTree};
+ghost use Rattle.parser_base.specs.ReadFault.{Reads};
 ghost use Rattle.parser_base.specs.TypeReading.{type_at};
 ghost use Rattle.item_parser.specs.StructReading.{struct_at, struct_behind_name};
 
@@ -25,7 +24,7 @@ fn read_struct_behind_name(
     tokens: &[Token],
     budget: usize,
 ) -> Result<(Struct, &[Token]), ReadFault>
-    ensures { MatchResult result (λ read. struct_behind_name (type_at budget) place name tokens.now ≡ Some (read.0, read.1.now)) (λ fault. IfNoTree fault (struct_behind_name (type_at budget) place name tokens.now ≡ None)) }
+    ensures { Reads result (λ read. (read.0, read.1.now)) (struct_behind_name (type_at budget) place name tokens.now) }
 {
     let (parameters, rest) = read_parameters(alloc, true, tokens)?;
     let (abilities, rest) = read_abilities(alloc, rest)?;
@@ -52,7 +51,7 @@ pub fn read_struct(
     tokens: &[Token],
     budget: usize,
 ) -> Result<(Struct, &[Token]), ReadFault>
-    ensures { MatchResult result (λ read. struct_at (type_at budget) place tokens.now ≡ Some (read.0, read.1.now)) (λ fault. IfNoTree fault (struct_at (type_at budget) place tokens.now ≡ None)) }
+    ensures { Reads result (λ read. (read.0, read.1.now)) (struct_at (type_at budget) place tokens.now) }
 {
     let (name, rest) = read_identifier(alloc, tokens)?;
     if begins_capital(name.text.as_slice()) {

@@ -161,7 +161,7 @@ fn least(alloc: Global, count: usize, numbers: Packed) -> Result<Packed, NoMemor
 }
 
 /// Returns the sum of two constraints that cancels an unknown, divided by the greatest common divisor of its numbers.
-/// None where an intermediate number is not in 128 bits.
+/// It may give none, as it does where an intermediate number is not in 128 bits.
 pub fn sum_of_rows(
     alloc: Global,
     unknown: usize,

@@ -1,7 +1,7 @@
 //! Readers of the abilities of structs and of type parameters.
 
-ghost use Rattle.std.specs.Prelude.{◌≡◌, None, Some, length, MatchResult};
-ghost use Rattle.parser_base.specs.ReadFault.{IfNoTree};
+ghost use Rattle.std.specs.Prelude.{◌≡◌, length};
+ghost use Rattle.parser_base.specs.ReadFault.{Reads};
 ghost use Rattle.parser_base.specs.TokenReading.{before_sign};
 ghost use Rattle.parser_base.specs.ListReading.{some_items_at};
 ghost use Rattle.parser_base.specs.AbilityReading.{abilities_at, ability_at, ability_of, added_abilities_at, constraint_at, listed_abilities_at};
@@ -34,7 +34,7 @@ fn ability_of(kind: &TokenKind) -> Option<Ability>
 /// Reads an ability. Returns it and the remaining tokens.
 #[tactic(auto, unfolding(crate::specs::AbilityReading::ability_at))]
 fn read_ability(tokens: &[Token]) -> Result<(Ability, &[Token]), ReadFault>
-    ensures { MatchResult result (λ read. ability_at tokens.now ≡ Some (read.0, read.1.now)) (λ fault. IfNoTree fault (ability_at tokens.now ≡ None)) }
+    ensures { Reads result (λ read. (read.0, read.1.now)) (ability_at tokens.now) }
 {
     match tokens.split_first() {
         Some((token, rest)) => match ability_of(&token.kind) {
@@ -52,7 +52,7 @@ fn read_added_abilities(
     first: Ability,
     tokens: &[Token],
 ) -> Result<(Vec<Ability>, &[Token]), ReadFault>
-    ensures { MatchResult result (λ read. added_abilities_at first tokens.now ≡ Some (read.0.items, read.1.now)) (λ fault. IfNoTree fault (added_abilities_at first tokens.now ≡ None)) }
+    ensures { Reads result (λ read. (read.0.items, read.1.now)) (added_abilities_at first tokens.now) }
 {
     let mut items = Vec::new(alloc);
     items.push(first)?;
@@ -74,7 +74,7 @@ pub fn read_constraint(
     alloc: Global,
     tokens: &[Token],
 ) -> Result<(Vec<Ability>, &[Token]), ReadFault>
-    ensures { MatchResult result (λ read. constraint_at tokens.now ≡ Some (read.0.items, read.1.now)) (λ fault. IfNoTree fault (constraint_at tokens.now ≡ None)) }
+    ensures { Reads result (λ read. (read.0.items, read.1.now)) (constraint_at tokens.now) }
 {
     let Some(rest) = skip_sign(tokens, Punctuation::Colon) else {
         return Ok((Vec::new(alloc), tokens));
@@ -89,7 +89,7 @@ fn read_ability_list(
     alloc: Global,
     tokens: &[Token],
 ) -> Result<(Vec<Ability>, bool, &[Token]), ReadFault>
-    ensures { MatchResult result (λ read. some_items_at (before_sign Punctuation.LeftBrace) ability_at tokens.now ≡ Some ((read.0.items, read.1), read.2.now)) (λ fault. IfNoTree fault (some_items_at (before_sign Punctuation.LeftBrace) ability_at tokens.now ≡ None)) }
+    ensures { Reads result (λ read. ((read.0.items, read.1), read.2.now)) (some_items_at (before_sign Punctuation.LeftBrace) ability_at tokens.now) }
 {
     let mut items = Vec::new(alloc);
     let mut rest = tokens;
@@ -111,7 +111,7 @@ fn read_listed_abilities(
     alloc: Global,
     tokens: &[Token],
 ) -> Result<(Abilities, &[Token]), ReadFault>
-    ensures { MatchResult result (λ read. listed_abilities_at tokens.now ≡ Some (read.0, read.1.now)) (λ fault. IfNoTree fault (listed_abilities_at tokens.now ≡ None)) }
+    ensures { Reads result (λ read. (read.0, read.1.now)) (listed_abilities_at tokens.now) }
 {
     let (items, last_comma, rest) = read_ability_list(alloc, tokens)?;
     Ok((Abilities { items, last_comma }, rest))
@@ -123,7 +123,7 @@ pub fn read_abilities(
     alloc: Global,
     tokens: &[Token],
 ) -> Result<(Option<Abilities>, &[Token]), ReadFault>
-    ensures { MatchResult result (λ read. abilities_at tokens.now ≡ Some (read.0, read.1.now)) (λ fault. IfNoTree fault (abilities_at tokens.now ≡ None)) }
+    ensures { Reads result (λ read. (read.0, read.1.now)) (abilities_at tokens.now) }
 {
     let Some(rest) = skip_word(tokens, b"has") else {
         return Ok((None, tokens));

@@ -2,7 +2,7 @@
 
 ghost use Rattle.std.specs.Prelude.{◌≡◌, [], None, Some, reverse, IfOk, MatchResult};
 ghost use Rattle.syntax_tree.specs.Balance.{wanted_behind};
-ghost use Rattle.parser_base.specs.ReadFault.{IfNoTree};
+ghost use Rattle.parser_base.specs.ReadFault.{IfNoTree, Reads};
 ghost use Rattle.parser_base.specs.BalanceReading.{balanced_at, balanced_end, ends_here, Follows};
 
 use crate::fault::ReadFault;
@@ -91,7 +91,7 @@ pub fn read_balanced(
     close: Punctuation,
     tokens: &[Token],
 ) -> Result<(Tokens, &[Token]), ReadFault>
-    ensures { MatchResult result (λ read. balanced_at close tokens.now ≡ Some (read.0, read.1.now)) (λ fault. IfNoTree fault (balanced_at close tokens.now ≡ None)) }
+    ensures { Reads result (λ read. (read.0, read.1.now)) (balanced_at close tokens.now) }
 {
     let rest = skip_balanced(alloc, close, tokens)?;
     let inside = &tokens[..tokens.len() - rest.len() - 1];

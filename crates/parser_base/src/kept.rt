@@ -1,7 +1,7 @@
 //! Readers of spec blocks that are kept as tokens.
 
 ghost use Rattle.std.specs.Prelude.{◌≡◌, [], None, Some, reverse, MatchResult};
-ghost use Rattle.parser_base.specs.ReadFault.{IfNoTree};
+ghost use Rattle.parser_base.specs.ReadFault.{IfNoTree, Reads};
 ghost use Rattle.parser_base.specs.KeptReading.{front, head_end, is_none_open, loop_spec_at, member_spec_at};
 
 use crate::balanced::{copy_tokens, follow, skip_balanced};
@@ -43,7 +43,7 @@ fn skip_head(alloc: Global, tokens: &[Token]) -> Result<&[Token], ReadFault>
 /// Reads the spec block of a member, from its keyword on. Returns it and the remaining tokens.
 #[tactic(auto, unfolding(crate::specs::KeptReading::member_spec_at, crate::specs::KeptReading::spec_end), using(crate::proofs::KeptLemmas::member_spec_shorter))]
 pub fn read_member_spec(alloc: Global, tokens: &[Token]) -> Result<(KeptSpec, &[Token]), ReadFault>
-    ensures { MatchResult result (λ read. member_spec_at tokens.now ≡ Some (read.0, read.1.now)) (λ fault. IfNoTree fault (member_spec_at tokens.now ≡ None)) }
+    ensures { Reads result (λ read. (read.0, read.1.now)) (member_spec_at tokens.now) }
 {
     let head = expect_word(tokens, b"spec")?;
     let body = skip_head(alloc, head)?;
@@ -55,7 +55,7 @@ pub fn read_member_spec(alloc: Global, tokens: &[Token]) -> Result<(KeptSpec, &[
 /// Reads the spec block of a loop, from its keyword on. Returns it and the remaining tokens.
 #[tactic(auto, unfolding(crate::specs::KeptReading::loop_spec_at, crate::specs::KeptReading::spec_end), using(crate::proofs::KeptLemmas::loop_spec_shorter))]
 pub fn read_loop_spec(alloc: Global, tokens: &[Token]) -> Result<(KeptSpec, &[Token]), ReadFault>
-    ensures { MatchResult result (λ read. loop_spec_at tokens.now ≡ Some (read.0, read.1.now)) (λ fault. IfNoTree fault (loop_spec_at tokens.now ≡ None)) }
+    ensures { Reads result (λ read. (read.0, read.1.now)) (loop_spec_at tokens.now) }
 {
     let head = expect_word(tokens, b"spec")?;
     let body = expect_sign(head, Punctuation::LeftBrace)?;

@@ -3,7 +3,7 @@
 ghost use Rattle.std.specs.Prelude.{◌≡◌, None, Some, codes, is_some, IfOk, MatchResult};
 ghost use Rattle.std.specs.Option.{option_map};
 ghost use Rattle.syntax_tree.specs.TypeTreeData.{maybe_arguments_of};
-ghost use Rattle.parser_base.specs.ReadFault.{IfNoTree};
+ghost use Rattle.parser_base.specs.ReadFault.{Reads};
 ghost use Rattle.parser_base.specs.TokenReading.{after_word};
 ghost use Rattle.parser_base.specs.TypeReading.{type_at};
 ghost use Rattle.parser_base.specs.LeafReading.{after_glued, annotation_at, assert_place_at, behind_first_at, cast_target_at, glued_arguments_at, spec_statement_at, path_form_at, begins_by_keyword, begins_expression, begins_operand, borrow_behind, control_at, control_of, control_of_word, fitting_number_of, may_begin, number_at, plain_literal_at, prefix_at, spec_opening_at, truth_at, use_at, vector_place_at};
@@ -340,7 +340,7 @@ pub fn read_glued_arguments(
     tokens: &[Token],
     budget: usize,
 ) -> Result<(Option<TypeArguments>, &[Token]), ReadFault>
-    ensures { MatchResult result (λ read. glued_arguments_at (type_at budget) tokens.now ≡ Some (maybe_arguments_of read.0, read.1.now)) (λ fault. IfNoTree fault (glued_arguments_at (type_at budget) tokens.now ≡ None)) }
+    ensures { Reads result (λ read. (maybe_arguments_of read.0, read.1.now)) (glued_arguments_at (type_at budget) tokens.now) }
 {
     match skip_glued(tokens, Punctuation::Less) {
         Some(inside) => {
@@ -382,7 +382,7 @@ pub fn read_spec_statement(
     alloc: Global,
     tokens: &[Token],
 ) -> Result<(KeptSpec, &[Token]), ReadFault>
-    ensures { MatchResult result (λ read. spec_statement_at tokens.now ≡ Some (read.0, read.1.now)) (λ fault. IfNoTree fault (spec_statement_at tokens.now ≡ None)) }
+    ensures { Reads result (λ read. (read.0, read.1.now)) (spec_statement_at tokens.now) }
 {
     let (spec, rest) = read_loop_spec(alloc, tokens)?;
     let rest = expect_sign(rest, Punctuation::Semicolon)?;
@@ -396,7 +396,7 @@ pub fn read_annotation(
     tokens: &[Token],
     budget: usize,
 ) -> Result<(Option<SourceType>, &[Token]), ReadFault>
-    ensures { MatchResult result (λ read. annotation_at (type_at budget) tokens.now ≡ Some (read.0, read.1.now)) (λ fault. IfNoTree fault (annotation_at (type_at budget) tokens.now ≡ None)) }
+    ensures { Reads result (λ read. (read.0, read.1.now)) (annotation_at (type_at budget) tokens.now) }
 {
     match skip_sign(tokens, Punctuation::Colon) {
         Some(rest) => {
@@ -414,7 +414,7 @@ pub fn read_cast_target(
     tokens: &[Token],
     budget: usize,
 ) -> Result<(SourceType, &[Token]), ReadFault>
-    ensures { MatchResult result (λ read. cast_target_at (type_at budget) tokens.now ≡ Some (read.0, read.1.now)) (λ fault. IfNoTree fault (cast_target_at (type_at budget) tokens.now ≡ None)) }
+    ensures { Reads result (λ read. (read.0, read.1.now)) (cast_target_at (type_at budget) tokens.now) }
 {
     let (target, rest) = read_type(alloc, tokens, budget)?;
     let rest = expect_sign(rest, Punctuation::RightParenthesis)?;

@@ -1,6 +1,6 @@
 //! Readers of binary operators.
 
-ghost use Rattle.std.specs.Prelude.{◌≡◌, None, Some};
+ghost use Rattle.std.specs.Prelude.{◌≡◌};
 ghost use Rattle.std.specs.Option.{option_map};
 ghost use Rattle.syntax_tree.specs.ProperExpressions.{right_level};
 ghost use Rattle.parser_base.specs.ChainReading.{next_operator};

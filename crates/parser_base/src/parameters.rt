@@ -1,7 +1,7 @@
 //! Readers of type parameters.
 
-ghost use Rattle.std.specs.Prelude.{◌≡◌, None, Some, length, MatchResult};
-ghost use Rattle.parser_base.specs.ReadFault.{IfNoTree};
+ghost use Rattle.std.specs.Prelude.{length};
+ghost use Rattle.parser_base.specs.ReadFault.{Reads};
 ghost use Rattle.parser_base.specs.TokenReading.{after_sign};
 ghost use Rattle.parser_base.specs.ListReading.{some_items_at};
 ghost use Rattle.parser_base.specs.ParameterReading.{listed_parameters_at, named_parameter_at, parameter_at, parameters_at};
@@ -21,7 +21,7 @@ fn read_named_parameter(
     is_phantom: bool,
     tokens: &[Token],
 ) -> Result<(TypeParameter, &[Token]), ReadFault>
-    ensures { MatchResult result (λ read. named_parameter_at is_phantom tokens.now ≡ Some (read.0, read.1.now)) (λ fault. IfNoTree fault (named_parameter_at is_phantom tokens.now ≡ None)) }
+    ensures { Reads result (λ read. (read.0, read.1.now)) (named_parameter_at is_phantom tokens.now) }
 {
     let (name, rest) = read_identifier(alloc, tokens)?;
     let (abilities, rest) = read_constraint(alloc, rest)?;
@@ -42,7 +42,7 @@ fn read_parameter(
     of_struct: bool,
     tokens: &[Token],
 ) -> Result<(TypeParameter, &[Token]), ReadFault>
-    ensures { MatchResult result (λ read. parameter_at of_struct tokens.now ≡ Some (read.0, read.1.now)) (λ fault. IfNoTree fault (parameter_at of_struct tokens.now ≡ None)) }
+    ensures { Reads result (λ read. (read.0, read.1.now)) (parameter_at of_struct tokens.now) }
 {
     let Some(rest) = skip_word(tokens, b"phantom") else {
         return read_named_parameter(alloc, false, tokens);
@@ -61,7 +61,7 @@ fn read_parameter_list(
     of_struct: bool,
     tokens: &[Token],
 ) -> Result<(Vec<TypeParameter>, bool, &[Token]), ReadFault>
-    ensures { MatchResult result (λ read. some_items_at (after_sign Punctuation.Greater) (parameter_at of_struct) tokens.now ≡ Some ((read.0.items, read.1), read.2.now)) (λ fault. IfNoTree fault (some_items_at (after_sign Punctuation.Greater) (parameter_at of_struct) tokens.now ≡ None)) }
+    ensures { Reads result (λ read. ((read.0.items, read.1), read.2.now)) (some_items_at (after_sign Punctuation.Greater) (parameter_at of_struct) tokens.now) }
 {
     let mut items = Vec::new(alloc);
     let mut rest = tokens;
@@ -84,7 +84,7 @@ fn read_listed_parameters(
     of_struct: bool,
     tokens: &[Token],
 ) -> Result<(TypeParameters, &[Token]), ReadFault>
-    ensures { MatchResult result (λ read. listed_parameters_at of_struct tokens.now ≡ Some (read.0, read.1.now)) (λ fault. IfNoTree fault (listed_parameters_at of_struct tokens.now ≡ None)) }
+    ensures { Reads result (λ read. (read.0, read.1.now)) (listed_parameters_at of_struct tokens.now) }
 {
     let (items, last_comma, rest) = read_parameter_list(alloc, of_struct, tokens)?;
     Ok((TypeParameters { items, last_comma }, rest))
@@ -98,7 +98,7 @@ pub fn read_parameters(
     of_struct: bool,
     tokens: &[Token],
 ) -> Result<(Option<TypeParameters>, &[Token]), ReadFault>
-    ensures { MatchResult result (λ read. parameters_at of_struct tokens.now ≡ Some (read.0, read.1.now)) (λ fault. IfNoTree fault (parameters_at of_struct tokens.now ≡ None)) }
+    ensures { Reads result (λ read. (read.0, read.1.now)) (parameters_at of_struct tokens.now) }
 {
     let Some(inside) = skip_sign(tokens, Punctuation::Less) else {
         return Ok((None, tokens));

@@ -1,7 +1,6 @@
 //! Two or more expressions in parentheses.
 
-ghost use Rattle.std.specs.Prelude.{◌≡◌, Some, None, MatchResult};
-ghost use Rattle.parser_base.specs.ReadFault.{IfNoTree};
+ghost use Rattle.parser_base.specs.ReadFault.{Reads};
 ghost use Rattle.parser_base.specs.ParenthesesReading.{several};
 
 use crate::fault::ReadFault;
@@ -18,7 +17,7 @@ pub fn several(
     last_comma: bool,
     rest: &[Token],
 ) -> Result<(Expression, &[Token]), ReadFault>
-    ensures { MatchResult result (λ read. several place first.value (more.items, last_comma) rest.now ≡ Some (read.0, read.1.now)) (λ fault. IfNoTree fault (several place first.value (more.items, last_comma) rest.now ≡ None)) }
+    ensures { Reads result (λ read. (read.0, read.1.now)) (several place first.value (more.items, last_comma) rest.now) }
 {
     if more.is_empty() {
         return Err(ReadFault::NoTree { left: rest.len() });

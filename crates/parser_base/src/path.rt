@@ -1,10 +1,10 @@
 //! Readers of addresses, module names and paths.
 
-ghost use Rattle.std.specs.Prelude.{◌≡◌, None, Some, MatchResult, IfOk};
+ghost use Rattle.std.specs.Prelude.{◌≡◌, IfOk};
 ghost use Rattle.std.specs.Option.{option_map};
 ghost use Rattle.syntax_tree.specs.declared.path.Path.TheVariants.{Name as name_path};
 ghost use Rattle.syntax_tree.specs.ProperTypes.{last_name};
-ghost use Rattle.parser_base.specs.ReadFault.{IfNoTree};
+ghost use Rattle.parser_base.specs.ReadFault.{Reads};
 ghost use Rattle.parser_base.specs.PathReading.{address_at, address_number_at, address_number_of, is_single, member_at, module_name_at, path_at, path_behind_name, path_behind_names, path_behind_number};
 
 use crate::fault::ReadFault;
@@ -62,7 +62,7 @@ fn read_address_number(
 /// Reads an address. Returns it and the remaining tokens.
 #[tactic(auto, unfolding(crate::specs::PathReading::address_at))]
 pub fn read_address(alloc: Global, tokens: &[Token]) -> Result<(Address, &[Token]), ReadFault>
-    ensures { MatchResult result (λ read. address_at tokens.now ≡ Some (read.0, read.1.now)) (λ fault. IfNoTree fault (address_at tokens.now ≡ None)) }
+    ensures { Reads result (λ read. (read.0, read.1.now)) (address_at tokens.now) }
 {
     if let Some((number, rest)) = read_address_number(alloc, tokens)? {
         return Ok((Address::Number(number), rest));
@@ -77,7 +77,7 @@ pub fn read_module_name(
     alloc: Global,
     tokens: &[Token],
 ) -> Result<(ModuleName, &[Token]), ReadFault>
-    ensures { MatchResult result (λ read. module_name_at tokens.now ≡ Some (read.0, read.1.now)) (λ fault. IfNoTree fault (module_name_at tokens.now ≡ None)) }
+    ensures { Reads result (λ read. (read.0, read.1.now)) (module_name_at tokens.now) }
 {
     let (address, rest) = read_address(alloc, tokens)?;
     let rest = expect_sign(rest, Punctuation::ColonColon)?;
@@ -92,7 +92,7 @@ fn read_member(
     owner: ModuleName,
     tokens: &[Token],
 ) -> Result<(Path, &[Token]), ReadFault>
-    ensures { MatchResult result (λ read. member_at owner tokens.now ≡ Some (read.0, read.1.now)) (λ fault. IfNoTree fault (member_at owner tokens.now ≡ None)) }
+    ensures { Reads result (λ read. (read.0, read.1.now)) (member_at owner tokens.now) }
 {
     let (name, rest) = read_identifier(alloc, tokens)?;
     Ok((Path::Full(owner, name), rest))
@@ -105,7 +105,7 @@ fn read_path_behind_number(
     number: Numeral,
     tokens: &[Token],
 ) -> Result<(Path, &[Token]), ReadFault>
-    ensures { MatchResult result (λ read. path_behind_number number tokens.now ≡ Some (read.0, read.1.now)) (λ fault. IfNoTree fault (path_behind_number number tokens.now ≡ None)) }
+    ensures { Reads result (λ read. (read.0, read.1.now)) (path_behind_number number tokens.now) }
 {
     let rest = expect_sign(tokens, Punctuation::ColonColon)?;
     let (name, rest) = read_identifier(alloc, rest)?;
@@ -125,7 +125,7 @@ fn read_path_behind_names(
     second: Identifier,
     tokens: &[Token],
 ) -> Result<(Path, &[Token]), ReadFault>
-    ensures { MatchResult result (λ read. path_behind_names first second tokens.now ≡ Some (read.0, read.1.now)) (λ fault. IfNoTree fault (path_behind_names first second tokens.now ≡ None)) }
+    ensures { Reads result (λ read. (read.0, read.1.now)) (path_behind_names first second tokens.now) }
 {
     let Some(rest) = skip_sign(tokens, Punctuation::ColonColon) else {
         return Ok((Path::Member(first, second), tokens));
@@ -144,7 +144,7 @@ fn read_path_behind_name(
     first: Identifier,
     tokens: &[Token],
 ) -> Result<(Path, &[Token]), ReadFault>
-    ensures { MatchResult result (λ read. path_behind_name first tokens.now ≡ Some (read.0, read.1.now)) (λ fault. IfNoTree fault (path_behind_name first tokens.now ≡ None)) }
+    ensures { Reads result (λ read. (read.0, read.1.now)) (path_behind_name first tokens.now) }
 {
     let Some(rest) = skip_sign(tokens, Punctuation::ColonColon) else {
         return Ok((Path::Name(first), tokens));
@@ -156,7 +156,7 @@ fn read_path_behind_name(
 /// Reads a path. Returns it and the remaining tokens.
 #[tactic(auto, unfolding(crate::specs::PathReading::path_at))]
 pub fn read_path(alloc: Global, tokens: &[Token]) -> Result<(Path, &[Token]), ReadFault>
-    ensures { MatchResult result (λ read. path_at tokens.now ≡ Some (read.0, read.1.now)) (λ fault. IfNoTree fault (path_at tokens.now ≡ None)) }
+    ensures { Reads result (λ read. (read.0, read.1.now)) (path_at tokens.now) }
 {
     if let Some((number, rest)) = read_address_number(alloc, tokens)? {
         return read_path_behind_number(alloc, number, rest);
@@ -179,7 +179,7 @@ fn left_behind_number(tokens: &[Token], left: usize) -> usize {
 
 /// Reads a path where a number is possible too. Returns it and the remaining tokens.
 pub fn read_path_of_term(alloc: Global, tokens: &[Token]) -> Result<(Path, &[Token]), ReadFault>
-    ensures { MatchResult result (λ read. path_at tokens.now ≡ Some (read.0, read.1.now)) (λ fault. IfNoTree fault (path_at tokens.now ≡ None)) }
+    ensures { Reads result (λ read. (read.0, read.1.now)) (path_at tokens.now) }
 {
     match read_path(alloc, tokens) {
         Err(ReadFault::NoTree { left }) => {

@@ -1,8 +1,8 @@
 //! Readers of patterns.
 
-ghost use Rattle.std.specs.Prelude.{◌≡◌, None, Some, length, MatchResult};
+ghost use Rattle.std.specs.Prelude.{◌≡◌, length};
 ghost use Rattle.syntax_tree.specs.PatternData.{field_patterns_of};
-ghost use Rattle.parser_base.specs.ReadFault.{IfNoTree};
+ghost use Rattle.parser_base.specs.ReadFault.{Reads};
 ghost use Rattle.parser_base.specs.TokenReading.{after_sign};
 ghost use Rattle.parser_base.specs.ListReading.{comma_list_at, some_items_at};
 ghost use Rattle.parser_base.specs.TypeReading.{type_at};
@@ -30,7 +30,7 @@ pub fn read_pattern(
     tokens: &[Token],
     budget: usize,
 ) -> Result<(Pattern, &[Token]), ReadFault>
-    ensures { MatchResult result (λ read. pattern_at budget tokens.now ≡ Some (read.0, read.1.now)) (λ fault. IfNoTree fault (pattern_at budget tokens.now ≡ None)) }
+    ensures { Reads result (λ read. (read.0, read.1.now)) (pattern_at budget tokens.now) }
 {
     if budget == 0 {
         return Err(ReadFault::NoTree { left: tokens.len() });
@@ -46,7 +46,7 @@ fn read_pattern_form(
     tokens: &[Token],
     budget: usize,
 ) -> Result<(Pattern, &[Token]), ReadFault>
-    ensures { MatchResult result (λ read. pattern_form (type_at budget) (pattern_at budget) tokens.now ≡ Some (read.0, read.1.now)) (λ fault. IfNoTree fault (pattern_form (type_at budget) (pattern_at budget) tokens.now ≡ None)) }
+    ensures { Reads result (λ read. (read.0, read.1.now)) (pattern_form (type_at budget) (pattern_at budget) tokens.now) }
 {
     if let Some((place, rest)) = place_of_sign(tokens, Punctuation::LeftParenthesis) {
         return read_tuple_pattern(alloc, place, rest, budget);
@@ -64,7 +64,7 @@ fn read_pattern_behind(
     tokens: &[Token],
     budget: usize,
 ) -> Result<(Pattern, &[Token]), ReadFault>
-    ensures { MatchResult result (λ read. pattern_behind (type_at budget) (pattern_at budget) path tokens.now ≡ Some (read.0, read.1.now)) (λ fault. IfNoTree fault (pattern_behind (type_at budget) (pattern_at budget) path tokens.now ≡ None)) }
+    ensures { Reads result (λ read. (read.0, read.1.now)) (pattern_behind (type_at budget) (pattern_at budget) path tokens.now) }
 {
     if opens_fields(tokens) {
         return read_unpack(alloc, path, tokens, budget);
@@ -112,7 +112,7 @@ fn read_tuple_pattern(
     tokens: &[Token],
     budget: usize,
 ) -> Result<(Pattern, &[Token]), ReadFault>
-    ensures { MatchResult result (λ read. tuple_pattern_at (pattern_at budget) place tokens.now ≡ Some (read.0, read.1.now)) (λ fault. IfNoTree fault (tuple_pattern_at (pattern_at budget) place tokens.now ≡ None)) }
+    ensures { Reads result (λ read. (read.0, read.1.now)) (tuple_pattern_at (pattern_at budget) place tokens.now) }
 {
     let (items, last_comma, rest) = read_patterns(alloc, tokens, budget)?;
     let node = PatternNode::Tuple {
@@ -131,7 +131,7 @@ fn read_patterns(
     tokens: &[Token],
     budget: usize,
 ) -> Result<(Vec<Pattern>, bool, &[Token]), ReadFault>
-    ensures { MatchResult result (λ read. some_items_at (after_sign Punctuation.RightParenthesis) (pattern_at budget) tokens.now ≡ Some ((read.0.items, read.1), read.2.now)) (λ fault. IfNoTree fault (some_items_at (after_sign Punctuation.RightParenthesis) (pattern_at budget) tokens.now ≡ None)) }
+    ensures { Reads result (λ read. ((read.0.items, read.1), read.2.now)) (some_items_at (after_sign Punctuation.RightParenthesis) (pattern_at budget) tokens.now) }
 {
     let mut items = Vec::new(alloc);
     let mut rest = tokens;
@@ -156,7 +156,7 @@ fn read_unpack(
     tokens: &[Token],
     budget: usize,
 ) -> Result<(Pattern, &[Token]), ReadFault>
-    ensures { MatchResult result (λ read. unpack_at (type_at budget) (pattern_at budget) path tokens.now ≡ Some (read.0, read.1.now)) (λ fault. IfNoTree fault (unpack_at (type_at budget) (pattern_at budget) path tokens.now ≡ None)) }
+    ensures { Reads result (λ read. (read.0, read.1.now)) (unpack_at (type_at budget) (pattern_at budget) path tokens.now) }
 {
     let (arguments, rest) = read_maybe_arguments(alloc, tokens, budget)?;
     let rest = expect_sign(rest, Punctuation::LeftBrace)?;
@@ -179,7 +179,7 @@ fn read_field_patterns(
     tokens: &[Token],
     budget: usize,
 ) -> Result<(Vec<FieldPattern>, bool, &[Token]), ReadFault>
-    ensures { MatchResult result (λ read. comma_list_at (after_sign Punctuation.RightBrace) (field_pattern_at (pattern_at budget)) tokens.now ≡ Some ((read.0.items, read.1), read.2.now)) (λ fault. IfNoTree fault (comma_list_at (after_sign Punctuation.RightBrace) (field_pattern_at (pattern_at budget)) tokens.now ≡ None)) }
+    ensures { Reads result (λ read. ((read.0.items, read.1), read.2.now)) (comma_list_at (after_sign Punctuation.RightBrace) (field_pattern_at (pattern_at budget)) tokens.now) }
 {
     match skip_sign(tokens, Punctuation::RightBrace) {
         Some(rest) => Ok((Vec::new(alloc), false, rest)),
@@ -194,7 +194,7 @@ fn read_some_field_patterns(
     tokens: &[Token],
     budget: usize,
 ) -> Result<(Vec<FieldPattern>, bool, &[Token]), ReadFault>
-    ensures { MatchResult result (λ read. some_items_at (after_sign Punctuation.RightBrace) (field_pattern_at (pattern_at budget)) tokens.now ≡ Some ((read.0.items, read.1), read.2.now)) (λ fault. IfNoTree fault (some_items_at (after_sign Punctuation.RightBrace) (field_pattern_at (pattern_at budget)) tokens.now ≡ None)) }
+    ensures { Reads result (λ read. ((read.0.items, read.1), read.2.now)) (some_items_at (after_sign Punctuation.RightBrace) (field_pattern_at (pattern_at budget)) tokens.now) }
 {
     let mut items = Vec::new(alloc);
     let mut rest = tokens;
@@ -218,7 +218,7 @@ fn read_field_pattern(
     tokens: &[Token],
     budget: usize,
 ) -> Result<(FieldPattern, &[Token]), ReadFault>
-    ensures { MatchResult result (λ read. field_pattern_at (pattern_at budget) tokens.now ≡ Some (read.0, read.1.now)) (λ fault. IfNoTree fault (field_pattern_at (pattern_at budget) tokens.now ≡ None)) }
+    ensures { Reads result (λ read. (read.0, read.1.now)) (field_pattern_at (pattern_at budget) tokens.now) }
 {
     let (name, rest) = read_identifier(alloc, tokens)?;
     match skip_sign(rest, Punctuation::Colon) {
@@ -237,7 +237,7 @@ fn read_field_pattern(
 /// Reads a field that is bound to the local of its name.
 #[tactic(auto, unfolding(crate::specs::PatternReading::short_field))]
 fn short_field(name: Identifier, tokens: &[Token]) -> Result<(FieldPattern, &[Token]), ReadFault>
-    ensures { MatchResult result (λ read. short_field name tokens.now ≡ Some (read.0, read.1.now)) (λ fault. IfNoTree fault (short_field name tokens.now ≡ None)) }
+    ensures { Reads result (λ read. (read.0, read.1.now)) (short_field name tokens.now) }
 {
     if begins_small(name.text.as_slice()) {
         let field = FieldPattern {

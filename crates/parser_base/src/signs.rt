@@ -3,7 +3,7 @@
 ghost use Rattle.std.specs.Prelude.{◌≡◌, None, Some, is_some, MatchResult};
 ghost use Rattle.std.specs.Option.{option_map};
 ghost use Rattle.std.specs.List.{list_any};
-ghost use Rattle.parser_base.specs.ReadFault.{IfNoTree};
+ghost use Rattle.parser_base.specs.ReadFault.{Reads};
 ghost use Rattle.parser_base.specs.TokenReading.{after_sign, after_word, begins_capital, begins_small, identifier_at, is_keyword, is_sign, is_word, sign_place_at, word_place_at};
 ghost use Rattle.base.specs.Names.{same_name};
 
@@ -175,7 +175,7 @@ pub fn expect_word<'a>(tokens: &'a [Token], word: &[u8]) -> Result<&'a [Token], 
 /// Reads a name with its span. Returns it and the remaining tokens.
 #[tactic(auto, unfolding(crate::specs::TokenReading::identifier_at))]
 pub fn read_identifier(alloc: Global, tokens: &[Token]) -> Result<(Identifier, &[Token]), ReadFault>
-    ensures { MatchResult result (λ read. identifier_at tokens.now ≡ Some (read.0, read.1.now)) (λ fault. IfNoTree fault (identifier_at tokens.now ≡ None)) }
+    ensures { Reads result (λ read. (read.0, read.1.now)) (identifier_at tokens.now) }
 {
     match tokens.split_first() {
         Some((token, rest)) => match &token.kind {

@@ -1,7 +1,7 @@
 //! Readers of names with their types: the fields of a struct, and the inputs of a function.
 
-ghost use Rattle.std.specs.Prelude.{◌≡◌, None, Some, length, MatchResult};
-ghost use Rattle.parser_base.specs.ReadFault.{IfNoTree};
+ghost use Rattle.std.specs.Prelude.{◌≡◌, length};
+ghost use Rattle.parser_base.specs.ReadFault.{Reads};
 ghost use Rattle.parser_base.specs.TokenReading.{after_sign};
 ghost use Rattle.parser_base.specs.ListReading.{comma_list_at, some_items_at};
 ghost use Rattle.parser_base.specs.TypeReading.{type_at};
@@ -24,7 +24,7 @@ fn read_typed(
     tokens: &[Token],
     budget: usize,
 ) -> Result<(TypedName, &[Token]), ReadFault>
-    ensures { MatchResult result (λ read. typed_at (type_at budget) name tokens.now ≡ Some (read.0, read.1.now)) (λ fault. IfNoTree fault (typed_at (type_at budget) name tokens.now ≡ None)) }
+    ensures { Reads result (λ read. (read.0, read.1.now)) (typed_at (type_at budget) name tokens.now) }
 {
     let rest = expect_sign(tokens, Punctuation::Colon)?;
     let (annotation, rest) = read_type(alloc, rest, budget)?;
@@ -50,7 +50,7 @@ fn read_typed_name(
     tokens: &[Token],
     budget: usize,
 ) -> Result<(TypedName, &[Token]), ReadFault>
-    ensures { MatchResult result (λ read. typed_name_at of_function (type_at budget) tokens.now ≡ Some (read.0, read.1.now)) (λ fault. IfNoTree fault (typed_name_at of_function (type_at budget) tokens.now ≡ None)) }
+    ensures { Reads result (λ read. (read.0, read.1.now)) (typed_name_at of_function (type_at budget) tokens.now) }
 {
     let (name, rest) = read_identifier(alloc, tokens)?;
     if fits(of_function, name.text.as_slice()) {
@@ -69,7 +69,7 @@ fn read_some_typed_names(
     tokens: &[Token],
     budget: usize,
 ) -> Result<(Vec<TypedName>, bool, &[Token]), ReadFault>
-    ensures { MatchResult result (λ read. some_items_at (after_sign close) (typed_name_at of_function (type_at budget)) tokens.now ≡ Some ((read.0.items, read.1), read.2.now)) (λ fault. IfNoTree fault (some_items_at (after_sign close) (typed_name_at of_function (type_at budget)) tokens.now ≡ None)) }
+    ensures { Reads result (λ read. ((read.0.items, read.1), read.2.now)) (some_items_at (after_sign close) (typed_name_at of_function (type_at budget)) tokens.now) }
 {
     let mut items = Vec::new(alloc);
     let mut rest = tokens;
@@ -94,7 +94,7 @@ fn read_typed_name_list(
     tokens: &[Token],
     budget: usize,
 ) -> Result<(Vec<TypedName>, bool, &[Token]), ReadFault>
-    ensures { MatchResult result (λ read. comma_list_at (after_sign close) (typed_name_at of_function (type_at budget)) tokens.now ≡ Some ((read.0.items, read.1), read.2.now)) (λ fault. IfNoTree fault (comma_list_at (after_sign close) (typed_name_at of_function (type_at budget)) tokens.now ≡ None)) }
+    ensures { Reads result (λ read. ((read.0.items, read.1), read.2.now)) (comma_list_at (after_sign close) (typed_name_at of_function (type_at budget)) tokens.now) }
 {
     if let Some(rest) = skip_sign(tokens, close) {
         return Ok((Vec::new(alloc), false, rest));
@@ -111,7 +111,7 @@ fn read_typed_names(
     tokens: &[Token],
     budget: usize,
 ) -> Result<(TypedNames, &[Token]), ReadFault>
-    ensures { MatchResult result (λ read. typed_names_at close of_function (type_at budget) tokens.now ≡ Some (read.0, read.1.now)) (λ fault. IfNoTree fault (typed_names_at close of_function (type_at budget) tokens.now ≡ None)) }
+    ensures { Reads result (λ read. (read.0, read.1.now)) (typed_names_at close of_function (type_at budget) tokens.now) }
 {
     let (items, last_comma, rest) = read_typed_name_list(
         alloc,
@@ -130,7 +130,7 @@ pub fn read_fields(
     tokens: &[Token],
     budget: usize,
 ) -> Result<(TypedNames, &[Token]), ReadFault>
-    ensures { MatchResult result (λ read. fields_at (type_at budget) tokens.now ≡ Some (read.0, read.1.now)) (λ fault. IfNoTree fault (fields_at (type_at budget) tokens.now ≡ None)) }
+    ensures { Reads result (λ read. (read.0, read.1.now)) (fields_at (type_at budget) tokens.now) }
 {
     read_typed_names(alloc, Punctuation::RightBrace, false, tokens, budget)
 }
@@ -142,7 +142,7 @@ pub fn read_inputs(
     tokens: &[Token],
     budget: usize,
 ) -> Result<(TypedNames, &[Token]), ReadFault>
-    ensures { MatchResult result (λ read. inputs_at (type_at budget) tokens.now ≡ Some (read.0, read.1.now)) (λ fault. IfNoTree fault (inputs_at (type_at budget) tokens.now ≡ None)) }
+    ensures { Reads result (λ read. (read.0, read.1.now)) (inputs_at (type_at budget) tokens.now) }
 {
     read_typed_names(alloc, Punctuation::RightParenthesis, true, tokens, budget)
 }

@@ -1,8 +1,8 @@
 //! Readers of types.
 
-ghost use Rattle.std.specs.Prelude.{◌≡◌, None, Some, length, MatchResult};
+ghost use Rattle.std.specs.Prelude.{length};
 ghost use Rattle.syntax_tree.specs.TypeTreeData.{maybe_arguments_of};
-ghost use Rattle.parser_base.specs.ReadFault.{IfNoTree};
+ghost use Rattle.parser_base.specs.ReadFault.{Reads};
 ghost use Rattle.parser_base.specs.TokenReading.{after_sign};
 ghost use Rattle.parser_base.specs.ListReading.{comma_list_at, some_items_at};
 ghost use Rattle.parser_base.specs.TypeReading.{arguments_at, maybe_arguments_at, named_at, reference_at, tuple_at, type_at, type_form};
@@ -24,7 +24,7 @@ pub fn read_type(
     tokens: &[Token],
     budget: usize,
 ) -> Result<(SourceType, &[Token]), ReadFault>
-    ensures { MatchResult result (λ read. type_at budget tokens.now ≡ Some (read.0, read.1.now)) (λ fault. IfNoTree fault (type_at budget tokens.now ≡ None)) }
+    ensures { Reads result (λ read. (read.0, read.1.now)) (type_at budget tokens.now) }
 {
     if budget == 0 {
         return Err(ReadFault::NoTree { left: tokens.len() });
@@ -40,7 +40,7 @@ fn read_type_form(
     tokens: &[Token],
     budget: usize,
 ) -> Result<(SourceType, &[Token]), ReadFault>
-    ensures { MatchResult result (λ read. type_form (type_at budget) tokens.now ≡ Some (read.0, read.1.now)) (λ fault. IfNoTree fault (type_form (type_at budget) tokens.now ≡ None)) }
+    ensures { Reads result (λ read. (read.0, read.1.now)) (type_form (type_at budget) tokens.now) }
 {
     if let Some((place, rest)) = place_of_sign(tokens, Punctuation::Ampersand) {
         return read_reference(alloc, place, rest, budget);
@@ -60,7 +60,7 @@ fn read_reference(
     tokens: &[Token],
     budget: usize,
 ) -> Result<(SourceType, &[Token]), ReadFault>
-    ensures { MatchResult result (λ read. reference_at (type_at budget) place tokens.now ≡ Some (read.0, read.1.now)) (λ fault. IfNoTree fault (reference_at (type_at budget) place tokens.now ≡ None)) }
+    ensures { Reads result (λ read. (read.0, read.1.now)) (reference_at (type_at budget) place tokens.now) }
 {
     if let Some(rest) = skip_word(tokens, b"mut") {
         let (target, rest) = read_type(alloc, rest, budget)?;
@@ -87,7 +87,7 @@ fn read_tuple(
     tokens: &[Token],
     budget: usize,
 ) -> Result<(SourceType, &[Token]), ReadFault>
-    ensures { MatchResult result (λ read. tuple_at (type_at budget) place tokens.now ≡ Some (read.0, read.1.now)) (λ fault. IfNoTree fault (tuple_at (type_at budget) place tokens.now ≡ None)) }
+    ensures { Reads result (λ read. (read.0, read.1.now)) (tuple_at (type_at budget) place tokens.now) }
 {
     if let Some(rest) = skip_sign(tokens, Punctuation::RightParenthesis) {
         let node = SourceTypeNode::Tuple {
@@ -119,7 +119,7 @@ fn read_named(
     tokens: &[Token],
     budget: usize,
 ) -> Result<(SourceType, &[Token]), ReadFault>
-    ensures { MatchResult result (λ read. named_at (type_at budget) tokens.now ≡ Some (read.0, read.1.now)) (λ fault. IfNoTree fault (named_at (type_at budget) tokens.now ≡ None)) }
+    ensures { Reads result (λ read. (read.0, read.1.now)) (named_at (type_at budget) tokens.now) }
 {
     let (path, rest) = read_path(alloc, tokens)?;
     if is_single(&path, b"u256") {
@@ -138,7 +138,7 @@ pub fn read_maybe_arguments(
     tokens: &[Token],
     budget: usize,
 ) -> Result<(Option<TypeArguments>, &[Token]), ReadFault>
-    ensures { MatchResult result (λ read. maybe_arguments_at (type_at budget) tokens.now ≡ Some (maybe_arguments_of read.0, read.1.now)) (λ fault. IfNoTree fault (maybe_arguments_at (type_at budget) tokens.now ≡ None)) }
+    ensures { Reads result (λ read. (maybe_arguments_of read.0, read.1.now)) (maybe_arguments_at (type_at budget) tokens.now) }
 {
     match skip_sign(tokens, Punctuation::Less) {
         Some(inside) => {
@@ -157,7 +157,7 @@ pub fn read_arguments(
     tokens: &[Token],
     budget: usize,
 ) -> Result<(TypeArguments, &[Token]), ReadFault>
-    ensures { MatchResult result (λ read. arguments_at (type_at budget) tokens.now ≡ Some (read.0, read.1.now)) (λ fault. IfNoTree fault (arguments_at (type_at budget) tokens.now ≡ None)) }
+    ensures { Reads result (λ read. (read.0, read.1.now)) (arguments_at (type_at budget) tokens.now) }
 {
     let (items, last_comma, rest) = read_types(alloc, Punctuation::Greater, tokens, budget)?;
     Ok((TypeArguments { items, last_comma }, rest))
@@ -172,7 +172,7 @@ fn read_types(
     tokens: &[Token],
     budget: usize,
 ) -> Result<(Vec<SourceType>, bool, &[Token]), ReadFault>
-    ensures { MatchResult result (λ read. some_items_at (after_sign close) (type_at budget) tokens.now ≡ Some ((read.0.items, read.1), read.2.now)) (λ fault. IfNoTree fault (some_items_at (after_sign close) (type_at budget) tokens.now ≡ None)) }
+    ensures { Reads result (λ read. ((read.0.items, read.1), read.2.now)) (some_items_at (after_sign close) (type_at budget) tokens.now) }
 {
     let mut items = Vec::new(alloc);
     let mut rest = tokens;

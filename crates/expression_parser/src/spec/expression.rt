@@ -1,8 +1,8 @@
 //! Readers of spec expressions.
 
-ghost use Rattle.std.specs.Prelude.{◌≡◌, None, Some, [], true, false, length, MatchResult};
+ghost use Rattle.std.specs.Prelude.{[], true, false, length};
 ghost use Rattle.syntax_tree.specs.TypeTreeData.{maybe_arguments_of};
-ghost use Rattle.parser_base.specs.ReadFault.{IfNoTree};
+ghost use Rattle.parser_base.specs.ReadFault.{Reads};
 ghost use Rattle.parser_base.specs.TokenReading.{after_sign};
 ghost use Rattle.parser_base.specs.ListReading.{comma_list_at, some_items_at};
 ghost use Rattle.parser_base.specs.TypeReading.{type_at};
@@ -47,7 +47,7 @@ pub fn read_spec_expression(
     tokens: &[Token],
     budget: usize,
 ) -> Result<(SpecExpression, &[Token]), ReadFault>
-    ensures { MatchResult result (λ read. spec_at budget true 0 tokens.now ≡ Some (read.0, read.1.now)) (λ fault. IfNoTree fault (spec_at budget true 0 tokens.now ≡ None)) }
+    ensures { Reads result (λ read. (read.0, read.1.now)) (spec_at budget true 0 tokens.now) }
 {
     let (tree, rest) = read_spec(alloc, true, 0, tokens, budget)?;
     Ok((Box::into_inner(tree), rest))
@@ -64,7 +64,7 @@ fn read_spec(
     tokens: &[Token],
     budget: usize,
 ) -> Result<(Box<SpecExpression>, &[Token]), ReadFault>
-    ensures { MatchResult result (λ read. spec_at budget packs minimum tokens.now ≡ Some (read.0.value, read.1.now)) (λ fault. IfNoTree fault (spec_at budget packs minimum tokens.now ≡ None)) }
+    ensures { Reads result (λ read. (read.0.value, read.1.now)) (spec_at budget packs minimum tokens.now) }
 {
     if budget == 0 {
         return Err(ReadFault::NoTree { left: tokens.len() });
@@ -82,7 +82,7 @@ fn read_spec_form(
     tokens: &[Token],
     budget: usize,
 ) -> Result<(Box<SpecExpression>, &[Token]), ReadFault>
-    ensures { MatchResult result (λ read. spec_form (type_at budget) (spec_at budget) packs minimum tokens.now ≡ Some (read.0.value, read.1.now)) (λ fault. IfNoTree fault (spec_form (type_at budget) (spec_at budget) packs minimum tokens.now ≡ None)) }
+    ensures { Reads result (λ read. (read.0.value, read.1.now)) (spec_form (type_at budget) (spec_at budget) packs minimum tokens.now) }
 {
     if minimum == 0 {
         if let Some((quantifier, place, rest)) = read_quantifier(tokens) {
@@ -103,7 +103,7 @@ fn read_condition(
     tokens: &[Token],
     budget: usize,
 ) -> Result<(Box<SpecExpression>, &[Token]), ReadFault>
-    ensures { MatchResult result (λ read. condition_at (spec_at budget true 0) tokens.now ≡ Some (read.0.value, read.1.now)) (λ fault. IfNoTree fault (condition_at (spec_at budget true 0) tokens.now ≡ None)) }
+    ensures { Reads result (λ read. (read.0.value, read.1.now)) (condition_at (spec_at budget true 0) tokens.now) }
 {
     let rest = expect_sign(tokens, Punctuation::LeftParenthesis)?;
     let (condition, rest) = read_spec(alloc, true, 0, rest, budget)?;
@@ -121,7 +121,7 @@ fn read_if(
     tokens: &[Token],
     budget: usize,
 ) -> Result<(Box<SpecExpression>, &[Token]), ReadFault>
-    ensures { MatchResult result (λ read. if_at (spec_at budget) packs place tokens.now ≡ Some (read.0.value, read.1.now)) (λ fault. IfNoTree fault (if_at (spec_at budget) packs place tokens.now ≡ None)) }
+    ensures { Reads result (λ read. (read.0.value, read.1.now)) (if_at (spec_at budget) packs place tokens.now) }
 {
     let (condition, rest) = read_condition(alloc, tokens, budget)?;
     let (then_branch, rest) = read_spec(alloc, packs, 0, rest, budget)?;
@@ -142,7 +142,7 @@ fn read_quantified(
     tokens: &[Token],
     budget: usize,
 ) -> Result<(Box<SpecExpression>, &[Token]), ReadFault>
-    ensures { MatchResult result (λ read. quantified_at (type_at budget) (spec_at budget) packs quantifier place tokens.now ≡ Some (read.0.value, read.1.now)) (λ fault. IfNoTree fault (quantified_at (type_at budget) (spec_at budget) packs quantifier place tokens.now ≡ None)) }
+    ensures { Reads result (λ read. (read.0.value, read.1.now)) (quantified_at (type_at budget) (spec_at budget) packs quantifier place tokens.now) }
 {
     let (binds, rest) = read_binds(alloc, tokens, budget)?;
     let (triggers, rest) = read_triggers(alloc, rest, budget)?;
@@ -159,7 +159,7 @@ fn read_binds(
     tokens: &[Token],
     budget: usize,
 ) -> Result<(Vec<Bind>, &[Token]), ReadFault>
-    ensures { MatchResult result (λ read. binds_at (type_at budget) (spec_at budget false 0) tokens.now ≡ Some (read.0.items, read.1.now)) (λ fault. IfNoTree fault (binds_at (type_at budget) (spec_at budget false 0) tokens.now ≡ None)) }
+    ensures { Reads result (λ read. (read.0.items, read.1.now)) (binds_at (type_at budget) (spec_at budget false 0) tokens.now) }
 {
     let mut binds = Vec::new(alloc);
     let mut rest = tokens;
@@ -181,7 +181,7 @@ fn read_binds(
 #[cycle(read_spec)]
 #[tactic(auto, unfolding(crate::specs::SpecReading::bind_at))]
 fn read_bind(alloc: Global, tokens: &[Token], budget: usize) -> Result<(Bind, &[Token]), ReadFault>
-    ensures { MatchResult result (λ read. bind_at (type_at budget) (spec_at budget false 0) tokens.now ≡ Some (read.0, read.1.now)) (λ fault. IfNoTree fault (bind_at (type_at budget) (spec_at budget false 0) tokens.now ≡ None)) }
+    ensures { Reads result (λ read. (read.0, read.1.now)) (bind_at (type_at budget) (spec_at budget false 0) tokens.now) }
 {
     let (name, rest) = read_identifier(alloc, tokens)?;
     if let Some(rest) = skip_sign(rest, Punctuation::Colon) {
@@ -202,7 +202,7 @@ fn read_triggers(
     tokens: &[Token],
     budget: usize,
 ) -> Result<(Vec<Trigger>, &[Token]), ReadFault>
-    ensures { MatchResult result (λ read. whole_repeat_at has_trigger (trigger_at (spec_at budget true 0)) [] tokens.now ≡ Some (read.0.items, read.1.now)) (λ fault. IfNoTree fault (whole_repeat_at has_trigger (trigger_at (spec_at budget true 0)) [] tokens.now ≡ None)) }
+    ensures { Reads result (λ read. (read.0.items, read.1.now)) (whole_repeat_at has_trigger (trigger_at (spec_at budget true 0)) [] tokens.now) }
 {
     let mut triggers = Vec::new(alloc);
     let mut rest = tokens;
@@ -231,7 +231,7 @@ fn read_operated(
     tokens: &[Token],
     budget: usize,
 ) -> Result<(Box<SpecExpression>, &[Token]), ReadFault>
-    ensures { MatchResult result (λ read. operated_at (type_at budget) (spec_at budget) packs minimum tokens.now ≡ Some (read.0.value, read.1.now)) (λ fault. IfNoTree fault (operated_at (type_at budget) (spec_at budget) packs minimum tokens.now ≡ None)) }
+    ensures { Reads result (λ read. (read.0.value, read.1.now)) (operated_at (type_at budget) (spec_at budget) packs minimum tokens.now) }
 {
     let (first, behind) = read_operand(alloc, packs, tokens, budget)?;
     let mut whole = first;
@@ -256,7 +256,7 @@ fn read_operand(
     tokens: &[Token],
     budget: usize,
 ) -> Result<(Box<SpecExpression>, &[Token]), ReadFault>
-    ensures { MatchResult result (λ read. operand_at (type_at budget) (spec_at budget) packs tokens.now ≡ Some (read.0.value, read.1.now)) (λ fault. IfNoTree fault (operand_at (type_at budget) (spec_at budget) packs tokens.now ≡ None)) }
+    ensures { Reads result (λ read. (read.0.value, read.1.now)) (operand_at (type_at budget) (spec_at budget) packs tokens.now) }
 {
     if let Some((place, rest)) = place_of_sign(tokens, Punctuation::Exclaim) {
         let (operand, rest) = read_spec(alloc, packs, UNARY_LEVEL, rest, budget)?;
@@ -274,7 +274,7 @@ fn read_postfixes(
     tokens: &[Token],
     budget: usize,
 ) -> Result<(Box<SpecExpression>, &[Token]), ReadFault>
-    ensures { MatchResult result (λ read. whole_repeat_at has_postfix (postfix_at (spec_at budget true 0)) base.value tokens.now ≡ Some (read.0.value, read.1.now)) (λ fault. IfNoTree fault (whole_repeat_at has_postfix (postfix_at (spec_at budget true 0)) base.value tokens.now ≡ None)) }
+    ensures { Reads result (λ read. (read.0.value, read.1.now)) (whole_repeat_at has_postfix (postfix_at (spec_at budget true 0)) base.value tokens.now) }
 {
     let mut whole = base;
     let mut rest = tokens;
@@ -298,7 +298,7 @@ fn read_postfix(
     tokens: &[Token],
     budget: usize,
 ) -> Result<(Box<SpecExpression>, &[Token]), ReadFault>
-    ensures { MatchResult result (λ read. postfix_at (spec_at budget true 0) base.value tokens.now ≡ Some (read.0.value, read.1.now)) (λ fault. IfNoTree fault (postfix_at (spec_at budget true 0) base.value tokens.now ≡ None)) }
+    ensures { Reads result (λ read. (read.0.value, read.1.now)) (postfix_at (spec_at budget true 0) base.value tokens.now) }
 {
     if let Some(rest) = skip_sign(tokens, Punctuation::Period) {
         let (field, rest) = read_identifier(alloc, rest)?;
@@ -319,7 +319,7 @@ fn read_term(
     tokens: &[Token],
     budget: usize,
 ) -> Result<(Box<SpecExpression>, &[Token]), ReadFault>
-    ensures { MatchResult result (λ read. term_at (type_at budget) (spec_at budget true 0) packs tokens.now ≡ Some (read.0.value, read.1.now)) (λ fault. IfNoTree fault (term_at (type_at budget) (spec_at budget true 0) packs tokens.now ≡ None)) }
+    ensures { Reads result (λ read. (read.0.value, read.1.now)) (term_at (type_at budget) (spec_at budget true 0) packs tokens.now) }
 {
     if let Some((place, rest)) = place_of_sign(tokens, Punctuation::LeftParenthesis) {
         let (inner, rest) = read_spec(alloc, true, 0, rest, budget)?;
@@ -343,7 +343,7 @@ fn read_plain_term(
     tokens: &[Token],
     budget: usize,
 ) -> Result<(Box<SpecExpression>, &[Token]), ReadFault>
-    ensures { MatchResult result (λ read. plain_term_at (type_at budget) (spec_at budget true 0) packs tokens.now ≡ Some (read.0.value, read.1.now)) (λ fault. IfNoTree fault (plain_term_at (type_at budget) (spec_at budget true 0) packs tokens.now ≡ None)) }
+    ensures { Reads result (λ read. (read.0.value, read.1.now)) (plain_term_at (type_at budget) (spec_at budget true 0) packs tokens.now) }
 {
     if let Some((literal, rest)) = read_plain_literal(alloc, tokens)? {
         let node = SpecNode::Literal(literal);
@@ -363,7 +363,7 @@ fn read_path_form(
     tokens: &[Token],
     budget: usize,
 ) -> Result<(Box<SpecExpression>, &[Token]), ReadFault>
-    ensures { MatchResult result (λ read. path_form (type_at budget) (spec_at budget true 0) packs path tokens.now ≡ Some (read.0.value, read.1.now)) (λ fault. IfNoTree fault (path_form (type_at budget) (spec_at budget true 0) packs path tokens.now ≡ None)) }
+    ensures { Reads result (λ read. (read.0.value, read.1.now)) (path_form (type_at budget) (spec_at budget true 0) packs path tokens.now) }
 {
     match skip_glued(tokens, Punctuation::Less) {
         Some(inside) => {
@@ -385,7 +385,7 @@ fn read_applied(
     tokens: &[Token],
     budget: usize,
 ) -> Result<(Box<SpecExpression>, &[Token]), ReadFault>
-    ensures { MatchResult result (λ read. applied_at (spec_at budget true 0) packs path (maybe_arguments_of arguments) tokens.now ≡ Some (read.0.value, read.1.now)) (λ fault. IfNoTree fault (applied_at (spec_at budget true 0) packs path (maybe_arguments_of arguments) tokens.now ≡ None)) }
+    ensures { Reads result (λ read. (read.0.value, read.1.now)) (applied_at (spec_at budget true 0) packs path (maybe_arguments_of arguments) tokens.now) }
 {
     if let Some(rest) = skip_sign(tokens, Punctuation::LeftParenthesis) {
         return read_call(alloc, path, arguments, rest, budget);
@@ -406,7 +406,7 @@ fn read_call(
     tokens: &[Token],
     budget: usize,
 ) -> Result<(Box<SpecExpression>, &[Token]), ReadFault>
-    ensures { MatchResult result (λ read. call_at (spec_at budget true 0) path (maybe_arguments_of arguments) tokens.now ≡ Some (read.0.value, read.1.now)) (λ fault. IfNoTree fault (call_at (spec_at budget true 0) path (maybe_arguments_of arguments) tokens.now ≡ None)) }
+    ensures { Reads result (λ read. (read.0.value, read.1.now)) (call_at (spec_at budget true 0) path (maybe_arguments_of arguments) tokens.now) }
 {
     let (values, last_comma, rest) = read_values(alloc, tokens, budget)?;
     let node = SpecNode::Call {
@@ -425,7 +425,7 @@ fn bare_path(
     arguments: Option<TypeArguments>,
     tokens: &[Token],
 ) -> Result<(Box<SpecExpression>, &[Token]), ReadFault>
-    ensures { MatchResult result (λ read. bare_path path (maybe_arguments_of arguments) tokens.now ≡ Some (read.0.value, read.1.now)) (λ fault. IfNoTree fault (bare_path path (maybe_arguments_of arguments) tokens.now ≡ None)) }
+    ensures { Reads result (λ read. (read.0.value, read.1.now)) (bare_path path (maybe_arguments_of arguments) tokens.now) }
 {
     match arguments {
         Some(_) => Err(ReadFault::NoTree { left: tokens.len() }),
@@ -445,7 +445,7 @@ fn read_values(
     tokens: &[Token],
     budget: usize,
 ) -> Result<(Vec<SpecExpression>, bool, &[Token]), ReadFault>
-    ensures { MatchResult result (λ read. comma_list_at (after_sign Punctuation.RightParenthesis) (spec_at budget true 0) tokens.now ≡ Some ((read.0.items, read.1), read.2.now)) (λ fault. IfNoTree fault (comma_list_at (after_sign Punctuation.RightParenthesis) (spec_at budget true 0) tokens.now ≡ None)) }
+    ensures { Reads result (λ read. ((read.0.items, read.1), read.2.now)) (comma_list_at (after_sign Punctuation.RightParenthesis) (spec_at budget true 0) tokens.now) }
 {
     match skip_sign(tokens, Punctuation::RightParenthesis) {
         Some(rest) => Ok((Vec::new(alloc), false, rest)),
@@ -463,7 +463,7 @@ fn read_pack(
     tokens: &[Token],
     budget: usize,
 ) -> Result<(Box<SpecExpression>, &[Token]), ReadFault>
-    ensures { MatchResult result (λ read. pack_at (spec_at budget true 0) path (maybe_arguments_of arguments) tokens.now ≡ Some (read.0.value, read.1.now)) (λ fault. IfNoTree fault (pack_at (spec_at budget true 0) path (maybe_arguments_of arguments) tokens.now ≡ None)) }
+    ensures { Reads result (λ read. (read.0.value, read.1.now)) (pack_at (spec_at budget true 0) path (maybe_arguments_of arguments) tokens.now) }
 {
     let (fields, last_comma, rest) = read_spec_fields(alloc, tokens, budget)?;
     let node = SpecNode::Pack {
@@ -484,7 +484,7 @@ pub fn read_specs(
     tokens: &[Token],
     budget: usize,
 ) -> Result<(Vec<SpecExpression>, bool, &[Token]), ReadFault>
-    ensures { MatchResult result (λ read. some_items_at (after_sign close) (spec_at budget true 0) tokens.now ≡ Some ((read.0.items, read.1), read.2.now)) (λ fault. IfNoTree fault (some_items_at (after_sign close) (spec_at budget true 0) tokens.now ≡ None)) }
+    ensures { Reads result (λ read. ((read.0.items, read.1), read.2.now)) (some_items_at (after_sign close) (spec_at budget true 0) tokens.now) }
 {
     let mut items = Vec::new(alloc);
     let mut rest = tokens;
@@ -509,7 +509,7 @@ pub fn read_spec_fields(
     tokens: &[Token],
     budget: usize,
 ) -> Result<(Vec<SpecField>, bool, &[Token]), ReadFault>
-    ensures { MatchResult result (λ read. comma_list_at (after_sign Punctuation.RightBrace) (spec_field_at (spec_at budget true 0)) tokens.now ≡ Some ((read.0.items, read.1), read.2.now)) (λ fault. IfNoTree fault (comma_list_at (after_sign Punctuation.RightBrace) (spec_field_at (spec_at budget true 0)) tokens.now ≡ None)) }
+    ensures { Reads result (λ read. ((read.0.items, read.1), read.2.now)) (comma_list_at (after_sign Punctuation.RightBrace) (spec_field_at (spec_at budget true 0)) tokens.now) }
 {
     match skip_sign(tokens, Punctuation::RightBrace) {
         Some(rest) => Ok((Vec::new(alloc), false, rest)),
@@ -524,7 +524,7 @@ fn read_some_fields(
     tokens: &[Token],
     budget: usize,
 ) -> Result<(Vec<SpecField>, bool, &[Token]), ReadFault>
-    ensures { MatchResult result (λ read. some_items_at (after_sign Punctuation.RightBrace) (spec_field_at (spec_at budget true 0)) tokens.now ≡ Some ((read.0.items, read.1), read.2.now)) (λ fault. IfNoTree fault (some_items_at (after_sign Punctuation.RightBrace) (spec_field_at (spec_at budget true 0)) tokens.now ≡ None)) }
+    ensures { Reads result (λ read. ((read.0.items, read.1), read.2.now)) (some_items_at (after_sign Punctuation.RightBrace) (spec_field_at (spec_at budget true 0)) tokens.now) }
 {
     let mut items = Vec::new(alloc);
     let mut rest = tokens;
@@ -548,7 +548,7 @@ fn read_spec_field(
     tokens: &[Token],
     budget: usize,
 ) -> Result<(SpecField, &[Token]), ReadFault>
-    ensures { MatchResult result (λ read. spec_field_at (spec_at budget true 0) tokens.now ≡ Some (read.0, read.1.now)) (λ fault. IfNoTree fault (spec_field_at (spec_at budget true 0) tokens.now ≡ None)) }
+    ensures { Reads result (λ read. (read.0, read.1.now)) (spec_field_at (spec_at budget true 0) tokens.now) }
 {
     let (name, rest) = read_identifier(alloc, tokens)?;
     match skip_sign(rest, Punctuation::Colon) {

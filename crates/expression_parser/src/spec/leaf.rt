@@ -2,7 +2,7 @@
 
 ghost use Rattle.std.specs.Prelude.{◌≡◌, None, Some, MatchResult};
 ghost use Rattle.std.specs.Option.{option_map};
-ghost use Rattle.parser_base.specs.ReadFault.{IfNoTree};
+ghost use Rattle.parser_base.specs.ReadFault.{Reads};
 ghost use Rattle.parser_base.specs.ListReading.{separator_at};
 ghost use Rattle.expression_parser.specs.LeafReading.{address_literal_at, has_postfix, opens_bind, pack_opened, quantifier_at, quantifier_word_at};
 ghost use Rattle.expression_parser.specs.SpecReading.{binds_end};
@@ -27,7 +27,7 @@ pub fn read_address_literal(
     place: Span,
     tokens: &[Token],
 ) -> Result<(Literal, &[Token]), ReadFault>
-    ensures { MatchResult result (λ read. address_literal_at place tokens.now ≡ Some (read.0, read.1.now)) (λ fault. IfNoTree fault (address_literal_at place tokens.now ≡ None)) }
+    ensures { Reads result (λ read. (read.0, read.1.now)) (address_literal_at place tokens.now) }
 {
     let (address, rest) = read_address(alloc, tokens)?;
     Ok((Literal::Address { place, address }, rest))

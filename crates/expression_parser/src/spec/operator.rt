@@ -1,6 +1,6 @@
 //! Readers of the operators of spec expressions.
 
-ghost use Rattle.std.specs.Prelude.{◌≡◌, None, Some};
+ghost use Rattle.std.specs.Prelude.{◌≡◌};
 ghost use Rattle.std.specs.Option.{option_map};
 ghost use Rattle.parser_base.specs.ChainReading.{next_operator};
 ghost use Rattle.expression_parser.specs.OperatorReading.{kind_operator, lengthened, opens_arguments, sign_operator, spec_joints, spec_operator_at};

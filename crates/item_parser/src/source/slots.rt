@@ -1,6 +1,6 @@
 //! The slots of the spec blocks of a module.
 
-ghost use Rattle.std.specs.Prelude.{◌≡◌, None, Some};
+ghost use Rattle.std.specs.Prelude.{◌≡◌};
 ghost use Rattle.std.specs.Option.{option_map};
 ghost use Rattle.base.specs.Names.{has};
 ghost use Rattle.item_parser.specs.SlotReading.{first_word, is_schema, names_struct, slot_at};

@@ -1,7 +1,7 @@
 //! Readers of blocks of clauses.
 
-ghost use Rattle.std.specs.Prelude.{◌≡◌, None, Some, MatchResult};
-ghost use Rattle.parser_base.specs.ReadFault.{IfNoTree};
+ghost use Rattle.std.specs.Prelude.{◌≡◌};
+ghost use Rattle.parser_base.specs.ReadFault.{Reads};
 ghost use Rattle.item_parser.specs.BlockReading.{block_at, clauses_at, in_function, in_loop, in_module, in_struct, may_hold, may_hold_all};
 
 use crate::spec::clause::read_clause;
@@ -92,7 +92,7 @@ fn read_clauses(
     tokens: &[Token],
     budget: usize,
 ) -> Result<(Vec<Clause>, &[Token]), ReadFault>
-    ensures { MatchResult result (λ read. clauses_at budget tokens.now ≡ Some (read.0.items, read.1.now)) (λ fault. IfNoTree fault (clauses_at budget tokens.now ≡ None)) }
+    ensures { Reads result (λ read. (read.0.items, read.1.now)) (clauses_at budget tokens.now) }
 {
     let mut clauses = Vec::new(alloc);
     let mut rest = tokens;
@@ -132,7 +132,7 @@ pub fn read_block(
     tokens: &[Token],
     budget: usize,
 ) -> Result<(Clauses, &[Token]), ReadFault>
-    ensures { MatchResult result (λ read. block_at slot budget tokens.now ≡ Some (read.0, read.1.now)) (λ fault. IfNoTree fault (block_at slot budget tokens.now ≡ None)) }
+    ensures { Reads result (λ read. (read.0, read.1.now)) (block_at slot budget tokens.now) }
 {
     let inside = expect_sign(tokens, Punctuation::LeftBrace)?;
     let (items, rest) = read_clauses(alloc, inside, budget)?;

@@ -1,7 +1,7 @@
 //! Readers of clauses.
 
-ghost use Rattle.std.specs.Prelude.{◌≡◌, None, Some, MatchResult};
-ghost use Rattle.parser_base.specs.ReadFault.{IfNoTree};
+ghost use Rattle.std.specs.Prelude.{◌≡◌};
+ghost use Rattle.parser_base.specs.ReadFault.{Reads};
 ghost use Rattle.item_parser.specs.ClauseReading.{clause_at, clause_behind, opens_variable, variable_at, worded_at};
 
 use crate::spec::conditions::{
@@ -43,7 +43,7 @@ fn read_variable(
     tokens: &[Token],
     budget: usize,
 ) -> Result<(Clause, &[Token]), ReadFault>
-    ensures { MatchResult result (λ read. variable_at budget tokens.now ≡ Some (read.0, read.1.now)) (λ fault. IfNoTree fault (variable_at budget tokens.now ≡ None)) }
+    ensures { Reads result (λ read. (read.0, read.1.now)) (variable_at budget tokens.now) }
 {
     let (name, rest) = read_identifier(alloc, tokens)?;
     let rest = expect_sign(rest, Punctuation::Colon)?;
@@ -60,7 +60,7 @@ fn read_behind_word(
     tokens: &[Token],
     budget: usize,
 ) -> Result<(Clause, &[Token]), ReadFault>
-    ensures { MatchResult result (λ read. clause_behind budget word place tokens.now ≡ Some (read.0, read.1.now)) (λ fault. IfNoTree fault (clause_behind budget word place tokens.now ≡ None)) }
+    ensures { Reads result (λ read. (read.0, read.1.now)) (clause_behind budget word place tokens.now) }
 {
     match word {
         ClauseWord::Pragma => read_pragmas(alloc, place, tokens),
@@ -81,7 +81,7 @@ fn read_worded(
     tokens: &[Token],
     budget: usize,
 ) -> Result<(Clause, &[Token]), ReadFault>
-    ensures { MatchResult result (λ read. worded_at budget tokens.now ≡ Some (read.0, read.1.now)) (λ fault. IfNoTree fault (worded_at budget tokens.now ≡ None)) }
+    ensures { Reads result (λ read. (read.0, read.1.now)) (worded_at budget tokens.now) }
 {
     match clause_word(tokens) {
         Some((word, place, rest)) => read_behind_word(alloc, word, place, rest, budget),
@@ -100,7 +100,7 @@ pub fn read_clause(
     tokens: &[Token],
     budget: usize,
 ) -> Result<(Clause, &[Token]), ReadFault>
-    ensures { MatchResult result (λ read. clause_at budget tokens.now ≡ Some (read.0, read.1.now)) (λ fault. IfNoTree fault (clause_at budget tokens.now ≡ None)) }
+    ensures { Reads result (λ read. (read.0, read.1.now)) (clause_at budget tokens.now) }
 {
     if opens_variable(tokens) {
         read_variable(alloc, tokens, budget)

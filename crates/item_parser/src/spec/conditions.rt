@@ -1,7 +1,6 @@
 //! Readers of clauses with one spec expression, after their words.
 
-ghost use Rattle.std.specs.Prelude.{◌≡◌, None, Some, MatchResult};
-ghost use Rattle.parser_base.specs.ReadFault.{IfNoTree};
+ghost use Rattle.parser_base.specs.ReadFault.{Reads};
 ghost use Rattle.item_parser.specs.ClauseReading.{aborts_if_at, condition_at, ensures_at, invariant_at, let_at, requires_at};
 
 use crate::spec::words::{skip_post, skip_update};
@@ -21,7 +20,7 @@ fn read_condition(
     tokens: &[Token],
     budget: usize,
 ) -> Result<(SpecExpression, &[Token]), ReadFault>
-    ensures { MatchResult result (λ read. condition_at budget tokens.now ≡ Some (read.0, read.1.now)) (λ fault. IfNoTree fault (condition_at budget tokens.now ≡ None)) }
+    ensures { Reads result (λ read. (read.0, read.1.now)) (condition_at budget tokens.now) }
 {
     let (condition, rest) = read_spec_expression(alloc, tokens, budget)?;
     let rest = expect_sign(rest, Punctuation::Semicolon)?;
@@ -36,7 +35,7 @@ pub fn read_requires(
     tokens: &[Token],
     budget: usize,
 ) -> Result<(Clause, &[Token]), ReadFault>
-    ensures { MatchResult result (λ read. requires_at budget place tokens.now ≡ Some (read.0, read.1.now)) (λ fault. IfNoTree fault (requires_at budget place tokens.now ≡ None)) }
+    ensures { Reads result (λ read. (read.0, read.1.now)) (requires_at budget place tokens.now) }
 {
     let (condition, rest) = read_condition(alloc, tokens, budget)?;
     Ok((Clause::Requires { place, condition }, rest))
@@ -50,7 +49,7 @@ pub fn read_ensures(
     tokens: &[Token],
     budget: usize,
 ) -> Result<(Clause, &[Token]), ReadFault>
-    ensures { MatchResult result (λ read. ensures_at budget place tokens.now ≡ Some (read.0, read.1.now)) (λ fault. IfNoTree fault (ensures_at budget place tokens.now ≡ None)) }
+    ensures { Reads result (λ read. (read.0, read.1.now)) (ensures_at budget place tokens.now) }
 {
     let (condition, rest) = read_condition(alloc, tokens, budget)?;
     Ok((Clause::Ensures { place, condition }, rest))
@@ -64,7 +63,7 @@ pub fn read_aborts_if(
     tokens: &[Token],
     budget: usize,
 ) -> Result<(Clause, &[Token]), ReadFault>
-    ensures { MatchResult result (λ read. aborts_if_at budget place tokens.now ≡ Some (read.0, read.1.now)) (λ fault. IfNoTree fault (aborts_if_at budget place tokens.now ≡ None)) }
+    ensures { Reads result (λ read. (read.0, read.1.now)) (aborts_if_at budget place tokens.now) }
 {
     let (condition, rest) = read_condition(alloc, tokens, budget)?;
     let code = AbortCode::Bare;
@@ -86,7 +85,7 @@ pub fn read_invariant(
     tokens: &[Token],
     budget: usize,
 ) -> Result<(Clause, &[Token]), ReadFault>
-    ensures { MatchResult result (λ read. invariant_at budget place tokens.now ≡ Some (read.0, read.1.now)) (λ fault. IfNoTree fault (invariant_at budget place tokens.now ≡ None)) }
+    ensures { Reads result (λ read. (read.0, read.1.now)) (invariant_at budget place tokens.now) }
 {
     let (is_update, rest) = skip_update(tokens);
     let (condition, rest) = read_condition(alloc, rest, budget)?;
@@ -108,7 +107,7 @@ pub fn read_let(
     tokens: &[Token],
     budget: usize,
 ) -> Result<(Clause, &[Token]), ReadFault>
-    ensures { MatchResult result (λ read. let_at budget place tokens.now ≡ Some (read.0, read.1.now)) (λ fault. IfNoTree fault (let_at budget place tokens.now ≡ None)) }
+    ensures { Reads result (λ read. (read.0, read.1.now)) (let_at budget place tokens.now) }
 {
     let (is_post, rest) = skip_post(tokens);
     let (name, rest) = read_identifier(alloc, rest)?;

@@ -1,7 +1,7 @@
 //! Readers of `include` clauses.
 
-ghost use Rattle.std.specs.Prelude.{◌≡◌, None, Some, true, length, MatchResult};
-ghost use Rattle.parser_base.specs.ReadFault.{IfNoTree};
+ghost use Rattle.std.specs.Prelude.{true, length};
+ghost use Rattle.parser_base.specs.ReadFault.{Reads};
 ghost use Rattle.parser_base.specs.TokenReading.{after_sign};
 ghost use Rattle.parser_base.specs.ListReading.{comma_list_at, some_items_at};
 ghost use Rattle.parser_base.specs.TypeReading.{type_at};
@@ -28,7 +28,7 @@ fn read_given(
     tokens: &[Token],
     budget: usize,
 ) -> Result<(Option<TypeArguments>, &[Token]), ReadFault>
-    ensures { MatchResult result (λ read. given_at (type_at budget) tokens.now ≡ Some (read.0, read.1.now)) (λ fault. IfNoTree fault (given_at (type_at budget) tokens.now ≡ None)) }
+    ensures { Reads result (λ read. (read.0, read.1.now)) (given_at (type_at budget) tokens.now) }
 {
     let Some(inside) = skip_sign(tokens, Punctuation::Less) else {
         return Ok((None, tokens));
@@ -44,7 +44,7 @@ fn read_binding(
     tokens: &[Token],
     budget: usize,
 ) -> Result<(SpecField, &[Token]), ReadFault>
-    ensures { MatchResult result (λ read. spec_field_at (spec_at budget true 0) tokens.now ≡ Some (read.0, read.1.now)) (λ fault. IfNoTree fault (spec_field_at (spec_at budget true 0) tokens.now ≡ None)) }
+    ensures { Reads result (λ read. (read.0, read.1.now)) (spec_field_at (spec_at budget true 0) tokens.now) }
 {
     let (name, rest) = read_identifier(alloc, tokens)?;
     let Some(rest) = skip_sign(rest, Punctuation::Colon) else {
@@ -67,7 +67,7 @@ fn read_some_bindings(
     tokens: &[Token],
     budget: usize,
 ) -> Result<(Vec<SpecField>, bool, &[Token]), ReadFault>
-    ensures { MatchResult result (λ read. some_items_at (after_sign Punctuation.RightBrace) (spec_field_at (spec_at budget true 0)) tokens.now ≡ Some ((read.0.items, read.1), read.2.now)) (λ fault. IfNoTree fault (some_items_at (after_sign Punctuation.RightBrace) (spec_field_at (spec_at budget true 0)) tokens.now ≡ None)) }
+    ensures { Reads result (λ read. ((read.0.items, read.1), read.2.now)) (some_items_at (after_sign Punctuation.RightBrace) (spec_field_at (spec_at budget true 0)) tokens.now) }
 {
     let mut items = Vec::new(alloc);
     let mut rest = tokens;
@@ -90,7 +90,7 @@ fn read_binding_list(
     tokens: &[Token],
     budget: usize,
 ) -> Result<(Vec<SpecField>, bool, &[Token]), ReadFault>
-    ensures { MatchResult result (λ read. comma_list_at (after_sign Punctuation.RightBrace) (spec_field_at (spec_at budget true 0)) tokens.now ≡ Some ((read.0.items, read.1), read.2.now)) (λ fault. IfNoTree fault (comma_list_at (after_sign Punctuation.RightBrace) (spec_field_at (spec_at budget true 0)) tokens.now ≡ None)) }
+    ensures { Reads result (λ read. ((read.0.items, read.1), read.2.now)) (comma_list_at (after_sign Punctuation.RightBrace) (spec_field_at (spec_at budget true 0)) tokens.now) }
 {
     if let Some(rest) = skip_sign(tokens, Punctuation::RightBrace) {
         return Ok((Vec::new(alloc), false, rest));
@@ -105,7 +105,7 @@ fn read_bindings_behind(
     tokens: &[Token],
     budget: usize,
 ) -> Result<(Bindings, &[Token]), ReadFault>
-    ensures { MatchResult result (λ read. bindings_behind budget tokens.now ≡ Some (read.0, read.1.now)) (λ fault. IfNoTree fault (bindings_behind budget tokens.now ≡ None)) }
+    ensures { Reads result (λ read. (read.0, read.1.now)) (bindings_behind budget tokens.now) }
 {
     let (items, last_comma, rest) = read_binding_list(alloc, tokens, budget)?;
     Ok((Bindings { items, last_comma }, rest))
@@ -118,7 +118,7 @@ fn read_bindings(
     tokens: &[Token],
     budget: usize,
 ) -> Result<(Option<Bindings>, &[Token]), ReadFault>
-    ensures { MatchResult result (λ read. bindings_at budget tokens.now ≡ Some (read.0, read.1.now)) (λ fault. IfNoTree fault (bindings_at budget tokens.now ≡ None)) }
+    ensures { Reads result (λ read. (read.0, read.1.now)) (bindings_at budget tokens.now) }
 {
     let Some(inside) = skip_sign(tokens, Punctuation::LeftBrace) else {
         return Ok((None, tokens));
@@ -135,7 +135,7 @@ pub fn read_include(
     tokens: &[Token],
     budget: usize,
 ) -> Result<(Clause, &[Token]), ReadFault>
-    ensures { MatchResult result (λ read. include_at budget place tokens.now ≡ Some (read.0, read.1.now)) (λ fault. IfNoTree fault (include_at budget place tokens.now ≡ None)) }
+    ensures { Reads result (λ read. (read.0, read.1.now)) (include_at budget place tokens.now) }
 {
     let (schema, rest) = read_path(alloc, tokens)?;
     let (arguments, rest) = read_given(alloc, rest, budget)?;

@@ -1,8 +1,8 @@
 //! Readers of pragmas, after their word.
 
-ghost use Rattle.std.specs.Prelude.{◌≡◌, None, Some, length, MatchResult, IfOk};
+ghost use Rattle.std.specs.Prelude.{◌≡◌, length, IfOk};
 ghost use Rattle.std.specs.Option.{option_map};
-ghost use Rattle.parser_base.specs.ReadFault.{IfNoTree};
+ghost use Rattle.parser_base.specs.ReadFault.{Reads};
 ghost use Rattle.parser_base.specs.TokenReading.{after_sign};
 ghost use Rattle.parser_base.specs.ListReading.{some_items_at};
 ghost use Rattle.item_parser.specs.ClauseReading.{pragma_at, pragmas_at, setting_at, value_at, value_of};
@@ -46,7 +46,7 @@ fn copy_value(alloc: Global, token: &Token) -> Result<Option<PragmaValue>, NoMem
 /// Reads the value of a pragma. Returns it and the remaining tokens.
 #[tactic(auto, unfolding(crate::specs::ClauseReading::value_at))]
 fn read_value(alloc: Global, tokens: &[Token]) -> Result<(PragmaValue, &[Token]), ReadFault>
-    ensures { MatchResult result (λ read. value_at tokens.now ≡ Some (read.0, read.1.now)) (λ fault. IfNoTree fault (value_at tokens.now ≡ None)) }
+    ensures { Reads result (λ read. (read.0, read.1.now)) (value_at tokens.now) }
 {
     match tokens.split_first() {
         Some((token, rest)) => match copy_value(alloc, token)? {
@@ -63,7 +63,7 @@ fn read_setting(
     alloc: Global,
     tokens: &[Token],
 ) -> Result<(Option<PragmaValue>, &[Token]), ReadFault>
-    ensures { MatchResult result (λ read. setting_at tokens.now ≡ Some (read.0, read.1.now)) (λ fault. IfNoTree fault (setting_at tokens.now ≡ None)) }
+    ensures { Reads result (λ read. (read.0, read.1.now)) (setting_at tokens.now) }
 {
     let Some(rest) = skip_sign(tokens, Punctuation::Equal) else {
         return Ok((None, tokens));
@@ -75,7 +75,7 @@ fn read_setting(
 /// Reads a pragma. Returns it and the remaining tokens.
 #[tactic(auto, unfolding(crate::specs::ClauseReading::pragma_at))]
 fn read_pragma(alloc: Global, tokens: &[Token]) -> Result<(Pragma, &[Token]), ReadFault>
-    ensures { MatchResult result (λ read. pragma_at tokens.now ≡ Some (read.0, read.1.now)) (λ fault. IfNoTree fault (pragma_at tokens.now ≡ None)) }
+    ensures { Reads result (λ read. (read.0, read.1.now)) (pragma_at tokens.now) }
 {
     let (name, rest) = read_identifier(alloc, tokens)?;
     let (value, rest) = read_setting(alloc, rest)?;
@@ -88,7 +88,7 @@ fn read_pragma_list(
     alloc: Global,
     tokens: &[Token],
 ) -> Result<(Vec<Pragma>, bool, &[Token]), ReadFault>
-    ensures { MatchResult result (λ read. some_items_at (after_sign Punctuation.Semicolon) pragma_at tokens.now ≡ Some ((read.0.items, read.1), read.2.now)) (λ fault. IfNoTree fault (some_items_at (after_sign Punctuation.Semicolon) pragma_at tokens.now ≡ None)) }
+    ensures { Reads result (λ read. ((read.0.items, read.1), read.2.now)) (some_items_at (after_sign Punctuation.Semicolon) pragma_at tokens.now) }
 {
     let mut items = Vec::new(alloc);
     let mut rest = tokens;
@@ -111,7 +111,7 @@ pub fn read_pragmas(
     place: Span,
     tokens: &[Token],
 ) -> Result<(Clause, &[Token]), ReadFault>
-    ensures { MatchResult result (λ read. pragmas_at place tokens.now ≡ Some (read.0, read.1.now)) (λ fault. IfNoTree fault (pragmas_at place tokens.now ≡ None)) }
+    ensures { Reads result (λ read. (read.0, read.1.now)) (pragmas_at place tokens.now) }
 {
     let (items, last_comma, rest) = read_pragma_list(alloc, tokens)?;
     let pragmas = Pragmas { items, last_comma };

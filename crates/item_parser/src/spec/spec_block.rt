@@ -1,7 +1,6 @@
 //! Readers of spec blocks.
 
-ghost use Rattle.std.specs.Prelude.{◌≡◌, None, Some, MatchResult};
-ghost use Rattle.parser_base.specs.ReadFault.{IfNoTree};
+ghost use Rattle.parser_base.specs.ReadFault.{Reads};
 ghost use Rattle.item_parser.specs.SpecBlockReading.{behind_spec, body_at, loop_at, module_at, named_at, schema_at, schema_behind_name, spec_block_at, spec_function_at};
 
 use crate::spec::block::read_block;
@@ -30,7 +29,7 @@ fn read_named(
     tokens: &[Token],
     budget: usize,
 ) -> Result<(Spec, &[Token]), ReadFault>
-    ensures { MatchResult result (λ read. named_at slot budget place tokens.now ≡ Some (read.0, read.1.now)) (λ fault. IfNoTree fault (named_at slot budget place tokens.now ≡ None)) }
+    ensures { Reads result (λ read. (read.0, read.1.now)) (named_at slot budget place tokens.now) }
 {
     let (name, rest) = read_identifier(alloc, tokens)?;
     let (clauses, rest) = read_block(alloc, slot, rest, budget)?;
@@ -52,7 +51,7 @@ fn read_module(
     tokens: &[Token],
     budget: usize,
 ) -> Result<(Spec, &[Token]), ReadFault>
-    ensures { MatchResult result (λ read. module_at budget place tokens.now ≡ Some (read.0, read.1.now)) (λ fault. IfNoTree fault (module_at budget place tokens.now ≡ None)) }
+    ensures { Reads result (λ read. (read.0, read.1.now)) (module_at budget place tokens.now) }
 {
     let (clauses, rest) = read_block(alloc, Slot::Module, tokens, budget)?;
     Ok((Spec::Module { place, clauses }, rest))
@@ -66,7 +65,7 @@ fn read_loop(
     tokens: &[Token],
     budget: usize,
 ) -> Result<(Spec, &[Token]), ReadFault>
-    ensures { MatchResult result (λ read. loop_at budget place tokens.now ≡ Some (read.0, read.1.now)) (λ fault. IfNoTree fault (loop_at budget place tokens.now ≡ None)) }
+    ensures { Reads result (λ read. (read.0, read.1.now)) (loop_at budget place tokens.now) }
 {
     let (clauses, rest) = read_block(alloc, Slot::Loop, tokens, budget)?;
     Ok((Spec::Loop { place, clauses }, rest))
@@ -81,7 +80,7 @@ fn read_schema_behind_name(
     tokens: &[Token],
     budget: usize,
 ) -> Result<(Spec, &[Token]), ReadFault>
-    ensures { MatchResult result (λ read. schema_behind_name budget place name tokens.now ≡ Some (read.0, read.1.now)) (λ fault. IfNoTree fault (schema_behind_name budget place name tokens.now ≡ None)) }
+    ensures { Reads result (λ read. (read.0, read.1.now)) (schema_behind_name budget place name tokens.now) }
 {
     let (parameters, rest) = read_parameters(alloc, false, tokens)?;
     let (clauses, rest) = read_block(alloc, Slot::Schema, rest, budget)?;
@@ -102,7 +101,7 @@ fn read_schema(
     tokens: &[Token],
     budget: usize,
 ) -> Result<(Spec, &[Token]), ReadFault>
-    ensures { MatchResult result (λ read. schema_at budget place tokens.now ≡ Some (read.0, read.1.now)) (λ fault. IfNoTree fault (schema_at budget place tokens.now ≡ None)) }
+    ensures { Reads result (λ read. (read.0, read.1.now)) (schema_at budget place tokens.now) }
 {
     let (name, rest) = read_identifier(alloc, tokens)?;
     if begins_capital(name.text.as_slice()) {
@@ -119,7 +118,7 @@ fn read_body(
     tokens: &[Token],
     budget: usize,
 ) -> Result<(SpecExpression, &[Token]), ReadFault>
-    ensures { MatchResult result (λ read. body_at budget tokens.now ≡ Some (read.0, read.1.now)) (λ fault. IfNoTree fault (body_at budget tokens.now ≡ None)) }
+    ensures { Reads result (λ read. (read.0, read.1.now)) (body_at budget tokens.now) }
 {
     let inside = expect_sign(tokens, Punctuation::LeftBrace)?;
     let (body, rest) = read_spec_expression(alloc, inside, budget)?;
@@ -135,7 +134,7 @@ fn read_spec_function(
     tokens: &[Token],
     budget: usize,
 ) -> Result<(Spec, &[Token]), ReadFault>
-    ensures { MatchResult result (λ read. spec_function_at budget place tokens.now ≡ Some (read.0, read.1.now)) (λ fault. IfNoTree fault (spec_function_at budget place tokens.now ≡ None)) }
+    ensures { Reads result (λ read. (read.0, read.1.now)) (spec_function_at budget place tokens.now) }
 {
     let (name, rest) = read_identifier(alloc, tokens)?;
     let (parameters, rest) = read_parameters(alloc, false, rest)?;
@@ -164,7 +163,7 @@ fn read_behind_spec(
     tokens: &[Token],
     budget: usize,
 ) -> Result<(Spec, &[Token]), ReadFault>
-    ensures { MatchResult result (λ read. behind_spec slot budget place tokens.now ≡ Some (read.0, read.1.now)) (λ fault. IfNoTree fault (behind_spec slot budget place tokens.now ≡ None)) }
+    ensures { Reads result (λ read. (read.0, read.1.now)) (behind_spec slot budget place tokens.now) }
 {
     match slot {
         Slot::Function | Slot::Struct => read_named(alloc, slot, place, tokens, budget),
@@ -193,7 +192,7 @@ pub fn read_spec_block(
     tokens: &[Token],
     budget: usize,
 ) -> Result<(Spec, &[Token]), ReadFault>
-    ensures { MatchResult result (λ read. spec_block_at slot budget tokens.now ≡ Some (read.0, read.1.now)) (λ fault. IfNoTree fault (spec_block_at slot budget tokens.now ≡ None)) }
+    ensures { Reads result (λ read. (read.0, read.1.now)) (spec_block_at slot budget tokens.now) }
 {
     match place_of_word(tokens, b"spec") {
         Some((place, rest)) => read_behind_spec(alloc, slot, place, rest, budget),

@@ -1,7 +1,7 @@
 //! Readers of the storage locations in a `modifies`.
 
-ghost use Rattle.std.specs.Prelude.{◌≡◌, None, Some, true, length, MatchResult};
-ghost use Rattle.parser_base.specs.ReadFault.{IfNoTree};
+ghost use Rattle.std.specs.Prelude.{true, length};
+ghost use Rattle.parser_base.specs.ReadFault.{Reads};
 ghost use Rattle.parser_base.specs.TokenReading.{after_sign};
 ghost use Rattle.parser_base.specs.ListReading.{some_items_at};
 ghost use Rattle.expression_parser.specs.SpecReading.{spec_at};
@@ -23,7 +23,7 @@ fn read_target_list(
     tokens: &[Token],
     budget: usize,
 ) -> Result<(Vec<SpecExpression>, bool, &[Token]), ReadFault>
-    ensures { MatchResult result (λ read. some_items_at (after_sign Punctuation.Semicolon) (spec_at budget true 0) tokens.now ≡ Some ((read.0.items, read.1), read.2.now)) (λ fault. IfNoTree fault (some_items_at (after_sign Punctuation.Semicolon) (spec_at budget true 0) tokens.now ≡ None)) }
+    ensures { Reads result (λ read. ((read.0.items, read.1), read.2.now)) (some_items_at (after_sign Punctuation.Semicolon) (spec_at budget true 0) tokens.now) }
 {
     let mut items = Vec::new(alloc);
     let mut rest = tokens;
@@ -47,7 +47,7 @@ pub fn read_modifies(
     tokens: &[Token],
     budget: usize,
 ) -> Result<(Clause, &[Token]), ReadFault>
-    ensures { MatchResult result (λ read. modifies_at budget place tokens.now ≡ Some (read.0, read.1.now)) (λ fault. IfNoTree fault (modifies_at budget place tokens.now ≡ None)) }
+    ensures { Reads result (λ read. (read.0, read.1.now)) (modifies_at budget place tokens.now) }
 {
     let (items, last_comma, rest) = read_target_list(alloc, tokens, budget)?;
     let targets = Targets { items, last_comma };

@@ -1,6 +1,6 @@
 //! Readers of the words at the beginning of clauses and inside them.
 
-ghost use Rattle.std.specs.Prelude.{◌≡◌, None, Some};
+ghost use Rattle.std.specs.Prelude.{◌≡◌};
 ghost use Rattle.std.specs.Option.{option_map};
 ghost use Rattle.item_parser.specs.ClauseReading.{clause_word_at, opens_expression, opens_kind, post_at, update_at, word_of};
 
