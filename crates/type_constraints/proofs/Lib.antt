@@ -1,4 +1,5 @@
 pub mod And
+pub mod Arguments
 pub mod Ways
 pub mod CodeGiven
 pub mod Covered

@@ -1,9 +1,9 @@
-pub mod CodeSeen
+pub mod Seen
+pub mod Signatures
 pub mod CodeSettings
 pub mod Ways
 pub mod CodeTold
 pub mod Bodies
-pub mod SpecSeen
 pub mod SpecSettings
 pub mod Packs
 pub mod SpecTold

@@ -5,7 +5,6 @@ pub mod arity;
 pub mod body;
 pub mod breaks;
 pub mod call;
-pub mod constraint;
 pub mod inner;
 pub mod leaf;
 pub mod loops;

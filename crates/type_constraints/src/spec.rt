@@ -2,7 +2,6 @@
 
 pub mod arguments;
 pub mod call;
-pub mod constraint;
 pub mod inner;
 pub mod leaf;
 pub mod names;

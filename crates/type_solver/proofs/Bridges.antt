@@ -1,8 +1,7 @@
 -- The definitions of the typing rules and those of the solver agree.
 use Rattle.std.proofs.Common.{◌≡◌, ℕ, zero, suc, ◌+◌, Option, Some, None, refl, sym, ap, ◌∙◌}
-use Rattle.base.specs.TypeData.{TypeData, BoolType, IntType, NumType, AddressType, SignerType, VectorType, StructType, ParamType, SharedType, MutableType, TupleType, TypesData, NoTypes, MoreTypes, types_of}
+use Rattle.base.specs.TypeData.{TypeData, BoolType, IntType, NumType, AddressType, SignerType, VectorType, StructType, ParamType, SharedType, MutableType, TupleType, MoreTypes, types_of}
 use Rattle.typing_rules.specs.Sorts as R
-use Rattle.typing_rules.specs.Instances as RI
 use Rattle.typing_rules.specs.Constraint.{types_at}
 use Rattle.typing_rules.specs.declared.sort.Sort.{Sort as RuleSort}
 use Rattle.typing_rules.specs.declared.sort.Sort.TheVariants.{Single as rule_single, Value as rule_value, Integer as rule_integer}
@@ -12,7 +11,6 @@ use Rattle.typing_rules.specs.declared.sort.Reference.{Reference}
 use Rattle.typing_rules.specs.declared.sort.Reference.TheVariants.{Shared as rule_shared, Mutable as rule_mutable}
 use Rattle.unification.specs.Sorts as S
 use Rattle.unification.specs.Heads as H
-use Rattle.unification.specs.Instances as SI
 use Rattle.unification.specs.Slots.{Typing, wrapped, list_at}
 use Rattle.unification.specs.declared.type_variables.slots.Wrap.{Wrap}
 use Rattle.unification.specs.declared.type_variables.slots.Wrap.TheVariants.{Vector, Shared, Mutable}
@@ -108,64 +106,16 @@ wrapped_behind Mutable b e = refl
 -- ---- sorts, and type constructors of one type
 
 pub sort_same : (s : RuleSort) (a : TypeData) → S.is_of (sort_word s) a ≡ R.is_of s a
-sort_same rule_single BoolType = refl
-sort_same rule_single (IntType w) = refl
-sort_same rule_single NumType = refl
-sort_same rule_single AddressType = refl
-sort_same rule_single SignerType = refl
-sort_same rule_single (VectorType t) = refl
-sort_same rule_single (StructType s ts) = refl
-sort_same rule_single (ParamType n) = refl
-sort_same rule_single (SharedType t) = refl
-sort_same rule_single (MutableType t) = refl
-sort_same rule_single (TupleType ts) = refl
-sort_same rule_value BoolType = refl
-sort_same rule_value (IntType w) = refl
-sort_same rule_value NumType = refl
-sort_same rule_value AddressType = refl
-sort_same rule_value SignerType = refl
-sort_same rule_value (VectorType t) = refl
-sort_same rule_value (StructType s ts) = refl
-sort_same rule_value (ParamType n) = refl
-sort_same rule_value (SharedType t) = refl
-sort_same rule_value (MutableType t) = refl
-sort_same rule_value (TupleType ts) = refl
-sort_same rule_integer BoolType = refl
-sort_same rule_integer (IntType w) = refl
-sort_same rule_integer NumType = refl
-sort_same rule_integer AddressType = refl
-sort_same rule_integer SignerType = refl
-sort_same rule_integer (VectorType t) = refl
-sort_same rule_integer (StructType s ts) = refl
-sort_same rule_integer (ParamType n) = refl
-sort_same rule_integer (SharedType t) = refl
-sort_same rule_integer (MutableType t) = refl
-sort_same rule_integer (TupleType ts) = refl
+sort_same rule_single a = refl
+sort_same rule_value a = refl
+sort_same rule_integer a = refl
 
 pub made_same : (w : RuleWrap) (a : TypeData) → wrapped (wrap_word w) a ≡ R.made w a
 made_same rule_vector a = refl
 made_same rule_wrap_shared a = refl
 made_same rule_wrap_mutable a = refl
 
--- ---- instances
-
-mutual
-  pub instance_same : (f : ℕ → TypeData) (a : TypeData) → SI.instance f a ≡ RI.instance f a
-  instance_same f BoolType = refl
-  instance_same f (IntType w) = refl
-  instance_same f NumType = refl
-  instance_same f AddressType = refl
-  instance_same f SignerType = refl
-  instance_same f (VectorType t) = ap VectorType (instance_same f t)
-  instance_same f (StructType s ts) = ap (StructType s) (instances_same f ts)
-  instance_same f (ParamType n) = refl
-  instance_same f (SharedType t) = ap SharedType (instance_same f t)
-  instance_same f (MutableType t) = ap MutableType (instance_same f t)
-  instance_same f (TupleType ts) = ap TupleType (instances_same f ts)
-
-  instances_same : (f : ℕ → TypeData) (ts : TypesData) → SI.instances f ts ≡ RI.instances f ts
-  instances_same f NoTypes = refl
-  instances_same f (MoreTypes t ts) = λ i. MoreTypes (instance_same f t i) (instances_same f ts i)
+-- ---- lists of type variables
 
 pub types_at_same : (t : Typing) (first n : ℕ) → types_of (list_at t first n) ≡ types_at t first n
 types_at_same t first zero = refl

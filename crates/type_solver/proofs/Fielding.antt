@@ -5,11 +5,10 @@ use Rattle.std.specs.Option.{option_map}
 use Rattle.std.proofs.lemmas.Bool.Decides.{leb_tells}
 use Rattle.base.specs.declared.types.StructId.{StructId}
 use Rattle.base.specs.TypeData.{TypeData, BoolType, IntType, NumType, AddressType, SignerType, VectorType, StructType, ParamType, SharedType, MutableType, TupleType, types_of, list_of_types-types_of}
-use Rattle.program.specs.Types.{Structs}
 use Rattle.program.specs.Same.{same_struct}
 use Rattle.typing_rules.specs.Sorts as R
 use Rattle.typing_rules.specs.Constraint as D
-use Rattle.typing_rules.specs.Instances.{instance, argument_in}
+use Rattle.typing_rules.specs.Instances.{instance, argument_in, read_type}
 use Rattle.typing_rules.specs.Rules.{TypeReading, Agree, field_of, field_type}
 use Rattle.unification.specs.Heads as H
 use Rattle.unification.specs.Slots.{Typing, value, list_at, Meets}
@@ -21,7 +20,7 @@ use Rattle.unification.specs.declared.type_variables.heads.KindSeen.TheVariants.
 use Rattle.unification.specs.declared.type_variables.heads.StructSeen.TheVariants.{Unknown, Other}
 use Rattle.unification.proofs.Growing.{grown}
 use Rattle.unification.proofs.Instancing.{term_more}
-use Rattle.type_solver.specs.Equations.{Keeps, KindSaid, Says, HeadOpen, TermSaid, code_reading}
+use Rattle.type_solver.specs.Equations.{Keeps, KindSaid, Says, HeadOpen, TermSaid}
 use Rattle.type_solver.specs.Owners.{OwnerSaid, OwnerOpen, StructSaid}
 use Rattle.type_solver.specs.declared.equation.Equation.TheVariants.{Never, Equal}
 use Rattle.type_solver.proofs.Bridges.{plain_behind}
@@ -58,19 +57,6 @@ owner_later a b c e x o g = record {
 
 -- ---- structs
 
-struct_same : (a : TypeData) → R.struct_in a ≡ H.struct_in a
-struct_same BoolType = refl
-struct_same (IntType w) = refl
-struct_same NumType = refl
-struct_same AddressType = refl
-struct_same SignerType = refl
-struct_same (VectorType t) = refl
-struct_same (StructType s ts) = refl
-struct_same (ParamType n) = refl
-struct_same (SharedType t) = refl
-struct_same (MutableType t) = refl
-struct_same (TupleType ts) = refl
-
 no_field : (w : TypeReading) (a : TypeData) (name : List ℕ) → H.struct_in a ≡ None → field_type w a name ≡ None
 no_field w BoolType name e = refl
 no_field w (IntType k) name e = refl
@@ -89,7 +75,7 @@ head_same x y k s = λ i. record { kind = k i; of = s i }
 
 -- the struct of the owner, from the term of its type
 owner_struct : (a b : List Slot) (e : ℕ) (x : Term) → OwnerSaid a b e x → (t : Typing) → Meets b t → R.struct_in (R.behind (t e)) ≡ H.struct_in (value t x)
-owner_struct a b e x o t m = ap R.struct_in (o.is t m) ∙ struct_same (value t x)
+owner_struct a b e x o t m = ap R.struct_in (o.is t m)
 
 pub head_agree : (a b : List Slot) (e : ℕ) (x : Term) → OwnerSaid a b e x → e < length a →
     ((t u : Typing) → Meets b t → Meets b u → H.struct_in (value t x) ≡ H.struct_in (value u x)) → Agree (Meets a) R.head e
@@ -117,9 +103,9 @@ known_agree : (a b : List Slot) (e : ℕ) (x : Term) (id : StructId) (base count
 known_agree a b e x id base count of o lt = head_agree a b e x o lt (λ t u mt mu. ap H.struct_in (of t mt) ∙ sym (ap H.struct_in (of u mu)))
 
 -- the type of the field of this name of a struct with type arguments
-field_is : (structs : Structs) (id : StructId) (name : List ℕ) (found : Option TypeData) (a : TypeData) (ts : List TypeData) → field_of (lookup (same_struct id) structs) name ≡ found →
-    a ≡ StructType id (types_of ts) → field_type (code_reading structs) a name ≡ option_map (λ of. instance (argument_in (types_of ts)) of) found
-field_is structs id name found a ts e is = ap (λ (x : TypeData). field_type (code_reading structs) x name) is ∙ ap (option_map (λ of. instance (argument_in (types_of ts)) of)) e
+field_is : (w : TypeReading) (id : StructId) (name : List ℕ) (found : Option TypeData) (a : TypeData) (ts : List TypeData) → field_of (lookup (same_struct id) w.structs) name ≡ found →
+    a ≡ StructType id (types_of ts) → field_type w a name ≡ option_map (λ of. instance (argument_in (types_of ts)) (read_type w.is_spec of)) found
+field_is w id name found a ts e is = ap (λ (x : TypeData). field_type w x name) is ∙ ap (option_map (λ of. instance (argument_in (types_of ts)) (read_type w.is_spec of))) e
 
 at_list : (t : Typing) (base count k : ℕ) (d : TypeData) → k < count → get_or (list_at t base count) k d ≡ t (base + k)
 at_list t base zero k d lt = absurd (omega (arith, lt))
@@ -140,24 +126,24 @@ argument_same t base count k = ap (λ (ts : List TypeData). get_or ts k (ParamTy
 pub instance_at : (t : Typing) (base count : ℕ) (of : TypeData) → instance (argument_in (types_of (list_at t base count))) of ≡ instance (D.arguments t base count) of
 instance_at t base count of = ap (λ (s : ℕ → TypeData). instance s of) (λ i k. argument_same t base count k i)
 
-pub field_absent : (structs : Structs) (a b : List Slot) (p e : ℕ) (name : List ℕ) (x : Term) (id : StructId) (base count : ℕ) → OwnerSaid a b e x → e < length a →
-    ((t : Typing) → Meets b t → value t x ≡ StructType id (types_of (list_at t base count))) → field_of (lookup (same_struct id) structs) name ≡ None →
-    Says (code_reading structs) a b (D.FieldOf p e name) Never
-field_absent structs a b p e name x id base count o lt of none = record {
-  to = λ t m h. (let z = sym (field_is structs id name None (R.behind (t e)) (list_at t base count) none (o.is t m ∙ of t m)) ∙ h in cc);
+pub field_absent : (w : TypeReading) (a b : List Slot) (p e : ℕ) (name : List ℕ) (x : Term) (id : StructId) (base count : ℕ) → OwnerSaid a b e x → e < length a →
+    ((t : Typing) → Meets b t → value t x ≡ StructType id (types_of (list_at t base count))) → field_of (lookup (same_struct id) w.structs) name ≡ None →
+    Says w a b (D.FieldOf p e name) Never
+field_absent w a b p e name x id base count o lt of none = record {
+  to = λ t m h. (let z = sym (field_is w id name None (R.behind (t e)) (list_at t base count) none (o.is t m ∙ of t m)) ∙ h in cc);
   from = λ t m h. absurd h;
   settled = known_agree a b e x id base count of o lt;
   within = tt;
 }
 
-pub field_known : (structs : Structs) (a b c : List Slot) (p e : ℕ) (name : List ℕ) (x y : Term) (id : StructId) (base count : ℕ) (field : TypeData) → OwnerSaid a b e x → e < length a → p < length b →
-    ((t : Typing) → Meets b t → value t x ≡ StructType id (types_of (list_at t base count))) → field_of (lookup (same_struct id) structs) name ≡ Some field →
-    TermSaid b c y (λ t. instance (D.arguments t base count) field) → Says (code_reading structs) a c (D.FieldOf p e name) (Equal (Place p) y)
-field_known structs a b c p e name x y id base count field o lt lp of found said =
-    let there : (t : Typing) → Meets c t → field_type (code_reading structs) (R.behind (t e)) name ≡ Some (value t y) =
+pub field_known : (w : TypeReading) (a b c : List Slot) (p e : ℕ) (name : List ℕ) (x y : Term) (id : StructId) (base count : ℕ) (field : TypeData) → OwnerSaid a b e x → e < length a → p < length b →
+    ((t : Typing) → Meets b t → value t x ≡ StructType id (types_of (list_at t base count))) → field_of (lookup (same_struct id) w.structs) name ≡ Some field →
+    TermSaid b c y (λ t. instance (D.arguments t base count) (read_type w.is_spec field)) → Says w a c (D.FieldOf p e name) (Equal (Place p) y)
+field_known w a b c p e name x y id base count field o lt lp of found said =
+    let there : (t : Typing) → Meets c t → field_type w (R.behind (t e)) name ≡ Some (value t y) =
     λ t m. (let mb = earlier b c said.grows t m in
-    field_is structs id name (Some field) (R.behind (t e)) (list_at t base count) found (o.is t mb ∙ of t mb)
-    ∙ ap Some (instance_at t base count field ∙ sym (said.is t m))) in
+    field_is w id name (Some field) (R.behind (t e)) (list_at t base count) found (o.is t mb ∙ of t mb)
+    ∙ ap Some (instance_at t base count (read_type w.is_spec field) ∙ sym (said.is t m))) in
     record {
       to = λ t m h. some_same (t p) (value t y) (sym h ∙ there t m);
       from = λ t m h. there t m ∙ ap Some (sym h);

@@ -9,9 +9,9 @@ use Rattle.unification.specs.declared.type_variables.slots.Wrap.{Wrap}
 use Rattle.unification.specs.declared.type_variables.slots.Term.{Term}
 use Rattle.unification.specs.declared.type_variables.slots.Slot.{Slot}
 use Rattle.unification.proofs.Growing.{grown}
-use Rattle.type_constraints.specs.CodeSeen.{plain_type}
-use Rattle.type_constraints.specs.declared.code.constraint.PlainType.{PlainType}
-use Rattle.type_constraints.specs.declared.code.constraint.PlainType.TheVariants.{Bool, Int, Num, Address, Nothing}
+use Rattle.type_constraints.specs.Seen.{plain_type}
+use Rattle.type_constraints.specs.declared.constraint.PlainType.{PlainType}
+use Rattle.type_constraints.specs.declared.constraint.PlainType.TheVariants.{Bool, Int, Num, Address, Nothing}
 use Rattle.type_solver.specs.Equations.{Keeps, TermSaid}
 use Rattle.type_solver.proofs.Emitting.{earlier}
 

@@ -9,8 +9,6 @@ pub mod Stepping
 pub mod Reading
 pub mod Standing
 pub mod Parts
-pub mod Lowering
-pub mod Listing
 pub mod Steps
 pub mod CodeSystemsWhole
 pub mod Walks

@@ -7,11 +7,11 @@ use Rattle.typing_rules.specs.Sorts as R
 use Rattle.typing_rules.specs.declared.sort.Reference.TheVariants.{Mutable as rule_mutable}
 use Rattle.typing_rules.specs.Constraint as D
 use Rattle.typing_rules.specs.Rules.{TypeReading, Agree, PartsFit}
-use Rattle.type_constraints.specs.CodeSeen.{plain_type, seen_form}
-use Rattle.type_constraints.specs.declared.code.constraint.PlainType.{PlainType}
-use Rattle.type_constraints.specs.declared.code.constraint.PlainType.TheVariants as P
-use Rattle.type_constraints.specs.declared.code.constraint.TypeForm.{TypeForm}
-use Rattle.type_constraints.specs.declared.code.constraint.TypeForm.TheVariants as F
+use Rattle.type_constraints.specs.Seen.{plain_type, seen_form}
+use Rattle.type_constraints.specs.declared.constraint.PlainType.{PlainType}
+use Rattle.type_constraints.specs.declared.constraint.PlainType.TheVariants as P
+use Rattle.type_constraints.specs.declared.constraint.TypeForm.{TypeForm}
+use Rattle.type_constraints.specs.declared.constraint.TypeForm.TheVariants as F
 use Rattle.unification.specs.Slots.{Typing, value, grouped, list_at, Meets, TermWithin}
 use Rattle.unification.specs.declared.type_variables.slots.Group.TheVariants.{Tuple}
 use Rattle.unification.specs.declared.type_variables.slots.Slot.{Slot}
@@ -271,9 +271,11 @@ plain_single P.Address ts e = cc
 plain_single P.Nothing ts e = tuple_same ts NoTypes (sym e)
 
 -- a type of the language itself
-pub plain_emits : (w : TypeReading) (a b : List Slot) (e : ℕ) (form : TypeForm) (q : Equation) → IsWritten (seen_form form) → ((of : _) → form ≡ F.Written of → ⊥) → Emits w a b (D.Takes e (seen_form form)) q → Emits w a b (D.Returns e (seen_form form)) q
-plain_emits w a b e (F.Plain p) q h never s = single_emits w a b e (plain_type p) q (plain_single p) s
-plain_emits w a b e (F.Written of) q h never s = absurd (never of refl)
-plain_emits w a b e (F.Declared of first count) q h never s = absurd h
-plain_emits w a b e (F.Builtin of first count) q h never s = absurd h
-plain_emits w a b e (F.Applied id first count) q h never s = absurd h
+pub plain_emits : (w : TypeReading) (a b : List Slot) (e : ℕ) (form : TypeForm) (q : Equation) → IsWritten (seen_form form) → ((of : _) → form ≡ F.Written of → ⊥) → ((of : _) → form ≡ F.Read of → ⊥) → Emits w a b (D.Takes e (seen_form form)) q → Emits w a b (D.Returns e (seen_form form)) q
+plain_emits w a b e (F.Plain p) q h never unread s = single_emits w a b e (plain_type p) q (plain_single p) s
+plain_emits w a b e (F.Written of) q h never unread s = absurd (never of refl)
+plain_emits w a b e (F.Read of) q h never unread s = absurd (unread of refl)
+plain_emits w a b e (F.DeclaredRead of first count) q h never unread s = absurd h
+plain_emits w a b e (F.Declared of first count) q h never unread s = absurd h
+plain_emits w a b e (F.Builtin of first count) q h never unread s = absurd h
+plain_emits w a b e (F.Applied id first count) q h never unread s = absurd h

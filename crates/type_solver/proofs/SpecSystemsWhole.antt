@@ -17,7 +17,7 @@ use Rattle.type_solver.specs.Walked.{Walked}
 use Rattle.type_solver.specs.declared.walk.Progress.{Progress}
 use Rattle.type_solver.proofs.Reading.{walked}
 use Rattle.type_constraints.specs.Functions.{spec_function_setting}
-use Rattle.type_solver.specs.Lowered.{spec_reading}
+use Rattle.type_solver.specs.Equations.{spec_reading}
 
 -- the declared variables, the nodes and the whole
 abbrev pub steps_of : SpecSetting → List Constraint → List (List Constraint)

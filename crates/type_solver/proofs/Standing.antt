@@ -4,8 +4,8 @@ use Rattle.std.proofs.lemmas.Option.{get_or_from_slice_get}
 use Rattle.base.specs.TypeData.{TypeData, ParamType, types_of, list_of_types-types_of}
 use Rattle.typing_rules.specs.Instances.{argument_in}
 use Rattle.type_solver.specs.Arguments.{ArgumentsWithin}
-use Rattle.type_solver.specs.declared.spec.read.Arguments.{Arguments}
-use Rattle.type_solver.specs.declared.spec.read.Arguments.TheVariants.{Types, Places}
+use Rattle.type_solver.specs.declared.read.Arguments.{Arguments}
+use Rattle.type_solver.specs.declared.read.Arguments.TheVariants.{Types, Places}
 
 get_absent : (xs : List TypeData) (k : ℕ) (d : TypeData) → slice_get xs k ≡ None → get_or xs k d ≡ d
 get_absent [] k d e = refl

@@ -16,8 +16,8 @@ use Rattle.unification.specs.declared.type_variables.slots.Slot.{Slot}
 use Rattle.unification.specs.declared.type_variables.heads.KindSeen.TheVariants.{Plain, To}
 use Rattle.unification.proofs.Growing.{grown, grown_beside, grown_said, value_kept}
 use Rattle.unification.proofs.Instancing.{term_more}
-use Rattle.type_constraints.specs.CodeSeen.{seen, seen_all}
-use Rattle.type_constraints.specs.declared.code.constraint.Constraint.{Constraint}
+use Rattle.type_constraints.specs.Seen.{seen, seen_all}
+use Rattle.type_constraints.specs.declared.constraint.Constraint.{Constraint}
 use Rattle.type_solver.specs.Within.{FormWithin, PlacesWithin, ConstraintWithin, AllWithin}
 use Rattle.type_solver.specs.Equations.{Keeps, KindSaid, Says, HeadOpen, Emits, Solved, EachSolved, EquationWithin, EquationsWithin, is_unsettled}
 use Rattle.type_solver.specs.Steps.{AllSay, HeadsOpen, SettleSays, StepMade, StepSays, step_of}

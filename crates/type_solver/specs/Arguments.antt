@@ -4,8 +4,8 @@ use Rattle.base.specs.TypeData.{TypeData, types_of}
 use Rattle.typing_rules.specs.Constraint.{arguments}
 use Rattle.typing_rules.specs.Instances.{argument_in}
 use Rattle.unification.specs.Slots.{Typing}
-use Rattle.type_solver.specs.declared.spec.read.Arguments.{Arguments}
-use Rattle.type_solver.specs.declared.spec.read.Arguments.TheVariants.{Types, Places}
+use Rattle.type_solver.specs.declared.read.Arguments.{Arguments}
+use Rattle.type_solver.specs.declared.read.Arguments.TheVariants.{Types, Places}
 
 abbrev pub standing : Typing → Arguments → ℕ → TypeData
 standing t (Types types) = argument_in (types_of types.now)

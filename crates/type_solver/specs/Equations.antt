@@ -13,12 +13,20 @@ use Rattle.unification.specs.declared.type_variables.slots.Wrap.TheVariants.{Sha
 use Rattle.unification.specs.declared.type_variables.slots.Term.{Term}
 use Rattle.unification.specs.declared.type_variables.slots.Slot.{Slot}
 use Rattle.unification.specs.declared.type_variables.heads.KindSeen.{KindSeen}
+use Rattle.type_solver.specs.declared.emit.Tables.{Tables}
 use Rattle.type_solver.specs.declared.equation.Equation.{Equation}
 use Rattle.type_solver.specs.declared.equation.Equation.TheVariants.{Always, Never, Unsettled, Equal, Sorted, Lent}
 
 -- code reads types as they are written
 abbrev pub code_reading : Structs → TypeReading
 code_reading structs = record { structs = structs; is_spec = false }
+
+-- specifications read integers as numbers and references as what they point at
+abbrev pub spec_reading : Structs → TypeReading
+spec_reading structs = record { structs = structs; is_spec = true }
+
+abbrev pub reading_of : Tables → TypeReading
+reading_of tables = record { structs = tables.structs.now; is_spec = tables.is_spec }
 
 -- a typing meets an equation
 abbrev pub Solved : Typing → Equation → Type 0

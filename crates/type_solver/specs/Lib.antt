@@ -8,4 +8,3 @@ pub mod Steps
 pub mod Walking
 pub mod Walked
 pub mod Arguments
-pub mod Lowered

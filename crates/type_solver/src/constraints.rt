@@ -1,10 +1,10 @@
 //! The equations of constraints on references, given the heads before them.
 
 ghost use Rattle.std.specs.Prelude.{◌≡◌, ◌<◌, ℕ, List, IfOk, length};
-ghost use Rattle.type_constraints.specs.CodeSeen.{seen_form};
+ghost use Rattle.type_constraints.specs.Seen.{seen_form};
 ghost use Rattle.typing_rules.specs.Constraint as D;
 ghost use Rattle.typing_rules.specs.Rules.{TypeReading};
-ghost use Rattle.unification.specs.Slots.{Typing, Fits, TermWithin};
+ghost use Rattle.unification.specs.Slots.{Fits, TermWithin};
 ghost use Rattle.unification.specs.declared.type_variables.slots.Slot.{Slot as SlotData};
 ghost use Rattle.unification.specs.Heads.{KindWithin};
 ghost use Rattle.type_solver.specs.Plain.{ArePlain};
@@ -17,7 +17,7 @@ use crate::kinds::kind_at;
 use crate::plain::PlainTypes;
 use base::memory::NoMemory;
 use std::alloc::Global;
-use type_constraints::code::constraint::TypeForm;
+use type_constraints::constraint::TypeForm;
 use unification::type_variables::heads::KindSeen;
 use unification::type_variables::open::add_bound;
 use unification::type_variables::slots::{Slot, Term, Wrap};

@@ -1,14 +1,14 @@
 //! The equation of each constraint, given the heads before it.
 
-ghost use Rattle.std.specs.Prelude.{◌≡◌, ◌<◌, ℕ, IfOk, length, map};
-ghost use Rattle.type_constraints.specs.CodeSeen.{seen, seen_form};
+ghost use Rattle.std.specs.Prelude.{◌≡◌, ◌<◌, IfOk, length, map};
+ghost use Rattle.type_constraints.specs.Seen.{seen, seen_form};
 ghost use Rattle.typing_rules.specs.Constraint as D;
 ghost use Rattle.typing_rules.specs.Rules.{TypeReading};
 ghost use Rattle.unification.specs.Slots.{Fits};
 ghost use Rattle.unification.specs.declared.type_variables.slots.Term.{Term as TermData};
 ghost use Rattle.type_solver.specs.Plain.{ArePlain};
 ghost use Rattle.type_solver.specs.Within.{ConstraintWithin, FormWithin, PlacesWithin};
-ghost use Rattle.type_solver.specs.Equations.{Keeps, Emits, code_reading};
+ghost use Rattle.type_solver.specs.Equations.{Keeps, Emits, reading_of};
 
 use crate::constraints::{alike, behind, takes, target_of, through};
 use crate::equation::Equation;
@@ -22,15 +22,17 @@ use base::types::StructId;
 use program::declaration::Struct;
 use program::table::Table;
 use std::alloc::Global;
-use type_constraints::code::constraint::{Constraint, TypeForm};
+use type_constraints::constraint::{Constraint, TypeForm};
 use unification::type_variables::signature::group_terms;
 use unification::type_variables::slots::{Group, Slot, Term};
 
-/// What constraints look up: the structs, and the types of the language itself.
+/// What constraints look up: the structs, the types of the language itself, and whether types are read as specifications
+/// read them.
 #[derive(Clone, Copy)]
 pub struct Tables<'a> {
     pub structs: &'a Table<StructId, Struct>,
     pub types: &'a PlainTypes,
+    pub is_spec: bool,
 }
 
 /// The equation that the variable has the type that a rule names.
@@ -92,7 +94,7 @@ pub fn emit<'a>(
     requires fits { Fits slots.old.items }
     requires within { ConstraintWithin (length slots.old.items) (seen constraint) }
     ensures keeps { IfOk result (λ q. Keeps slots.old.items slots.new.items) }
-    ensures emits { IfOk result (λ q. Emits (code_reading tables.entry.structs.now) slots.old.items slots.new.items (seen constraint.entry) q) }
+    ensures emits { IfOk result (λ q. Emits (reading_of tables.entry) slots.old.items slots.new.items (seen constraint.entry) q) }
 {
     match constraint {
         Constraint::Same(a, b) => Ok(Equation::Equal(Term::Place(a), Term::Place(b))),
@@ -105,9 +107,7 @@ pub fn emit<'a>(
         Constraint::Alike(left, right) => Ok(alike(slots, left, right)),
         Constraint::Takes(place, form) => takes(alloc, tables.types, slots, place, form),
         Constraint::Returns(place, form) => returns(alloc, tables.types, slots, place, form),
-        Constraint::FieldOf(place, from, name) => {
-            field(alloc, slots, tables.structs, place, from, name)
-        }
+        Constraint::FieldOf(place, from, name) => { field(alloc, tables, slots, place, from, name) }
         Constraint::TargetOf(place, from) => Ok(target_of(slots, place, from)),
         Constraint::Through(place) => Ok(through(slots, place)),
         Constraint::Behind(place) => Ok(behind(slots, place)),

@@ -1,21 +1,27 @@
 //! Constraints on fields of structs.
 
-ghost use Rattle.std.specs.Prelude.{◌≡◌, ◌<◌, ◌≤◌, ◌+◌, ℕ, List, IfOk, MatchOption, length};
+ghost use Rattle.std.specs.Prelude.{◌≡◌, ◌<◌, ◌≤◌, ◌+◌, ℕ, List, IfOk, length};
 ghost use Rattle.std.specs.Map.{lookup};
 ghost use Rattle.std.specs.Option.{option_copied};
 ghost use Rattle.program.specs.Same.{same_struct};
 ghost use Rattle.typing_rules.specs.Constraint as D;
+ghost use Rattle.typing_rules.specs.Constraint.{arguments};
+ghost use Rattle.typing_rules.specs.Instances.{instance, read_type};
 ghost use Rattle.typing_rules.specs.Rules.{field_of};
-ghost use Rattle.unification.specs.Slots.{Typing, Fits, TermWithin};
+ghost use Rattle.unification.specs.Slots.{Fits, TermWithin};
 ghost use Rattle.unification.specs.declared.type_variables.slots.Slot.{Slot as SlotData};
 ghost use Rattle.unification.specs.declared.type_variables.slots.Term.{Term as TermData};
 ghost use Rattle.unification.specs.Heads.{StructWithin};
-ghost use Rattle.type_solver.specs.Equations.{Keeps, KindSaid, Emits, code_reading};
+ghost use Rattle.type_solver.specs.Equations.{Keeps, KindSaid, Emits, TermSaid, reading_of};
+ghost use Rattle.type_solver.specs.Plain.{ArePlain};
 ghost use Rattle.type_solver.specs.Owners.{OwnerSays, OwnerSaid, StructSaid};
 
+use crate::emit::Tables;
 use crate::equation::Equation;
 use crate::forms::declared;
 use crate::kinds::kind_at;
+use crate::plain::PlainTypes;
+use crate::read::{Arguments, read};
 use base::memory::NoMemory;
 use base::name::Name;
 use base::types::{StructId, TypeTerm};
@@ -53,28 +59,52 @@ fn owner<'a>(seen: KindSeen<'a>, place: usize) -> Option<Term<'a>>
     }
 }
 
+/// The type of a field, whose type parameters are type variables, as a term.
+fn field_term<'a>(
+    alloc: Global,
+    types: &'a PlainTypes,
+    is_spec: bool,
+    slots: &mut Vec<Slot<'a>>,
+    of: &'a TypeTerm,
+    parameters: Parameters,
+) -> Result<Term<'a>, NoMemory>
+    requires types { ArePlain types.now }
+    requires fits { Fits slots.old.items }
+    requires parameters { parameters.base + parameters.count ≤ length slots.old.items }
+    ensures keeps { IfOk result (λ term. Keeps slots.old.items slots.new.items) }
+    ensures said { IfOk result (λ term. TermSaid slots.old.items slots.new.items term (λ t. instance (arguments t parameters.base parameters.count) (read_type is_spec of.now))) }
+{
+    if is_spec {
+        read(alloc, types, slots, of, Arguments::Places(parameters))
+    } else {
+        declared(alloc, slots, of, parameters)
+    }
+}
+
 /// The equation that the variable is the type of the field of this name, where this struct is known of the owner.
 fn field_in<'a>(
     alloc: Global,
+    tables: Tables<'a>,
     slots: &mut Vec<Slot<'a>>,
-    structs: &'a Table<StructId, Struct>,
     seen: StructSeen<'a>,
     place: usize,
     name: &Name,
 ) -> Result<Equation<'a>, NoMemory>
+    requires types { ArePlain tables.types.now }
     requires fits { Fits slots.old.items }
     requires place { place < length slots.old.items }
     requires seen { StructWithin (length slots.old.items) seen }
     ensures keeps { IfOk result (λ q. Keeps slots.old.items slots.new.items) }
-    ensures emits { IfOk result (λ q. (old : List SlotData) (from : ℕ) (owner : TermData) → StructSaid old slots.old.items from owner seen.entry → from < length old → Emits (code_reading structs.now) old slots.new.items (D.FieldOf place from name.now) q) }
+    ensures emits { IfOk result (λ q. (old : List SlotData) (from : ℕ) (owner : TermData) → StructSaid old slots.old.items from owner seen.entry → from < length old → Emits (reading_of tables.entry) old slots.new.items (D.FieldOf place from name.now) q) }
 {
     match seen {
         StructSeen::Unknown => Ok(Equation::Unsettled),
         StructSeen::Other => Ok(Equation::Never),
-        StructSeen::Known(id, base, count) => match field_type(structs, id, name) {
+        StructSeen::Known(id, base, count) => match field_type(tables.structs, id, name) {
             None => Ok(Equation::Never),
             Some(of) => {
-                let term = declared(alloc, slots, of, Parameters { base, count })?;
+                let parameters = Parameters { base, count };
+                let term = field_term(alloc, tables.types, tables.is_spec, slots, of, parameters)?;
                 Ok(Equation::Equal(Term::Place(place), term))
             }
         },
@@ -84,40 +114,42 @@ fn field_in<'a>(
 /// The equation that the variable is the type of the field of this name of a term.
 fn field_of_owner<'a>(
     alloc: Global,
+    tables: Tables<'a>,
     slots: &mut Vec<Slot<'a>>,
-    structs: &'a Table<StructId, Struct>,
     term: Term<'a>,
     place: usize,
     name: &Name,
 ) -> Result<Equation<'a>, NoMemory>
+    requires types { ArePlain tables.types.now }
     requires fits { Fits slots.old.items }
     requires place { place < length slots.old.items }
     requires term { TermWithin (length slots.old.items) term }
     ensures keeps { IfOk result (λ q. Keeps slots.old.items slots.new.items) }
-    ensures emits { IfOk result (λ q. (old : List SlotData) (from : ℕ) → OwnerSaid old slots.old.items from term.entry → from < length old → Emits (code_reading structs.now) old slots.new.items (D.FieldOf place from name.now) q) }
+    ensures emits { IfOk result (λ q. (old : List SlotData) (from : ℕ) → OwnerSaid old slots.old.items from term.entry → from < length old → Emits (reading_of tables.entry) old slots.new.items (D.FieldOf place from name.now) q) }
 {
     let seen = struct_seen(slots, term)?;
-    field_in(alloc, slots, structs, seen, place, name)
+    field_in(alloc, tables, slots, seen, place, name)
 }
 
 /// The equation that the first variable is the type of the field of this name of the second.
 pub fn field<'a>(
     alloc: Global,
+    tables: Tables<'a>,
     slots: &mut Vec<Slot<'a>>,
-    structs: &'a Table<StructId, Struct>,
     place: usize,
     from: usize,
     name: &Name,
 ) -> Result<Equation<'a>, NoMemory>
+    requires types { ArePlain tables.types.now }
     requires fits { Fits slots.old.items }
     requires place { place < length slots.old.items }
     requires from { from < length slots.old.items }
     ensures keeps { IfOk result (λ q. Keeps slots.old.items slots.new.items) }
-    ensures emits { IfOk result (λ q. Emits (code_reading structs.now) slots.old.items slots.new.items (D.FieldOf place from name.now) q) }
+    ensures emits { IfOk result (λ q. Emits (reading_of tables.entry) slots.old.items slots.new.items (D.FieldOf place from name.now) q) }
 {
     let kind = kind_at(slots, from);
     match owner(kind, from) {
         None => Ok(Equation::Unsettled),
-        Some(term) => field_of_owner(alloc, slots, structs, term, place, name),
+        Some(term) => field_of_owner(alloc, tables, slots, term, place, name),
     }
 }

@@ -1,20 +1,21 @@
 //! Types as rules name them, as terms of the solver.
 
-ghost use Rattle.std.specs.Prelude.{◌≡◌, ◌<◌, ◌≤◌, ◌+◌, ℕ, IfOk, length};
-ghost use Rattle.type_constraints.specs.CodeSeen.{builtin_type, seen_form};
+ghost use Rattle.std.specs.Prelude.{◌≤◌, ◌+◌, IfOk, length};
+ghost use Rattle.type_constraints.specs.Seen.{builtin_type, read_data, seen_form};
 ghost use Rattle.typing_rules.specs.Constraint.{arguments, form_type};
 ghost use Rattle.typing_rules.specs.Instances.{instance};
-ghost use Rattle.unification.specs.Slots.{Typing, value, wrapped, Fits, TermWithin};
+ghost use Rattle.unification.specs.Slots.{value, wrapped, Fits, TermWithin};
 ghost use Rattle.unification.specs.declared.type_variables.slots.Wrap.{Wrap as TheWrap};
 ghost use Rattle.type_solver.specs.Plain.{ArePlain};
 ghost use Rattle.type_solver.specs.Within.{FormWithin};
 ghost use Rattle.type_solver.specs.Equations.{Keeps, TermSaid};
 
 use crate::plain::{PlainTypes, plain_term};
+use crate::read::{Arguments, read};
 use base::memory::NoMemory;
 use base::types::TypeTerm;
 use std::alloc::Global;
-use type_constraints::code::constraint::{BuiltinType, TypeForm};
+use type_constraints::constraint::{BuiltinType, ReadType, TypeForm};
 use unification::type_variables::signature::{Parameters, instance, wrap_term};
 use unification::type_variables::slots::{Group, Slot, Term, Wrap};
 
@@ -112,6 +113,27 @@ pub fn declared<'a>(
     Ok(instance(alloc, slots, of, parameters)?)
 }
 
+/// A type in a specification, as a term.
+fn read_form<'a>(
+    alloc: Global,
+    types: &'a PlainTypes,
+    slots: &mut Vec<Slot<'a>>,
+    of: ReadType<'a>,
+) -> Result<Term<'a>, NoMemory>
+    requires types { ArePlain types.now }
+    requires fits { Fits slots.old.items }
+    ensures keeps { IfOk result (λ term. Keeps slots.old.items slots.new.items) }
+    ensures said { IfOk result (λ term. TermSaid slots.old.items slots.new.items term (λ t. read_data of.entry)) }
+{
+    match of {
+        ReadType::Known(known) => Ok(Term::Closed(known)),
+        ReadType::Read(written) => read(alloc, types, slots, written, Arguments::Types(&[])),
+        ReadType::ReadIn(written, given) => {
+            read(alloc, types, slots, written, Arguments::Types(given))
+        }
+    }
+}
+
 /// A type as a rule names it, as a term.
 pub fn form_term<'a>(
     alloc: Global,
@@ -128,8 +150,13 @@ pub fn form_term<'a>(
     match form {
         TypeForm::Plain(plain) => Ok(plain_term(types, plain)),
         TypeForm::Written(of) => Ok(Term::Closed(of)),
+        TypeForm::Read(of) => read_form(alloc, types, slots, of),
         TypeForm::Declared(of, base, count) => {
             declared(alloc, slots, of, Parameters { base, count })
+        }
+        TypeForm::DeclaredRead(of, base, count) => {
+            let parameters = Parameters { base, count };
+            read(alloc, types, slots, of, Arguments::Places(parameters))
         }
         TypeForm::Builtin(of, base, count) => {
             builtin(types, slots, of, Parameters { base, count })

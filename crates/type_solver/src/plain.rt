@@ -1,13 +1,13 @@
 //! The types of the language itself, so that terms can point at them.
 
-ghost use Rattle.std.specs.Prelude.{◌≡◌, ◌+◌, ◌≤◌, ℕ, IfOk};
-ghost use Rattle.type_constraints.specs.CodeSeen.{plain_type};
+ghost use Rattle.std.specs.Prelude.{◌≡◌, ℕ};
+ghost use Rattle.type_constraints.specs.Seen.{plain_type};
 ghost use Rattle.unification.specs.Slots.{Typing, value, TermWithin};
 ghost use Rattle.base.specs.TypeData.{IntType};
 ghost use Rattle.type_solver.specs.Plain.{ArePlain};
 
 use base::types::{TypeNode, TypeTerm, Width};
-use type_constraints::code::constraint::PlainType;
+use type_constraints::constraint::PlainType;
 use unification::type_variables::slots::{Group, Term};
 
 /// The types of the language itself. Terms point at them.

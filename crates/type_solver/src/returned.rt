@@ -1,7 +1,7 @@
 //! The equations of returned values.
 
-ghost use Rattle.std.specs.Prelude.{◌≡◌, ◌<◌, ◌≤◌, ◌+◌, ℕ, List, IfOk, length, true, false};
-ghost use Rattle.type_constraints.specs.CodeSeen.{seen_form};
+ghost use Rattle.std.specs.Prelude.{◌≡◌, ◌<◌, ◌≤◌, ◌+◌, ℕ, List, IfOk, length, true};
+ghost use Rattle.type_constraints.specs.Seen.{seen_form};
 ghost use Rattle.base.specs.TypeData.{TypeData, TupleType, types_of};
 ghost use Rattle.typing_rules.specs.Constraint as D;
 ghost use Rattle.typing_rules.specs.Rules.{TypeReading};
@@ -23,7 +23,7 @@ use crate::tuples::{Parts, tuple_at, tuple_types};
 use base::memory::NoMemory;
 use base::types::{TypeNode, TypeTerm};
 use std::alloc::Global;
-use type_constraints::code::constraint::TypeForm;
+use type_constraints::constraint::TypeForm;
 use unification::type_variables::heads::KindSeen;
 use unification::type_variables::signature::{group_terms, wrap_term};
 use unification::type_variables::slots::{Group, Slot, Term, Wrap};
@@ -186,7 +186,8 @@ fn returns_written<'a>(
     }
 }
 
-/// The equation of a returned value where this type, which is a written one, is returned.
+/// The equation of a returned value where this type, which is a written one, is returned. `NoMemory` where it is one in a
+/// specification, which returns nothing.
 pub fn returns<'a>(
     alloc: Global,
     types: &'a PlainTypes,
@@ -203,6 +204,7 @@ pub fn returns<'a>(
 {
     match form {
         TypeForm::Written(of) => returns_written(alloc, types, slots, place, of),
+        TypeForm::Read(_) => Err(NoMemory),
         _ => takes(alloc, types, slots, place, form),
     }
 }

@@ -1,12 +1,12 @@
 //! Solves the constraints of a node.
 
-ghost use Rattle.std.specs.Prelude.{◌≡◌, ◌<◌, ◌≤◌, [], ℕ, IsTrue, IfOk, length};
-ghost use Rattle.type_constraints.specs.CodeSeen.{seen_all};
-ghost use Rattle.unification.specs.Slots.{Typing, value, Fits, TermWithin};
+ghost use Rattle.std.specs.Prelude.{◌≡◌, ◌<◌, ◌≤◌, [], IsTrue, IfOk, length};
+ghost use Rattle.type_constraints.specs.Seen.{seen_all};
+ghost use Rattle.unification.specs.Slots.{value, Fits, TermWithin};
 ghost use Rattle.unification.specs.Grown.{Grows};
 ghost use Rattle.type_solver.specs.Plain.{ArePlain};
 ghost use Rattle.type_solver.specs.Within.{AllWithin};
-ghost use Rattle.type_solver.specs.Equations.{Solved, EachSolved, EquationWithin, EquationsWithin, Keeps, code_reading, is_unsettled};
+ghost use Rattle.type_solver.specs.Equations.{Solved, EachSolved, EquationWithin, EquationsWithin, Keeps, reading_of, is_unsettled};
 ghost use Rattle.type_solver.specs.Steps.{ListSays, SettleSays, StepSays, step_of};
 ghost use Rattle.type_solver.specs.declared.equation.Equation.{Equation as EquationData};
 
@@ -16,7 +16,7 @@ use crate::kinds::kind_at;
 use crate::within::all_within;
 use base::memory::NoMemory;
 use std::alloc::Global;
-use type_constraints::code::constraint::Constraint;
+use type_constraints::constraint::Constraint;
 use unification::type_variables::heads::KindSeen;
 use unification::type_variables::places::{is_of, one};
 use unification::type_variables::slots::{Slot, Term};
@@ -50,7 +50,7 @@ fn list_equations<'a>(
     requires within { AllWithin (length slots.old.items) (seen_all constraints.now) }
     requires none { equations.old.items ≡ [] }
     ensures keeps { IfOk result (λ answer. Keeps slots.old.items slots.new.items) }
-    ensures says { IfOk result (ListSays (code_reading tables.entry.structs.now) slots.old.items slots.new.items (seen_all constraints.now) equations.new.items) }
+    ensures says { IfOk result (ListSays (reading_of tables.entry) slots.old.items slots.new.items (seen_all constraints.now) equations.new.items) }
 {
     for constraint in constraints {
         let equation = emit(alloc, tables, slots, *constraint)?;
@@ -169,7 +169,7 @@ pub fn solve_constraints<'a>(
     requires types { ArePlain tables.types.now }
     requires fits { Fits slots.old.items }
     requires places { places ≤ length slots.old.items }
-    ensures { IfOk result (StepSays (code_reading tables.entry.structs.now) places slots.old.items slots.new.items (seen_all constraints.now)) }
+    ensures { IfOk result (StepSays (reading_of tables.entry) places slots.old.items slots.new.items (seen_all constraints.now)) }
 {
     if !all_within(constraints, places) {
         return Err(NoMemory);

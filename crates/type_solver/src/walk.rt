@@ -1,19 +1,19 @@
 //! Reads the steps of a system.
 
-ghost use Rattle.std.specs.Prelude.{◌≡◌, ◌≤◌, ◌∷◌, ◌++◌, [], List, IfOk, length};
-ghost use Rattle.type_constraints.specs.CodeSeen.{seen_all};
+ghost use Rattle.std.specs.Prelude.{◌≤◌, ◌∷◌, ◌++◌, [], List, IfOk, length};
+ghost use Rattle.type_constraints.specs.Seen.{seen_all};
 ghost use Rattle.typing_rules.specs.Constraint as D;
 ghost use Rattle.typing_rules.specs.Rules.{TypeReading};
 ghost use Rattle.unification.specs.Slots.{Typing, Fits, Meets};
 ghost use Rattle.type_solver.specs.Plain.{ArePlain};
-ghost use Rattle.type_solver.specs.Equations.{code_reading};
+ghost use Rattle.type_solver.specs.Equations.{reading_of};
 ghost use Rattle.type_solver.specs.Walking.{IsAfter, IsWalk, ReadsAll};
 
 use crate::emit::Tables;
 use crate::step::{Step, solve_constraints};
 use base::memory::NoMemory;
 use std::alloc::Global;
-use type_constraints::code::constraint::Constraint;
+use type_constraints::constraint::Constraint;
 use unification::type_variables::slots::Slot;
 
 /// How far steps were read.
@@ -81,7 +81,7 @@ fn read_next<'a>(
     requires types { ArePlain tables.types.now }
     requires fits { Fits slots.old.items }
     requires places { places ≤ length slots.old.items }
-    ensures walk { IfOk result (λ after. (steps : List (List D.Constraint)) → ReadsAll (code_reading tables.entry.structs.now) places steps slots.old.items count → IsWalk (code_reading tables.entry.structs.now) places (steps ++ seen_all constraints.now ∷ []) slots.new.items after) }
+    ensures walk { IfOk result (λ after. (steps : List (List D.Constraint)) → ReadsAll (reading_of tables.entry) places steps slots.old.items count → IsWalk (reading_of tables.entry) places (steps ++ seen_all constraints.now ∷ []) slots.new.items after) }
     ensures fits { IfOk result (λ after. Fits slots.new.items) }
     ensures places { IfOk result (λ after. places ≤ length slots.new.items) }
 {
@@ -101,7 +101,7 @@ pub fn read_step<'a>(
     requires types { ArePlain tables.types.now }
     requires fits { Fits slots.old.items }
     requires places { places ≤ length slots.old.items }
-    ensures walk { IfOk result (λ after. (steps : List (List D.Constraint)) → IsWalk (code_reading tables.entry.structs.now) places steps slots.old.items progress → IsWalk (code_reading tables.entry.structs.now) places (steps ++ seen_all constraints.now ∷ []) slots.new.items after) }
+    ensures walk { IfOk result (λ after. (steps : List (List D.Constraint)) → IsWalk (reading_of tables.entry) places steps slots.old.items progress → IsWalk (reading_of tables.entry) places (steps ++ seen_all constraints.now ∷ []) slots.new.items after) }
     ensures fits { IfOk result (λ after. Fits slots.new.items) }
     ensures places { IfOk result (λ after. places ≤ length slots.new.items) }
 {

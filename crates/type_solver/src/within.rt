@@ -1,10 +1,10 @@
 //! Whether constraints are over existing type variables, and return written types.
 
-ghost use Rattle.std.specs.Prelude.{◌≤◌, ◌+◌, IsTrue, length};
-ghost use Rattle.type_constraints.specs.CodeSeen.{seen, seen_all, seen_form};
+ghost use Rattle.std.specs.Prelude.{◌≤◌, ◌+◌, IsTrue};
+ghost use Rattle.type_constraints.specs.Seen.{seen, seen_all, seen_form};
 ghost use Rattle.type_solver.specs.Within.{AllWithin, ConstraintWithin, FormWithin, IsWritten, PlacesWithin};
 
-use type_constraints::code::constraint::{Constraint, TypeForm};
+use type_constraints::constraint::{Constraint, TypeForm};
 
 /// Decides whether so many type variables, from this one on, are among the first `places`.
 fn are_within(first: usize, count: usize, places: usize) -> bool
@@ -17,8 +17,9 @@ fn form_within<'a>(form: TypeForm<'a>, places: usize) -> bool
     ensures { IsTrue result → FormWithin places (seen_form form.entry) }
 {
     match form {
-        TypeForm::Plain(_) | TypeForm::Written(_) => true,
+        TypeForm::Plain(_) | TypeForm::Written(_) | TypeForm::Read(_) => true,
         TypeForm::Declared(_, first, count) => are_within(first, count, places),
+        TypeForm::DeclaredRead(_, first, count) => are_within(first, count, places),
         TypeForm::Builtin(_, first, count) => are_within(first, count, places),
         TypeForm::Applied(_, first, count) => are_within(first, count, places),
     }

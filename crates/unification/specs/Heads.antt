@@ -1,7 +1,7 @@
 -- What is known of the head of a type (The Move Book, "References": the kind; "Structs and Resources": the struct).
 use Rattle.std.specs.Prelude.{◌≡◌, ℕ, ◌+◌, ◌≤◌, Bool, true, false, List, Option, Some, None}
 use Rattle.base.specs.TypeData.{TypeData, StructType, SharedType, MutableType, types_of}
-use Rattle.base.specs.declared.types.StructId.{StructId}
+pub use Rattle.typing_rules.specs.Sorts.{struct_in}
 use Rattle.unification.specs.Slots.{Typing, value, wrapped, list_at, Meets, TermWithin}
 use Rattle.unification.specs.Agree.{Agree}
 use Rattle.unification.specs.declared.type_variables.slots.Sort.{Sort}
@@ -20,11 +20,6 @@ abbrev pub kind : TypeData → Option Wrap
 kind (SharedType t) = Some Shared
 kind (MutableType t) = Some Mutable
 kind _ = None
-
--- the struct of a type that is a struct
-abbrev pub struct_in : TypeData → Option StructId
-struct_in (StructType s ts) = Some s
-struct_in _ = None
 
 -- what is known of the kind of a type is true
 abbrev pub KindOf : Typing → TypeData → KindSeen → Type 0

@@ -5,20 +5,18 @@ ghost use Rattle.std.specs.List.{flat_map};
 ghost use Rattle.std.specs.Map.{lookup};
 ghost use Rattle.std.specs.Option.{option_copied};
 ghost use Rattle.program.specs.Same.{same_schema};
-ghost use Rattle.base.specs.TypeData.{BoolType, list_of_types, types_of};
+ghost use Rattle.base.specs.TypeData.{BoolType};
 ghost use Rattle.typing_rules.specs.Clauses as C;
 ghost use Rattle.typing_rules.specs.CodeConstraints.{barred_unless, has};
-ghost use Rattle.type_constraints.specs.SpecSeen.{seen_all};
+ghost use Rattle.type_constraints.specs.Seen.{seen_all};
 ghost use Rattle.type_constraints.specs.SpecSettings.{names_of, owner_types, setting_of};
 ghost use Rattle.type_constraints.specs.Blocks.{block_of};
 ghost use Rattle.type_constraints.specs.Includes.{include_constraints};
 
 use crate::clauses::block::{Block, allowed_by, is_function_block, may_hold};
-use crate::code::constraint::PlainType;
+use crate::constraint::{Constraint, PlainType, add, add_unless, has};
 use crate::spec::arguments::add_arguments;
 use crate::spec::call::add_given;
-use crate::spec::constraint::{SpecConstraint, add};
-use crate::spec::leaf::{add_unless, has};
 use crate::spec::places::variable_count;
 use crate::spec::setting::{Names, SpecNode, SpecSetting};
 use base::memory::NoMemory;
@@ -94,7 +92,7 @@ fn is_global(node: &SpecNode) -> bool
 
 /// Adds the constraints of `modifies`, which names global resources.
 fn add_modified<'a>(
-    constraints: &mut Vec<SpecConstraint<'a>>,
+    constraints: &mut Vec<Constraint<'a>>,
     body: &SpecBody,
     root: usize,
 ) -> Result<(), NoMemory>
@@ -103,12 +101,12 @@ fn add_modified<'a>(
     if root < body.len() {
         add_unless(constraints, is_global(body.node(root)))
     } else {
-        add(constraints, &[SpecConstraint::Barred])
+        add(constraints, &[Constraint::Barred])
     }
 }
 
 fn add_all_modified<'a>(
-    constraints: &mut Vec<SpecConstraint<'a>>,
+    constraints: &mut Vec<Constraint<'a>>,
     body: &SpecBody,
     roots: &[usize],
 ) -> Result<(), NoMemory>
@@ -122,7 +120,7 @@ fn add_all_modified<'a>(
 
 /// Adds the constraints of a condition, which has type `bool`, in a block that may hold it.
 fn add_condition<'a>(
-    constraints: &mut Vec<SpecConstraint<'a>>,
+    constraints: &mut Vec<Constraint<'a>>,
     block: Block,
     kind: ConditionKind,
     root: usize,
@@ -136,7 +134,7 @@ fn add_condition<'a>(
 /// Adds the constraints of what is given for the variables of a schema, whose type arguments are the type variables
 /// from `first` on.
 fn add_given_to<'a>(
-    constraints: &mut Vec<SpecConstraint<'a>>,
+    constraints: &mut Vec<Constraint<'a>>,
     first: usize,
     schema: Option<&'a Schema>,
     given: &[usize],
@@ -148,13 +146,13 @@ fn add_given_to<'a>(
             let count = found.type_parameters.as_slice().len();
             add_given(constraints, first, count, given, found.variables.as_slice())
         }
-        None => add(constraints, &[SpecConstraint::Barred]),
+        None => add(constraints, &[Constraint::Barred]),
     }
 }
 
 /// Adds the constraints of an `include`, which is like a call of its schema.
 fn add_include<'a>(
-    constraints: &mut Vec<SpecConstraint<'a>>,
+    constraints: &mut Vec<Constraint<'a>>,
     setting: SpecSetting<'a>,
     first: usize,
     schema: &SchemaId,
@@ -174,21 +172,9 @@ fn add_include<'a>(
     add_given_to(constraints, first, schemas.get(schema), given)
 }
 
-fn add_listed<'a>(
-    constraints: &mut Vec<SpecConstraint<'a>>,
-    setting: SpecSetting<'a>,
-    first: usize,
-    schema: &SchemaId,
-    types: &'a [TypeTerm],
-    given: &[usize],
-) -> Result<(), NoMemory>
-    ensures { OnOk result (seen_all constraints.new.items ≡ seen_all constraints.old.items ++ include_constraints (setting_of setting.entry) first schema.now (list_of_types (types_of types.now)) given.now) }
-{
-    add_include(constraints, setting, first, schema, types, given)
-}
-
+#[tactic(auto, using(crate::proofs::Arguments::listed_types))]
 fn add_whole<'a>(
-    constraints: &mut Vec<SpecConstraint<'a>>,
+    constraints: &mut Vec<Constraint<'a>>,
     setting: SpecSetting<'a>,
     block: Block,
     first: usize,
@@ -203,14 +189,14 @@ fn add_whole<'a>(
             add_all_modified(constraints, setting.body, roots.as_slice())
         }
         ClauseForm::Let { value, .. } => {
-            add(constraints, &[SpecConstraint::IsOf(Sort::Value, *value)])
+            add(constraints, &[Constraint::IsOf(Sort::Value, *value)])
         }
         ClauseForm::Include {
             schema,
             types,
             given,
         } => {
-            add_listed(
+            add_include(
                 constraints,
                 setting,
                 first,
@@ -230,7 +216,7 @@ pub fn whole_constraints<'a>(
     block: Block,
     first: usize,
     form: &'a ClauseForm,
-) -> Result<Vec<SpecConstraint<'a>>, NoMemory>
+) -> Result<Vec<Constraint<'a>>, NoMemory>
     ensures { IfOk result (λ constraints. seen_all constraints.items ≡ C.whole_constraints (setting_of setting.entry) (block_of block) first form.now) }
 {
     let mut constraints = Vec::new(alloc);

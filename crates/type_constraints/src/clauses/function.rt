@@ -5,10 +5,10 @@ ghost use Rattle.typing_rules.specs.CodeConstraints.{has};
 ghost use Rattle.typing_rules.specs.CodeSystems.{last_by};
 ghost use Rattle.typing_rules.specs.Instances.{spec_type};
 ghost use Rattle.type_constraints.specs.Functions.{spec_function_setting};
-ghost use Rattle.type_constraints.specs.SpecSeen.{seen};
+ghost use Rattle.type_constraints.specs.Seen.{seen};
 ghost use Rattle.type_constraints.specs.SpecSettings.{setting_of};
 
-use crate::spec::constraint::{ReadType, SpecConstraint, SpecForm};
+use crate::constraint::{Constraint, ReadType, TypeForm};
 use crate::spec::places::variable_count;
 use crate::spec::setting::{Allowed, Names, Owner, SpecSetting};
 use base::memory::NoMemory;
@@ -40,14 +40,14 @@ pub fn function_setting<'a>(
 }
 
 /// The constraint on a spec function's body as a whole.
-pub fn returned<'a>(function: &'a SpecFunction) -> SpecConstraint<'a>
+pub fn returned<'a>(function: &'a SpecFunction) -> Constraint<'a>
     ensures { seen result ≡ last_by (λ n. has n (spec_type function.now.result)) function.now.body.nodes 0 }
 {
     let count = function.body.len();
     if count == 0 {
-        SpecConstraint::Barred
+        Constraint::Barred
     } else {
-        let form = SpecForm::Written(ReadType::Read(&function.result));
-        SpecConstraint::Has(count - 1, form)
+        let form = TypeForm::Read(ReadType::Read(&function.result));
+        Constraint::Has(count - 1, form)
     }
 }

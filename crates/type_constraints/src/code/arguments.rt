@@ -5,10 +5,10 @@ ghost use Rattle.typing_rules.specs.CodeConstraints.{argument_constraints, each_
 ghost use Rattle.typing_rules.specs.Constraint as D;
 ghost use Rattle.typing_rules.specs.ProperTypes.{is_proper_value};
 ghost use Rattle.typing_rules.specs.declared.sort.Sort.TheVariants.{Value};
-ghost use Rattle.type_constraints.specs.CodeSeen.{seen_all};
+ghost use Rattle.type_constraints.specs.Seen.{seen_all};
 
-use crate::code::constraint::{Constraint, TypeForm, add};
 use crate::code::written::is_proper_value;
+use crate::constraint::{Constraint, TypeForm, add};
 use base::memory::NoMemory;
 use base::types::{StructId, TypeTerm};
 use program::declaration::Struct;
@@ -16,7 +16,7 @@ use program::table::Table;
 use typing_rules::sort::Sort;
 
 /// Adds the constraints that so many type variables, from `first` on, are neither references nor tuples.
-fn add_values<'a>(
+pub fn add_values<'a>(
     constraints: &mut Vec<Constraint<'a>>,
     first: usize,
     count: usize,

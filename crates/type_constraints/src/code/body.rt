@@ -1,20 +1,20 @@
 //! The constraints of bodies, node by node.
 
-ghost use Rattle.std.specs.Prelude.{◌≡◌, ◌<◌, [], length, IfOk, Some, slice_get};
+ghost use Rattle.std.specs.Prelude.{◌≡◌, ◌<◌, length, IfOk, Some, slice_get};
 ghost use Rattle.typing_rules.specs.CodeConstraints.{constraints_at};
 ghost use Rattle.program.specs.Trees.{IsBelow, trees};
 ghost use Rattle.typing_rules.specs.Settings as S;
 ghost use Rattle.program.specs.CodeNodes.{CodeNode};
 ghost use Rattle.type_constraints.specs.Bodies.{AreTablesOf};
-ghost use Rattle.type_constraints.specs.CodeSeen.{seen_all};
+ghost use Rattle.type_constraints.specs.Seen.{seen_all};
 ghost use Rattle.type_constraints.specs.CodeSettings.{is_broken, setting_of};
 ghost use Rattle.type_constraints.specs.CodeTold.{TellsBreaks};
 
 use crate::code::breaks::breaks_of;
-use crate::code::constraint::Constraint;
 use crate::code::loops::loops_of;
 use crate::code::node::add_node;
 use crate::code::setting::{CodeSetting, Jumps};
+use crate::constraint::Constraint;
 use base::memory::NoMemory;
 use program::arena::Node;
 use program::code::{Body, CodeBinary, CodeLeaf, CodeMany, CodeUnary};

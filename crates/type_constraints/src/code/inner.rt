@@ -3,31 +3,24 @@
 ghost use Rattle.std.specs.Prelude.{◌≡◌, ◌++◌, ◌∷◌, ◌<◌, [], length, OnOk, slice_get, if◌then◌else◌};
 ghost use Rattle.std.specs.Option.{option_copied};
 ghost use Rattle.program.specs.declared.arena.Node.TheVariants.{Unary};
-ghost use Rattle.typing_rules.specs.CodeConstraints.{annotated, assigned_constraints, binary_constraints, borrowed_constraints, has, let_constraints, operator_constraints, returned_constraints, unary_constraints};
+ghost use Rattle.typing_rules.specs.CodeConstraints.{annotated, has_written, assigned_constraints, binary_constraints, borrowed_constraints, has, let_constraints, operator_constraints, returned_constraints, unary_constraints};
 ghost use Rattle.typing_rules.specs.Settings.{unit_type};
 ghost use Rattle.typing_rules.specs.Constraint as D;
 ghost use Rattle.typing_rules.specs.declared.sort.Sort.TheVariants.{Value};
 ghost use Rattle.typing_rules.specs.declared.sort.Wrap.TheVariants.{Mutable};
-ghost use Rattle.type_constraints.specs.CodeSeen.{plain_type, seen, seen_all};
+ghost use Rattle.type_constraints.specs.Seen.{seen_all};
 ghost use Rattle.type_constraints.specs.CodeSettings.{is_broken, setting_of};
 
-use crate::code::constraint::{Constraint, PlainType, TypeForm, add};
 use crate::code::setting::CodeSetting;
 use crate::code::way::{add_assigned, add_borrowed};
 use crate::code::written::is_proper;
+use crate::constraint::{Constraint, PlainType, TypeForm, add, has};
 use base::memory::NoMemory;
 use base::types::{TypeTerm, Width};
 use program::boxed::Boxed;
 use program::code::{CodeBinary, CodeUnary};
 use program::operator::BinaryOperator;
 use typing_rules::sort::{Sort, Wrap};
-
-/// A type variable has a type of the language itself.
-fn has<'a>(place: usize, plain: PlainType) -> Constraint<'a>
-    ensures { seen result ≡ has place (plain_type plain) }
-{
-    Constraint::Has(place, TypeForm::Plain(plain))
-}
 
 fn add_returned<'a>(
     constraints: &mut Vec<Constraint<'a>>,
@@ -66,6 +59,25 @@ fn add_loop<'a>(
     }
 }
 
+/// Adds the constraint that a pattern has this type, which is written.
+fn add_written<'a>(
+    constraints: &mut Vec<Constraint<'a>>,
+    setting: CodeSetting<'a>,
+    pattern: usize,
+    of: &'a TypeTerm,
+) -> Result<(), NoMemory>
+    ensures { OnOk result (seen_all constraints.new.items ≡ seen_all constraints.old.items ++ has_written setting.entry.program.now.structs pattern of.now) }
+{
+    if is_proper(&setting.program.structs, of) {
+        add(
+            constraints,
+            &[Constraint::Has(pattern, TypeForm::Written(of))],
+        )
+    } else {
+        add(constraints, &[Constraint::Barred])
+    }
+}
+
 /// Adds the constraints of a pattern with a written type.
 fn add_declared<'a>(
     constraints: &mut Vec<Constraint<'a>>,
@@ -76,20 +88,10 @@ fn add_declared<'a>(
 ) -> Result<(), NoMemory>
     ensures { OnOk result (seen_all constraints.new.items ≡ seen_all constraints.old.items ++ has place unit_type ∷ annotated (setting_of setting.entry) pattern annotation.now) }
 {
+    add(constraints, &[has(place, PlainType::Nothing)])?;
     match annotation {
-        None => add(constraints, &[has(place, PlainType::Nothing)]),
-        Some(written) => {
-            let of = written.get();
-            if is_proper(&setting.program.structs, of) {
-                let required = Constraint::Has(pattern, TypeForm::Written(of));
-                add(constraints, &[has(place, PlainType::Nothing), required])
-            } else {
-                add(
-                    constraints,
-                    &[has(place, PlainType::Nothing), Constraint::Barred],
-                )
-            }
-        }
+        None => Ok(()),
+        Some(written) => add_written(constraints, setting, pattern, written.get()),
     }
 }
 
@@ -247,29 +249,16 @@ fn add_let<'a>(
 ) -> Result<(), NoMemory>
     ensures { OnOk result (seen_all constraints.new.items ≡ seen_all constraints.old.items ++ has place unit_type ∷ let_constraints (setting_of setting.entry) annotation.now pattern value) }
 {
+    add(constraints, &[has(place, PlainType::Nothing)])?;
     match annotation {
-        None => add(
-            constraints,
-            &[
-                has(place, PlainType::Nothing),
-                Constraint::Same(pattern, value),
-            ],
-        ),
+        None => add(constraints, &[Constraint::Same(pattern, value)]),
         Some(written) => {
             let of = written.get();
-            let taken = Constraint::Takes(value, TypeForm::Written(of));
-            if is_proper(&setting.program.structs, of) {
-                let required = Constraint::Has(pattern, TypeForm::Written(of));
-                add(
-                    constraints,
-                    &[has(place, PlainType::Nothing), required, taken],
-                )
-            } else {
-                add(
-                    constraints,
-                    &[has(place, PlainType::Nothing), Constraint::Barred, taken],
-                )
-            }
+            add_written(constraints, setting, pattern, of)?;
+            add(
+                constraints,
+                &[Constraint::Takes(value, TypeForm::Written(of))],
+            )
         }
     }
 }

@@ -4,29 +4,18 @@ ghost use Rattle.std.specs.Prelude.{◌≡◌, ◌++◌, OnOk, Some};
 ghost use Rattle.std.specs.Option.{option_copied};
 ghost use Rattle.std.specs.Map.{lookup};
 ghost use Rattle.base.specs.TypeData.{TupleType, types_of};
-ghost use Rattle.typing_rules.specs.CodeConstraints.{barred_unless, constant_constraints, is_unit, leaf_constraints, number_constraints, same_constant};
-ghost use Rattle.type_constraints.specs.CodeSeen.{seen_all};
+ghost use Rattle.typing_rules.specs.CodeConstraints.{constant_constraints, is_unit, leaf_constraints, number_constraints, same_constant};
+ghost use Rattle.type_constraints.specs.Seen.{seen_all};
 ghost use Rattle.type_constraints.specs.CodeSettings.{setting_of};
 ghost use Rattle.typing_rules.specs.Jumps.{is_in_loop};
 
-use crate::code::constraint::{Constraint, PlainType, TypeForm, add};
 use crate::code::setting::{CodeSetting, local_place};
+use crate::constraint::{Constraint, PlainType, TypeForm, add, add_unless, has};
 use base::memory::NoMemory;
 use base::types::{TypeNode, TypeTerm, Width};
 use program::code::CodeLeaf;
 use program::program::ConstantId;
 use typing_rules::sort::Sort;
-
-/// Adds no constraint if `fine` is true, and otherwise one that no typing meets.
-pub fn add_unless<'a>(constraints: &mut Vec<Constraint<'a>>, fine: bool) -> Result<(), NoMemory>
-    ensures { OnOk result (seen_all constraints.new.items ≡ seen_all constraints.old.items ++ barred_unless fine) }
-{
-    if fine {
-        Ok(())
-    } else {
-        add(constraints, &[Constraint::Barred])
-    }
-}
 
 fn add_number<'a>(
     constraints: &mut Vec<Constraint<'a>>,
@@ -36,10 +25,7 @@ fn add_number<'a>(
     ensures { OnOk result (seen_all constraints.new.items ≡ seen_all constraints.old.items ++ number_constraints place width) }
 {
     match width {
-        Some(found) => {
-            let form = TypeForm::Plain(PlainType::Int(found));
-            add(constraints, &[Constraint::Has(place, form)])
-        }
+        Some(found) => add(constraints, &[has(place, PlainType::Int(found))]),
         None => add(constraints, &[Constraint::IsOf(Sort::Integer, place)]),
     }
 }
@@ -70,22 +56,16 @@ fn is_empty(types: &[TypeTerm]) -> bool
     }
 }
 
-fn is_unit_type(term: &TypeTerm) -> bool
-    ensures { result ≡ is_unit (Some term.now) }
-{
-    match &term.node {
-        TypeNode::Tuple(types) => is_empty(&types.items),
-        _ => false,
-    }
-}
-
 /// Decides whether the result is `()`.
 fn is_unit<'a>(result_type: Option<&'a TypeTerm>) -> bool
     ensures { result ≡ is_unit (option_copied result_type.entry) }
 {
-    match result_type {
-        Some(term) => is_unit_type(term),
-        None => false,
+    let Some(term) = result_type else {
+        return false;
+    };
+    match &term.node {
+        TypeNode::Tuple(types) => is_empty(&types.items),
+        _ => false,
     }
 }
 
@@ -102,18 +82,8 @@ pub fn add_leaf<'a>(
 {
     match leaf {
         CodeLeaf::Number(number) => add_number(constraints, place, number.width),
-        CodeLeaf::Truth(_) => {
-            add(
-                constraints,
-                &[Constraint::Has(place, TypeForm::Plain(PlainType::Bool))],
-            )
-        }
-        CodeLeaf::Address(_) => {
-            add(
-                constraints,
-                &[Constraint::Has(place, TypeForm::Plain(PlainType::Address))],
-            )
-        }
+        CodeLeaf::Truth(_) => add(constraints, &[has(place, PlainType::Bool)]),
+        CodeLeaf::Address(_) => add(constraints, &[has(place, PlainType::Address)]),
         CodeLeaf::Local(_, local) => {
             let at = local_place(setting, *local)?;
             add(constraints, &[Constraint::Same(place, at)])

@@ -7,19 +7,11 @@ ghost use Rattle.typing_rules.specs.Jumps.{CodeTree, loop_body, stands_in_body};
 ghost use Rattle.program.specs.CodeNodes.{CodeNode};
 ghost use Rattle.type_constraints.specs.CodeTold.{TellsLoops, TellsSizes};
 
+use crate::numbers::sum;
 use base::memory::NoMemory;
 use program::arena::Node;
 use program::code::{Body, CodeBinary, CodeLeaf, CodeMany, CodeUnary};
 use std::alloc::Global;
-
-fn sum(left: usize, right: usize) -> Result<usize, NoMemory>
-    ensures { IfOk result (λ total. total ≡ left + right) }
-{
-    match left.checked_add(right) {
-        Some(total) => Ok(total),
-        None => Err(NoMemory),
-    }
-}
 
 /// The number of nodes of the trees of these parts.
 fn sizes_sum(told: &[usize], parts: &[usize]) -> Result<usize, NoMemory>

@@ -1,19 +1,18 @@
 //! The constraints of nodes with a list of parts.
 
 ghost use Rattle.std.specs.Prelude.{◌≡◌, ◌++◌, ◌∷◌, [], OnOk, map};
-ghost use Rattle.base.specs.TypeData.{list_of_types, types_of};
 ghost use Rattle.typing_rules.specs.CodeConstraints.{argument_constraints, block_constraints, each_of, last_constraints, many_constraints};
 ghost use Rattle.typing_rules.specs.Constraint as D;
 ghost use Rattle.typing_rules.specs.declared.sort.Sort.TheVariants.{Single};
 ghost use Rattle.typing_rules.specs.declared.sort.Wrap.TheVariants.{Vector as vector_of};
-ghost use Rattle.type_constraints.specs.CodeSeen.{seen_all};
+ghost use Rattle.type_constraints.specs.Seen.{seen_all};
 ghost use Rattle.type_constraints.specs.CodeSettings.{setting_of};
 
 use crate::code::arguments::add_arguments;
 use crate::code::call::add_call;
-use crate::code::constraint::{Constraint, PlainType, TypeForm, add};
 use crate::code::setting::CodeSetting;
 use crate::code::structs::add_struct;
+use crate::constraint::{Constraint, PlainType, add, has};
 use base::memory::NoMemory;
 use base::types::{StructId, TypeTerm};
 use program::code::CodeMany;
@@ -35,6 +34,7 @@ fn add_items<'a>(
     Ok(())
 }
 
+/// Adds the constraints of a vector literal.
 fn add_vector<'a>(
     constraints: &mut Vec<Constraint<'a>>,
     structs: &Table<StructId, Struct>,
@@ -51,20 +51,6 @@ fn add_vector<'a>(
         constraints,
         &[Constraint::MadeOf(place, Wrap::Vector, first)],
     )
-}
-
-/// Adds the constraints of a vector literal.
-fn add_listed<'a>(
-    constraints: &mut Vec<Constraint<'a>>,
-    structs: &Table<StructId, Struct>,
-    place: usize,
-    first: usize,
-    types: &'a [TypeTerm],
-    parts: &[usize],
-) -> Result<(), NoMemory>
-    ensures { OnOk result (seen_all constraints.new.items ≡ seen_all constraints.old.items ++ ((argument_constraints structs.now first 1 (list_of_types (types_of types.now)) ++ map (λ p. D.Same p first) parts.now) ++ D.MadeOf place vector_of first ∷ [])) }
-{
-    add_vector(constraints, structs, place, first, types, parts)
 }
 
 /// Adds the constraints that no part is a tuple.
@@ -117,15 +103,13 @@ fn add_block<'a>(
     if has_value {
         add_last(constraints, place, parts)
     } else {
-        add(
-            constraints,
-            &[Constraint::Has(place, TypeForm::Plain(PlainType::Nothing))],
-        )
+        add(constraints, &[has(place, PlainType::Nothing)])
     }
 }
 
 /// Adds the constraints of the node with a list of parts and the number `place`, whose type arguments are the type
 /// variables from `first` on.
+#[tactic(auto, using(crate::proofs::Arguments::listed_types))]
 pub fn add_many<'a>(
     constraints: &mut Vec<Constraint<'a>>,
     setting: CodeSetting<'a>,
@@ -149,7 +133,7 @@ pub fn add_many<'a>(
             )
         }
         CodeMany::Vector(types) => {
-            add_listed(constraints, structs, place, first, &types.items, parts)
+            add_vector(constraints, structs, place, first, &types.items, parts)
         }
         CodeMany::Pack(named) => add_struct(constraints, structs, place, first, named.get(), parts),
         CodeMany::Unpack(named) => add_struct(

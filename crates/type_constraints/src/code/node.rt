@@ -3,14 +3,14 @@
 ghost use Rattle.std.specs.Prelude.{◌≡◌, ◌++◌, length, OnOk};
 ghost use Rattle.program.specs.Trees.{IsBelow};
 ghost use Rattle.typing_rules.specs.CodeConstraints.{constraints_at};
-ghost use Rattle.type_constraints.specs.CodeSeen.{seen_all};
+ghost use Rattle.type_constraints.specs.Seen.{seen_all};
 ghost use Rattle.type_constraints.specs.CodeSettings.{AreJumpsOf, setting_of};
 
-use crate::code::constraint::{Constraint, PlainType, TypeForm, add};
 use crate::code::inner::{add_binary, add_unary};
 use crate::code::leaf::add_leaf;
 use crate::code::many::add_many;
 use crate::code::setting::{CodeSetting, Jumps};
+use crate::constraint::{Constraint, PlainType, add, has};
 use base::memory::NoMemory;
 use program::arena::Node;
 use program::code::{CodeBinary, CodeLeaf, CodeMany, CodeUnary};
@@ -38,7 +38,7 @@ pub fn add_node<'a>(
             add_binary(constraints, setting, place, form, *left, *right)
         }
         Node::If(condition, left, right) => {
-            let truth = Constraint::Has(*condition, TypeForm::Plain(PlainType::Bool));
+            let truth = has(*condition, PlainType::Bool);
             add(
                 constraints,
                 &[

@@ -5,17 +5,15 @@ ghost use Rattle.std.specs.Map.{lookup};
 ghost use Rattle.std.specs.List.{list_all};
 ghost use Rattle.std.specs.Option.{option_copied};
 ghost use Rattle.base.specs.Names.{is_one_of};
-ghost use Rattle.base.specs.TypeData.{list_of_types, types_of};
+ghost use Rattle.base.specs.TypeData.{list_of_types};
 ghost use Rattle.program.specs.Same.{same_struct};
 ghost use Rattle.typing_rules.specs.CodeConstraints.{field_constraint, field_constraints, named_constraints, names_each_once, struct_constraints};
 ghost use Rattle.typing_rules.specs.Rules.{field_named};
-ghost use Rattle.typing_rules.specs.Settings.{struct_arity};
-ghost use Rattle.type_constraints.specs.CodeSeen.{seen_all};
+ghost use Rattle.type_constraints.specs.Seen.{seen_all};
 
 use crate::code::arguments::add_arguments;
-use crate::code::constraint::{Constraint, TypeForm, add};
-use crate::code::leaf::add_unless;
 use crate::code::signature::struct_arity;
+use crate::constraint::{Constraint, TypeForm, add, add_unless};
 use base::memory::NoMemory;
 use base::name::Name;
 use base::types::{StructId, TypeTerm};
@@ -43,7 +41,7 @@ fn are_named(fields: &[TypedName], names: &[Name]) -> bool
 }
 
 /// Decides whether each field is named exactly once.
-fn names_each_once(fields: &[TypedName], names: &[Name]) -> bool
+pub fn names_each_once(fields: &[TypedName], names: &[Name]) -> bool
     ensures { result ≡ names_each_once fields.now names.now }
 {
     names.len() == fields.len() && are_named(fields, names)
@@ -134,51 +132,6 @@ fn add_named<'a>(
     }
 }
 
-fn add_parts<'a>(
-    constraints: &mut Vec<Constraint<'a>>,
-    structs: &'a Table<StructId, Struct>,
-    place: usize,
-    first: usize,
-    owner: &'a StructId,
-    types: &'a [TypeTerm],
-    names: &[Name],
-    parts: &[usize],
-) -> Result<(), NoMemory>
-    ensures { OnOk result (seen_all constraints.new.items ≡ seen_all constraints.old.items ++ struct_constraints structs.now place first owner.now types.now names.now parts.now) }
-{
-    let arity = struct_arity(structs, owner);
-    add_arguments(constraints, structs, first, arity, types)?;
-    add_named(constraints, structs, first, owner, names, parts)?;
-    add(
-        constraints,
-        &[Constraint::Has(place, TypeForm::Applied(owner, first, arity))],
-    )
-}
-
-fn add_listed<'a>(
-    constraints: &mut Vec<Constraint<'a>>,
-    structs: &'a Table<StructId, Struct>,
-    place: usize,
-    first: usize,
-    owner: &'a StructId,
-    types: &'a [TypeTerm],
-    names: &[Name],
-    parts: &[usize],
-) -> Result<(), NoMemory>
-    ensures { OnOk result (seen_all constraints.new.items ≡ seen_all constraints.old.items ++ struct_constraints structs.now place first owner.now (list_of_types (types_of types.now)) names.now parts.now) }
-{
-    add_parts(
-        constraints,
-        structs,
-        place,
-        first,
-        owner,
-        types,
-        names,
-        parts,
-    )
-}
-
 /// Adds the constraints of the packed or unpacked struct with the number `place`, whose type arguments are the type
 /// variables from `first` on.
 pub fn add_struct<'a>(
@@ -191,15 +144,17 @@ pub fn add_struct<'a>(
 ) -> Result<(), NoMemory>
     ensures { OnOk result (seen_all constraints.new.items ≡ seen_all constraints.old.items ++ struct_constraints structs.now place first named.now.owner (list_of_types named.now.types) named.now.fields parts.now) }
 {
-    let names = named.fields.as_slice();
-    add_listed(
+    let owner = &named.owner;
+    let arity = struct_arity(structs, owner);
+    add_arguments(constraints, structs, first, arity, &named.types.items)?;
+    add_named(
         constraints,
         structs,
-        place,
         first,
-        &named.owner,
-        &named.types.items,
-        names,
+        owner,
+        named.fields.as_slice(),
         parts,
-    )
+    )?;
+    let form = TypeForm::Applied(owner, first, arity);
+    add(constraints, &[Constraint::Has(place, form)])
 }

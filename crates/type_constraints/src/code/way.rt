@@ -1,12 +1,11 @@
 //! The constraints of lvalues that are assigned or borrowed mutably.
 
-ghost use Rattle.std.specs.Prelude.{◌≡◌, ◌++◌, ◌+◌, ◌<◌, ◌∷◌, [], ℕ, length, OnOk, Some, None, slice_get};
-ghost use Rattle.std.specs.Option.{option_copied};
+ghost use Rattle.std.specs.Prelude.{◌≡◌, ◌++◌, ◌+◌, ◌<◌, ◌∷◌, [], length, OnOk, Some, slice_get};
 ghost use Rattle.typing_rules.specs.CodeConstraints.{assigned_constraints, base_constraint, borrowed_constraints, owner_constraints};
-ghost use Rattle.type_constraints.specs.CodeSeen.{seen, seen_all};
+ghost use Rattle.type_constraints.specs.Seen.{seen, seen_all};
 ghost use Rattle.type_constraints.specs.Ways.{otherwise, is_field_of};
 
-use crate::code::constraint::{Constraint, add};
+use crate::constraint::{Constraint, add};
 use base::memory::NoMemory;
 use program::arena::Node;
 use program::code::{Body, CodeBinary, CodeLeaf, CodeMany, CodeUnary, LocalUse};

@@ -8,14 +8,13 @@ ghost use Rattle.typing_rules.specs.ProperTypes.{is_proper_single};
 ghost use Rattle.typing_rules.specs.Settings.{local_place};
 ghost use Rattle.program.specs.CodeNodes.{CodeNode};
 ghost use Rattle.type_constraints.specs.Bodies.{AreTablesOf};
-ghost use Rattle.type_constraints.specs.CodeSeen.{seen, seen_all};
+ghost use Rattle.type_constraints.specs.Seen.{seen, seen_all};
 ghost use Rattle.type_constraints.specs.CodeSettings.{setting_of};
 
 use crate::code::body::{LoopTables, node_constraints};
-use crate::code::constraint::{Constraint, TypeForm, add};
-use crate::code::leaf::add_unless;
 use crate::code::setting::{CodeSetting, local_place};
 use crate::code::written::{is_proper, is_proper_single};
+use crate::constraint::{Constraint, TypeForm, add, add_unless};
 use base::memory::NoMemory;
 use base::types::{TypeNode, TypeTerm};
 use program::arena::Node;

@@ -1,43 +1,24 @@
 //! The constraints of the type arguments of a spec expression.
 
 ghost use Rattle.std.specs.Prelude.{◌≡◌, ◌==◌, ◌++◌, ◌∷◌, [], length, OnOk, if◌then◌else◌};
-ghost use Rattle.typing_rules.specs.CodeConstraints.{each_of, has, places_from};
+ghost use Rattle.typing_rules.specs.CodeConstraints.{has};
 ghost use Rattle.typing_rules.specs.Constraint as D;
 ghost use Rattle.typing_rules.specs.ProperTypes.{is_proper_value};
 ghost use Rattle.typing_rules.specs.SpecConstraints.{has_spec_arguments, read_there, spec_argument_constraints};
-ghost use Rattle.typing_rules.specs.declared.sort.Sort.TheVariants.{Value};
-ghost use Rattle.type_constraints.specs.SpecSeen.{seen_all};
+ghost use Rattle.type_constraints.specs.Seen.{seen_all};
 ghost use Rattle.type_constraints.specs.SpecSettings.{owner_types, setting_of};
 
+use crate::code::arguments::add_values;
 use crate::code::written::is_proper_value;
-use crate::spec::constraint::{SpecConstraint, SpecForm, add};
+use crate::constraint::{Constraint, TypeForm, add};
 use crate::spec::names::read_there;
 use crate::spec::setting::SpecSetting;
 use base::memory::NoMemory;
 use base::types::TypeTerm;
-use typing_rules::sort::Sort;
-
-/// Adds the constraints that so many type variables, from `first` on, are neither references nor tuples.
-fn add_values<'a>(
-    constraints: &mut Vec<SpecConstraint<'a>>,
-    first: usize,
-    count: usize,
-) -> Result<(), NoMemory>
-    ensures { OnOk result (seen_all constraints.new.items ≡ seen_all constraints.old.items ++ each_of Value (places_from first count)) }
-{
-    let mut at = first;
-    let mut left = count;
-    while left > 0 {
-        add(constraints, &[SpecConstraint::IsOf(Sort::Value, at)])?;
-        at = at.checked_add(1).ok_or(NoMemory)?;
-        left -= 1;
-    }
-    Ok(())
-}
 
 /// Adds the constraint of a written type argument.
 fn add_written<'a>(
-    constraints: &mut Vec<SpecConstraint<'a>>,
+    constraints: &mut Vec<Constraint<'a>>,
     setting: SpecSetting<'a>,
     place: usize,
     of: &'a TypeTerm,
@@ -45,16 +26,16 @@ fn add_written<'a>(
     ensures { OnOk result (seen_all constraints.new.items ≡ seen_all constraints.old.items ++ (if is_proper_value setting.entry.program.now.structs of.now then has place (read_there (owner_types setting.entry.names.owner) of.now) ∷ [] else D.Barred ∷ [])) }
 {
     if is_proper_value(&setting.program.structs, of) {
-        let form = SpecForm::Written(read_there(setting.names.owner, of));
-        add(constraints, &[SpecConstraint::Has(place, form)])
+        let form = TypeForm::Read(read_there(setting.names.owner, of));
+        add(constraints, &[Constraint::Has(place, form)])
     } else {
-        add(constraints, &[SpecConstraint::Barred])
+        add(constraints, &[Constraint::Barred])
     }
 }
 
 /// Adds the constraints of written type arguments, for the type variables from `first` on.
 fn add_all_written<'a>(
-    constraints: &mut Vec<SpecConstraint<'a>>,
+    constraints: &mut Vec<Constraint<'a>>,
     setting: SpecSetting<'a>,
     first: usize,
     types: &'a [TypeTerm],
@@ -71,7 +52,7 @@ fn add_all_written<'a>(
 
 /// Adds the constraints of written type arguments: either all are written, or none is.
 fn add_given<'a>(
-    constraints: &mut Vec<SpecConstraint<'a>>,
+    constraints: &mut Vec<Constraint<'a>>,
     setting: SpecSetting<'a>,
     first: usize,
     arity: usize,
@@ -84,13 +65,13 @@ fn add_given<'a>(
     } else if types.len() == arity {
         add_all_written(constraints, setting, first, types)
     } else {
-        add(constraints, &[SpecConstraint::Barred])
+        add(constraints, &[Constraint::Barred])
     }
 }
 
 /// Adds the constraints of the `arity` type arguments of an expression, which are the type variables from `first` on.
 pub fn add_arguments<'a>(
-    constraints: &mut Vec<SpecConstraint<'a>>,
+    constraints: &mut Vec<Constraint<'a>>,
     setting: SpecSetting<'a>,
     first: usize,
     arity: usize,

@@ -1,22 +1,19 @@
 //! The constraints of calls in specifications.
 
-ghost use Rattle.std.specs.Prelude.{◌≡◌, ◌++◌, ◌∷◌, [], OnOk, Some, map};
+ghost use Rattle.std.specs.Prelude.{◌≡◌, ◌++◌, OnOk, Some, map};
 ghost use Rattle.std.specs.Map.{lookup};
 ghost use Rattle.std.specs.Option.{option_map};
 ghost use Rattle.program.specs.Same.{same_function};
-ghost use Rattle.base.specs.TypeData.{list_of_types, types_of};
-ghost use Rattle.typing_rules.specs.Constraint as D;
+ghost use Rattle.base.specs.TypeData.{list_of_types};
 ghost use Rattle.typing_rules.specs.Instances.{spec_type};
-ghost use Rattle.typing_rules.specs.SpecConstraints.{builtin_signature, callee_constraints, spec_callee_signature, spec_given_constraints, spec_signature, spec_signature_constraints};
-ghost use Rattle.type_constraints.specs.CodeSeen.{builtin_type};
-ghost use Rattle.type_constraints.specs.SpecSeen.{seen_all};
+ghost use Rattle.typing_rules.specs.SpecConstraints.{callee_constraints, spec_callee_signature, spec_given_constraints, spec_signature, spec_signature_constraints};
+ghost use Rattle.type_constraints.specs.Seen.{builtin_type, seen_all};
+ghost use Rattle.type_constraints.specs.Signatures.{seen_signature};
 ghost use Rattle.type_constraints.specs.SpecSettings.{setting_of};
 
-use crate::code::constraint::{BuiltinType, PlainType};
+use crate::builtin::{BuiltinSignature, of_spec};
+use crate::constraint::{BuiltinType, Constraint, TypeForm, add, add_unless};
 use crate::spec::arguments::add_arguments;
-use crate::spec::constraint::{SpecConstraint, SpecForm, add};
-use crate::spec::leaf::add_unless;
-use crate::spec::places::builtin_arity;
 use crate::spec::setting::SpecSetting;
 use base::memory::NoMemory;
 use base::types::{FunctionId, TypeTerm};
@@ -24,16 +21,10 @@ use program::declaration::TypedName;
 use program::operator::SpecBuiltin;
 use program::spec::{SpecCall, SpecCallee};
 
-const BOOL: BuiltinType = BuiltinType::Plain(PlainType::Bool);
-
-const NUM: BuiltinType = BuiltinType::Plain(PlainType::Num);
-
-const ADDRESS: BuiltinType = BuiltinType::Plain(PlainType::Address);
-
 /// Adds the constraints of arguments: each has the type of its parameter, whose type parameters are so many type
 /// variables from `first` on.
 pub fn add_given<'a>(
-    constraints: &mut Vec<SpecConstraint<'a>>,
+    constraints: &mut Vec<Constraint<'a>>,
     first: usize,
     count: usize,
     parts: &[usize],
@@ -44,21 +35,21 @@ pub fn add_given<'a>(
     let mut left = parameters;
     for part in parts {
         let Some((parameter, more)) = left.split_first() else {
-            return add(constraints, &[SpecConstraint::Barred]);
+            return add(constraints, &[Constraint::Barred]);
         };
-        let form = SpecForm::Declared(&parameter.annotation, first, count);
-        add(constraints, &[SpecConstraint::Has(*part, form)])?;
+        let form = TypeForm::DeclaredRead(&parameter.annotation, first, count);
+        add(constraints, &[Constraint::Has(*part, form)])?;
         left = more;
     }
     match left.split_first() {
-        Some(_) => add(constraints, &[SpecConstraint::Barred]),
+        Some(_) => add(constraints, &[Constraint::Barred]),
         None => Ok(()),
     }
 }
 
 /// The same for builtin functions of specifications.
 fn add_given_builtin<'a>(
-    constraints: &mut Vec<SpecConstraint<'a>>,
+    constraints: &mut Vec<Constraint<'a>>,
     first: usize,
     count: usize,
     parts: &[usize],
@@ -69,21 +60,21 @@ fn add_given_builtin<'a>(
     let mut left = parameters;
     for part in parts {
         let Some((parameter, more)) = left.split_first() else {
-            return add(constraints, &[SpecConstraint::Barred]);
+            return add(constraints, &[Constraint::Barred]);
         };
-        let form = SpecForm::Builtin(*parameter, first, count);
-        add(constraints, &[SpecConstraint::Has(*part, form)])?;
+        let form = TypeForm::Builtin(*parameter, first, count);
+        add(constraints, &[Constraint::Has(*part, form)])?;
         left = more;
     }
     match left.split_first() {
-        Some(_) => add(constraints, &[SpecConstraint::Barred]),
+        Some(_) => add(constraints, &[Constraint::Barred]),
         None => Ok(()),
     }
 }
 
 /// Adds the constraints of a call of a spec function.
 fn add_function<'a>(
-    constraints: &mut Vec<SpecConstraint<'a>>,
+    constraints: &mut Vec<Constraint<'a>>,
     setting: SpecSetting<'a>,
     place: usize,
     first: usize,
@@ -94,7 +85,7 @@ fn add_function<'a>(
     ensures { OnOk result (seen_all constraints.new.items ≡ seen_all constraints.old.items ++ spec_signature_constraints (setting_of setting.entry) place first (option_map spec_signature (lookup (same_function id.now) setting.entry.program.now.spec_functions)) types.now parts.now) }
 {
     let Some(found) = setting.program.spec_functions.get(id) else {
-        return add(constraints, &[SpecConstraint::Barred]);
+        return add(constraints, &[Constraint::Barred]);
     };
     let count = found.type_parameters.as_slice().len();
     add_arguments(constraints, setting, first, count, types)?;
@@ -105,79 +96,32 @@ fn add_function<'a>(
         parts,
         found.parameters.as_slice(),
     )?;
-    let form = SpecForm::Declared(&found.result, first, count);
-    add(constraints, &[SpecConstraint::Has(place, form)])
-}
-
-/// Adds the constraints of parameters and a result, over so many type parameters.
-fn add_parts<'a>(
-    constraints: &mut Vec<SpecConstraint<'a>>,
-    place: usize,
-    first: usize,
-    count: usize,
-    parts: &[usize],
-    parameters: &[BuiltinType],
-    returned: BuiltinType,
-) -> Result<(), NoMemory>
-    ensures { OnOk result (seen_all constraints.new.items ≡ seen_all constraints.old.items ++ (spec_given_constraints first count parts.now (map builtin_type parameters.now) ++ D.Has place (D.Declared (builtin_type returned) first count) ∷ [])) }
-{
-    add_given_builtin(constraints, first, count, parts, parameters)?;
-    let form = SpecForm::Builtin(returned, first, count);
-    add(constraints, &[SpecConstraint::Has(place, form)])
-}
-
-/// Adds the constraints of the parameters and the result of a builtin function, after those of the type arguments.
-fn add_builtin_parts<'a>(
-    constraints: &mut Vec<SpecConstraint<'a>>,
-    place: usize,
-    first: usize,
-    builtin: SpecBuiltin,
-    parts: &[usize],
-) -> Result<(), NoMemory>
-    ensures { OnOk result (seen_all constraints.new.items ≡ seen_all constraints.old.items ++ (spec_given_constraints first (builtin_signature builtin).arity parts.now (builtin_signature builtin).parameters ++ D.Has place (D.Declared (builtin_signature builtin).result first (builtin_signature builtin).arity) ∷ [])) }
-{
-    let item = BuiltinType::Item;
-    let vector = BuiltinType::Vector;
-    match builtin {
-        SpecBuiltin::Old => add_parts(constraints, place, first, 1, parts, &[item], item),
-        SpecBuiltin::Length => add_parts(constraints, place, first, 1, parts, &[vector], NUM),
-        SpecBuiltin::InRange => add_parts(
-            constraints,
-            place,
-            first,
-            1,
-            parts,
-            &[vector, NUM],
-            BOOL,
-        ),
-        SpecBuiltin::Exists => add_parts(constraints, place, first, 1, parts, &[ADDRESS], BOOL),
-        SpecBuiltin::Global => add_parts(constraints, place, first, 1, parts, &[ADDRESS], item),
-        SpecBuiltin::AddressOf => {
-            let signer = BuiltinType::Signer;
-            add_parts(constraints, place, first, 0, parts, &[signer], ADDRESS)
-        }
-    }
+    let form = TypeForm::DeclaredRead(&found.result, first, count);
+    add(constraints, &[Constraint::Has(place, form)])
 }
 
 /// Adds the constraints of a call of a builtin function.
 fn add_builtin<'a>(
-    constraints: &mut Vec<SpecConstraint<'a>>,
+    constraints: &mut Vec<Constraint<'a>>,
     setting: SpecSetting<'a>,
     place: usize,
     first: usize,
-    builtin: SpecBuiltin,
+    signature: BuiltinSignature,
     types: &'a [TypeTerm],
     parts: &[usize],
 ) -> Result<(), NoMemory>
-    ensures { OnOk result (seen_all constraints.new.items ≡ seen_all constraints.old.items ++ spec_signature_constraints (setting_of setting.entry) place first (Some (builtin_signature builtin)) types.now parts.now) }
+    ensures { OnOk result (seen_all constraints.new.items ≡ seen_all constraints.old.items ++ spec_signature_constraints (setting_of setting.entry) place first (Some (seen_signature signature)) types.now parts.now) }
 {
-    add_arguments(constraints, setting, first, builtin_arity(builtin), types)?;
-    add_builtin_parts(constraints, place, first, builtin, parts)
+    let count = signature.arity;
+    add_arguments(constraints, setting, first, count, types)?;
+    add_given_builtin(constraints, first, count, parts, signature.parameters)?;
+    let form = TypeForm::Builtin(signature.returned, first, count);
+    add(constraints, &[Constraint::Has(place, form)])
 }
 
 /// Adds the constraint that `old` occurs only in clauses that speak of two states.
 fn add_callee<'a>(
-    constraints: &mut Vec<SpecConstraint<'a>>,
+    constraints: &mut Vec<Constraint<'a>>,
     may_be_old: bool,
     callee: &SpecCallee,
 ) -> Result<(), NoMemory>
@@ -191,7 +135,7 @@ fn add_callee<'a>(
 
 /// Adds the constraints of a call of this callee, with written type arguments or none.
 fn add_signature<'a>(
-    constraints: &mut Vec<SpecConstraint<'a>>,
+    constraints: &mut Vec<Constraint<'a>>,
     setting: SpecSetting<'a>,
     place: usize,
     first: usize,
@@ -206,29 +150,16 @@ fn add_signature<'a>(
             add_function(constraints, setting, place, first, id, types, parts)
         }
         SpecCallee::Builtin(builtin) => {
-            add_builtin(constraints, setting, place, first, *builtin, types, parts)
+            let signature = of_spec(*builtin);
+            add_builtin(constraints, setting, place, first, signature, types, parts)
         }
     }
-}
-
-fn add_listed<'a>(
-    constraints: &mut Vec<SpecConstraint<'a>>,
-    setting: SpecSetting<'a>,
-    place: usize,
-    first: usize,
-    callee: &'a SpecCallee,
-    types: &'a [TypeTerm],
-    parts: &[usize],
-) -> Result<(), NoMemory>
-    ensures { OnOk result (seen_all constraints.new.items ≡ seen_all constraints.old.items ++ spec_signature_constraints (setting_of setting.entry) place first (spec_callee_signature setting.entry.program.now callee.now) (list_of_types (types_of types.now)) parts.now) }
-{
-    add_signature(constraints, setting, place, first, callee, types, parts)
 }
 
 /// Adds the constraints of the call with the number `place`, whose type arguments are the type variables from `first`
 /// on.
 pub fn add_call<'a>(
-    constraints: &mut Vec<SpecConstraint<'a>>,
+    constraints: &mut Vec<Constraint<'a>>,
     setting: SpecSetting<'a>,
     place: usize,
     first: usize,
@@ -238,7 +169,7 @@ pub fn add_call<'a>(
     ensures { OnOk result (seen_all constraints.new.items ≡ seen_all constraints.old.items ++ (callee_constraints setting.entry.allowed.old call.now.callee ++ spec_signature_constraints (setting_of setting.entry) place first (spec_callee_signature setting.entry.program.now call.now.callee) (list_of_types call.now.types) parts.now)) }
 {
     add_callee(constraints, setting.allowed.old, &call.callee)?;
-    add_listed(
+    add_signature(
         constraints,
         setting,
         place,

@@ -2,13 +2,10 @@
 
 ghost use Rattle.std.specs.Prelude.{◌≡◌, ◌++◌, ◌∷◌, [], OnOk};
 ghost use Rattle.typing_rules.specs.CodeConstraints.{has};
-ghost use Rattle.type_constraints.specs.CodeSeen.{plain_type};
+ghost use Rattle.type_constraints.specs.Seen.{plain_type, seen_all};
 ghost use Rattle.typing_rules.specs.SpecConstraints.{common_constraints, spec_binary_constraints, spec_operator_constraints, spec_unary_constraints};
-ghost use Rattle.type_constraints.specs.SpecSeen.{seen_all};
 
-use crate::code::constraint::PlainType;
-use crate::spec::constraint::{SpecConstraint, add};
-use crate::spec::leaf::has;
+use crate::constraint::{Constraint, PlainType, add, has};
 use base::memory::NoMemory;
 use program::operator::{BinaryOperator, SpecOperator};
 use program::spec::{SpecBinary, SpecUnary};
@@ -16,7 +13,7 @@ use typing_rules::sort::{Sort, Wrap};
 
 /// Adds the constraints of an expression with one part.
 pub fn add_unary<'a>(
-    constraints: &mut Vec<SpecConstraint<'a>>,
+    constraints: &mut Vec<Constraint<'a>>,
     place: usize,
     form: &'a SpecUnary,
     part: usize,
@@ -28,13 +25,13 @@ pub fn add_unary<'a>(
             constraints,
             &[has(part, PlainType::Bool), has(place, PlainType::Bool)],
         ),
-        SpecUnary::Field(name) => add(constraints, &[SpecConstraint::FieldOf(place, part, name)]),
+        SpecUnary::Field(name) => add(constraints, &[Constraint::FieldOf(place, part, name)]),
     }
 }
 
 /// Adds the constraints that both parts and the whole have these types.
 fn add_three<'a>(
-    constraints: &mut Vec<SpecConstraint<'a>>,
+    constraints: &mut Vec<Constraint<'a>>,
     place: usize,
     left: usize,
     right: usize,
@@ -51,7 +48,7 @@ fn add_three<'a>(
 
 /// Adds the constraints of an operator that Move has too.
 fn add_common<'a>(
-    constraints: &mut Vec<SpecConstraint<'a>>,
+    constraints: &mut Vec<Constraint<'a>>,
     place: usize,
     operator: BinaryOperator,
     left: usize,
@@ -81,8 +78,8 @@ fn add_common<'a>(
             )
         }
         BinaryOperator::Equal | BinaryOperator::NotEqual => {
-            let value = SpecConstraint::IsOf(Sort::Value, left);
-            let same = SpecConstraint::Same(left, right);
+            let value = Constraint::IsOf(Sort::Value, left);
+            let same = Constraint::Same(left, right);
             add(constraints, &[value, same, has(place, PlainType::Bool)])
         }
         BinaryOperator::And | BinaryOperator::Or => {
@@ -99,7 +96,7 @@ fn add_common<'a>(
 }
 
 fn add_operator<'a>(
-    constraints: &mut Vec<SpecConstraint<'a>>,
+    constraints: &mut Vec<Constraint<'a>>,
     place: usize,
     operator: SpecOperator,
     left: usize,
@@ -134,7 +131,7 @@ fn add_operator<'a>(
 
 /// Adds the constraints of an expression with two parts.
 pub fn add_binary<'a>(
-    constraints: &mut Vec<SpecConstraint<'a>>,
+    constraints: &mut Vec<Constraint<'a>>,
     place: usize,
     form: &SpecBinary,
     left: usize,
@@ -145,8 +142,8 @@ pub fn add_binary<'a>(
     match form {
         SpecBinary::Operator(operator) => add_operator(constraints, place, *operator, left, right),
         SpecBinary::Index => {
-            let value = SpecConstraint::IsOf(Sort::Value, place);
-            let made = SpecConstraint::MadeOf(left, Wrap::Vector, place);
+            let value = Constraint::IsOf(Sort::Value, place);
+            let made = Constraint::MadeOf(left, Wrap::Vector, place);
             add(constraints, &[value, made, has(right, PlainType::Num)])
         }
     }

@@ -3,15 +3,13 @@
 ghost use Rattle.std.specs.Prelude.{◌≡◌, ◌++◌, OnOk};
 ghost use Rattle.std.specs.Map.{lookup};
 ghost use Rattle.std.specs.Option.{option_map};
-ghost use Rattle.typing_rules.specs.CodeConstraints.{barred_unless, has, same_constant};
+ghost use Rattle.typing_rules.specs.CodeConstraints.{same_constant};
 ghost use Rattle.typing_rules.specs.Instances.{spec_type};
 ghost use Rattle.typing_rules.specs.SpecConstraints.{name_constraints, named_type, spec_leaf_constraints};
-ghost use Rattle.type_constraints.specs.CodeSeen.{plain_type};
-ghost use Rattle.type_constraints.specs.SpecSeen.{read_data, seen, seen_all};
+ghost use Rattle.type_constraints.specs.Seen.{read_data, seen_all};
 ghost use Rattle.type_constraints.specs.SpecSettings.{setting_of};
 
-use crate::code::constraint::PlainType;
-use crate::spec::constraint::{ReadType, SpecConstraint, SpecForm, add};
+use crate::constraint::{Constraint, PlainType, ReadType, TypeForm, add, has};
 use crate::spec::names::named_type;
 use crate::spec::places::variable_place;
 use crate::spec::setting::SpecSetting;
@@ -19,27 +17,9 @@ use base::memory::NoMemory;
 use program::program::ConstantId;
 use program::spec::{SpecLeaf, SpecName};
 
-/// A type variable has a type of the language itself.
-pub fn has<'a>(place: usize, plain: PlainType) -> SpecConstraint<'a>
-    ensures { seen result ≡ has place (plain_type plain) }
-{
-    SpecConstraint::Has(place, SpecForm::Plain(plain))
-}
-
-/// Adds no constraint if `fine` is true, and otherwise one that no typing meets.
-pub fn add_unless<'a>(constraints: &mut Vec<SpecConstraint<'a>>, fine: bool) -> Result<(), NoMemory>
-    ensures { OnOk result (seen_all constraints.new.items ≡ seen_all constraints.old.items ++ barred_unless fine) }
-{
-    if fine {
-        Ok(())
-    } else {
-        add(constraints, &[SpecConstraint::Barred])
-    }
-}
-
 /// Adds the constraint that a type variable has this type, or, where there is none, one that no typing meets.
 fn add_named<'a>(
-    constraints: &mut Vec<SpecConstraint<'a>>,
+    constraints: &mut Vec<Constraint<'a>>,
     place: usize,
     of: Option<ReadType<'a>>,
 ) -> Result<(), NoMemory>
@@ -48,14 +28,14 @@ fn add_named<'a>(
     match of {
         Some(found) => add(
             constraints,
-            &[SpecConstraint::Has(place, SpecForm::Written(found))],
+            &[Constraint::Has(place, TypeForm::Read(found))],
         ),
-        None => add(constraints, &[SpecConstraint::Barred]),
+        None => add(constraints, &[Constraint::Barred]),
     }
 }
 
 fn add_name<'a>(
-    constraints: &mut Vec<SpecConstraint<'a>>,
+    constraints: &mut Vec<Constraint<'a>>,
     setting: SpecSetting<'a>,
     place: usize,
     name: SpecName,
@@ -65,7 +45,7 @@ fn add_name<'a>(
     match name {
         SpecName::Quantified(variable) => {
             let at = variable_place(setting, variable)?;
-            add(constraints, &[SpecConstraint::Same(place, at)])
+            add(constraints, &[Constraint::Same(place, at)])
         }
         _ => add_named(
             constraints,
@@ -76,7 +56,7 @@ fn add_name<'a>(
 }
 
 fn add_constant<'a>(
-    constraints: &mut Vec<SpecConstraint<'a>>,
+    constraints: &mut Vec<Constraint<'a>>,
     setting: SpecSetting<'a>,
     place: usize,
     id: &ConstantId,
@@ -85,16 +65,16 @@ fn add_constant<'a>(
 {
     match setting.program.constants.get(id) {
         Some(found) => {
-            let form = SpecForm::Written(ReadType::Read(&found.annotation));
-            add(constraints, &[SpecConstraint::Has(place, form)])
+            let form = TypeForm::Read(ReadType::Read(&found.annotation));
+            add(constraints, &[Constraint::Has(place, form)])
         }
-        None => add(constraints, &[SpecConstraint::Barred]),
+        None => add(constraints, &[Constraint::Barred]),
     }
 }
 
 /// Adds the constraints of the leaf with the number `place`.
 pub fn add_leaf<'a>(
-    constraints: &mut Vec<SpecConstraint<'a>>,
+    constraints: &mut Vec<Constraint<'a>>,
     setting: SpecSetting<'a>,
     place: usize,
     leaf: &'a SpecLeaf,

@@ -6,10 +6,10 @@ ghost use Rattle.base.specs.TypeData.{TupleType, types_of};
 ghost use Rattle.typing_rules.specs.Clauses as C;
 ghost use Rattle.typing_rules.specs.Instances.{spec_type};
 ghost use Rattle.typing_rules.specs.SpecConstraints.{read_there};
-ghost use Rattle.type_constraints.specs.SpecSeen.{read_data};
+ghost use Rattle.type_constraints.specs.Seen.{read_data};
 ghost use Rattle.type_constraints.specs.SpecSettings.{allowed_of, let_of, lets_of, names_of, owner_names, owner_types};
 
-use crate::spec::constraint::ReadType;
+use crate::constraint::ReadType;
 use crate::spec::setting::{Allowed, LetType, Names, Owner};
 use base::types::{TypeNode, TypeTerm};
 use program::declaration::TypedName;

@@ -1,19 +1,14 @@
 //! The constraints of spec expressions, node by node.
 
-ghost use Rattle.std.specs.Prelude.{◌≡◌, ◌++◌, ◌∷◌, [], ◌<◌, IfOk, OnOk, Some, length, slice_get};
-ghost use Rattle.base.specs.TypeData.{BoolType};
-ghost use Rattle.typing_rules.specs.CodeConstraints.{has};
-ghost use Rattle.typing_rules.specs.Constraint as D;
+ghost use Rattle.std.specs.Prelude.{◌≡◌, ◌++◌, ◌<◌, IfOk, OnOk, Some, length, slice_get};
 ghost use Rattle.typing_rules.specs.SpecConstraints.{SpecNode as TheNode, spec_constraints_at, spec_many_constraints};
-ghost use Rattle.typing_rules.specs.declared.sort.Sort.TheVariants.{Value};
-ghost use Rattle.type_constraints.specs.SpecSeen.{seen_all};
+ghost use Rattle.type_constraints.specs.Seen.{seen_all};
 ghost use Rattle.type_constraints.specs.SpecSettings.{setting_of};
 
-use crate::code::constraint::PlainType;
+use crate::constraint::{Constraint, PlainType, add, has};
 use crate::spec::call::add_call;
-use crate::spec::constraint::{SpecConstraint, add};
 use crate::spec::inner::{add_binary, add_unary};
-use crate::spec::leaf::{add_leaf, has};
+use crate::spec::leaf::add_leaf;
 use crate::spec::quantified::add_quantified;
 use crate::spec::setting::{SpecNode, SpecSetting};
 use crate::spec::structs::add_pack;
@@ -24,7 +19,7 @@ use std::alloc::Global;
 use typing_rules::sort::Sort;
 
 fn add_many<'a>(
-    constraints: &mut Vec<SpecConstraint<'a>>,
+    constraints: &mut Vec<Constraint<'a>>,
     setting: SpecSetting<'a>,
     place: usize,
     first: usize,
@@ -42,29 +37,8 @@ fn add_many<'a>(
     }
 }
 
-/// Adds the constraints of a choice between two values.
-fn add_choice<'a>(
-    constraints: &mut Vec<SpecConstraint<'a>>,
-    place: usize,
-    condition: usize,
-    left: usize,
-    right: usize,
-) -> Result<(), NoMemory>
-    ensures { OnOk result (seen_all constraints.new.items ≡ seen_all constraints.old.items ++ has condition BoolType ∷ D.IsOf Value place ∷ D.Same left place ∷ D.Same right place ∷ []) }
-{
-    add(
-        constraints,
-        &[
-            has(condition, PlainType::Bool),
-            SpecConstraint::IsOf(Sort::Value, place),
-            SpecConstraint::Same(left, place),
-            SpecConstraint::Same(right, place),
-        ],
-    )
-}
-
 fn add_node<'a>(
-    constraints: &mut Vec<SpecConstraint<'a>>,
+    constraints: &mut Vec<Constraint<'a>>,
     setting: SpecSetting<'a>,
     place: usize,
     first: usize,
@@ -76,9 +50,15 @@ fn add_node<'a>(
         Node::Leaf(leaf) => add_leaf(constraints, setting, place, leaf),
         Node::Unary(form, part) => add_unary(constraints, place, form, *part),
         Node::Binary(form, left, right) => add_binary(constraints, place, form, *left, *right),
-        Node::If(condition, left, right) => {
-            add_choice(constraints, place, *condition, *left, *right)
-        }
+        Node::If(condition, left, right) => add(
+            constraints,
+            &[
+                has(*condition, PlainType::Bool),
+                Constraint::IsOf(Sort::Value, place),
+                Constraint::Same(*left, place),
+                Constraint::Same(*right, place),
+            ],
+        ),
         Node::Many(form, parts) => {
             add_many(constraints, setting, place, first, form, parts.as_slice())
         }
@@ -92,7 +72,7 @@ pub fn node_constraints<'a>(
     setting: SpecSetting<'a>,
     place: usize,
     first: usize,
-) -> Result<Vec<SpecConstraint<'a>>, NoMemory>
+) -> Result<Vec<Constraint<'a>>, NoMemory>
     requires { place < length setting.body.now.nodes }
     ensures { IfOk result (λ constraints. (node : TheNode) → slice_get setting.entry.body.now.nodes place ≡ Some node → seen_all constraints.items ≡ spec_constraints_at (setting_of setting.entry) place first node) }
 {

@@ -5,40 +5,22 @@ ghost use Rattle.std.specs.Map.{lookup};
 ghost use Rattle.std.specs.Option.{option_map};
 ghost use Rattle.program.specs.Same.{same_function};
 ghost use Rattle.typing_rules.specs.Settings.{arity_of};
-ghost use Rattle.typing_rules.specs.SpecConstraints.{binds_in, builtin_signature, spec_callee_signature, spec_form_arity, spec_node_arity, spec_place_count, spec_signature, variable_place};
+ghost use Rattle.typing_rules.specs.SpecConstraints.{binds_in, spec_callee_signature, spec_form_arity, spec_node_arity, spec_place_count, spec_signature, variable_place};
 ghost use Rattle.type_constraints.specs.SpecTold.{ArePlaces};
 ghost use Rattle.type_constraints.specs.SpecSettings.{setting_of, variables_of};
 
+use crate::builtin::of_spec;
 use crate::code::signature::struct_arity;
+use crate::numbers::sum;
 use crate::spec::setting::{SpecNode, SpecSetting};
 use base::memory::NoMemory;
 use base::types::FunctionId;
 use program::arena::Node;
 use program::declaration::SpecFunction;
-use program::operator::SpecBuiltin;
 use program::program::Program;
 use program::spec::{Bind, SpecBody, SpecCallee, SpecMany};
 use program::table::Table;
 use std::alloc::Global;
-
-fn sum(left: usize, right: usize) -> Result<usize, NoMemory>
-    ensures { IfOk result (λ total. total ≡ left + right) }
-{
-    match left.checked_add(right) {
-        Some(total) => Ok(total),
-        None => Err(NoMemory),
-    }
-}
-
-/// The number of type parameters of a builtin function of specifications.
-pub fn builtin_arity(builtin: SpecBuiltin) -> usize
-    ensures { result ≡ (builtin_signature builtin).arity }
-{
-    match builtin {
-        SpecBuiltin::AddressOf => 0,
-        _ => 1,
-    }
-}
 
 fn function_arity(functions: &Table<FunctionId, SpecFunction>, id: &FunctionId) -> usize
     ensures { result ≡ arity_of (option_map spec_signature (lookup (same_function id.now) functions.now)) }
@@ -55,7 +37,7 @@ fn callee_arity(program: &Program, callee: &SpecCallee) -> usize
 {
     match callee {
         SpecCallee::Function(id) => function_arity(&program.spec_functions, id),
-        SpecCallee::Builtin(builtin) => builtin_arity(*builtin),
+        SpecCallee::Builtin(builtin) => of_spec(*builtin).arity,
     }
 }
 

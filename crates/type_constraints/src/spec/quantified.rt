@@ -5,13 +5,11 @@ ghost use Rattle.std.specs.List.{flat_map};
 ghost use Rattle.base.specs.TypeData.{BoolType};
 ghost use Rattle.typing_rules.specs.CodeConstraints.{has};
 ghost use Rattle.typing_rules.specs.SpecConstraints.{bind_constraints, declared_variables, domain_ranges, quantified_parts, range_count};
-ghost use Rattle.type_constraints.specs.SpecSeen.{seen, seen_all};
+ghost use Rattle.type_constraints.specs.Seen.{seen, seen_all};
 ghost use Rattle.type_constraints.specs.SpecSettings.{setting_of};
 
-use crate::code::constraint::PlainType;
 use crate::code::written::is_proper_single;
-use crate::spec::constraint::{SpecConstraint, SpecForm, add};
-use crate::spec::leaf::has;
+use crate::constraint::{Constraint, PlainType, TypeForm, add, has};
 use crate::spec::names::read_there;
 use crate::spec::places::{binds_in, variable_place};
 use crate::spec::setting::SpecSetting;
@@ -45,11 +43,11 @@ fn range_count(binds: &[Bind]) -> Result<usize, NoMemory>
 
 /// The constraint of a part: of a range, which has no value, while `ranges` are left; else of a term of a trigger,
 /// which has one.
-fn part_constraint<'a>(ranges: usize, part: usize) -> SpecConstraint<'a>
+fn part_constraint<'a>(ranges: usize, part: usize) -> Constraint<'a>
     ensures { (more : ℕ) (rest : List ℕ) → quantified_parts ranges (part ∷ more ∷ rest) ≡ seen result ∷ quantified_parts (ranges - 1) (more ∷ rest) }
 {
     if ranges == 0 {
-        SpecConstraint::IsOf(Sort::Value, part)
+        Constraint::IsOf(Sort::Value, part)
     } else {
         has(part, PlainType::Nothing)
     }
@@ -57,14 +55,14 @@ fn part_constraint<'a>(ranges: usize, part: usize) -> SpecConstraint<'a>
 
 /// Adds the constraints of the parts of a quantifier: so many ranges, then terms of triggers, and last its body.
 fn add_parts<'a>(
-    constraints: &mut Vec<SpecConstraint<'a>>,
+    constraints: &mut Vec<Constraint<'a>>,
     ranges: usize,
     parts: &[usize],
 ) -> Result<(), NoMemory>
     ensures { OnOk result (seen_all constraints.new.items ≡ seen_all constraints.old.items ++ quantified_parts ranges parts.now) }
 {
     let Some((first, rest)) = parts.split_first() else {
-        return add(constraints, &[SpecConstraint::Barred]);
+        return add(constraints, &[Constraint::Barred]);
     };
     let mut part = *first;
     let mut left = ranges;
@@ -78,7 +76,7 @@ fn add_parts<'a>(
 
 /// Adds the constraints of the quantifier with the number `place`.
 pub fn add_quantified<'a>(
-    constraints: &mut Vec<SpecConstraint<'a>>,
+    constraints: &mut Vec<Constraint<'a>>,
     place: usize,
     binds: &[Bind],
     parts: &[usize],
@@ -92,7 +90,7 @@ pub fn add_quantified<'a>(
 
 /// Adds the constraint of a variable: it ranges over the values of its type; one with `in` over whole numbers.
 fn add_variable<'a>(
-    constraints: &mut Vec<SpecConstraint<'a>>,
+    constraints: &mut Vec<Constraint<'a>>,
     setting: SpecSetting<'a>,
     bind: &'a Bind,
 ) -> Result<(), NoMemory>
@@ -102,10 +100,10 @@ fn add_variable<'a>(
     match &bind.domain {
         Domain::Of(of) => {
             if is_proper_single(&setting.program.structs, of) {
-                let form = SpecForm::Written(read_there(setting.names.owner, of));
-                add(constraints, &[SpecConstraint::Has(place, form)])
+                let form = TypeForm::Read(read_there(setting.names.owner, of));
+                add(constraints, &[Constraint::Has(place, form)])
             } else {
-                add(constraints, &[SpecConstraint::Barred])
+                add(constraints, &[Constraint::Barred])
             }
         }
         Domain::In => add(constraints, &[has(place, PlainType::Num)]),
@@ -113,7 +111,7 @@ fn add_variable<'a>(
 }
 
 fn add_variables<'a>(
-    constraints: &mut Vec<SpecConstraint<'a>>,
+    constraints: &mut Vec<Constraint<'a>>,
     setting: SpecSetting<'a>,
     binds: &'a [Bind],
 ) -> Result<(), NoMemory>
@@ -130,7 +128,7 @@ fn add_variables<'a>(
 pub fn declared_variables<'a>(
     alloc: Global,
     setting: SpecSetting<'a>,
-) -> Result<Vec<SpecConstraint<'a>>, NoMemory>
+) -> Result<Vec<Constraint<'a>>, NoMemory>
     ensures { IfOk result (λ constraints. seen_all constraints.items ≡ declared_variables (setting_of setting.entry)) }
 {
     let mut constraints = Vec::new(alloc);

@@ -2,58 +2,28 @@
 
 ghost use Rattle.std.specs.Prelude.{◌≡◌, ◌++◌, ◌∷◌, [], OnOk, Some};
 ghost use Rattle.std.specs.Map.{lookup};
-ghost use Rattle.std.specs.List.{list_all};
 ghost use Rattle.std.specs.Option.{option_copied};
-ghost use Rattle.base.specs.Names.{is_one_of};
-ghost use Rattle.base.specs.TypeData.{list_of_types, types_of};
+ghost use Rattle.base.specs.TypeData.{list_of_types};
 ghost use Rattle.program.specs.Same.{same_struct};
-ghost use Rattle.typing_rules.specs.CodeConstraints.{names_each_once};
 ghost use Rattle.typing_rules.specs.SpecConstraints.{spec_field_constraint, spec_field_constraints, spec_named_constraints};
 ghost use Rattle.type_constraints.specs.Packs.{pack_constraints};
-ghost use Rattle.type_constraints.specs.SpecSeen.{seen_all};
+ghost use Rattle.type_constraints.specs.Seen.{seen_all};
 ghost use Rattle.type_constraints.specs.SpecSettings.{setting_of};
 
 use crate::code::signature::struct_arity;
-use crate::code::structs::field_named;
+use crate::code::structs::{field_named, names_each_once};
+use crate::constraint::{Constraint, TypeForm, add, add_unless};
 use crate::spec::arguments::add_arguments;
-use crate::spec::constraint::{SpecConstraint, SpecForm, add};
-use crate::spec::leaf::add_unless;
 use crate::spec::setting::SpecSetting;
 use base::memory::NoMemory;
 use base::name::Name;
 use base::types::{StructId, TypeTerm};
 use program::code::NamedFields;
-use program::declaration::{Struct, TypedName};
-
-/// Decides whether the word is one of these names.
-fn is_named(names: &[Name], word: &Name) -> bool
-    ensures { result ≡ is_one_of names.now word.now }
-{
-    names.iter().any(|name| word == name)
-}
-
-/// Decides whether each field is named.
-fn are_named(fields: &[TypedName], names: &[Name]) -> bool
-    ensures { result ≡ list_all (λ f. is_one_of names.now f.name) fields.now }
-{
-    for field in fields {
-        if !is_named(names, &field.name) {
-            return false;
-        }
-    }
-    true
-}
-
-/// Decides whether each field is named exactly once.
-fn names_each_once(fields: &[TypedName], names: &[Name]) -> bool
-    ensures { result ≡ names_each_once fields.now names.now }
-{
-    names.len() == fields.len() && are_named(fields, names)
-}
+use program::declaration::Struct;
 
 /// Adds the constraint of a part for a field, whose type parameters are so many type variables from `first` on.
 fn add_field<'a>(
-    constraints: &mut Vec<SpecConstraint<'a>>,
+    constraints: &mut Vec<Constraint<'a>>,
     first: usize,
     count: usize,
     part: usize,
@@ -64,15 +34,15 @@ fn add_field<'a>(
     match found {
         Some(of) => add(
             constraints,
-            &[SpecConstraint::Has(part, SpecForm::Declared(of, first, count))],
+            &[Constraint::Has(part, TypeForm::DeclaredRead(of, first, count))],
         ),
-        None => add(constraints, &[SpecConstraint::Barred]),
+        None => add(constraints, &[Constraint::Barred]),
     }
 }
 
 /// Adds the constraints of the parts: each has the type of the field whose name is given with it.
 fn add_fields<'a>(
-    constraints: &mut Vec<SpecConstraint<'a>>,
+    constraints: &mut Vec<Constraint<'a>>,
     first: usize,
     owner: &'a Struct,
     names: &[Name],
@@ -84,7 +54,7 @@ fn add_fields<'a>(
     let mut left = parts;
     for name in names {
         let Some((part, more)) = left.split_first() else {
-            return add(constraints, &[SpecConstraint::Barred]);
+            return add(constraints, &[Constraint::Barred]);
         };
         let found = field_named(owner.fields.as_slice(), name);
         add_field(constraints, first, count, *part, found)?;
@@ -95,7 +65,7 @@ fn add_fields<'a>(
 
 /// Adds the constraints of a packed struct that is declared.
 fn add_found<'a>(
-    constraints: &mut Vec<SpecConstraint<'a>>,
+    constraints: &mut Vec<Constraint<'a>>,
     first: usize,
     owner: &'a Struct,
     names: &[Name],
@@ -109,7 +79,7 @@ fn add_found<'a>(
 
 /// Adds the constraints of the named fields.
 fn add_named<'a>(
-    constraints: &mut Vec<SpecConstraint<'a>>,
+    constraints: &mut Vec<Constraint<'a>>,
     setting: SpecSetting<'a>,
     first: usize,
     owner: &StructId,
@@ -120,47 +90,14 @@ fn add_named<'a>(
 {
     match setting.program.structs.get(owner) {
         Some(found) => add_found(constraints, first, found, names, parts),
-        None => add(constraints, &[SpecConstraint::Barred]),
+        None => add(constraints, &[Constraint::Barred]),
     }
-}
-
-fn add_parts<'a>(
-    constraints: &mut Vec<SpecConstraint<'a>>,
-    setting: SpecSetting<'a>,
-    place: usize,
-    first: usize,
-    named: &'a NamedFields,
-    types: &'a [TypeTerm],
-    parts: &[usize],
-) -> Result<(), NoMemory>
-    ensures { OnOk result (seen_all constraints.new.items ≡ seen_all constraints.old.items ++ pack_constraints (setting_of setting.entry) place first named.now.owner types.now named.now.fields parts.now) }
-{
-    let arity = struct_arity(&setting.program.structs, &named.owner);
-    add_arguments(constraints, setting, first, arity, types)?;
-    let names = named.fields.as_slice();
-    add_named(constraints, setting, first, &named.owner, names, parts)?;
-    let form = SpecForm::Applied(&named.owner, first, arity);
-    add(constraints, &[SpecConstraint::Has(place, form)])
-}
-
-fn add_listed<'a>(
-    constraints: &mut Vec<SpecConstraint<'a>>,
-    setting: SpecSetting<'a>,
-    place: usize,
-    first: usize,
-    named: &'a NamedFields,
-    types: &'a [TypeTerm],
-    parts: &[usize],
-) -> Result<(), NoMemory>
-    ensures { OnOk result (seen_all constraints.new.items ≡ seen_all constraints.old.items ++ pack_constraints (setting_of setting.entry) place first named.now.owner (list_of_types (types_of types.now)) named.now.fields parts.now) }
-{
-    add_parts(constraints, setting, place, first, named, types, parts)
 }
 
 /// Adds the constraints of the packed struct with the number `place`, whose type arguments are the type variables from
 /// `first` on. After `NoMemory` some of them may be there.
 pub fn add_pack<'a>(
-    constraints: &mut Vec<SpecConstraint<'a>>,
+    constraints: &mut Vec<Constraint<'a>>,
     setting: SpecSetting<'a>,
     place: usize,
     first: usize,
@@ -169,13 +106,10 @@ pub fn add_pack<'a>(
 ) -> Result<(), NoMemory>
     ensures { OnOk result (seen_all constraints.new.items ≡ seen_all constraints.old.items ++ pack_constraints (setting_of setting.entry) place first named.now.owner (list_of_types named.now.types) named.now.fields parts.now) }
 {
-    add_listed(
-        constraints,
-        setting,
-        place,
-        first,
-        named,
-        &named.types.items,
-        parts,
-    )
+    let arity = struct_arity(&setting.program.structs, &named.owner);
+    add_arguments(constraints, setting, first, arity, &named.types.items)?;
+    let names = named.fields.as_slice();
+    add_named(constraints, setting, first, &named.owner, names, parts)?;
+    let form = TypeForm::Applied(&named.owner, first, arity);
+    add(constraints, &[Constraint::Has(place, form)])
 }

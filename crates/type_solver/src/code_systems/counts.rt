@@ -7,6 +7,7 @@ ghost use Rattle.type_constraints.specs.CodeSettings.{setting_of};
 use base::memory::NoMemory;
 use type_constraints::code::arity::node_arity;
 use type_constraints::code::setting::{CodeSetting, local_place};
+use type_constraints::numbers::sum;
 
 /// The type variable of the first type argument of the first node. `NoMemory` where its number exceeds `usize`, as only
 /// with more nodes than any memory holds.
@@ -14,15 +15,6 @@ pub fn first_of_all<'a>(setting: CodeSetting<'a>) -> Result<usize, NoMemory>
     ensures { IfOk result (λ first. first ≡ first_argument (setting_of setting.entry) 0) }
 {
     local_place(setting, setting.locals)
-}
-
-fn sum(first: usize, count: usize) -> Result<usize, NoMemory>
-    ensures { IfOk result (λ sum. sum ≡ first + count) }
-{
-    match first.checked_add(count) {
-        Some(sum) => Ok(sum),
-        None => Err(NoMemory),
-    }
 }
 
 /// The type variable of the first type argument of the next node.

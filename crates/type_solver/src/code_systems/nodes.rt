@@ -1,13 +1,13 @@
 //! The nodes of code, read one after another.
 
-ghost use Rattle.std.specs.Prelude.{◌≡◌, ◌≤◌, ◌++◌, List, IfOk, length, take};
+ghost use Rattle.std.specs.Prelude.{◌≤◌, ◌++◌, List, IfOk, length, take};
 ghost use Rattle.typing_rules.specs.Constraint as D;
 ghost use Rattle.typing_rules.specs.CodeConstraints.{constraints_from};
 ghost use Rattle.typing_rules.specs.CodeSystems.{values_from};
 ghost use Rattle.unification.specs.Slots.{Fits};
 ghost use Rattle.type_constraints.specs.CodeSettings.{setting_of};
 ghost use Rattle.type_solver.specs.Plain.{ArePlain};
-ghost use Rattle.type_solver.specs.Equations.{code_reading};
+ghost use Rattle.type_solver.specs.Equations.{reading_of};
 ghost use Rattle.type_solver.specs.Walking.{IsWalk};
 
 use crate::code_systems::counts::{first_of_all, next_first};
@@ -34,7 +34,7 @@ pub fn read_nodes<'a>(
     requires fits { Fits slots.old.items }
     requires places { places ≤ length slots.old.items }
     requires count { count ≤ length setting.body.now.nodes }
-    ensures walk { IfOk result (λ after. (steps : List (List D.Constraint)) → IsWalk (code_reading tables.entry.structs.now) places steps slots.old.items before → IsWalk (code_reading tables.entry.structs.now) places (steps ++ take count (constraints_from (setting_of setting.entry) 0 setting.entry.body.now.nodes)) slots.new.items after) }
+    ensures walk { IfOk result (λ after. (steps : List (List D.Constraint)) → IsWalk (reading_of tables.entry) places steps slots.old.items before → IsWalk (reading_of tables.entry) places (steps ++ take count (constraints_from (setting_of setting.entry) 0 setting.entry.body.now.nodes)) slots.new.items after) }
     ensures fits { IfOk result (λ after. Fits slots.new.items) }
     ensures places { IfOk result (λ after. places ≤ length slots.new.items) }
 {
@@ -61,7 +61,7 @@ pub fn read_values<'a>(
     requires types { ArePlain tables.types.now }
     requires fits { Fits slots.old.items }
     requires places { places ≤ length slots.old.items }
-    ensures walk { IfOk result (λ after. (steps : List (List D.Constraint)) → IsWalk (code_reading tables.entry.structs.now) places steps slots.old.items before → IsWalk (code_reading tables.entry.structs.now) places (steps ++ values_from (setting_of setting.entry) 0 setting.entry.body.now.nodes) slots.new.items after) }
+    ensures walk { IfOk result (λ after. (steps : List (List D.Constraint)) → IsWalk (reading_of tables.entry) places steps slots.old.items before → IsWalk (reading_of tables.entry) places (steps ++ values_from (setting_of setting.entry) 0 setting.entry.body.now.nodes) slots.new.items after) }
     ensures fits { IfOk result (λ after. Fits slots.new.items) }
     ensures places { IfOk result (λ after. places ≤ length slots.new.items) }
 {

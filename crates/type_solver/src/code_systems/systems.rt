@@ -5,10 +5,10 @@ ghost use Rattle.typing_rules.specs.CodeConstraints.{constraints_from};
 ghost use Rattle.typing_rules.specs.CodeSystems.{constant_setting, constant_system, function_setting, function_system, values_from};
 ghost use Rattle.typing_rules.specs.FieldBars.{first_steps};
 ghost use Rattle.unification.specs.Slots.{Typing, Fits, Meets};
-ghost use Rattle.type_constraints.specs.CodeSeen.{seen, seen_all};
+ghost use Rattle.type_constraints.specs.Seen.{seen, seen_all};
 ghost use Rattle.type_constraints.specs.CodeSettings.{setting_of};
 ghost use Rattle.type_solver.specs.Plain.{ArePlain};
-ghost use Rattle.type_solver.specs.Equations.{code_reading};
+ghost use Rattle.type_solver.specs.Equations.{reading_of};
 ghost use Rattle.type_solver.specs.Walking.{IsWalk};
 ghost use Rattle.type_solver.specs.Walked.{Walked};
 
@@ -21,10 +21,9 @@ use base::memory::NoMemory;
 use program::declaration::{Constant, Function};
 use program::program::Program;
 use std::alloc::Global;
-use type_constraints::code::constraint::Constraint;
-use type_constraints::code::leaf::add_unless;
 use type_constraints::code::setting::CodeSetting;
 use type_constraints::code::whole::{is_constant_type, returned, signature_constraints, valued};
+use type_constraints::constraint::{Constraint, add_unless};
 use unification::type_variables::open::open_slots;
 use unification::type_variables::slots::Slot;
 
@@ -73,7 +72,7 @@ fn read_body<'a>(
     requires types { ArePlain tables.types.now }
     requires fits { Fits slots.old.items }
     requires start { (t : Typing) → Meets slots.old.items t }
-    ensures { IfOk result (IsWalk (code_reading tables.entry.structs.now) (length slots.old.items) (take (suc count) (seen_all declared.now ∷ (constraints_from (setting_of setting.entry) 0 setting.entry.body.now.nodes ++ (seen whole.entry ∷ []) ∷ []))) slots.new.items) }
+    ensures { IfOk result (IsWalk (reading_of tables.entry) (length slots.old.items) (take (suc count) (seen_all declared.now ∷ (constraints_from (setting_of setting.entry) 0 setting.entry.body.now.nodes ++ (seen whole.entry ∷ []) ∷ []))) slots.new.items) }
 {
     let places = slots.len();
     let begun = start(slots);
@@ -98,7 +97,7 @@ fn read_value<'a>(
     requires types { ArePlain tables.types.now }
     requires fits { Fits slots.old.items }
     requires start { (t : Typing) → Meets slots.old.items t }
-    ensures { IfOk result (IsWalk (code_reading tables.entry.structs.now) (length slots.old.items) (seen_all declared.now ∷ (values_from (setting_of setting.entry) 0 setting.entry.body.now.nodes ++ (seen whole.entry ∷ []) ∷ [])) slots.new.items) }
+    ensures { IfOk result (IsWalk (reading_of tables.entry) (length slots.old.items) (seen_all declared.now ∷ (values_from (setting_of setting.entry) 0 setting.entry.body.now.nodes ++ (seen whole.entry ∷ []) ∷ [])) slots.new.items) }
 {
     let places = slots.len();
     let begun = start(slots);
@@ -123,6 +122,7 @@ pub fn read_first_nodes<'a>(
     let tables = Tables {
         structs: &program.structs,
         types,
+        is_spec: false,
     };
     let setting = function_setting(program, function);
     let declared = signature_constraints(alloc, setting, function)?;
@@ -169,6 +169,7 @@ pub fn read_constant<'a>(
     let tables = Tables {
         structs: &program.structs,
         types,
+        is_spec: false,
     };
     let setting = constant_setting(program, constant);
     let mut declared = Vec::new(alloc);

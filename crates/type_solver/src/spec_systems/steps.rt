@@ -1,7 +1,7 @@
 //! The steps of a system of specifications.
 
-ghost use Rattle.std.specs.Prelude.{◌≡◌, ◌≤◌, ◌∷◌, ◌++◌, [], List, IfOk, length};
-ghost use Rattle.type_constraints.specs.SpecSeen.{seen_all};
+ghost use Rattle.std.specs.Prelude.{◌≤◌, ◌∷◌, ◌++◌, [], List, IfOk, length};
+ghost use Rattle.type_constraints.specs.Seen.{seen_all};
 ghost use Rattle.type_constraints.specs.SpecSettings.{setting_of};
 ghost use Rattle.type_constraints.specs.SpecTold.{ArePlaces};
 ghost use Rattle.typing_rules.specs.Constraint as D;
@@ -9,14 +9,13 @@ ghost use Rattle.typing_rules.specs.SpecConstraints.{declared_variables, spec_co
 ghost use Rattle.unification.specs.Slots.{Typing, Fits, Meets};
 ghost use Rattle.type_solver.specs.Plain.{ArePlain};
 ghost use Rattle.type_solver.specs.Walking.{IsWalk};
-ghost use Rattle.type_solver.specs.Lowered.{spec_reading};
+ghost use Rattle.type_solver.specs.Equations.{reading_of};
 
 use crate::emit::Tables;
-use crate::spec::walk::read_spec_step;
-use crate::walk::{Progress, start};
+use crate::walk::{Progress, read_step, start};
 use base::memory::NoMemory;
 use std::alloc::Global;
-use type_constraints::spec::constraint::SpecConstraint;
+use type_constraints::constraint::Constraint;
 use type_constraints::spec::node::node_constraints;
 use type_constraints::spec::quantified::declared_variables;
 use type_constraints::spec::setting::SpecSetting;
@@ -37,14 +36,14 @@ fn read_nodes<'a>(
     requires places { places ≤ length slots.old.items }
     requires len { length setting.body.now.nodes ≤ length firsts.now }
     requires firsts { ArePlaces (setting_of setting) firsts.now }
-    ensures walk { IfOk result (λ after. (steps : List (List D.Constraint)) → IsWalk (spec_reading tables.entry.structs.now) places steps slots.old.items before → IsWalk (spec_reading tables.entry.structs.now) places (steps ++ spec_constraints_from (setting_of setting.entry) 0 setting.entry.body.now.nodes) slots.new.items after) }
+    ensures walk { IfOk result (λ after. (steps : List (List D.Constraint)) → IsWalk (reading_of tables.entry) places steps slots.old.items before → IsWalk (reading_of tables.entry) places (steps ++ spec_constraints_from (setting_of setting.entry) 0 setting.entry.body.now.nodes) slots.new.items after) }
     ensures fits { IfOk result (λ after. Fits slots.new.items) }
     ensures places { IfOk result (λ after. places ≤ length slots.new.items) }
 {
     let mut progress = before;
     for place in 0..setting.body.len() {
         let constraints = node_constraints(alloc, setting, place, firsts[place])?;
-        progress = read_spec_step(alloc, tables, slots, progress, places, &constraints)?;
+        progress = read_step(alloc, tables, slots, progress, places, &constraints)?;
     }
     Ok(progress)
 }
@@ -56,19 +55,19 @@ pub fn read_steps<'a>(
     slots: &mut Vec<Slot<'a>>,
     setting: SpecSetting<'a>,
     firsts: &[usize],
-    whole: &[SpecConstraint<'a>],
+    whole: &[Constraint<'a>],
 ) -> Result<Progress, NoMemory>
     requires types { ArePlain tables.types.now }
     requires fits { Fits slots.old.items }
     requires start { (t : Typing) → Meets slots.old.items t }
     requires len { length setting.body.now.nodes ≤ length firsts.now }
     requires firsts { ArePlaces (setting_of setting) firsts.now }
-    ensures { IfOk result (IsWalk (spec_reading tables.entry.structs.now) (length slots.old.items) (declared_variables (setting_of setting.entry) ∷ (spec_constraints_from (setting_of setting.entry) 0 setting.entry.body.now.nodes ++ seen_all whole.now ∷ [])) slots.new.items) }
+    ensures { IfOk result (IsWalk (reading_of tables.entry) (length slots.old.items) (declared_variables (setting_of setting.entry) ∷ (spec_constraints_from (setting_of setting.entry) 0 setting.entry.body.now.nodes ++ seen_all whole.now ∷ [])) slots.new.items) }
 {
     let places = slots.len();
     let begun = start(slots);
     let declared = declared_variables(alloc, setting)?;
-    let first = read_spec_step(alloc, tables, slots, begun, places, &declared)?;
+    let first = read_step(alloc, tables, slots, begun, places, &declared)?;
     let nodes = read_nodes(alloc, tables, slots, setting, firsts, places, first)?;
-    read_spec_step(alloc, tables, slots, nodes, places, whole)
+    read_step(alloc, tables, slots, nodes, places, whole)
 }

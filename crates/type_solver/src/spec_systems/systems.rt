@@ -1,6 +1,6 @@
 //! Reads clauses and spec functions as systems of constraints.
 
-ghost use Rattle.std.specs.Prelude.{◌≡◌, ◌+◌, IfOk};
+ghost use Rattle.std.specs.Prelude.{◌≡◌, IfOk};
 ghost use Rattle.type_constraints.specs.SpecSettings.{names_of, owner_types};
 ghost use Rattle.type_constraints.specs.Blocks.{block_of};
 ghost use Rattle.typing_rules.specs.Clauses.{clause_system, spec_function_system};
@@ -19,6 +19,7 @@ use std::alloc::Global;
 use type_constraints::clauses::block::Block;
 use type_constraints::clauses::clause::{clause_setting, form_arguments, whole_constraints};
 use type_constraints::clauses::function::{function_setting, returned};
+use type_constraints::numbers::sum;
 use type_constraints::spec::places::argument_places;
 use type_constraints::spec::setting::Names;
 use unification::type_variables::open::open_slots;
@@ -30,15 +31,6 @@ pub struct Walk<'a> {
     pub places: usize,
     pub slots: Vec<Slot<'a>>,
     pub progress: Progress,
-}
-
-fn sum(first: usize, count: usize) -> Result<usize, NoMemory>
-    ensures { IfOk result (λ sum. sum ≡ first + count) }
-{
-    match first.checked_add(count) {
-        Some(sum) => Ok(sum),
-        None => Err(NoMemory),
-    }
 }
 
 /// Reads a spec function.
@@ -55,6 +47,7 @@ pub fn read_function<'a>(
     let tables = Tables {
         structs: &program.structs,
         types,
+        is_spec: true,
     };
     let setting = function_setting(program, function)?;
     let whole = returned(function);
@@ -86,6 +79,7 @@ pub fn read_clause<'a>(
     let tables = Tables {
         structs: &program.structs,
         types,
+        is_spec: true,
     };
     let setting = clause_setting(program, names, block, clause)?;
     let firsts = argument_places(alloc, setting)?;

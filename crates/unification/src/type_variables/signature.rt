@@ -48,7 +48,12 @@ fn have_parameter(types: &[TypeTerm], count: usize) -> bool
 }
 
 /// A type parameter as a term: for one of the first so many, its type variable.
-fn parameter<'a>(of: &'a TypeTerm, number: u32, parameters: Parameters, places: usize) -> Term<'a>
+pub fn parameter<'a>(
+    of: &'a TypeTerm,
+    number: u32,
+    parameters: Parameters,
+    places: usize,
+) -> Term<'a>
     requires { parameters.base + parameters.count ≤ places }
     ensures within { TermWithin places result }
     ensures is { (t : Typing) → of.now ≡ ParamType number → value t result ≡ arguments t parameters.base parameters.count number }

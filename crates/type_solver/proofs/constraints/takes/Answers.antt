@@ -1,5 +1,5 @@
 use Rattle.std.proofs.lemmas.Result.{IfOk-weaker}
-use Rattle.type_constraints.specs.CodeSeen.{seen_form}
+use Rattle.type_constraints.specs.Seen.{seen_form}
 use Rattle.unification.proofs.Growing.{grown}
 use Rattle.unification.proofs.Instancing.{term_more}
 use Rattle.unification.proofs.Results.{if_ok_two}

@@ -1,4 +1,4 @@
-use Rattle.type_constraints.specs.CodeSeen.{seen_form}
+use Rattle.type_constraints.specs.Seen.{seen_form}
 use Rattle.type_solver.proofs.Emitting.{has_equal}
 use Rattle.type_solver.proofs.emit.has.Goals as goal
 

@@ -1,6 +1,6 @@
 use Rattle.std.proofs.Common.{sym, subst, ◌∙◌, length}
-use Rattle.type_constraints.specs.CodeSeen.{builtin_type, plain_type}
-use Rattle.type_constraints.specs.declared.code.constraint.BuiltinType.{BuiltinType}
+use Rattle.type_constraints.specs.Seen.{builtin_type, plain_type}
+use Rattle.type_constraints.specs.declared.constraint.BuiltinType.{BuiltinType}
 use Rattle.typing_rules.specs.Constraint.{arguments}
 use Rattle.typing_rules.specs.Instances.{instance}
 use Rattle.type_solver.specs.Equations.{TermSaid}

@@ -1,5 +1,5 @@
 use Rattle.std.proofs.Common.{drop}
-use Rattle.type_constraints.specs.CodeSeen.{seen_all}
+use Rattle.type_constraints.specs.Seen.{seen_all}
 use Rattle.type_solver.specs.Within.{AllWithin}
 use Rattle.type_solver.proofs.within.all_within.Given as goal
 

@@ -1,7 +1,7 @@
 use Rattle.std.proofs.Common.{◌≡◌, ◌++◌, take}
 use Rattle.std.specs.List.{flat_map}
 use Rattle.typing_rules.specs.Clauses.{modified}
-use Rattle.type_constraints.specs.SpecSeen.{seen_all}
+use Rattle.type_constraints.specs.Seen.{seen_all}
 use Rattle.type_constraints.proofs.clauses.clause.add_all_modified.Given as goal
 
 abbrev pub invariant-loop-root : goal.invariant-loop-root

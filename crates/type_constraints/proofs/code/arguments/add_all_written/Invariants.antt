@@ -1,6 +1,6 @@
 use Rattle.std.proofs.Common.{◌≡◌, ◌++◌, drop}
 use Rattle.typing_rules.specs.CodeConstraints.{has_arguments}
-use Rattle.type_constraints.specs.CodeSeen.{seen_all}
+use Rattle.type_constraints.specs.Seen.{seen_all}
 use Rattle.type_constraints.proofs.code.arguments.add_all_written.Given as goal
 
 abbrev pub invariant-loop-of : goal.invariant-loop-of

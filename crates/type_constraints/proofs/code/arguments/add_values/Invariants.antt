@@ -1,7 +1,7 @@
 use Rattle.std.proofs.Common.{◌≡◌, ◌++◌}
 use Rattle.typing_rules.specs.CodeConstraints.{each_of, places_from}
 use Rattle.typing_rules.specs.declared.sort.Sort.TheVariants.{Value}
-use Rattle.type_constraints.specs.CodeSeen.{seen_all}
+use Rattle.type_constraints.specs.Seen.{seen_all}
 use Rattle.type_constraints.proofs.code.arguments.add_values.Given as goal
 
 abbrev pub invariant-loop-left : goal.invariant-loop-left

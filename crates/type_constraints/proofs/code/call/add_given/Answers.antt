@@ -3,7 +3,7 @@ use Rattle.std.proofs.lemmas.Result.{on_ok_weaker}
 use Rattle.program.specs.declared.declaration.TypedName.{TypedName}
 use Rattle.typing_rules.specs.Constraint.{Constraint}
 use Rattle.typing_rules.specs.CodeConstraints.{given_constraints}
-use Rattle.type_constraints.specs.CodeSeen.{seen_all}
+use Rattle.type_constraints.specs.Seen.{seen_all}
 use Rattle.type_constraints.proofs.CodeGiven.{no_parameter, none_of}
 use Rattle.type_constraints.proofs.code.call.add_given.Goals as goal
 

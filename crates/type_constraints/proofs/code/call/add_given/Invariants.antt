@@ -1,6 +1,6 @@
 use Rattle.std.proofs.Common.{◌≡◌, ◌++◌, drop, map}
 use Rattle.typing_rules.specs.CodeConstraints.{given_constraints}
-use Rattle.type_constraints.specs.CodeSeen.{seen_all}
+use Rattle.type_constraints.specs.Seen.{seen_all}
 use Rattle.type_constraints.proofs.code.call.add_given.Given as goal
 
 abbrev pub invariant-loop-part : goal.invariant-loop-part

@@ -1,6 +1,6 @@
 use Rattle.std.proofs.Common.{◌≡◌, ◌++◌, take, map}
 use Rattle.typing_rules.specs.Constraint as D
-use Rattle.type_constraints.specs.CodeSeen.{seen_all}
+use Rattle.type_constraints.specs.Seen.{seen_all}
 use Rattle.type_constraints.proofs.code.many.add_items.Given as goal
 
 abbrev pub invariant-loop-part : goal.invariant-loop-part

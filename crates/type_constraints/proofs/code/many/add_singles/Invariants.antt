@@ -1,7 +1,7 @@
 use Rattle.std.proofs.Common.{◌≡◌, ◌++◌, take}
 use Rattle.typing_rules.specs.CodeConstraints.{each_of}
 use Rattle.typing_rules.specs.declared.sort.Sort.TheVariants.{Single}
-use Rattle.type_constraints.specs.CodeSeen.{seen_all}
+use Rattle.type_constraints.specs.Seen.{seen_all}
 use Rattle.type_constraints.proofs.code.many.add_singles.Given as goal
 
 abbrev pub invariant-loop-part : goal.invariant-loop-part

@@ -1,6 +1,6 @@
 use Rattle.std.proofs.Common.{◌≡◌, ◌++◌, drop}
 use Rattle.typing_rules.specs.CodeConstraints.{field_constraints}
-use Rattle.type_constraints.specs.CodeSeen.{seen_all}
+use Rattle.type_constraints.specs.Seen.{seen_all}
 use Rattle.type_constraints.proofs.code.structs.add_fields.Given as goal
 
 abbrev pub invariant-loop-name : goal.invariant-loop-name

@@ -1,6 +1,6 @@
 use Rattle.std.proofs.Common.{◌≡◌, ◌++◌, drop}
 use Rattle.typing_rules.specs.CodeSystems.{parameter_constraints}
-use Rattle.type_constraints.specs.CodeSeen.{seen_all}
+use Rattle.type_constraints.specs.Seen.{seen_all}
 use Rattle.type_constraints.specs.CodeSettings.{setting_of}
 use Rattle.type_constraints.proofs.code.whole.add_parameters.Given as goal
 

@@ -1,6 +1,6 @@
 use Rattle.std.proofs.Common.{◌≡◌, ◌++◌, drop}
 use Rattle.typing_rules.specs.SpecConstraints.{has_spec_arguments}
-use Rattle.type_constraints.specs.SpecSeen.{seen_all}
+use Rattle.type_constraints.specs.Seen.{seen_all}
 use Rattle.type_constraints.specs.SpecSettings.{setting_of}
 use Rattle.type_constraints.proofs.spec.arguments.add_all_written.Given as goal
 

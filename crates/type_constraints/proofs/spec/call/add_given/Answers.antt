@@ -4,7 +4,7 @@ use Rattle.program.specs.declared.declaration.TypedName.{TypedName}
 use Rattle.typing_rules.specs.Constraint.{Constraint}
 use Rattle.typing_rules.specs.Instances.{spec_type}
 use Rattle.typing_rules.specs.SpecConstraints.{spec_given_constraints}
-use Rattle.type_constraints.specs.SpecSeen.{seen_all}
+use Rattle.type_constraints.specs.Seen.{seen_all}
 use Rattle.type_constraints.proofs.CodeGiven.{none_of}
 use Rattle.type_constraints.proofs.SpecGiven.{no_parameter}
 use Rattle.type_constraints.proofs.spec.call.add_given.Goals as goal

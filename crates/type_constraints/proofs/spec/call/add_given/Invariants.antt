@@ -1,7 +1,7 @@
 use Rattle.std.proofs.Common.{◌≡◌, ◌++◌, drop, map}
 use Rattle.typing_rules.specs.Instances.{spec_type}
 use Rattle.typing_rules.specs.SpecConstraints.{spec_given_constraints}
-use Rattle.type_constraints.specs.SpecSeen.{seen_all}
+use Rattle.type_constraints.specs.Seen.{seen_all}
 use Rattle.type_constraints.proofs.spec.call.add_given.Given as goal
 
 abbrev pub invariant-loop-part : goal.invariant-loop-part

@@ -1,10 +1,9 @@
 use Rattle.std.proofs.Common.{◌≡◌, ◌++◌, List, [], map, drop, sym, ◌∙◌, ap}
 use Rattle.std.proofs.lemmas.Result.{on_ok_weaker}
-use Rattle.type_constraints.specs.declared.code.constraint.BuiltinType.{BuiltinType}
+use Rattle.type_constraints.specs.declared.constraint.BuiltinType.{BuiltinType}
 use Rattle.typing_rules.specs.Constraint.{Constraint}
 use Rattle.typing_rules.specs.SpecConstraints.{spec_given_constraints}
-use Rattle.type_constraints.specs.CodeSeen.{builtin_type}
-use Rattle.type_constraints.specs.SpecSeen.{seen_all}
+use Rattle.type_constraints.specs.Seen.{builtin_type, seen_all}
 use Rattle.type_constraints.proofs.CodeGiven.{none_of}
 use Rattle.type_constraints.proofs.SpecGiven.{no_parameter}
 use Rattle.type_constraints.proofs.spec.call.add_given_builtin.Goals as goal

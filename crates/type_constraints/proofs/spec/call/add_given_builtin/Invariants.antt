@@ -1,7 +1,6 @@
 use Rattle.std.proofs.Common.{◌≡◌, ◌++◌, drop, map}
 use Rattle.typing_rules.specs.SpecConstraints.{spec_given_constraints}
-use Rattle.type_constraints.specs.CodeSeen.{builtin_type}
-use Rattle.type_constraints.specs.SpecSeen.{seen_all}
+use Rattle.type_constraints.specs.Seen.{builtin_type, seen_all}
 use Rattle.type_constraints.proofs.spec.call.add_given_builtin.Given as goal
 
 abbrev pub invariant-loop-part : goal.invariant-loop-part

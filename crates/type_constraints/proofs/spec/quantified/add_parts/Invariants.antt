@@ -1,6 +1,6 @@
 use Rattle.std.proofs.Common.{◌≡◌, ◌++◌, ◌∷◌, drop}
 use Rattle.typing_rules.specs.SpecConstraints.{quantified_parts}
-use Rattle.type_constraints.specs.SpecSeen.{seen_all}
+use Rattle.type_constraints.specs.Seen.{seen_all}
 use Rattle.type_constraints.proofs.spec.quantified.add_parts.Given as goal
 
 abbrev pub invariant-loop-next : goal.invariant-loop-next

@@ -1,7 +1,7 @@
 use Rattle.std.proofs.Common.{◌≡◌, ◌++◌, take}
 use Rattle.std.specs.List.{flat_map}
 use Rattle.typing_rules.specs.SpecConstraints.{bind_constraints}
-use Rattle.type_constraints.specs.SpecSeen.{seen_all}
+use Rattle.type_constraints.specs.Seen.{seen_all}
 use Rattle.type_constraints.specs.SpecSettings.{setting_of}
 use Rattle.type_constraints.proofs.spec.quantified.add_variables.Given as goal
 

@@ -1,13 +1,13 @@
 use Rattle.std.proofs.Common.{ap, ◌∙◌, arith}
-use Rattle.type_constraints.specs.CodeSeen.{seen_all}
+use Rattle.type_constraints.specs.Seen.{seen_all}
 use Rattle.type_constraints.specs.CodeSettings.{setting_of}
-use Rattle.type_solver.specs.Equations.{code_reading}
+use Rattle.type_solver.specs.Equations.{reading_of}
 use Rattle.type_solver.proofs.Steps.{goes_none, constraints_more, constraints_end}
 use Rattle.type_solver.proofs.code_systems.nodes.read_nodes.Goals as goal
 
 pub loop-place-init : goal.loop-place-init
 loop-place-init c = record {
-  walk = goes_none (code_reading c.args.tables.structs.now) c.args.places c.args.slots.now.items c.args.before;
+  walk = goes_none (reading_of c.args.tables) c.args.places c.args.slots.now.items c.args.before;
   fits = c.requires.fits;
   longer = c.requires.places;
   first = c.in_ok-first.ensures;
@@ -18,7 +18,7 @@ loop-place-preserved c =
     let count = c.requires.count in
     let lt = c.loop-place-test.true in
     record {
-      walk = constraints_more (code_reading c.args.tables.structs.now) c.args.places c.args.slots.now.items c.loop-place.slots.items c.read_step.new.slots.items c.args.before c.loop-place.progress c.in_ok-progress.progress (setting_of c.args.setting) c.loop-place.place c.loop-place.first (seen_all c.deref.result.now)
+      walk = constraints_more (reading_of c.args.tables) c.args.places c.args.slots.now.items c.loop-place.slots.items c.read_step.new.slots.items c.args.before c.loop-place.progress c.in_ok-progress.progress (setting_of c.args.setting) c.loop-place.place c.loop-place.first (seen_all c.deref.result.now)
           (omega (arith, count, lt)) c.loop-place.invariant.first c.loop-place.invariant.walk (λ node is. ap seen_all c.deref.ensures.value ∙ c.in_ok-constraints.ensures node is) c.in_ok-progress.ensures.walk;
       fits = c.in_ok-progress.ensures.fits;
       longer = c.in_ok-progress.ensures.places;
@@ -26,4 +26,4 @@ loop-place-preserved c =
     }
 
 pub returns-clause-walk : goal.returns-clause-walk
-returns-clause-walk c steps is = constraints_end (code_reading c.args.tables.structs.now) c.args.places c.loop-place.slots.items c.loop-place.progress (setting_of c.args.setting) c.loop-place.place c.args.count steps (omega arith) (c.loop-place.invariant.walk steps is)
+returns-clause-walk c steps is = constraints_end (reading_of c.args.tables) c.args.places c.loop-place.slots.items c.loop-place.progress (setting_of c.args.setting) c.loop-place.place c.args.count steps (omega arith) (c.loop-place.invariant.walk steps is)

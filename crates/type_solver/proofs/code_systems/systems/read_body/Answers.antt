@@ -1,16 +1,16 @@
 use Rattle.std.proofs.Common.{List, [], ◌∷◌, length, subst, arith}
 use Rattle.std.proofs.lemmas.Result.{IfOk-weaker}
-use Rattle.type_constraints.specs.CodeSeen.{seen, seen_all}
+use Rattle.type_constraints.specs.Seen.{seen, seen_all}
 use Rattle.type_constraints.specs.CodeSettings.{setting_of}
 use Rattle.unification.specs.declared.type_variables.slots.Slot.{Slot}
-use Rattle.type_solver.specs.Equations.{code_reading}
+use Rattle.type_solver.specs.Equations.{reading_of}
 use Rattle.type_solver.specs.Walking.{IsWalk}
 use Rattle.type_solver.proofs.CodeSystemsWhole.{body_part, body_whole}
 use Rattle.type_solver.proofs.code_systems.systems.read_body.Goals as goal
 
 pub returns-then-count-nodes : goal.returns-then-count-nodes
 returns-then-count-nodes c =
-    let w = code_reading c.args.tables.structs.now in
+    let w = reading_of c.args.tables in
     let begin : IsWalk w (length c.args.slots.now.items) [] c.args.slots.now.items c.start-begun.result = subst (λ (xs : List Slot). IsWalk w (length xs) [] xs c.start-begun.result) c.deref.ensures.value (c.start-begun.ensures w) in
     IfOk-weaker c.read_nodes.result _ _
     (λ after more. body_part w (length c.args.slots.now.items) c.len-places.result c.args.count c.args.slots.now.items c.read_step.new.slots.items c.read_nodes.new.slots.items c.start-begun.result c.in_ok-first.first after (setting_of c.args.setting) (seen_all c.args.declared.now) (seen c.args.whole ∷ [])
@@ -19,7 +19,7 @@ returns-then-count-nodes c =
 
 pub returns : goal.returns
 returns c =
-    let w = code_reading c.args.tables.structs.now in
+    let w = reading_of c.args.tables in
     let begin : IsWalk w (length c.args.slots.now.items) [] c.args.slots.now.items c.start-begun.result = subst (λ (xs : List Slot). IsWalk w (length xs) [] xs c.start-begun.result) c.deref.ensures.value (c.start-begun.ensures w) in
     IfOk-weaker c.read_step-2.result _ _
     (λ after end. body_whole w (length c.args.slots.now.items) c.len-places.result c.args.count c.len-nodes.result c.args.slots.now.items c.read_step.new.slots.items c.read_nodes-2.new.slots.items c.read_step-2.new.slots.items c.start-begun.result c.in_ok-first.first c.in_ok-last.last after (setting_of c.args.setting) (seen_all c.args.declared.now) (seen c.args.whole ∷ [])

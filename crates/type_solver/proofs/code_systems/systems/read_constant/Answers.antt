@@ -1,8 +1,8 @@
 use Rattle.std.proofs.Common.{◌≡◌, ◌∙◌, ◌++◌, List, [], ap, length, rules}
 use Rattle.typing_rules.specs.Settings.{place_count}
 use Rattle.typing_rules.specs.CodeConstraints.{barred_unless}
-use Rattle.type_constraints.specs.declared.code.constraint.Constraint.{Constraint}
-use Rattle.type_constraints.specs.CodeSeen.{seen, seen_all}
+use Rattle.type_constraints.specs.declared.constraint.Constraint.{Constraint}
+use Rattle.type_constraints.specs.Seen.{seen, seen_all}
 use Rattle.type_constraints.specs.CodeSettings.{setting_of}
 use Rattle.type_solver.proofs.CodeSystemsWhole.{constant_walked}
 use Rattle.type_solver.proofs.code_systems.systems.read_constant.Goals as goal

@@ -1,6 +1,6 @@
 use Rattle.std.proofs.Common.{◌∙◌, ap, length}
 use Rattle.typing_rules.specs.Settings.{place_count}
-use Rattle.type_constraints.specs.CodeSeen.{seen, seen_all}
+use Rattle.type_constraints.specs.Seen.{seen, seen_all}
 use Rattle.type_constraints.specs.CodeSettings.{setting_of}
 use Rattle.type_solver.proofs.CodeSystemsWhole.{function_walked}
 use Rattle.type_solver.proofs.code_systems.systems.read_first_nodes.Goals as goal

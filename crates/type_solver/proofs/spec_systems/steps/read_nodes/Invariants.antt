@@ -4,13 +4,13 @@ use Rattle.typing_rules.specs.SpecConstraints.{spec_constraints_from}
 use Rattle.unification.specs.Slots.{Fits}
 use Rattle.type_solver.specs.Walking.{IsWalk}
 use Rattle.type_constraints.specs.SpecSettings.{setting_of}
-use Rattle.type_solver.specs.Lowered.{spec_reading}
+use Rattle.type_solver.specs.Equations.{reading_of}
 use Rattle.type_solver.proofs.spec_systems.steps.read_nodes.Given as goal
 
 abbrev pub invariant-loop-place : goal.invariant-loop-place
 invariant-loop-place l = record {
-  walk : (steps : List (List Constraint)) → IsWalk (spec_reading l.tables.structs.now) l.places steps l.fn.slots.items l.fn.before →
-      IsWalk (spec_reading l.tables.structs.now) l.places (steps ++ take l.place (spec_constraints_from (setting_of l.setting) 0 l.setting.body.now.nodes)) l.slots.items l.progress;
+  walk : (steps : List (List Constraint)) → IsWalk (reading_of l.tables) l.places steps l.fn.slots.items l.fn.before →
+      IsWalk (reading_of l.tables) l.places (steps ++ take l.place (spec_constraints_from (setting_of l.setting) 0 l.setting.body.now.nodes)) l.slots.items l.progress;
   fits : Fits l.slots.items;
   longer : l.places ≤ length l.slots.items;
 }

@@ -1,7 +1,7 @@
 use Rattle.std.proofs.Common.{◌≡◌, ◌∙◌, length, ap}
 use Rattle.typing_rules.specs.SpecConstraints.{spec_place_count}
 use Rattle.type_constraints.specs.Blocks.{block_of}
-use Rattle.type_constraints.specs.SpecSeen.{seen_all}
+use Rattle.type_constraints.specs.Seen.{seen_all}
 use Rattle.type_constraints.specs.SpecSettings.{names_of, owner_types, setting_of}
 use Rattle.type_solver.proofs.Walks.{count_told}
 use Rattle.type_solver.proofs.SpecSystemsWhole.{clause_places, clause_walked}

@@ -1,6 +1,6 @@
 use Rattle.std.proofs.Common.{◌≡◌, ◌∙◌, length}
 use Rattle.typing_rules.specs.SpecConstraints.{spec_place_count}
-use Rattle.type_constraints.specs.SpecSeen.{seen}
+use Rattle.type_constraints.specs.Seen.{seen}
 use Rattle.type_constraints.specs.SpecSettings.{setting_of}
 use Rattle.type_solver.proofs.Walks.{count_told}
 use Rattle.type_solver.proofs.SpecSystemsWhole.{function_places, function_walked}

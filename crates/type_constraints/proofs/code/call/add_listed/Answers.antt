@@ -1,5 +1,0 @@
-use Rattle.base.specs.TypeData.{list_of_types-types_of}
-use Rattle.type_constraints.proofs.code.call.add_listed.Goals as goal
-
-pub returns : goal.returns
-returns c = rw (list_of_types-types_of c.args.types.now) c.add_callee.ensures

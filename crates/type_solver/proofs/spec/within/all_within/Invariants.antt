@@ -1,7 +1,0 @@
-use Rattle.std.proofs.Common.{drop}
-use Rattle.type_constraints.specs.SpecSeen.{seen_all}
-use Rattle.type_solver.specs.Within.{AllWithin}
-use Rattle.type_solver.proofs.spec.within.all_within.Given as goal
-
-abbrev pub invariant-loop-constraint : goal.invariant-loop-constraint
-invariant-loop-constraint l = AllWithin l.places (seen_all (drop l.constraint-index l.constraints)) → AllWithin l.places (seen_all l.constraints)
