@@ -29,9 +29,9 @@ use Rattle.typing_rules.specs.Settings.{first_argument}
 use Rattle.typing_rules.specs.Pools.{type_at, types}
 use Rattle.typing_rules.specs.declared.type_pool.PoolType.{PoolType}
 use Rattle.type_constraints.specs.Storage.{IsStorageNode}
-use Rattle.type_constraints.proofs.Places.{argument_within, one_type, place_type, storage_node_arity, storage_within}
+use Rattle.type_constraints.proofs.Variables.{argument_within, one_type, variable_type, storage_node_arity, storage_within}
 use Rattle.type_constraints.proofs.TypedNodesReading.{typed_read}
-use Rattle.ability_rules.specs.Missing.{AreLooked, Answers, CallLacks, DeclaredLacks, FormLacks, FunctionSet, IsMissing, IsSetOf, NodeLacks, StructSet, Tells, has_function, type_of_place}
+use Rattle.ability_rules.specs.Missing.{AreLooked, Answers, CallLacks, DeclaredLacks, FormLacks, FunctionSet, IsMissing, IsSetOf, NodeLacks, StructSet, Tells, has_function, type_of_variable}
 
 -- a type that is a struct which is missing
 record MissingStruct (listed : List StructId) (of : TypeData) : Type 0 where
@@ -55,12 +55,12 @@ missing_struct listed (TupleType ts) h = absurd h
 
 -- ---- node by node
 
-module _ (program : Program) (id : FunctionId) (f : Function) (pool : List PoolType) (places : List ℕ) where
+module _ (program : Program) (id : FunctionId) (f : Function) (pool : List PoolType) (variables : List ℕ) where
   abbrev first : ℕ → ℕ
   first n = first_argument (function_setting program f) n
 
   abbrev of : ℕ → TypeData
-  of p = type_of_place pool places p
+  of p = type_of_variable pool variables p
 
   -- the node with this number lacks a struct
   abbrev pub LacksAt : ℕ → CodeNode → Type 0
@@ -101,27 +101,27 @@ module _ (program : Program) (id : FunctionId) (f : Function) (pool : List PoolT
       no_truth : false ≡ true → ⊥
       no_truth t = cc
 
-module _ (program : Program) (id : FunctionId) (f : Function) (pool : List PoolType) (places : List ℕ) (typed : IsTyped (function_system program f) (map (type_at (types pool)) places)) where
+module _ (program : Program) (id : FunctionId) (f : Function) (pool : List PoolType) (variables : List ℕ) (typed : IsTyped (function_system program f) (map (type_at (types pool)) variables)) where
   abbrev at : ℕ → ℕ
   at n = first_argument (function_setting program f) n
 
-  abbrev place_of : ℕ → TypeData
-  place_of p = type_of_place pool places p
+  abbrev variable_of : ℕ → TypeData
+  variable_of p = type_of_variable pool variables p
 
   abbrev Lacking : ℕ → CodeNode → Type 0
-  Lacking n form = NodeLacks program (function_home id) f.acquires (place_of (at n)) form
+  Lacking n form = NodeLacks program (function_home id) f.acquires (variable_of (at n)) form
 
   calls_at : (n : ℕ) (c : CallData) (parts : List ℕ) (callee : Callee) → slice_get f.body.nodes n ≡ Some (Many (Call c) parts) → c.callee ≡ callee → CallsAt program f n callee
   calls_at n c parts callee stands is = record { call = c; parts = parts; stands = stands; callee_is = is; is_read = typed_read program f _ typed n (slice_get_within f.body.nodes n (Many (Call c) parts) stands) }
 
   -- ---- what a node lacks the function lacks
 
-  storage_found : (n : ℕ) (c : CallData) (parts : List ℕ) (operation : StorageOperation) → slice_get f.body.nodes n ≡ Some (Many (Call c) parts) → c.callee ≡ Storage operation → Takes operation → MissingStruct f.acquires (place_of (at n)) → LacksAcquires program id f
+  storage_found : (n : ℕ) (c : CallData) (parts : List ℕ) (operation : StorageOperation) → slice_get f.body.nodes n ≡ Some (Many (Call c) parts) → c.callee ≡ Storage operation → Takes operation → MissingStruct f.acquires (variable_of (at n)) → LacksAcquires program id f
   storage_found n c parts operation stands is takes m =
       let form : CodeNode = Many (Call c) parts in
       let storage : IsStorageNode form = subst (λ (x : Callee). IsStorageNode (Many (Call (record { callee = x; types = c.types })) parts)) (sym is) tt in
       let arity = storage_node_arity program form storage in
-      let there = storage_within program f (types pool) places typed n form stands storage in
+      let there = storage_within program f (types pool) variables typed n form stands storage in
       let none : at n ≡ at n + 0 = omega arith in (
         m.id,
         inl (record {
@@ -135,7 +135,7 @@ module _ (program : Program) (id : FunctionId) (f : Function) (pool : List PoolT
             stands = stands;
             within = omega (arith, arity);
             is_type = subst (λ (p : ℕ). HasType (function_system program f) p (StructType m.id m.arguments)) none
-                (subst (λ (t : TypeData). HasType (function_system program f) (at n) t) m.is_struct (place_type program f (types pool) places typed (at n) there));
+                (subst (λ (t : TypeData). HasType (function_system program f) (at n) t) m.is_struct (variable_type program f (types pool) variables typed (at n) there));
           };
         }),
         m.missing,
@@ -147,13 +147,13 @@ module _ (program : Program) (id : FunctionId) (f : Function) (pool : List PoolT
   lister_found n c parts callee (Some d) stands is home e h =
       (h.0, inr (record { node = n; callee = callee; calls = calls_at n c parts (plain_function callee) stands is; same_module = home; declaration = d; declared = e; lists = h.1 }), h.2)
 
-  call_found : (n : ℕ) (c : CallData) (parts : List ℕ) (callee : Callee) → slice_get f.body.nodes n ≡ Some (Many (Call c) parts) → c.callee ≡ callee → CallLacks program (function_home id) f.acquires (place_of (at n)) callee → LacksAcquires program id f
+  call_found : (n : ℕ) (c : CallData) (parts : List ℕ) (callee : Callee) → slice_get f.body.nodes n ≡ Some (Many (Call c) parts) → c.callee ≡ callee → CallLacks program (function_home id) f.acquires (variable_of (at n)) callee → LacksAcquires program id f
   call_found n c parts (plain_function callee) stands is h = lister_found n c parts callee (lookup (same_function callee) program.functions) stands is h.0 refl h.1
-  call_found n c parts (Storage operation) stands is h = storage_found n c parts operation stands is h.0 (missing_struct f.acquires (place_of (at n)) h.1)
+  call_found n c parts (Storage operation) stands is h = storage_found n c parts operation stands is h.0 (missing_struct f.acquires (variable_of (at n)) h.1)
   call_found n c parts (vector_callee function) stands is h = absurd h
   call_found n c parts AddressOf stands is h = absurd h
 
-  form_found : (n : ℕ) (form : CodeMany) (parts : List ℕ) → slice_get f.body.nodes n ≡ Some (Many form parts) → FormLacks program (function_home id) f.acquires (place_of (at n)) form → LacksAcquires program id f
+  form_found : (n : ℕ) (form : CodeMany) (parts : List ℕ) → slice_get f.body.nodes n ≡ Some (Many form parts) → FormLacks program (function_home id) f.acquires (variable_of (at n)) form → LacksAcquires program id f
   form_found n (Call c) parts stands h = call_found n c parts c.callee stands refl h
   form_found n (Vector ts) parts stands h = absurd h
   form_found n (Pack fields) parts stands h = absurd h
@@ -180,16 +180,16 @@ module _ (program : Program) (id : FunctionId) (f : Function) (pool : List PoolT
   taken_at : (s : StructId) → TakesStruct program f s → (Contains f.acquires s → ⊥) → SomeNode
   taken_at s t absent =
       let n = t.node in
-      let within = argument_within program f (types pool) places typed n t.given.form t.given.stands 0 t.given.within in
+      let within = argument_within program f (types pool) variables typed n t.given.form t.given.stands 0 t.given.within in
       let none : at n + 0 ≡ at n = omega arith in
-      let there : at n < length places = omega (arith, within) in
+      let there : at n < length variables = omega (arith, within) in
       let has : HasType (function_system program f) (at n) (StructType s t.arguments) = subst (λ (p : ℕ). HasType (function_system program f) p (StructType s t.arguments)) none t.given.is_type in
-      let same = one_type program f (at n) (place_of (at n)) (StructType s t.arguments) (place_type program f (types pool) places typed (at n) there) has in
+      let same = one_type program f (at n) (variable_of (at n)) (StructType s t.arguments) (variable_type program f (types pool) variables typed (at n) there) has in
       record {
         node = n;
         form = Many (Call t.calls.call) t.calls.parts;
         stands = t.calls.stands;
-        lacks = subst (λ (callee : Callee). CallLacks program (function_home id) f.acquires (place_of (at n)) callee) (sym t.calls.callee_is)
+        lacks = subst (λ (callee : Callee). CallLacks program (function_home id) f.acquires (variable_of (at n)) callee) (sym t.calls.callee_is)
             (t.takes, subst (λ (x : TypeData). IsMissing f.acquires x) (sym same) absent);
       }
 
@@ -198,7 +198,7 @@ module _ (program : Program) (id : FunctionId) (f : Function) (pool : List PoolT
     node = l.node;
     form = Many (Call l.calls.call) l.calls.parts;
     stands = l.calls.stands;
-    lacks = subst (λ (callee : Callee). CallLacks program (function_home id) f.acquires (place_of (at l.node)) callee) (sym l.calls.callee_is)
+    lacks = subst (λ (callee : Callee). CallLacks program (function_home id) f.acquires (variable_of (at l.node)) callee) (sym l.calls.callee_is)
         (l.same_module, subst (λ (found : Option Function). DeclaredLacks f.acquires found) (sym l.declared) (s, l.lists, absent));
   }
 
@@ -208,7 +208,7 @@ module _ (program : Program) (id : FunctionId) (f : Function) (pool : List PoolT
   pub lacks_found : (n : ℕ) (form : CodeNode) → slice_get f.body.nodes n ≡ Some form → Lacking n form → IsTrue true ↔ LacksAcquires program id f
   lacks_found n form stands h = (λ t. node_found n form stands h, λ l. refl)
 
-  pub lacks_nothing : (n : ℕ) → length f.body.nodes ≤ n → AreClear program id f pool places n → IsTrue false ↔ LacksAcquires program id f
+  pub lacks_nothing : (n : ℕ) → length f.body.nodes ≤ n → AreClear program id f pool variables n → IsTrue false ↔ LacksAcquires program id f
   lacks_nothing n end clear = (
     λ t. absurd (cc),
     λ h. (let s = some_node h in let b = slice_get_within f.body.nodes s.node s.form s.stands in absurd (clear.each s.node s.form (omega (arith, b, end)) s.stands s.lacks)),

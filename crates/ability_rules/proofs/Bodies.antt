@@ -13,81 +13,81 @@ use Rattle.typing_rules.specs.CodeSystems.{function_setting, function_system}
 use Rattle.typing_rules.specs.Settings.{first_argument, node_arity}
 use Rattle.typing_rules.specs.Required.{Ability, LacksRequired, LacksConstraint, LacksWritten, abilities_in, required_at, constrained_in, given_abilities, has_ability, is_constrained, meets_parameter, node_parameters, written_at}
 use Rattle.typing_rules.specs.Pools.{type_at}
-use Rattle.type_constraints.proofs.Places.{argument_within, next_first, one_type, place_type}
+use Rattle.type_constraints.proofs.Variables.{argument_within, next_first, one_type, variable_type}
 use Rattle.type_constraints.proofs.TypedNodesReading.{typed_read}
 use Rattle.ability_rules.specs.declared.required.entry.Judged.{Judged}
 use Rattle.ability_rules.specs.declared.required.entry.JudgedTypes.{JudgedTypes}
 use Rattle.ability_rules.specs.Entries.{judged_type}
-use Rattle.ability_rules.specs.Bodies.{IsJudgedBody, LacksArgument, is_argument, is_lacking, node_lacks, place_told, writes_lacking}
+use Rattle.ability_rules.specs.Bodies.{IsJudgedBody, LacksArgument, is_argument, is_lacking, node_lacks, judged_variable, writes_lacking}
 
-module _ (program : Program) (f : Function) (places : List ℕ) (table : JudgedTypes) (body : IsJudgedBody program f places table) where
+module _ (program : Program) (f : Function) (variables : List ℕ) (table : JudgedTypes) (body : IsJudgedBody program f variables table) where
   abbrev pub of : ℕ → TypeData
-  of p = type_at body.types (get_or places p 0)
+  of p = type_at body.types (get_or variables p 0)
 
-  abbrev told : ℕ → Judged
-  told p = place_told table places p
+  abbrev known : ℕ → Judged
+  known p = judged_variable table variables p
 
   abbrev first : ℕ → ℕ
   first n = first_argument (function_setting program f) n
 
-  pub has_type : (p : ℕ) → p < length places → HasType (function_system program f) p (of p)
-  has_type p h = place_type program f body.types places body.typed p h
+  pub has_type : (p : ℕ) → p < length variables → HasType (function_system program f) p (of p)
+  has_type p h = variable_type program f body.types variables body.typed p h
 
-  told_is : (p : ℕ) → p < length places → told p ≡ judged_type program.structs (given_abilities f.type_parameters) (of p)
-  told_is p h = body.tells.each (get_or places p 0) (body.told p 0 h)
+  known_is : (p : ℕ) → p < length variables → known p ≡ judged_type program.structs (given_abilities f.type_parameters) (of p)
+  known_is p h = body.tells.each (get_or variables p 0) (body.known p 0 h)
 
-  pub told_at : (p : ℕ) (t : TypeData) → p < length places → HasType (function_system program f) p t → told p ≡ judged_type program.structs (given_abilities f.type_parameters) t
-  told_at p t h has = told_is p h ∙ ap (judged_type program.structs (given_abilities f.type_parameters)) (one_type program f p (of p) t (has_type p h) has)
+  pub stated_at : (p : ℕ) (t : TypeData) → p < length variables → HasType (function_system program f) p t → known p ≡ judged_type program.structs (given_abilities f.type_parameters) t
+  stated_at p t h has = known_is p h ∙ ap (judged_type program.structs (given_abilities f.type_parameters)) (one_type program f p (of p) t (has_type p h) has)
 
   pub nodes_read : (n : ℕ) (form : CodeNode) → slice_get f.body.nodes n ≡ Some form → NodeIsRead (function_system program f) n
   nodes_read n form e = typed_read program f _ body.typed n (slice_get_within f.body.nodes n form e)
 
   -- ---- required abilities
 
-  pub required_lacks : (n : ℕ) (form : CodeNode) → slice_get f.body.nodes n ≡ Some form → All (λ (ask : ℕ × Ability). ask.0 < length places) (required_at f.body.nodes n (first n) form)
-      → node_lacks told f.body.nodes n (first n) form ≡ true → (h : LacksRequired program f) × (h.node ≡ n)
+  pub required_lacks : (n : ℕ) (form : CodeNode) → slice_get f.body.nodes n ≡ Some form → All (λ (ask : ℕ × Ability). ask.0 < length variables) (required_at f.body.nodes n (first n) form)
+      → node_lacks known f.body.nodes n (first n) form ≡ true → (h : LacksRequired program f) × (h.node ≡ n)
   required_lacks n form e within lack =
-      let any = Any-from_list_any (is_lacking told) (required_at f.body.nodes n (first n) form) lack in
-      let inside = subst (λ (x : ℕ × Ability). x.0 < length places) any.3 (within any.0 any.1 any.2) in (
+      let any = Any-from_list_any (is_lacking known) (required_at f.body.nodes n (first n) form) lack in
+      let inside = subst (λ (x : ℕ × Ability). x.0 < length variables) any.3 (within any.0 any.1 any.2) in (
         record {
           node = n;
           form = form;
           stands = e;
           is_read = nodes_read n form e;
-          place = any.1.0;
+          variable = any.1.0;
           ability = any.1.1;
           required = (any.0, any.2, any.3);
           of = of any.1.0;
           is_type = has_type any.1.0 inside;
-          lacks = ap (λ (j : Judged). has_ability any.1.1 j.abilities) (sym (told_is any.1.0 inside)) ∙ not-true _ any.4;
+          lacks = ap (λ (j : Judged). has_ability any.1.1 j.abilities) (sym (known_is any.1.0 inside)) ∙ not-true _ any.4;
         },
         refl,
       )
 
-  pub lacks_required : (n : ℕ) (form : CodeNode) → All (λ (ask : ℕ × Ability). ask.0 < length places) (required_at f.body.nodes n (first n) form)
-      → (h : LacksRequired program f) → h.node ≡ n → h.form ≡ form → node_lacks told f.body.nodes n (first n) form ≡ true
+  pub lacks_required : (n : ℕ) (form : CodeNode) → All (λ (ask : ℕ × Ability). ask.0 < length variables) (required_at f.body.nodes n (first n) form)
+      → (h : LacksRequired program f) → h.node ≡ n → h.form ≡ form → node_lacks known f.body.nodes n (first n) form ≡ true
   lacks_required n form within h at is =
-      let required : Contains (required_at f.body.nodes n (first n) form) (h.place, h.ability) =
-      subst (λ (y : CodeNode). Contains (required_at f.body.nodes n (first n) y) (h.place, h.ability)) is
-      (subst (λ (k : ℕ). Contains (required_at f.body.nodes k (first k) h.form) (h.place, h.ability)) at h.required) in
-      let inside : h.place < length places = subst (λ (x : ℕ × Ability). x.0 < length places) required.2 (within required.0 (h.place, h.ability) required.1) in
-      list_any-from_Any (is_lacking told) (required_at f.body.nodes n (first n) form) (
+      let required : Contains (required_at f.body.nodes n (first n) form) (h.variable, h.ability) =
+      subst (λ (y : CodeNode). Contains (required_at f.body.nodes n (first n) y) (h.variable, h.ability)) is
+      (subst (λ (k : ℕ). Contains (required_at f.body.nodes k (first k) h.form) (h.variable, h.ability)) at h.required) in
+      let inside : h.variable < length variables = subst (λ (x : ℕ × Ability). x.0 < length variables) required.2 (within required.0 (h.variable, h.ability) required.1) in
+      list_any-from_Any (is_lacking known) (required_at f.body.nodes n (first n) form) (
         required.0,
-        (h.place, h.ability),
+        (h.variable, h.ability),
         required.1,
         required.2,
-        not_from_false _ (ap (λ (j : Judged). has_ability h.ability j.abilities) (told_at h.place h.of inside h.is_type) ∙ h.lacks),
+        not_from_false _ (ap (λ (j : Judged). has_ability h.ability j.abilities) (stated_at h.variable h.of inside h.is_type) ∙ h.lacks),
       )
 
   -- ---- type arguments
 
   pub argument_lacks : (n : ℕ) (form : CodeNode) → slice_get f.body.nodes n ≡ Some form
-      → LacksArgument told (node_parameters program form) (first n) (first (n + 1) - first n) → (h : LacksConstraint program f) × (h.node ≡ n)
+      → LacksArgument known (node_parameters program form) (first n) (first (n + 1) - first n) → (h : LacksConstraint program f) × (h.node ≡ n)
   argument_lacks n form e lack =
       let next = next_first program f n form e in
       let inside = lack.within in
       let less : lack.number < node_arity program form = omega (arith, next, inside) in
-      let there = argument_within program f body.types places body.typed n form e lack.number less in (
+      let there = argument_within program f body.types variables body.typed n form e lack.number less in (
         record {
           node = n;
           form = form;
@@ -101,23 +101,23 @@ module _ (program : Program) (f : Function) (places : List ℕ) (table : JudgedT
             within = less;
             is_type = has_type (first n + lack.number) there;
           };
-          lacks = ap (λ (j : Judged). is_argument j (node_parameters program form) lack.number) (sym (told_is (first n + lack.number) there)) ∙ lack.lacks;
+          lacks = ap (λ (j : Judged). is_argument j (node_parameters program form) lack.number) (sym (known_is (first n + lack.number) there)) ∙ lack.lacks;
         },
         refl,
       )
 
   pub lacks_argument : (n : ℕ) (form : CodeNode) → slice_get f.body.nodes n ≡ Some form → (h : LacksConstraint program f) → h.node ≡ n → h.form ≡ form → h.given.form ≡ form
-      → LacksArgument told (node_parameters program form) (first n) (first (n + 1) - first n)
+      → LacksArgument known (node_parameters program form) (first n) (first (n + 1) - first n)
   lacks_argument n form e h at is same =
       let next = next_first program f n form e in
       let less : h.number < node_arity program form = subst (λ (y : CodeNode). h.number < node_arity program y) same h.given.within in
-      let there = argument_within program f body.types places body.typed n form e h.number less in
+      let there = argument_within program f body.types variables body.typed n form e h.number less in
       let has : HasType (function_system program f) (first n + h.number) h.of =
       subst (λ (k : ℕ). HasType (function_system program f) (first k + h.number) h.of) at h.given.is_type in
       record {
         number = h.number;
         within = omega (arith, next, less);
-        lacks = ap (λ (j : Judged). is_argument j (node_parameters program form) h.number) (told_at (first n + h.number) h.of there has)
+        lacks = ap (λ (j : Judged). is_argument j (node_parameters program form) h.number) (stated_at (first n + h.number) h.of there has)
             ∙ ap (λ (y : CodeNode). (constrained_in program f h.of && meets_parameter (slice_get (node_parameters program y) h.number) (abilities_in program f h.of))) (sym is)
             ∙ h.lacks;
       }

@@ -17,6 +17,6 @@ pub mod Pieces
 pub mod Shapes
 pub mod Numbers
 pub mod Mentioned
-pub mod Places
+pub mod Variables
 pub mod Making
 pub mod Carrying

@@ -15,15 +15,15 @@ use Rattle.program.specs.CodeNodes.{CodeNode}
 use Rattle.typing_rules.specs.Settings.{first_argument, arity_of, callee_signature, function_signature}
 use Rattle.typing_rules.specs.CodeSystems.{function_setting}
 use Rattle.base.specs.declared.marked_cycles.edge.MarkedEdge.{MarkedEdge}
-use Rattle.base.specs.MarkedCircles.{IsWithin}
+use Rattle.base.specs.MarkedCycles.{IsWithin}
 use Rattle.ability_rules.specs.declared.polymorphic_recursion.rows.Row.{Row}
-use Rattle.ability_rules.specs.declared.polymorphic_recursion.told.PlaceTypes.{PlaceTypes}
-use Rattle.ability_rules.specs.Told.{AreTold}
+use Rattle.ability_rules.specs.declared.polymorphic_recursion.known.VariableTypes.{VariableTypes}
+use Rattle.ability_rules.specs.KnownTypes.{AreKnown}
 use Rattle.ability_rules.specs.Edges.{parameter_node, type_node, of_option, pieces, at_entry, at_node, node_edges, number, is_number, body_edges, function_edges, at_function, edges_of}
 use Rattle.ability_rules.specs.Rows.{AreRows, ParameterCount, PartsAreBelow, row_end, IsAnyFound}
 use Rattle.ability_rules.proofs.Tables.{found_there, entry_there}
 use Rattle.ability_rules.proofs.Pieces.{option_some}
-use Rattle.ability_rules.proofs.Shapes.{Standing, Shape, shape_of}
+use Rattle.ability_rules.proofs.Shapes.{Stated, Shape, shape_of}
 use Rattle.ability_rules.proofs.Mentioned.{part_below}
 
 same_some : {A : Type 0} (a b : A) → Some a ≡ Some b → a ≡ b
@@ -42,7 +42,7 @@ got xs i x lt is = slice_get_read xs (length xs) i x refl lt is
 
 -- ---- rows
 
-module _ (program : Program) (told : List PlaceTypes) (rows : List Row) (count : ℕ) (are : AreRows program told rows (length told) count) where
+module _ (program : Program) (given : List VariableTypes) (rows : List Row) (count : ℕ) (are : AreRows program given rows (length given) count) where
   pub called_parameters : (id : FunctionId) (n : ℕ) (row : Row) → number program id ≡ Some n → slice_get rows n ≡ Some row → arity_of (callee_signature program (plain_function id)) ≡ row.parameters
   called_parameters id n row at row_at =
       let e = entry_there (same_function id) program.functions n id at in
@@ -50,25 +50,25 @@ module _ (program : Program) (told : List PlaceTypes) (rows : List Row) (count :
       ap (λ (o : Option Function). arity_of (option_map function_signature o)) there.0 ∙ sym (are.parameters n row e.0.0 e.0.1 row_at e.1)
 
   pub row_within : (n : ℕ) (row : Row) → slice_get rows n ≡ Some row → row.first + row.parameters ≤ count
-  row_within n row row_at = go (slice_get_cases told n).1
+  row_within n row row_at = go (slice_get_cases given n).1
     where
-      go : (((x : PlaceTypes) × (n < length told) × (slice_get told n ≡ Some x) × (get_or told n x ≡ x)) ⊎ ((length told ≤ n) × (slice_get told n ≡ None))) → row.first + row.parameters ≤ count
+      go : (((x : VariableTypes) × (n < length given) × (slice_get given n ≡ Some x) × (get_or given n x ≡ x)) ⊎ ((length given ≤ n) × (slice_get given n ≡ None))) → row.first + row.parameters ≤ count
       go (inl (p, lt, at, same)) = let end = are.within n row p row_at at in omega (arith, end)
       go (inr (past, none)) = let b = slice_get_within rows n row row_at in let long = are.same_length in absurd (omega (arith, b, long, past))
 
-  pub edges_within : (below : (k : ℕ) (p : PlaceTypes) → slice_get told k ≡ Some p → PartsAreBelow p.pool.now) → AreTold program told → All (IsWithin count) (edges_of program rows told)
-  edges_within below known k d lt = one (get_or (edges_of program rows told) k d) (shape_of program rows told _ (Contains-get_or (edges_of program rows told) k d lt))
+  pub edges_within : (below : (k : ℕ) (p : VariableTypes) → slice_get given k ≡ Some p → PartsAreBelow p.pool.now) → AreKnown program given → All (IsWithin count) (edges_of program rows given)
+  edges_within below known k d lt = one (get_or (edges_of program rows given) k d) (shape_of program rows given _ (Contains-get_or (edges_of program rows given) k d lt))
     where
-      parameter_in : (s : Standing program rows told) (i : ℕ) → i < s.row.parameters → parameter_node s.row i < count
+      parameter_in : (s : Stated program rows given) (i : ℕ) → i < s.row.parameters → parameter_node s.row i < count
       parameter_in s i b = let end = are.within s.at s.row s.types s.row_is s.types_are in omega (arith, b, end)
 
-      type_in : (s : Standing program rows told) (i : ℕ) → i < length s.types.pool.now → type_node s.row i < count
+      type_in : (s : Stated program rows given) (i : ℕ) → i < length s.types.pool.now → type_node s.row i < count
       type_in s i b = let end = are.within s.at s.row s.types s.row_is s.types_are in omega (arith, b, end)
 
       made : (e f : MarkedEdge) → e ≡ f → f.from < count → f.to < count → IsWithin count e
       made e f is b c = subst (λ (x : MarkedEdge). IsWithin count x) (sym is) (record { begins = b; ends = c })
 
-      one : (e : MarkedEdge) → Shape program rows told e → IsWithin count e
+      one : (e : MarkedEdge) → Shape program rows given e → IsWithin count e
       one e (inl a) = made e _ a.is (parameter_in a.of a.parameter a.within) (type_in a.of a.number_is (slice_get_within a.of.types.pool.now a.number_is _ a.stands))
       one e (inr (inl a)) =
           let b = slice_get_within a.of.types.pool.now a.number_is a.entry a.stands in
@@ -88,10 +88,10 @@ pushed_row (x ∷ rows) row r (suc k) at = elim (pushed_row rows row r k at) [
   | inr new ↦ (let e = new.0 in inr (omega (arith, e), new.1))
 ]
 
-module _ (program : Program) (told : List PlaceTypes) (rows more : List Row) (n count end : ℕ) (row : Row) (p : PlaceTypes) (are : AreRows program told rows n count)
-    (there : slice_get told n ≡ Some p) (first : row.first ≡ count) (sized : ParameterCount program n row.parameters) (ends : end ≡ row_end row p) (pushed : more ≡ rows ++ row ∷ []) where
-  last_types : (q : PlaceTypes) (k : ℕ) → k ≡ n → slice_get told k ≡ Some q → row_end row q ≡ end
-  last_types q k e at = ap (row_end row) (same_some q p (sym at ∙ ap (slice_get told) e ∙ there)) ∙ sym ends
+module _ (program : Program) (known : List VariableTypes) (rows more : List Row) (n count end : ℕ) (row : Row) (p : VariableTypes) (are : AreRows program known rows n count)
+    (there : slice_get known n ≡ Some p) (first : row.first ≡ count) (sized : ParameterCount program n row.parameters) (ends : end ≡ row_end row p) (pushed : more ≡ rows ++ row ∷ []) where
+  last_types : (q : VariableTypes) (k : ℕ) → k ≡ n → slice_get known k ≡ Some q → row_end row q ≡ end
+  last_types q k e at = ap (row_end row) (same_some q p (sym at ∙ ap (slice_get known) e ∙ there)) ∙ sym ends
 
   cases : (k : ℕ) (r : Row) → slice_get more k ≡ Some r → ((k < length rows) × (slice_get rows k ≡ Some r)) ⊎ ((k ≡ length rows) × (row ≡ r))
   cases k r at = pushed_row rows row r k (subst (λ (xs : List Row). slice_get xs k ≡ Some r) pushed at)
@@ -104,7 +104,7 @@ module _ (program : Program) (told : List PlaceTypes) (rows more : List Row) (n 
         ap (λ (x : Row). x.parameters) (sym new.1) ∙ sized id f (ap (slice_get program.functions) (sym here) ∙ entry))
   ]
 
-  apart_more : (k l : ℕ) (r s : Row) (q : PlaceTypes) → k < l → slice_get more k ≡ Some r → slice_get more l ≡ Some s → slice_get told k ≡ Some q → row_end r q ≤ s.first
+  apart_more : (k l : ℕ) (r s : Row) (q : VariableTypes) → k < l → slice_get more k ≡ Some r → slice_get more l ≡ Some s → slice_get known k ≡ Some q → row_end r q ≤ s.first
   apart_more k l r s q lt at other types = elim (cases l s other) [
     | inl old ↦ elim (cases k r at) [
       | inl before ↦ are.apart k l r s q lt before.1 old.1 types
@@ -119,7 +119,7 @@ module _ (program : Program) (told : List PlaceTypes) (rows more : List Row) (n 
     ]
   ]
 
-  within_more : (k : ℕ) (r : Row) (q : PlaceTypes) → slice_get more k ≡ Some r → slice_get told k ≡ Some q → row_end r q ≤ end
+  within_more : (k : ℕ) (r : Row) (q : VariableTypes) → slice_get more k ≡ Some r → slice_get known k ≡ Some q → row_end r q ≤ end
   within_more k r q at types = elim (cases k r at) [
     | inl old ↦ (let b = are.within k r q old.1 types in omega (arith, b, first, ends))
     | inr new ↦ (
@@ -129,7 +129,7 @@ module _ (program : Program) (told : List PlaceTypes) (rows more : List Row) (n 
         omega (arith, e, r_is))
   ]
 
-  pub more_rows : AreRows program told more (n + 1) end
+  pub more_rows : AreRows program known more (n + 1) end
   more_rows = record {
     same_length = (
         let long = length-append rows (row ∷ []) in
@@ -143,33 +143,33 @@ module _ (program : Program) (told : List PlaceTypes) (rows more : List Row) (n 
 
 -- ---- edges
 
-pub node_more : (program : Program) (rows : List Row) (r : Row) (f : Function) (p : PlaceTypes) (n : ℕ) (node : CodeNode) (first : ℕ) (now new : List MarkedEdge) → slice_get f.body.nodes n ≡ Some node → n < p.read
+pub node_more : (program : Program) (rows : List Row) (r : Row) (f : Function) (p : VariableTypes) (n : ℕ) (node : CodeNode) (first : ℕ) (now new : List MarkedEdge) → slice_get f.body.nodes n ≡ Some node → n < p.read
     → first ≡ first_argument (function_setting program f) n → new ≡ now ++ node_edges program rows r p.types.now first node → new ≡ now ++ at_node program rows r f p n
 node_more program rows r f p n node first now new at b is more =
-    let place = first_argument (function_setting program f) n in
-    option_some (node_edges program rows r p.types.now place) now new (slice_get f.body.nodes n) node at (more ∙ ap (λ (k : ℕ). now ++ node_edges program rows r p.types.now k node) is)
-    ∙ ap (λ (x : Bool). now ++ (if x then of_option (node_edges program rows r p.types.now place) (slice_get f.body.nodes n) else [])) (sym (lt-ltb _ _ b))
+    let variable = first_argument (function_setting program f) n in
+    option_some (node_edges program rows r p.types.now variable) now new (slice_get f.body.nodes n) node at (more ∙ ap (λ (k : ℕ). now ++ node_edges program rows r p.types.now k node) is)
+    ∙ ap (λ (x : Bool). now ++ (if x then of_option (node_edges program rows r p.types.now variable) (slice_get f.body.nodes n) else [])) (sym (lt-ltb _ _ b))
 
-pub node_none : (program : Program) (rows : List Row) (r : Row) (f : Function) (p : PlaceTypes) (n : ℕ) (now : List MarkedEdge) → nat_lt n p.read ≡ false → now ≡ now ++ at_node program rows r f p n
+pub node_none : (program : Program) (rows : List Row) (r : Row) (f : Function) (p : VariableTypes) (n : ℕ) (now : List MarkedEdge) → nat_lt n p.read ≡ false → now ≡ now ++ at_node program rows r f p n
 node_none program rows r f p n now isnt =
     sym (append-nil now)
     ∙ ap (λ (x : Bool). now ++ (if x then of_option (node_edges program rows r p.types.now (first_argument (function_setting program f) n)) (slice_get f.body.nodes n) else [])) (sym isnt)
 
-module _ (program : Program) (rows : List Row) (told : List PlaceTypes) (n : ℕ) (r : Row) (p : PlaceTypes) (id : FunctionId) (f : Function) (row_at : slice_get rows n ≡ Some r) (told_at : slice_get told n ≡ Some p)
+module _ (program : Program) (rows : List Row) (known : List VariableTypes) (n : ℕ) (r : Row) (p : VariableTypes) (id : FunctionId) (f : Function) (row_at : slice_get rows n ≡ Some r) (stated_at : slice_get known n ≡ Some p)
     (entry : slice_get program.functions n ≡ Some (id, f)) (start mid new : List MarkedEdge) (entries : mid ≡ start ++ pieces (at_entry r p.pool.now) (length p.pool.now)) where
-  function_more : new ≡ mid ++ body_edges program rows r p n id f → new ≡ start ++ at_function program rows told n
+  function_more : new ≡ mid ++ body_edges program rows r p n id f → new ≡ start ++ at_function program rows known n
   function_more body =
-      option_some (λ row. of_option (λ q. of_option (function_edges program rows row q n) (slice_get program.functions n)) (slice_get told n)) start new (slice_get rows n) r row_at
-      (option_some (λ q. of_option (function_edges program rows r q n) (slice_get program.functions n)) start new (slice_get told n) p told_at
+      option_some (λ row. of_option (λ q. of_option (function_edges program rows row q n) (slice_get program.functions n)) (slice_get known n)) start new (slice_get rows n) r row_at
+      (option_some (λ q. of_option (function_edges program rows r q n) (slice_get program.functions n)) start new (slice_get known n) p stated_at
       (option_some (function_edges program rows r p n) start new (slice_get program.functions n) (id, f) entry
       (body ∙ ap (λ (xs : List MarkedEdge). xs ++ body_edges program rows r p n id f) entries
       ∙ append_assoc start (pieces (at_entry r p.pool.now) (length p.pool.now)) (body_edges program rows r p n id f))))
 
-  pub with_body : is_number n (number program id) ≡ true → new ≡ mid ++ pieces (at_node program rows r f p) (length f.body.nodes) → new ≡ start ++ at_function program rows told n
+  pub with_body : is_number n (number program id) ≡ true → new ≡ mid ++ pieces (at_node program rows r f p) (length f.body.nodes) → new ≡ start ++ at_function program rows known n
   with_body is body =
       function_more (body ∙ ap (λ (x : Bool). mid ++ (if x then pieces (at_node program rows r f p) (length f.body.nodes) else [])) (sym is))
 
-  pub without_body : is_number n (number program id) ≡ false → new ≡ mid → new ≡ start ++ at_function program rows told n
+  pub without_body : is_number n (number program id) ≡ false → new ≡ mid → new ≡ start ++ at_function program rows known n
   without_body is body =
       function_more (body ∙ sym (append-nil mid) ∙ ap (λ (x : Bool). mid ++ (if x then pieces (at_node program rows r f p) (length f.body.nodes) else [])) (sym is))
 

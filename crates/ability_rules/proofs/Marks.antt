@@ -21,7 +21,7 @@ taken_more nodes old new k node e long before mark n lt =
 
 pub taken_all : (nodes : List CodeNode) (taken : List Bool) (k : ℕ) → length nodes ≤ k → length taken ≡ length nodes
     → ((n : ℕ) → n < length nodes → get_or taken n false ≡ list_any (takes_place n) (take k nodes)) → TellsTaken taken nodes
-taken_all nodes taken k end long told = record {
+taken_all nodes taken k end long known = record {
   len = long;
-  each = λ n lt. told n lt ∙ ap (λ (ns : List CodeNode). list_any (takes_place n) ns) (take_all k nodes end);
+  each = λ n lt. known n lt ∙ ap (λ (ns : List CodeNode). list_any (takes_place n) ns) (take_all k nodes end);
 }

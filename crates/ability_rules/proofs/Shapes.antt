@@ -22,7 +22,7 @@ use Rattle.typing_rules.specs.declared.type_pool.PoolType.{PoolType}
 use Rattle.typing_rules.specs.declared.type_pool.PoolType.TheVariants.{Plain, Made, Struct, Tuple}
 use Rattle.base.specs.declared.marked_cycles.edge.MarkedEdge.{MarkedEdge}
 use Rattle.ability_rules.specs.declared.polymorphic_recursion.rows.Row.{Row}
-use Rattle.ability_rules.specs.declared.polymorphic_recursion.told.PlaceTypes.{PlaceTypes}
+use Rattle.ability_rules.specs.declared.polymorphic_recursion.known.VariableTypes.{VariableTypes}
 use Rattle.ability_rules.specs.Edges.{parameter_node, type_node, marked_edge, of_option, pieces, part_edges, plain_edges, entry_edges, at_entry, argument_edge, argument_edges, number, callee_edges, form_edges, node_edges, at_node, is_number, body_edges, function_edges, at_function, edges_of}
 use Rattle.ability_rules.proofs.Pieces.{not_in_none, in_one, has_one, in_pieces, has_piece, in_option, has_option, in_mapped, has_mapped}
 
@@ -33,21 +33,21 @@ IsPart (Made wrap n) m = Contains (n ∷ []) m
 IsPart (Struct s ns) m = Contains ns m
 IsPart (Tuple ns) m = Contains ns m
 
-module _ (program : Program) (rows : List Row) (told : List PlaceTypes) where
+module _ (program : Program) (rows : List Row) (given : List VariableTypes) where
   -- a function, its numbers and what is known of it
-  pub record Standing : Type 0 where
+  pub record Stated : Type 0 where
     pub at : ℕ
     pub id : FunctionId
     pub function : Function
     pub row : Row
-    pub types : PlaceTypes
+    pub types : VariableTypes
     pub row_is : slice_get rows at ≡ Some row
-    pub types_are : slice_get told at ≡ Some types
+    pub types_are : slice_get given at ≡ Some types
     pub function_is : slice_get program.functions at ≡ Some (id, function)
 
   -- a type parameter, and the type that is just that parameter
   pub record Alone (e : MarkedEdge) : Type 0 where
-    pub of : Standing
+    pub of : Stated
     pub parameter : ℕ
     pub number_is : ℕ
     pub stands : slice_get of.types.pool.now number_is ≡ Some (Plain (Param parameter))
@@ -56,7 +56,7 @@ module _ (program : Program) (rows : List Row) (told : List PlaceTypes) where
 
   -- a part of a type, and the type
   pub record Inside (e : MarkedEdge) : Type 0 where
-    pub of : Standing
+    pub of : Stated
     pub part : ℕ
     pub number_is : ℕ
     pub entry : PoolType
@@ -66,7 +66,7 @@ module _ (program : Program) (rows : List Row) (told : List PlaceTypes) where
 
   -- a type argument, and the type parameter that it is for
   pub record Given (e : MarkedEdge) : Type 0 where
-    pub of : Standing
+    pub of : Stated
     pub first : number program of.id ≡ Some of.at
     pub node : ℕ
     pub call : Call
@@ -90,7 +90,7 @@ module _ (program : Program) (rows : List Row) (told : List PlaceTypes) where
 
   -- ---- each edge is one of these
 
-  alone_edge : (s : Standing) (n : ℕ) (p : PlainType) (e : MarkedEdge) → slice_get s.types.pool.now n ≡ Some (Plain p) → Contains (plain_edges s.row n p) e → Alone e
+  alone_edge : (s : Stated) (n : ℕ) (p : PlainType) (e : MarkedEdge) → slice_get s.types.pool.now n ≡ Some (Plain p) → Contains (plain_edges s.row n p) e → Alone e
   alone_edge s n (Param k) e at c = go (nat_lt k s.row.parameters) refl c
     where
       go : (b : Bool) → nat_lt k s.row.parameters ≡ b → Contains (if b then marked_edge (parameter_node s.row k) (type_node s.row n) false ∷ [] else []) e → Alone e
@@ -102,25 +102,25 @@ module _ (program : Program) (rows : List Row) (told : List PlaceTypes) where
   alone_edge s n Address e at c = absurd (not_in_none e c)
   alone_edge s n Signer e at c = absurd (not_in_none e c)
 
-  inside_edge : (s : Standing) (n : ℕ) (entry : PoolType) (ms : List ℕ) (e : MarkedEdge) → slice_get s.types.pool.now n ≡ Some entry → ((m : ℕ) → Contains ms m → IsPart entry m)
+  inside_edge : (s : Stated) (n : ℕ) (entry : PoolType) (ms : List ℕ) (e : MarkedEdge) → slice_get s.types.pool.now n ≡ Some entry → ((m : ℕ) → Contains ms m → IsPart entry m)
       → Contains (part_edges s.row n ms) e → Inside e
   inside_edge s n entry ms e at are c =
       let r = in_mapped (λ m. marked_edge (type_node s.row m) (type_node s.row n) true) ms e c in
       record { of = s; part = r.0; number_is = n; entry = entry; stands = at; is_part = are r.0 r.1; is = r.2 }
 
-  entry_edge : (s : Standing) (n : ℕ) (entry : PoolType) (e : MarkedEdge) → slice_get s.types.pool.now n ≡ Some entry → Contains (entry_edges s.row n entry) e → Shape e
+  entry_edge : (s : Stated) (n : ℕ) (entry : PoolType) (e : MarkedEdge) → slice_get s.types.pool.now n ≡ Some entry → Contains (entry_edges s.row n entry) e → Shape e
   entry_edge s n (Plain p) e at c = inl (alone_edge s n p e at c)
   entry_edge s n (Made wrap m) e at c = inr (inl (inside_edge s n (Made wrap m) (m ∷ []) e at (λ q d. d) c))
   entry_edge s n (Struct id ms) e at c = inr (inl (inside_edge s n (Struct id ms) ms e at (λ q d. d) c))
   entry_edge s n (Tuple ms) e at c = inr (inl (inside_edge s n (Tuple ms) ms e at (λ q d. d) c))
 
   -- a call at a node of the function, as its edges are made
-  record Calling (s : Standing) (node : ℕ) (call : Call) (parts : List ℕ) : Type 0 where
+  record Calling (s : Stated) (node : ℕ) (call : Call) (parts : List ℕ) : Type 0 where
     pub first : number program s.id ≡ Some s.at
     pub stands : slice_get s.function.body.nodes node ≡ Some (Many (call_form call) parts)
     pub read : node < s.types.read
 
-  given_edge : (s : Standing) (node : ℕ) (call : Call) (parts : List ℕ) (id : FunctionId) (j : ℕ) (to : Row) (e : MarkedEdge) → Calling s node call parts → call.callee ≡ plain_function id
+  given_edge : (s : Stated) (node : ℕ) (call : Call) (parts : List ℕ) (id : FunctionId) (j : ℕ) (to : Row) (e : MarkedEdge) → Calling s node call parts → call.callee ≡ plain_function id
       → number program id ≡ Some j → slice_get rows j ≡ Some to → Contains (argument_edges s.row s.types.types.now (first_argument (function_setting program s.function) node) to) e → Given e
   given_edge s node call parts id j to e calling callee_is to_is row_is c =
       let first = first_argument (function_setting program s.function) node in
@@ -152,7 +152,7 @@ module _ (program : Program) (rows : List Row) (told : List PlaceTypes) where
         is = in_one _ e d;
       }
 
-  call_edge : (s : Standing) (node : ℕ) (call : Call) (parts : List ℕ) (callee : Callee) (e : MarkedEdge) → Calling s node call parts → call.callee ≡ callee
+  call_edge : (s : Stated) (node : ℕ) (call : Call) (parts : List ℕ) (callee : Callee) (e : MarkedEdge) → Calling s node call parts → call.callee ≡ callee
       → Contains (callee_edges program rows s.row s.types.types.now (first_argument (function_setting program s.function) node) callee) e → Given e
   call_edge s node call parts (plain_function id) e calling is c =
       let first = first_argument (function_setting program s.function) node in
@@ -163,7 +163,7 @@ module _ (program : Program) (rows : List Row) (told : List PlaceTypes) where
   call_edge s node call parts (vector_callee f) e calling is c = absurd (not_in_none e c)
   call_edge s node call parts AddressOf e calling is c = absurd (not_in_none e c)
 
-  form_edge : (s : Standing) (node : ℕ) (form : CodeMany) (parts : List ℕ) (e : MarkedEdge) → number program s.id ≡ Some s.at → slice_get s.function.body.nodes node ≡ Some (Many form parts) → node < s.types.read
+  form_edge : (s : Stated) (node : ℕ) (form : CodeMany) (parts : List ℕ) (e : MarkedEdge) → number program s.id ≡ Some s.at → slice_get s.function.body.nodes node ≡ Some (Many form parts) → node < s.types.read
       → Contains (form_edges program rows s.row s.types.types.now (first_argument (function_setting program s.function) node) form) e → Given e
   form_edge s node (call_form call) parts e first at b c = call_edge s node call parts call.callee e (record { first = first; stands = at; read = b }) refl c
   form_edge s node (Vector types) parts e first at b c = absurd (not_in_none e c)
@@ -173,7 +173,7 @@ module _ (program : Program) (rows : List Row) (told : List PlaceTypes) where
   form_edge s node TuplePattern parts e first at b c = absurd (not_in_none e c)
   form_edge s node (Block has_value) parts e first at b c = absurd (not_in_none e c)
 
-  node_edge : (s : Standing) (n : ℕ) (node : CodeNode) (e : MarkedEdge) → number program s.id ≡ Some s.at → slice_get s.function.body.nodes n ≡ Some node → n < s.types.read
+  node_edge : (s : Stated) (n : ℕ) (node : CodeNode) (e : MarkedEdge) → number program s.id ≡ Some s.at → slice_get s.function.body.nodes n ≡ Some node → n < s.types.read
       → Contains (node_edges program rows s.row s.types.types.now (first_argument (function_setting program s.function) n) node) e → Given e
   node_edge s n (Many form parts) e first at b c = form_edge s n form parts e first at b c
   node_edge s n (Leaf l) e first at b c = absurd (not_in_none e c)
@@ -181,7 +181,7 @@ module _ (program : Program) (rows : List Row) (told : List PlaceTypes) where
   node_edge s n (Binary o x y) e first at b c = absurd (not_in_none e c)
   node_edge s n (If x y z) e first at b c = absurd (not_in_none e c)
 
-  body_edge : (s : Standing) (n : ℕ) (e : MarkedEdge) → number program s.id ≡ Some s.at → Contains (at_node program rows s.row s.function s.types n) e → Given e
+  body_edge : (s : Stated) (n : ℕ) (e : MarkedEdge) → number program s.id ≡ Some s.at → Contains (at_node program rows s.row s.function s.types n) e → Given e
   body_edge s n e first c = go (nat_lt n s.types.read) refl c
     where
       go : (b : Bool) → nat_lt n s.types.read ≡ b → Contains (if b then of_option (node_edges program rows s.row s.types.types.now (first_argument (function_setting program s.function) n)) (slice_get s.function.body.nodes n) else []) e → Given e
@@ -194,7 +194,7 @@ module _ (program : Program) (rows : List Row) (told : List PlaceTypes) where
   is_number-true n None h = cc
   is_number-true n (Some m) h = ap Some (eqb-true _ _ h)
 
-  bodies_edge : (s : Standing) (e : MarkedEdge) → Contains (body_edges program rows s.row s.types s.at s.id s.function) e → Given e
+  bodies_edge : (s : Stated) (e : MarkedEdge) → Contains (body_edges program rows s.row s.types s.at s.id s.function) e → Given e
   bodies_edge s e c = go (is_number s.at (number program s.id)) refl c
     where
       go : (b : Bool) → is_number s.at (number program s.id) ≡ b → Contains (if b then pieces (at_node program rows s.row s.function s.types) (length s.function.body.nodes) else []) e → Given e
@@ -203,8 +203,8 @@ module _ (program : Program) (rows : List Row) (told : List PlaceTypes) where
           body_edge s r.0 e (is_number-true s.at (number program s.id) h) r.2
       go false h d = absurd (not_in_none e d)
 
-  standing_edge : (s : Standing) (e : MarkedEdge) → Contains (function_edges program rows s.row s.types s.at (s.id, s.function)) e → Shape e
-  standing_edge s e c = elim (Contains-append_cases (pieces (at_entry s.row s.types.pool.now) (length s.types.pool.now)) (body_edges program rows s.row s.types s.at s.id s.function) e c) [
+  stated_edge : (s : Stated) (e : MarkedEdge) → Contains (function_edges program rows s.row s.types s.at (s.id, s.function)) e → Shape e
+  stated_edge s e c = elim (Contains-append_cases (pieces (at_entry s.row s.types.pool.now) (length s.types.pool.now)) (body_edges program rows s.row s.types s.at s.id s.function) e c) [
     | inl one ↦ (
         let r = in_pieces (at_entry s.row s.types.pool.now) (length s.types.pool.now) e one in
         let o = in_option (entry_edges s.row r.0) (slice_get s.types.pool.now r.0) e r.2 in
@@ -212,46 +212,46 @@ module _ (program : Program) (rows : List Row) (told : List PlaceTypes) where
     | inr other ↦ inr (inr (bodies_edge s e other))
   ]
 
-  pub shape_of : (e : MarkedEdge) → Contains (edges_of program rows told) e → Shape e
+  pub shape_of : (e : MarkedEdge) → Contains (edges_of program rows given) e → Shape e
   shape_of e c =
-      let r = in_pieces (at_function program rows told) (length rows) e c in
+      let r = in_pieces (at_function program rows given) (length rows) e c in
       let n = r.0 in
-      let a = in_option (λ row. of_option (λ p. of_option (function_edges program rows row p n) (slice_get program.functions n)) (slice_get told n)) (slice_get rows n) e r.2 in
-      let b = in_option (λ p. of_option (function_edges program rows a.0 p n) (slice_get program.functions n)) (slice_get told n) e a.2 in
+      let a = in_option (λ row. of_option (λ p. of_option (function_edges program rows row p n) (slice_get program.functions n)) (slice_get given n)) (slice_get rows n) e r.2 in
+      let b = in_option (λ p. of_option (function_edges program rows a.0 p n) (slice_get program.functions n)) (slice_get given n) e a.2 in
       let d = in_option (function_edges program rows a.0 b.0 n) (slice_get program.functions n) e b.2 in
-      standing_edge (record { at = n; id = d.0.0; function = d.0.1; row = a.0; types = b.0; row_is = a.1; types_are = b.1; function_is = d.1 }) e d.2
+      stated_edge (record { at = n; id = d.0.0; function = d.0.1; row = a.0; types = b.0; row_is = a.1; types_are = b.1; function_is = d.1 }) e d.2
 
   -- ---- each of these is an edge
 
-  standing_there : (s : Standing) (e : MarkedEdge) → Contains (function_edges program rows s.row s.types s.at (s.id, s.function)) e → Contains (edges_of program rows told) e
-  standing_there s e c =
-      has_piece (at_function program rows told) (length rows) s.at e (slice_get_within rows s.at s.row s.row_is)
-      (has_option (λ row. of_option (λ p. of_option (function_edges program rows row p s.at) (slice_get program.functions s.at)) (slice_get told s.at)) (slice_get rows s.at) s.row e s.row_is
-      (has_option (λ p. of_option (function_edges program rows s.row p s.at) (slice_get program.functions s.at)) (slice_get told s.at) s.types e s.types_are
+  stated_there : (s : Stated) (e : MarkedEdge) → Contains (function_edges program rows s.row s.types s.at (s.id, s.function)) e → Contains (edges_of program rows given) e
+  stated_there s e c =
+      has_piece (at_function program rows given) (length rows) s.at e (slice_get_within rows s.at s.row s.row_is)
+      (has_option (λ row. of_option (λ p. of_option (function_edges program rows row p s.at) (slice_get program.functions s.at)) (slice_get given s.at)) (slice_get rows s.at) s.row e s.row_is
+      (has_option (λ p. of_option (function_edges program rows s.row p s.at) (slice_get program.functions s.at)) (slice_get given s.at) s.types e s.types_are
       (has_option (function_edges program rows s.row s.types s.at) (slice_get program.functions s.at) (s.id, s.function) e s.function_is c)))
 
-  entry_there : (s : Standing) (n : ℕ) (entry : PoolType) (e : MarkedEdge) → slice_get s.types.pool.now n ≡ Some entry → Contains (entry_edges s.row n entry) e → Contains (edges_of program rows told) e
+  entry_there : (s : Stated) (n : ℕ) (entry : PoolType) (e : MarkedEdge) → slice_get s.types.pool.now n ≡ Some entry → Contains (entry_edges s.row n entry) e → Contains (edges_of program rows given) e
   entry_there s n entry e at c =
-      standing_there s e (Contains-append_left (pieces (at_entry s.row s.types.pool.now) (length s.types.pool.now)) (body_edges program rows s.row s.types s.at s.id s.function) e
+      stated_there s e (Contains-append_left (pieces (at_entry s.row s.types.pool.now) (length s.types.pool.now)) (body_edges program rows s.row s.types s.at s.id s.function) e
       (has_piece (at_entry s.row s.types.pool.now) (length s.types.pool.now) n e (slice_get_within s.types.pool.now n entry at)
       (has_option (entry_edges s.row n) (slice_get s.types.pool.now n) entry e at c)))
 
-  pub alone_there : (e : MarkedEdge) → Alone e → Contains (edges_of program rows told) e
+  pub alone_there : (e : MarkedEdge) → Alone e → Contains (edges_of program rows given) e
   alone_there e a =
       entry_there a.of a.number_is (Plain (Param a.parameter)) e a.stands
       (subst (λ (b : Bool). Contains (if b then marked_edge (parameter_node a.of.row a.parameter) (type_node a.of.row a.number_is) false ∷ [] else []) e) (sym (lt-ltb _ _ a.within))
       (has_one _ e a.is))
 
-  parts_there : (s : Standing) (n m : ℕ) (entry : PoolType) (e : MarkedEdge) → IsPart entry m → e ≡ marked_edge (type_node s.row m) (type_node s.row n) true → Contains (entry_edges s.row n entry) e
+  parts_there : (s : Stated) (n m : ℕ) (entry : PoolType) (e : MarkedEdge) → IsPart entry m → e ≡ marked_edge (type_node s.row m) (type_node s.row n) true → Contains (entry_edges s.row n entry) e
   parts_there s n m (Plain p) e is h = absurd is
   parts_there s n m (Made wrap k) e is h = has_mapped (λ q. marked_edge (type_node s.row q) (type_node s.row n) true) (k ∷ []) m e is h
   parts_there s n m (Struct id ks) e is h = has_mapped (λ q. marked_edge (type_node s.row q) (type_node s.row n) true) ks m e is h
   parts_there s n m (Tuple ks) e is h = has_mapped (λ q. marked_edge (type_node s.row q) (type_node s.row n) true) ks m e is h
 
-  pub inside_there : (e : MarkedEdge) → Inside e → Contains (edges_of program rows told) e
+  pub inside_there : (e : MarkedEdge) → Inside e → Contains (edges_of program rows given) e
   inside_there e a = entry_there a.of a.number_is a.entry e a.stands (parts_there a.of a.number_is a.part a.entry e a.is_part a.is)
 
-  pub given_there : (e : MarkedEdge) → Given e → Contains (edges_of program rows told) e
+  pub given_there : (e : MarkedEdge) → Given e → Contains (edges_of program rows given) e
   given_there e a =
       let s = a.of in
       let first = first_argument (function_setting program s.function) a.node in
@@ -272,4 +272,4 @@ module _ (program : Program) (rows : List Row) (told : List PlaceTypes) where
       let is : is_number s.at (number program s.id) ≡ true = ap (is_number s.at) a.first ∙ eq-eqb s.at s.at refl in
       let body : Contains (body_edges program rows s.row s.types s.at s.id s.function) e =
       subst (λ (b : Bool). Contains (if b then pieces (at_node program rows s.row s.function s.types) (length s.function.body.nodes) else []) e) (sym is) bodied in
-      standing_there s e (Contains-append_right (pieces (at_entry s.row s.types.pool.now) (length s.types.pool.now)) (body_edges program rows s.row s.types s.at s.id s.function) e body)
+      stated_there s e (Contains-append_right (pieces (at_entry s.row s.types.pool.now) (length s.types.pool.now)) (body_edges program rows s.row s.types s.at s.id s.function) e body)

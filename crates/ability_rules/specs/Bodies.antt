@@ -14,20 +14,20 @@ use Rattle.typing_rules.specs.Required.{Ability, required_at, given_abilities, h
 use Rattle.typing_rules.specs.Pools.{type_at}
 use Rattle.ability_rules.specs.declared.required.entry.Judged.{Judged}
 use Rattle.ability_rules.specs.declared.required.entry.JudgedTypes.{JudgedTypes}
-use Rattle.ability_rules.specs.Entries.{IsTold, TellsTypes, judged_at}
+use Rattle.ability_rules.specs.Entries.{IsListed, TellsTypes, judged_at}
 
 -- the judgment of the type of the type variable p
-abbrev pub place_told : JudgedTypes → List ℕ → ℕ → Judged
-place_told table places p = judged_at table (slice_index_or places p 0)
+abbrev pub judged_variable : JudgedTypes → List ℕ → ℕ → Judged
+judged_variable table variables p = judged_at table (slice_index_or variables p 0)
 
 -- ---- the table of a body
 
 -- All of these type variables have types, by numbers that the table has.
-pub record IsJudgedBody (program : Program) (f : Function) (places : List ℕ) (table : JudgedTypes) : Type 0 where
+pub record IsJudgedBody (program : Program) (f : Function) (variables : List ℕ) (table : JudgedTypes) : Type 0 where
   pub types : List TypeData
-  pub typed : IsTyped (function_system program f) (map (type_at types) places)
+  pub typed : IsTyped (function_system program f) (map (type_at types) variables)
   pub tells : TellsTypes program.structs (given_abilities f.type_parameters) types table
-  pub told : All (IsTold table) places
+  pub known : All (IsListed table) variables
 
 -- for each node whether another node takes it as an lvalue, and not its value
 pub record TellsTaken (taken : List Bool) (nodes : List CodeNode) : Type 0 where
@@ -38,21 +38,21 @@ pub record TellsTaken (taken : List Bool) (nodes : List CodeNode) : Type 0 where
 
 -- the type of the variable lacks an ability that is required of it
 abbrev pub is_lacking : (ℕ → Judged) → (ℕ × Ability) → Bool
-is_lacking told ask = not (has_ability ask.1 (told ask.0).abilities)
+is_lacking known ask = not (has_ability ask.1 (known ask.0).abilities)
 
 abbrev pub node_lacks : (ℕ → Judged) → List CodeNode → ℕ → ℕ → CodeNode → Bool
-node_lacks told nodes n first node = list_any (is_lacking told) (required_at nodes n first node)
+node_lacks known nodes n first node = list_any (is_lacking known) (required_at nodes n first node)
 
 -- a type is a valid argument for its parameter
 abbrev pub is_argument : Judged → List TypeParameter → ℕ → Bool
-is_argument told parameters i = told.is_constrained && meets_parameter (slice_get parameters i) told.abilities
+is_argument known parameters i = known.is_constrained && meets_parameter (slice_get parameters i) known.abilities
 
 -- a type that is written at the node contains a type argument that does not meet its constraint
 abbrev pub writes_lacking : Structs → List AbilitySet → CodeNode → Bool
 writes_lacking structs params node = list_any (λ of. not (is_constrained structs params of)) (written_at node)
 
 -- one of the type arguments, so many from a type variable on, is no valid argument for its parameter
-pub record LacksArgument (told : ℕ → Judged) (parameters : List TypeParameter) (first count : ℕ) : Type 0 where
+pub record LacksArgument (known : ℕ → Judged) (parameters : List TypeParameter) (first count : ℕ) : Type 0 where
   pub number : ℕ
   pub within : number < count
-  pub lacks : is_argument (told (first + number)) parameters number ≡ false
+  pub lacks : is_argument (known (first + number)) parameters number ≡ false

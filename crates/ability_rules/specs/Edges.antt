@@ -21,7 +21,7 @@ use Rattle.typing_rules.specs.declared.type_pool.PoolType.{PoolType}
 use Rattle.typing_rules.specs.declared.type_pool.PoolType.TheVariants.{Plain, Made, Struct, Tuple}
 use Rattle.base.specs.declared.marked_cycles.edge.MarkedEdge.{MarkedEdge}
 use Rattle.ability_rules.specs.declared.polymorphic_recursion.rows.Row.{Row}
-use Rattle.ability_rules.specs.declared.polymorphic_recursion.told.PlaceTypes.{PlaceTypes}
+use Rattle.ability_rules.specs.declared.polymorphic_recursion.known.VariableTypes.{VariableTypes}
 
 -- the number of a type parameter of a function, and that of a type in its pool
 abbrev pub parameter_node : Row → ℕ → ℕ
@@ -86,7 +86,7 @@ abbrev pub node_edges : Program → List Row → Row → List (Option ℕ) → �
 node_edges program rows r types first (Many form parts) = form_edges program rows r types first form
 node_edges program rows r types first _ = []
 
-abbrev pub at_node : Program → List Row → Row → Function → PlaceTypes → ℕ → List MarkedEdge
+abbrev pub at_node : Program → List Row → Row → Function → VariableTypes → ℕ → List MarkedEdge
 at_node program rows r f p n =
     if nat_lt n p.read then of_option (node_edges program rows r p.types.now (first_argument (function_setting program f) n)) (slice_get f.body.nodes n) else []
 
@@ -97,15 +97,15 @@ abbrev pub is_number : ℕ → Option ℕ → Bool
 is_number n None = false
 is_number n (Some m) = m == n
 
-abbrev pub body_edges : Program → List Row → Row → PlaceTypes → ℕ → FunctionId → Function → List MarkedEdge
+abbrev pub body_edges : Program → List Row → Row → VariableTypes → ℕ → FunctionId → Function → List MarkedEdge
 body_edges program rows r p n id f = if is_number n (number program id) then pieces (at_node program rows r f p) (length f.body.nodes) else []
 
-abbrev pub function_edges : Program → List Row → Row → PlaceTypes → ℕ → FunctionId × Function → List MarkedEdge
+abbrev pub function_edges : Program → List Row → Row → VariableTypes → ℕ → FunctionId × Function → List MarkedEdge
 function_edges program rows r p n e = pieces (at_entry r p.pool.now) (length p.pool.now) ++ body_edges program rows r p n e.0 e.1
 
-abbrev pub at_function : Program → List Row → List PlaceTypes → ℕ → List MarkedEdge
-at_function program rows told n =
-    of_option (λ r. of_option (λ p. of_option (function_edges program rows r p n) (slice_get program.functions n)) (slice_get told n)) (slice_get rows n)
+abbrev pub at_function : Program → List Row → List VariableTypes → ℕ → List MarkedEdge
+at_function program rows known n =
+    of_option (λ r. of_option (λ p. of_option (function_edges program rows r p n) (slice_get program.functions n)) (slice_get known n)) (slice_get rows n)
 
-abbrev pub edges_of : Program → List Row → List PlaceTypes → List MarkedEdge
-edges_of program rows told = pieces (at_function program rows told) (length rows)
+abbrev pub edges_of : Program → List Row → List VariableTypes → List MarkedEdge
+edges_of program rows known = pieces (at_function program rows known) (length rows)

@@ -27,20 +27,20 @@ abbrev pub judged_at : JudgedTypes → ℕ → Judged
 judged_at table n = slice_index_or table.judged.items (n - table.start) nothing_judged
 
 -- the table has the entry with this number
-pub record IsTold (table : JudgedTypes) (n : ℕ) : Type 0 where
+pub record IsListed (table : JudgedTypes) (n : ℕ) : Type 0 where
   pub begins : table.start ≤ n
   pub ends : n < table.start + length table.judged.items
 
 -- and each part of an entry
-abbrev pub HasToldParts : JudgedTypes → PoolType → Type 0
-HasToldParts table (Plain p) = Unit {0}
-HasToldParts table (Made wrap m) = IsTold table m
-HasToldParts table (Struct s ms) = All (IsTold table) ms
-HasToldParts table (Tuple ms) = All (IsTold table) ms
+abbrev pub HasKnownParts : JudgedTypes → PoolType → Type 0
+HasKnownParts table (Plain p) = Unit {0}
+HasKnownParts table (Made wrap m) = IsListed table m
+HasKnownParts table (Struct s ms) = All (IsListed table) ms
+HasKnownParts table (Tuple ms) = All (IsListed table) ms
 
 -- the judgment of each entry in the table is that of its type
 pub record TellsTypes (structs : Structs) (params : List AbilitySet) (ts : List TypeData) (table : JudgedTypes) : Type 0 where
-  pub each : (n : ℕ) → IsTold table n → judged_at table n ≡ judged_type structs params (type_at ts n)
+  pub each : (n : ℕ) → IsListed table n → judged_at table n ≡ judged_type structs params (type_at ts n)
 
 -- no part of an entry has a number below this one
 abbrev pub HasPartsFrom : ℕ → PoolType → Type 0
@@ -55,31 +55,31 @@ pub record AreFrom (start : ℕ) (pool : List PoolType) : Type 0 where
 
 -- ---- judgments from those of the parts
 
-abbrev pub common_told : (ℕ → Judged) → List TypeParameter → ℕ → List ℕ → AbilitySet
-common_told told parameters n [] = all_abilities
-common_told told parameters n (m ∷ ms) =
-    if is_phantom (slice_get parameters n) then common_told told parameters (n + 1) ms
-    else both (told m).abilities (common_told told parameters (n + 1) ms)
+abbrev pub common_known : (ℕ → Judged) → List TypeParameter → ℕ → List ℕ → AbilitySet
+common_known known parameters n [] = all_abilities
+common_known known parameters n (m ∷ ms) =
+    if is_phantom (slice_get parameters n) then common_known known parameters (n + 1) ms
+    else both (known m).abilities (common_known known parameters (n + 1) ms)
 
-abbrev pub are_constrained_told : (ℕ → Judged) → List TypeParameter → ℕ → List ℕ → Bool
-are_constrained_told told parameters n [] = true
-are_constrained_told told parameters n (m ∷ ms) =
-    ((told m).is_constrained && meets_parameter (slice_get parameters n) (told m).abilities) && are_constrained_told told parameters (n + 1) ms
+abbrev pub are_constrained_known : (ℕ → Judged) → List TypeParameter → ℕ → List ℕ → Bool
+are_constrained_known known parameters n [] = true
+are_constrained_known known parameters n (m ∷ ms) =
+    ((known m).is_constrained && meets_parameter (slice_get parameters n) (known m).abilities) && are_constrained_known known parameters (n + 1) ms
 
 abbrev pub entry_abilities : Structs → List AbilitySet → (ℕ → Judged) → PoolType → AbilitySet
-entry_abilities structs params told (Plain p) = of_type structs params (plain_type p)
-entry_abilities structs params told (Made Vector m) = of_vector (told m).abilities
-entry_abilities structs params told (Made Shared m) = of_reference
-entry_abilities structs params told (Made Mutable m) = of_reference
-entry_abilities structs params told (Struct s ms) = declared_applied (lookup (same_struct s) structs) (λ parameters. common_told told parameters 0 ms)
-entry_abilities structs params told (Tuple ms) = of_tuple (common_told told [] 0 ms)
+entry_abilities structs params known (Plain p) = of_type structs params (plain_type p)
+entry_abilities structs params known (Made Vector m) = of_vector (known m).abilities
+entry_abilities structs params known (Made Shared m) = of_reference
+entry_abilities structs params known (Made Mutable m) = of_reference
+entry_abilities structs params known (Struct s ms) = declared_applied (lookup (same_struct s) structs) (λ parameters. common_known known parameters 0 ms)
+entry_abilities structs params known (Tuple ms) = of_tuple (common_known known [] 0 ms)
 
 abbrev pub entry_constrained : Structs → (ℕ → Judged) → PoolType → Bool
-entry_constrained structs told (Plain p) = true
-entry_constrained structs told (Made wrap m) = (told m).is_constrained
-entry_constrained structs told (Struct s ms) = are_constrained_told told (type_parameters_of (lookup (same_struct s) structs)) 0 ms
-entry_constrained structs told (Tuple ms) = are_constrained_told told [] 0 ms
+entry_constrained structs known (Plain p) = true
+entry_constrained structs known (Made wrap m) = (known m).is_constrained
+entry_constrained structs known (Struct s ms) = are_constrained_known known (type_parameters_of (lookup (same_struct s) structs)) 0 ms
+entry_constrained structs known (Tuple ms) = are_constrained_known known [] 0 ms
 
 abbrev pub judged_entry : Structs → List AbilitySet → (ℕ → Judged) → PoolType → Judged
-judged_entry structs params told entry =
-    record { abilities = entry_abilities structs params told entry; is_constrained = entry_constrained structs told entry }
+judged_entry structs params known entry =
+    record { abilities = entry_abilities structs params known entry; is_constrained = entry_constrained structs known entry }

@@ -3,6 +3,6 @@ pub mod Entries
 pub mod Locals
 pub mod Nodes
 pub mod Missing
-pub mod Told
+pub mod KnownTypes
 pub mod Edges
 pub mod Rows

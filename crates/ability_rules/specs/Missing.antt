@@ -73,8 +73,8 @@ NodeLacks program own listed of (Many form parts) = FormLacks program own listed
 NodeLacks program own listed of _ = ⊥
 
 -- the type of a type variable, by its number in the pool
-abbrev pub type_of_place : List PoolType → List ℕ → ℕ → TypeData
-type_of_place pool places p = type_at (types pool) (slice_index_or places p 0)
+abbrev pub type_of_variable : List PoolType → List ℕ → ℕ → TypeData
+type_of_variable pool variables p = type_at (types pool) (slice_index_or variables p 0)
 
 -- ---- functions that were examined
 

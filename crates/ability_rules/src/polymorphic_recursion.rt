@@ -2,6 +2,6 @@
 //! of calls.
 
 mod edges;
+pub mod known;
 mod rows;
-pub mod told;
 pub mod wrapping;

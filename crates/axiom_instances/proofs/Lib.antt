@@ -3,7 +3,7 @@ pub mod ListLemmas
 pub mod NumberLemmas
 pub mod FormLemmas
 pub mod RowLemmas
-pub mod StandingLaws
+pub mod PresentLaws
 pub mod TypeFormLemmas
 pub mod VectorLemmas
 pub mod QuietLemmas

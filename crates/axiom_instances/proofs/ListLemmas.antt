@@ -12,7 +12,7 @@ use Rattle.term_pool.proofs.ShapeLemmas.{a_formula}
 use Rattle.axiom_instances.specs.declared.triggered.TriggeredTerms.{TriggeredTerms}
 use Rattle.axiom_instances.specs.declared.triggered.TriggeredAxiom.{TriggeredAxiom}
 use Rattle.axiom_instances.specs.declared.triggered.Row.{Row}
-use Rattle.axiom_instances.specs.Lists.{Triggered, AreTerms, OfNone, OfOne, OfTwo, IsTriggered, AreTriggered, NoneTriggered, MoreTriggered, Adds, AddsMade, IsReady, are_formulas, told, AreAll, ListsAll}
+use Rattle.axiom_instances.specs.Lists.{Triggered, AreTerms, OfNone, OfOne, OfTwo, IsTriggered, AreTriggered, NoneTriggered, MoreTriggered, Adds, AddsMade, IsReady, are_formulas, known, AreAll, ListsAll}
 use Rattle.axiom_instances.specs.Templates.{items_at, AreItems, is_part, all_fit, number_at}
 use Rattle.axiom_instances.proofs.TemplateLemmas.{items_are, nodes_fit, part_at, is_sort, both}
 
@@ -53,7 +53,7 @@ adds_as {ns} {ms} {xs} {ys} e h = subst (Adds ns ms xs ys) e h
 
 -- a row by its numbers
 abbrev pub triggered_row : TriggeredTerms → List ℕ → Row → TriggeredAxiom
-triggered_row terms is r = record { name = r.name; terms = terms; formula = number_at is r.place }
+triggered_row terms is r = record { name = r.name; terms = terms; formula = number_at is r.position }
 
 abbrev pub triggered_rows : TriggeredTerms → List ℕ → List Row → List TriggeredAxiom
 triggered_rows terms is rows = map (triggered_row terms is) rows
@@ -64,19 +64,19 @@ module _ {ns : List Node} {is : List ℕ} {xs : List Item} (h : AreItems ns is x
       let p = part_at a FormulaSort h e in
       record { within = p.at.within; is = p.at.is ∙ sym (a_formula (nth xs a) (sym (is_sort FormulaSort _ e))) }
 
-  rows_are : {terms : TriggeredTerms} {ts : List TermData} (rows : List Row) → are_formulas xs rows ≡ true → AreTerms ns terms ts → AreTriggered ns (triggered_rows terms is rows) (told xs ts rows)
+  rows_are : {terms : TriggeredTerms} {ts : List TermData} (rows : List Row) → are_formulas xs rows ≡ true → AreTerms ns terms ts → AreTriggered ns (triggered_rows terms is rows) (known xs ts rows)
   rows_are [] e t = NoneTriggered
   rows_are (r ∷ rows) e t =
-      let both-fit = both (is_part xs r.place FormulaSort) (are_formulas xs rows) e in
-      MoreTriggered _ _ _ _ (record { name = refl; terms = t; formula = formula_here r.place both-fit.0 }) (rows_are rows both-fit.1 t)
+      let both-fit = both (is_part xs r.position FormulaSort) (are_formulas xs rows) e in
+      MoreTriggered _ _ _ _ (record { name = refl; terms = t; formula = formula_here r.position both-fit.0 }) (rows_are rows both-fit.1 t)
 
-  pub row_within : (rows : List Row) (i : ℕ) (d : Row) → are_formulas xs rows ≡ true → i < length rows → (get_or rows i d).place < length is
+  pub row_within : (rows : List Row) (i : ℕ) (d : Row) → are_formulas xs rows ≡ true → i < length rows → (get_or rows i d).position < length is
   row_within [] i d e w = absurd (omega arith)
   row_within (q ∷ rows) zero d e w =
-      let both-fit = both (is_part xs q.place FormulaSort) (are_formulas xs rows) e in
-      (part_at q.place FormulaSort h both-fit.0).within
+      let both-fit = both (is_part xs q.position FormulaSort) (are_formulas xs rows) e in
+      (part_at q.position FormulaSort h both-fit.0).within
   row_within (q ∷ rows) (suc i) d e w =
-      let both-fit = both (is_part xs q.place FormulaSort) (are_formulas xs rows) e in
+      let both-fit = both (is_part xs q.position FormulaSort) (are_formulas xs rows) e in
       row_within rows i d both-fit.1 (omega arith)
 
   pub rows_added : {ks : List Node} {terms : TriggeredTerms} {given : List ℕ} {nodes : List Node} (rows : List Row) (zs : List TriggeredAxiom) → Extends ks ns → xs ≡ items_from (items_at ks given) nodes → are_formulas xs rows ≡ true → AddsMade ks ns zs (zs ++ triggered_rows terms is rows) terms given nodes rows
@@ -85,18 +85,18 @@ module _ {ns : List Node} {is : List ℕ} {xs : List Item} (h : AreItems ns is x
       extends = e;
       more = triggered_rows terms is rows;
       is = refl;
-      are = subst (λ ys. AreTriggered ns (triggered_rows terms is rows) (told ys ts rows)) same (rows_are rows f (terms_stay e t));
+      are = subst (λ ys. AreTriggered ns (triggered_rows terms is rows) (known ys ts rows)) same (rows_are rows f (terms_stay e t));
     };
   }
 
-pub rows_next : (terms : TriggeredTerms) (is : List ℕ) (rows : List Row) (i : ℕ) (d : Row) (n : ℕ) (xs ys zs : List TriggeredAxiom) → i < length rows → n ≡ number_at is (get_or rows i d).place → ys ≡ xs ++ triggered_rows terms is (take i rows) → zs ≡ ys ++ record { name = (get_or rows i d).name; terms = terms; formula = n } ∷ [] → zs ≡ xs ++ triggered_rows terms is (take (i + 1) rows)
+pub rows_next : (terms : TriggeredTerms) (is : List ℕ) (rows : List Row) (i : ℕ) (d : Row) (n : ℕ) (xs ys zs : List TriggeredAxiom) → i < length rows → n ≡ number_at is (get_or rows i d).position → ys ≡ xs ++ triggered_rows terms is (take i rows) → zs ≡ ys ++ record { name = (get_or rows i d).name; terms = terms; formula = n } ∷ [] → zs ≡ xs ++ triggered_rows terms is (take (i + 1) rows)
 rows_next terms is rows i d n xs ys zs w e f g =
     let one : suc i ≡ i + 1 = omega arith in
     let r = get_or rows i d in
     let longer : take (i + 1) rows ≡ take i rows ++ r ∷ [] = ap (λ j. take j rows) (sym one) ∙ take-suc rows i d w in
     let more : triggered_rows terms is (take (i + 1) rows) ≡ triggered_rows terms is (take i rows) ++ triggered_row terms is r ∷ [] = ap (triggered_rows terms is) longer ∙ map-append (triggered_row terms is) (take i rows) (r ∷ []) in
-    let told-by : zs ≡ ys ++ triggered_row terms is r ∷ [] = g ∙ ap (λ k. ys ++ record { name = r.name; terms = terms; formula = k } ∷ []) e in
-    told-by ∙ ap (λ us. us ++ triggered_row terms is r ∷ []) f ∙ append_assoc xs (triggered_rows terms is (take i rows)) (triggered_row terms is r ∷ []) ∙ ap (λ us. xs ++ us) (sym more)
+    let known-by : zs ≡ ys ++ triggered_row terms is r ∷ [] = g ∙ ap (λ k. ys ++ record { name = r.name; terms = terms; formula = k } ∷ []) e in
+    known-by ∙ ap (λ us. us ++ triggered_row terms is r ∷ []) f ∙ append_assoc xs (triggered_rows terms is (take i rows)) (triggered_row terms is r ∷ []) ∙ ap (λ us. xs ++ us) (sym more)
 
 -- the numbers of given items make a template ready
 pub ready : {ns : List Node} {is : List ℕ} {xs : List Item} {nodes : List Node} {rows : List Row} → AreItems ns is xs → all_fit xs nodes ≡ true → are_formulas (items_from xs nodes) rows ≡ true → IsReady ns is nodes rows
@@ -106,9 +106,9 @@ ready {nodes = nodes} {rows = rows} h e f = record {
 }
 
 -- instances by a template over known items
-pub adds_made : {ns ms : List Node} {xs ys : List TriggeredAxiom} {terms : TriggeredTerms} {given : List ℕ} {over : List Item} {nodes : List Node} {rows : List Row} {ts : List TermData} → AddsMade ns ms xs ys terms given nodes rows → AreItems ns given over → AreTerms ns terms ts → Adds ns ms xs ys (told (items_from over nodes) ts rows)
+pub adds_made : {ns ms : List Node} {xs ys : List TriggeredAxiom} {terms : TriggeredTerms} {given : List ℕ} {over : List Item} {nodes : List Node} {rows : List Row} {ts : List TermData} → AddsMade ns ms xs ys terms given nodes rows → AreItems ns given over → AreTerms ns terms ts → Adds ns ms xs ys (known (items_from over nodes) ts rows)
 adds_made {nodes = nodes} {rows = rows} {ts = ts} h are terms =
-    adds_as (ap (λ us. told (items_from us nodes) ts rows) (items_are are)) (h.adds ts terms)
+    adds_as (ap (λ us. known (items_from us nodes) ts rows) (items_are are)) (h.adds ts terms)
 
 -- ---- results that may be errors
 
@@ -116,7 +116,7 @@ pub ok_as : {A E : Type 0} (ns ms : List Node) (xs ys : List TriggeredAxiom) {as
 ok_as ns ms xs ys (Ok u) e h = adds_as e h
 ok_as ns ms xs ys (Err x) e h = h
 
-pub ok_made : {A E : Type 0} {ns : List Node} (ms : List Node) (xs ys : List TriggeredAxiom) {terms : TriggeredTerms} {given : List ℕ} {over : List Item} (nodes : List Node) (rows : List Row) {ts : List TermData} (r : Result A E) → IfOk r (λ u. AddsMade ns ms xs ys terms given nodes rows) → AreItems ns given over → AreTerms ns terms ts → IfOk r (λ u. Adds ns ms xs ys (told (items_from over nodes) ts rows))
+pub ok_made : {A E : Type 0} {ns : List Node} (ms : List Node) (xs ys : List TriggeredAxiom) {terms : TriggeredTerms} {given : List ℕ} {over : List Item} (nodes : List Node) (rows : List Row) {ts : List TermData} (r : Result A E) → IfOk r (λ u. AddsMade ns ms xs ys terms given nodes rows) → AreItems ns given over → AreTerms ns terms ts → IfOk r (λ u. Adds ns ms xs ys (known (items_from over nodes) ts rows))
 ok_made ms xs ys nodes rows (Ok u) h are terms = adds_made h are terms
 ok_made ms xs ys nodes rows (Err x) h are terms = h
 

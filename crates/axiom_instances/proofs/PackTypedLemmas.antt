@@ -117,9 +117,9 @@ module _ (ns : List Node) (args fields : List TypeData) (founds : List (Option �
     lacks_typed ps lack h =
         let r = results_length results in
         let w = lack.within in
-        let here : lack.place < length fields = omega (arith, r, w) in
-        let said = h.2 lack.place BoolType NothingTerm (IsFormula BoolType NothingTerm) here in
-        lacks_put lack.place BoolType said.0 here lack.lacks said.1
+        let here : lack.position < length fields = omega (arith, r, w) in
+        let said = h.2 lack.position BoolType NothingTerm (IsFormula BoolType NothingTerm) here in
+        lacks_put lack.position BoolType said.0 here lack.lacks said.1
 
 other_count : (args fields : List TypeData) (us : List TermData) (ps : List FormulaData) → (length us ≡ length fields → ⊥) → AreFieldsTyped args fields us ps → ⊥
 unfolding AreFieldsTyped

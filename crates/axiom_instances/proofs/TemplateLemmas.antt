@@ -164,8 +164,8 @@ making_last {ms = ms} {is = is} h = subst (AreItems ms is) h.same h.are
 
 -- ---- the remaining nodes from an index on
 
-from_place : (ns : List Node) (i : ℕ) (d : Node) → i < length ns → drop i ns ≡ get_or ns i d ∷ drop (i + 1) ns
-from_place ns i d h = let one : suc i ≡ i + 1 = omega arith in drop-cons ns i d h ∙ ap (λ j. get_or ns i d ∷ drop j ns) one
+from_position : (ns : List Node) (i : ℕ) (d : Node) → i < length ns → drop i ns ≡ get_or ns i d ∷ drop (i + 1) ns
+from_position ns i d h = let one : suc i ≡ i + 1 = omega arith in drop-cons ns i d h ∙ ap (λ j. get_or ns i d ∷ drop j ns) one
 
 none_left : (ns : List Node) (i : ℕ) → length ns ≤ i → drop i ns ≡ []
 none_left [] zero h = refl
@@ -175,7 +175,7 @@ none_left (n ∷ ns) (suc i) h = none_left ns i (omega arith)
 
 pub making_here : {ns ms : List Node} {given is : List ℕ} {nodes : List Node} (i : ℕ) (d : Node) → i < length nodes → Making ns ms given is nodes (drop i nodes) → Making ns ms given is nodes (get_or nodes i d ∷ drop (i + 1) nodes)
 making_here {ns} {ms} {given} {is} {nodes} i d h m =
-    subst (λ left. Making ns ms given is nodes left) (from_place nodes i d h) m
+    subst (λ left. Making ns ms given is nodes left) (from_position nodes i d h) m
 
 pub making_end : {ns ms : List Node} {given is : List ℕ} {nodes : List Node} (i : ℕ) → length nodes ≤ i → Making ns ms given is nodes (drop i nodes) → Making ns ms given is nodes []
 making_end {ns} {ms} {given} {is} {nodes} i h m =

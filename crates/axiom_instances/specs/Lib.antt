@@ -1,5 +1,5 @@
 pub mod Asks
-pub mod Standing
+pub mod Present
 pub mod Lists
 pub mod Rows
 pub mod Numbers

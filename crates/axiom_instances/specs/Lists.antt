@@ -46,7 +46,7 @@ pub record Adds (ns ms : List Node) (xs ys : List TriggeredAxiom) (as' : List Tr
 -- whether the items at the indices of the rows are formulas
 abbrev pub are_formulas : List Item → List Row → Bool
 are_formulas xs [] = true
-are_formulas xs (r ∷ rs) = is_part xs r.place FormulaSort && are_formulas xs rs
+are_formulas xs (r ∷ rs) = is_part xs r.position FormulaSort && are_formulas xs rs
 
 -- the numbers are of the pool, the nodes are well-sorted over their items, and the items at the indices of the rows
 -- are formulas
@@ -55,12 +55,12 @@ pub record IsReady (ns : List Node) (given : List ℕ) (nodes : List Node) (rows
   pub formulas : are_formulas (items_from (items_at ns given) nodes) rows ≡ true
 
 -- the instances of the rows, made from these terms
-abbrev pub told : List Item → List TermData → List Row → List Triggered
-told xs ts [] = []
-told xs ts (r ∷ rs) = record { name = r.name; terms = ts; formula = formula_in (nth xs r.place) } ∷ told xs ts rs
+abbrev pub known : List Item → List TermData → List Row → List Triggered
+known xs ts [] = []
+known xs ts (r ∷ rs) = record { name = r.name; terms = ts; formula = formula_in (nth xs r.position) } ∷ known xs ts rs
 
 pub record AddsMade (ns ms : List Node) (xs ys : List TriggeredAxiom) (terms : TriggeredTerms) (given : List ℕ) (nodes : List Node) (rows : List Row) : Type 0 where
-  pub adds : (ts : List TermData) → AreTerms ns terms ts → Adds ns ms xs ys (told (items_from (items_at ns given) nodes) ts rows)
+  pub adds : (ts : List TermData) → AreTerms ns terms ts → Adds ns ms xs ys (known (items_from (items_at ns given) nodes) ts rows)
 
 -- ---- all instances of a trigger
 

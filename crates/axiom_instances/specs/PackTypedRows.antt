@@ -29,9 +29,9 @@ pub record AreTermNumbers (ns : List Node) (numbers : List ℕ) : Type 0 where
 
 -- some type is not found
 pub record LacksType (founds : List (Option ℕ)) : Type 0 where
-  pub place : ℕ
-  pub within : place < length founds
-  pub lacks : slice_index_or founds place None ≡ None
+  pub position : ℕ
+  pub within : position < length founds
+  pub lacks : slice_index_or founds position None ≡ None
 
 pub record AreAllFound (founds : List (Option ℕ)) : Type 0 where
   pub each : (k : ℕ) → k < length founds → slice_index_or founds k None ≢ None

@@ -30,9 +30,9 @@ pub record IsNextType (ns : List Node) (list : ℕ) (p : ℕ × ℕ) : Type 0 wh
   pub is : types_at ns list ≡ type_at ns p.0 ∷ types_at ns p.1
 
 -- the type of a list at this index
-pub record IsArgument (ns : List Node) (args : List TypeData) (place n : ℕ) : Type 0 where
+pub record IsArgument (ns : List Node) (args : List TypeData) (position n : ℕ) : Type 0 where
   pub number : IsTypeNumber ns n
-  pub found : slice_get args place ≡ Some (type_at ns n)
+  pub found : slice_get args position ≡ Some (type_at ns n)
 
 -- a type other than a type parameter, or the empty list of types
 abbrev pub is_fixed : Leaf → Bool

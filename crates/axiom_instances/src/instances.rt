@@ -35,19 +35,19 @@ pub fn always_triggered(alloc: Global, pool: &mut Pool) -> Result<Vec<TriggeredA
     let rows = [
         Row {
             name: Axiom::Plain(Fact::TruthsDiffer),
-            place: 3,
+            position: 3,
         },
         Row {
             name: Axiom::Plain(Fact::TrueHolds),
-            place: 4,
+            position: 4,
         },
         Row {
             name: Axiom::Plain(Fact::FalseFails),
-            place: 6,
+            position: 6,
         },
         Row {
             name: Axiom::Plain(Fact::NothingFails),
-            place: 9,
+            position: 9,
         },
     ];
     let nodes = [
@@ -110,18 +110,18 @@ pub fn axioms_of_item(
     pool: &mut Pool,
     of: usize,
     vector: usize,
-    place: usize,
+    position: usize,
 ) -> Result<Vec<TriggeredAxiom>, NoMemory>
     requires vector { IsTermNumber pool.old vector }
-    requires place { IsTermNumber pool.old place }
+    requires position { IsTermNumber pool.old position }
     ensures extends { Extends pool.old pool.new }
-    ensures all { IfOk result (λ found. ListsAll pool.new found.items (AsksOfItem (type_at pool.old of) (term_at pool.old vector) (term_at pool.old place))) }
+    ensures all { IfOk result (λ found. ListsAll pool.new found.items (AsksOfItem (type_at pool.old of) (term_at pool.old vector) (term_at pool.old position))) }
 {
     let mut list = TriggeredList {
         alloc,
         items: Vec::new(alloc),
     };
-    ask_item(pool, &mut list, of, vector, place)?;
+    ask_item(pool, &mut list, of, vector, position)?;
     Ok(list.items)
 }
 
@@ -141,7 +141,7 @@ pub fn axioms_of_type(
     };
     let rows = [Row {
         name: Axiom::Plain(Fact::NothingUntyped),
-        place: 3,
+        position: 3,
     }];
     let nodes = [constant!(Constant::Nothing), typed!(0, 1), not!(2)];
     ask(pool, &mut list, TriggeredTerms::None, &[of], &nodes, &rows)?;

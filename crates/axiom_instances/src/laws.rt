@@ -6,7 +6,7 @@ ghost use Rattle.fol.specs.declared.shapes.Shape.{Shape};
 ghost use Rattle.axioms.specs.declared.axiom.Axiom.{Axiom};
 ghost use Rattle.certificates.specs.BranchesBranch.{Branch};
 ghost use Rattle.certificates.specs.Table.{Asks};
-ghost use Rattle.axiom_instances.specs.Standing.{IsTriggeredOn};
+ghost use Rattle.axiom_instances.specs.Present.{IsTriggeredOn};
 
 /// An instance is triggered on a branch exactly when a term, a type or a read on it triggers it.
 pub fn triggered_by_what_stands()

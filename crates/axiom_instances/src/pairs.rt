@@ -37,7 +37,7 @@ fn ask_store_read(
 {
     let rows = [Row {
         name: Axiom::EqualUnless(Exception::SelectOther),
-        place: 11,
+        position: 11,
     }];
     let nodes = [
         equal!(2, 3),
@@ -65,16 +65,16 @@ fn ask_push_read(
     term: usize,
     vector: usize,
     item: usize,
-    place: usize,
+    position: usize,
 ) -> Result<(), NoMemory>
     requires term { IsBinary pool.old Binary.Push term vector item }
-    requires key { IsTermNumber pool.old place }
+    requires key { IsTermNumber pool.old position }
     ensures extends { Extends pool.old pool.new }
-    ensures adds { IfOk result (λ u. Adds pool.old pool.new list.old.items.items list.new.items.items (push_read (term_at pool.old vector) (term_at pool.old item) (term_at pool.old place) ∷ [])) }
+    ensures adds { IfOk result (λ u. Adds pool.old pool.new list.old.items.items list.new.items.items (push_read (term_at pool.old vector) (term_at pool.old item) (term_at pool.old position) ∷ [])) }
 {
     let rows = [Row {
         name: Axiom::EqualUnless(Exception::AtOtherPushed),
-        place: 11,
+        position: 11,
     }];
     let nodes = [
         len!(1),
@@ -90,8 +90,8 @@ fn ask_push_read(
     ask(
         pool,
         list,
-        TriggeredTerms::Two(term, place),
-        &[term, vector, place],
+        TriggeredTerms::Two(term, position),
+        &[term, vector, position],
         &nodes,
         &rows,
     )
@@ -102,16 +102,16 @@ fn ask_pop_read(
     list: &mut TriggeredList,
     term: usize,
     vector: usize,
-    place: usize,
+    position: usize,
 ) -> Result<(), NoMemory>
     requires term { IsUnary pool.old Unary.Pop term vector }
-    requires key { IsTermNumber pool.old place }
+    requires key { IsTermNumber pool.old position }
     ensures extends { Extends pool.old pool.new }
-    ensures adds { IfOk result (λ u. Adds pool.old pool.new list.old.items.items list.new.items.items (pop_read (term_at pool.old vector) (term_at pool.old place) ∷ [])) }
+    ensures adds { IfOk result (λ u. Adds pool.old pool.new list.old.items.items list.new.items.items (pop_read (term_at pool.old vector) (term_at pool.old position) ∷ [])) }
 {
     let rows = [Row {
         name: Axiom::EqualUnless(Exception::AtPopped),
-        place: 13,
+        position: 13,
     }];
     let nodes = [
         len!(1),
@@ -129,8 +129,8 @@ fn ask_pop_read(
     ask(
         pool,
         list,
-        TriggeredTerms::Two(term, place),
-        &[term, vector, place],
+        TriggeredTerms::Two(term, position),
+        &[term, vector, position],
         &nodes,
         &rows,
     )
@@ -143,16 +143,16 @@ fn ask_set_read(
     vector: usize,
     at: usize,
     item: usize,
-    place: usize,
+    position: usize,
 ) -> Result<(), NoMemory>
     requires term { IsTernary pool.old Ternary.Set term vector at item }
-    requires key { IsTermNumber pool.old place }
+    requires key { IsTermNumber pool.old position }
     ensures extends { Extends pool.old pool.new }
-    ensures adds { IfOk result (λ u. Adds pool.old pool.new list.old.items.items list.new.items.items (set_read (term_at pool.old vector) (term_at pool.old at) (term_at pool.old item) (term_at pool.old place) ∷ [])) }
+    ensures adds { IfOk result (λ u. Adds pool.old pool.new list.old.items.items list.new.items.items (set_read (term_at pool.old vector) (term_at pool.old at) (term_at pool.old item) (term_at pool.old position) ∷ [])) }
 {
     let rows = [Row {
         name: Axiom::EqualUnless(Exception::AtOtherSet),
-        place: 11,
+        position: 11,
     }];
     let nodes = [
         equal!(2, 3),
@@ -167,8 +167,8 @@ fn ask_set_read(
     ask(
         pool,
         list,
-        TriggeredTerms::Two(term, place),
-        &[term, vector, at, place],
+        TriggeredTerms::Two(term, position),
+        &[term, vector, at, position],
         &nodes,
         &rows,
     )
@@ -208,17 +208,17 @@ fn ask_typed_item(
     of: usize,
     items: usize,
     vector: usize,
-    place: usize,
+    position: usize,
 ) -> Result<(), NoMemory>
     requires of { IsVector pool.old of items }
     requires vector { IsTermNumber pool.old vector }
-    requires place { IsTermNumber pool.old place }
+    requires position { IsTermNumber pool.old position }
     ensures extends { Extends pool.old pool.new }
-    ensures adds { IfOk result (λ u. Adds pool.old pool.new list.old.items.items list.new.items.items (item_row (type_at pool.old items) (term_at pool.old vector) (term_at pool.old place) ∷ [])) }
+    ensures adds { IfOk result (λ u. Adds pool.old pool.new list.old.items.items list.new.items.items (item_row (type_at pool.old items) (term_at pool.old vector) (term_at pool.old position) ∷ [])) }
 {
     let rows = [Row {
         name: Axiom::Implied(Rule::ItemTyped),
-        place: 21,
+        position: 21,
     }];
     let nodes = [
         number!(0),
@@ -243,8 +243,8 @@ fn ask_typed_item(
     ask(
         pool,
         list,
-        TriggeredTerms::Two(vector, place),
-        &[of, vector, place, items],
+        TriggeredTerms::Two(vector, position),
+        &[of, vector, position, items],
         &nodes,
         &rows,
     )
@@ -256,15 +256,15 @@ pub(crate) fn ask_item(
     list: &mut TriggeredList,
     of: usize,
     vector: usize,
-    place: usize,
+    position: usize,
 ) -> Result<(), NoMemory>
     requires vector { IsTermNumber pool.old vector }
-    requires place { IsTermNumber pool.old place }
+    requires position { IsTermNumber pool.old position }
     ensures extends { Extends pool.old pool.new }
-    ensures adds { IfOk result (λ u. Adds pool.old pool.new list.old.items.items list.new.items.items (item_rows (type_at pool.old of) (term_at pool.old vector) (term_at pool.old place))) }
+    ensures adds { IfOk result (λ u. Adds pool.old pool.new list.old.items.items list.new.items.items (item_rows (type_at pool.old of) (term_at pool.old vector) (term_at pool.old position))) }
 {
     match vector_items(pool, of) {
-        Some(items) => ask_typed_item(pool, list, of, items, vector, place),
+        Some(items) => ask_typed_item(pool, list, of, items, vector, position),
         None => Ok(()),
     }
 }
@@ -285,7 +285,7 @@ fn ask_empty_typed(
 {
     let rows = [Row {
         name: Axiom::Plain(Fact::EmptyTyped),
-        place: 2,
+        position: 2,
     }];
     ask(
         pool,
@@ -312,7 +312,7 @@ fn ask_pop_typed(
 {
     let rows = [Row {
         name: Axiom::Implied(Rule::PopTyped),
-        place: 5,
+        position: 5,
     }];
     let nodes = [typed!(0, 2), typed!(0, 1), implies!(3, 4)];
     ask(
@@ -341,7 +341,7 @@ fn ask_push_typed(
 {
     let rows = [Row {
         name: Axiom::Implied(Rule::PushTyped),
-        place: 17,
+        position: 17,
     }];
     let nodes = [
         typed!(0, 3),
@@ -375,17 +375,17 @@ fn ask_set_typed(
     items: usize,
     term: usize,
     vector: usize,
-    place: usize,
+    position: usize,
     item: usize,
 ) -> Result<(), NoMemory>
     requires of { IsVector pool.old of items }
-    requires term { IsTernary pool.old Ternary.Set term vector place item }
+    requires term { IsTernary pool.old Ternary.Set term vector position item }
     ensures extends { Extends pool.old pool.new }
-    ensures adds { IfOk result (λ u. Adds pool.old pool.new list.old.items.items list.new.items.items (set_typed (type_at pool.old items) (term_at pool.old vector) (term_at pool.old place) (term_at pool.old item) ∷ [])) }
+    ensures adds { IfOk result (λ u. Adds pool.old pool.new list.old.items.items list.new.items.items (set_typed (type_at pool.old items) (term_at pool.old vector) (term_at pool.old position) (term_at pool.old item) ∷ [])) }
 {
     let rows = [Row {
         name: Axiom::Implied(Rule::SetTyped),
-        place: 12,
+        position: 12,
     }];
     let nodes = [
         typed!(0, 3),

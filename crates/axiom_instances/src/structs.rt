@@ -80,7 +80,7 @@ fn ask_fields(
 {
     let rows = [Row {
         name: Axiom::OfStruct(StructAxiom::FieldOfPack),
-        place: 4,
+        position: 4,
     }];
     for k in 0..count {
         let given = [term, of, numbers[k as usize]];

@@ -29,7 +29,7 @@ fn ask_whole(pool: &mut Pool, list: &mut TriggeredList, term: usize) -> Result<(
 {
     let rows = [Row {
         name: Axiom::Plain(Fact::Whole),
-        place: 2,
+        position: 2,
     }];
     let nodes = [type_number!(), typed!(1, 0)];
     ask(
@@ -52,11 +52,11 @@ fn ask_max(pool: &mut Pool, list: &mut TriggeredList, term: usize) -> Result<(),
     let rows = [
         Row {
             name: Axiom::Plain(Fact::MaxBound),
-            place: 2,
+            position: 2,
         },
         Row {
             name: Axiom::Plain(Fact::Whole),
-            place: 4,
+            position: 4,
         },
     ];
     let nodes = [
@@ -82,7 +82,7 @@ fn ask_empty(pool: &mut Pool, list: &mut TriggeredList, term: usize) -> Result<(
 {
     let rows = [Row {
         name: Axiom::Equal(Equation::LenEmpty),
-        place: 3,
+        position: 3,
     }];
     let nodes = [len!(0), number!(0), equal!(1, 2)];
     ask(
@@ -128,11 +128,11 @@ fn ask_len(
     let rows = [
         Row {
             name: Axiom::Plain(Fact::LenFromZero),
-            place: 2,
+            position: 2,
         },
         Row {
             name: Axiom::Plain(Fact::Whole),
-            place: 4,
+            position: 4,
         },
     ];
     let nodes = [number!(0), at_most!(1, 0), type_number!(), typed!(3, 0)];
@@ -158,7 +158,7 @@ fn ask_pop(
 {
     let rows = [Row {
         name: Axiom::EqualUnless(Exception::LenPopped),
-        place: 12,
+        position: 12,
     }];
     let nodes = [
         len!(1),
@@ -215,7 +215,7 @@ fn ask_blank(
 {
     let rows = [Row {
         name: Axiom::Equal(Equation::SelectBlank),
-        place: 2,
+        position: 2,
     }];
     let nodes = [constant!(Constant::Nothing), equal!(0, 1)];
     ask(
@@ -260,11 +260,11 @@ fn ask_push(
     let rows = [
         Row {
             name: Axiom::Equal(Equation::LenPush),
-            place: 7,
+            position: 7,
         },
         Row {
             name: Axiom::Equal(Equation::AtPushed),
-            place: 9,
+            position: 9,
         },
     ];
     let nodes = [
@@ -299,7 +299,7 @@ fn ask_remainder(
 {
     let rows = [Row {
         name: Axiom::Equal(Equation::Remainder),
-        place: 6,
+        position: 6,
     }];
     let nodes = [
         binary!(Binary::Div, 1, 2),
@@ -330,7 +330,7 @@ fn ask_zero_divisor(
 {
     let rows = [Row {
         name: Axiom::Equal(Equation::DivByZero),
-        place: 2,
+        position: 2,
     }];
     ask(
         pool,
@@ -355,7 +355,7 @@ fn ask_bounds(
 {
     let rows = [Row {
         name: Axiom::Plain(Fact::QuotientBounds),
-        place: 12,
+        position: 12,
     }];
     let nodes = [
         binary!(Binary::Mul, 2, 0),
@@ -411,15 +411,15 @@ fn ask_turned(
     let rows = [
         Row {
             name: Axiom::Equal(Equation::MulTurned),
-            place: 4,
+            position: 4,
         },
         Row {
             name: Axiom::Equal(Equation::MulByOne),
-            place: 9,
+            position: 9,
         },
         Row {
             name: Axiom::Equal(Equation::MulByZero),
-            place: 11,
+            position: 11,
         },
     ];
     let nodes = [
@@ -478,7 +478,7 @@ fn ask_bits_of(
 {
     let rows = [Row {
         name: Axiom::Implied(Rule::BitsTyped),
-        place: 11,
+        position: 11,
     }];
     let nodes = [
         type_int!(width),
@@ -535,7 +535,7 @@ fn ask_shl(
 {
     let rows = [Row {
         name: Axiom::Plain(Fact::ShlTyped),
-        place: 2,
+        position: 2,
     }];
     let nodes = [type_int!(width), typed!(1, 0)];
     ask(
@@ -562,7 +562,7 @@ fn ask_shr(
 {
     let rows = [Row {
         name: Axiom::Implied(Rule::ShrTyped),
-        place: 5,
+        position: 5,
     }];
     let nodes = [type_int!(width), typed!(2, 1), typed!(2, 0), implies!(3, 4)];
     ask(
@@ -647,7 +647,7 @@ fn ask_store(
 {
     let rows = [Row {
         name: Axiom::Equal(Equation::SelectStored),
-        place: 4,
+        position: 4,
     }];
     let nodes = [binary!(Binary::Select, 0, 1), equal!(3, 2)];
     ask(
@@ -665,21 +665,21 @@ fn ask_set(
     list: &mut TriggeredList,
     term: usize,
     vector: usize,
-    place: usize,
+    position: usize,
     item: usize,
 ) -> Result<(), NoMemory>
-    requires { IsTernary pool.old Ternary.Set term vector place item }
+    requires { IsTernary pool.old Ternary.Set term vector position item }
     ensures extends { Extends pool.old pool.new }
-    ensures adds { IfOk result (λ u. Adds pool.old pool.new list.old.items.items list.new.items.items (ternary_rows Ternary.Set (term_at pool.old vector) (term_at pool.old place) (term_at pool.old item))) }
+    ensures adds { IfOk result (λ u. Adds pool.old pool.new list.old.items.items list.new.items.items (ternary_rows Ternary.Set (term_at pool.old vector) (term_at pool.old position) (term_at pool.old item))) }
 {
     let rows = [
         Row {
             name: Axiom::Equal(Equation::LenSet),
-            place: 6,
+            position: 6,
         },
         Row {
             name: Axiom::Cases(Alternative::AtSet),
-            place: 21,
+            position: 21,
         },
     ];
     let nodes = [
@@ -706,7 +706,7 @@ fn ask_set(
         pool,
         list,
         TriggeredTerms::One(term),
-        &[term, vector, place, item],
+        &[term, vector, position, item],
         &nodes,
         &rows,
     )
@@ -745,7 +745,7 @@ fn ask_if(
 {
     let rows = [Row {
         name: Axiom::Cases(Alternative::Choice),
-        place: 16,
+        position: 16,
     }];
     let nodes = [
         equal!(0, 2),

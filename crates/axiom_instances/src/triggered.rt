@@ -38,7 +38,7 @@ pub struct TriggeredList {
 #[derive(Clone, Copy)]
 pub struct Row {
     pub name: Axiom,
-    pub place: usize,
+    pub position: usize,
 }
 
 /// Adds the instances of the rows at the end of the list.
@@ -59,7 +59,7 @@ pub fn ask(
         list.items.push(TriggeredAxiom {
             name: row.name,
             terms,
-            formula: numbers[row.place],
+            formula: numbers[row.position],
         })?;
     }
     Ok(())

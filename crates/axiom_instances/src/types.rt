@@ -46,7 +46,7 @@ fn ask_range(
 {
     let rows = [Row {
         name: Axiom::Exactly(Equivalence::Range),
-        place: 14,
+        position: 14,
     }];
     let nodes = [
         type_number!(),
@@ -88,11 +88,11 @@ fn ask_signer(
     let rows = [
         Row {
             name: Axiom::Exactly(Equivalence::Range),
-            place: 14,
+            position: 14,
         },
         Row {
             name: Axiom::Exactly(Equivalence::Range),
-            place: 17,
+            position: 17,
         },
     ];
     let nodes = [
@@ -137,7 +137,7 @@ fn ask_truth(
 {
     let rows = [Row {
         name: Axiom::Exactly(Equivalence::BoolTyped),
-        place: 11,
+        position: 11,
     }];
     let nodes = [
         constant!(Constant::True),
@@ -175,7 +175,7 @@ fn ask_length(
 {
     let rows = [Row {
         name: Axiom::Implied(Rule::LenBounded),
-        place: 6,
+        position: 6,
     }];
     let nodes = [
         len!(0),

@@ -15,9 +15,9 @@ use Rattle.axiom_instances.specs.declared.triggered.TriggeredAxiom.{TriggeredAxi
 use Rattle.axiom_instances.specs.Asks.{AsksOfTerm, AsksOfType, AsksOfTypeAlone, AsksOfTypeBeside, AsksOfRead, AsksOfItem}
 use Rattle.axiom_instances.specs.Lists.{ListsAll}
 use Rattle.axiom_instances.specs.Numbers.{term_at, type_at}
-use Rattle.axiom_instances.specs.Standing.{IsTriggeredOn, Always as AtAllTimes, OfTerm, OfType, OfTypeAlone, OfTypeBeside, OfRead, OfItem, OfVectors}
+use Rattle.axiom_instances.specs.Present.{IsTriggeredOn, Always as AtAllTimes, OfTerm, OfType, OfTypeAlone, OfTypeBeside, OfRead, OfItem, OfVectors}
 use Rattle.axiom_instances.proofs.NumberLemmas.{term_kept, number_stays}
-use Rattle.axiom_instances.proofs.StandingLaws.{triggered}
+use Rattle.axiom_instances.proofs.PresentLaws.{triggered}
 use Rattle.axiom_instances.proofs.StructAxiomsNumberLemmas.{type_kept, type_stays}
 use Rattle.axiom_instances.specs.VectorRows.{AsksOfPair}
 use Rattle.axiom_strategy.specs.declared.askers.Asker.{Asker}
@@ -26,7 +26,7 @@ use Rattle.axiom_strategy.specs.declared.due.WantedAxioms.{WantedAxioms}
 use Rattle.axiom_strategy.specs.declared.due.AxiomStep.{AxiomStep}
 use Rattle.axiom_strategy.specs.Due.{Asking, NoneDue, IsDueStep, AsksOfSome, IsAxiomStep}
 use Rattle.axiom_strategy.specs.Instances.{IsListed}
-use Rattle.axiom_strategy.specs.Askers.{AreTypeAndTerm, AreTwoTerms, AreTypeAndTerms, IsAsker, AreAskers, asks_of, asks_at, IsStanding}
+use Rattle.axiom_strategy.specs.Askers.{AreTypeAndTerm, AreTwoTerms, AreTypeAndTerms, IsAsker, AreAskers, asks_of, asks_at, IsPresent}
 use Rattle.axiom_strategy.proofs.DueLemmas.{answer_listed}
 
 -- ---- a pool that is extended
@@ -82,7 +82,7 @@ module _ (ns ms : List Node) (grown : Extends ns ms) (d : BranchData) (over : Is
 
 -- ---- triggers on the branch
 
-asks_there : (shapes : List Shape) (ns : List Node) (b : Branch) (x : Asker) {name : Axiom} {ts : List TermData} {p : FormulaData} → IsStanding ns b x → asks_of shapes ns x name ts p → IsTriggeredOn shapes b name ts p
+asks_there : (shapes : List Shape) (ns : List Node) (b : Branch) (x : Asker) {name : Axiom} {ts : List TermData} {p : FormulaData} → IsPresent ns b x → asks_of shapes ns x name ts p → IsTriggeredOn shapes b name ts p
 asks_there shapes ns b Always s h = AtAllTimes h
 asks_there shapes ns b (Term t) s h = OfTerm (term_at ns t) s h
 asks_there shapes ns b (Typing a t) s h = OfType (type_at ns a) (term_at ns t) s h
@@ -93,21 +93,21 @@ asks_there shapes ns b (Item a v i) s h = OfItem (type_at ns a) (term_at ns v) (
 asks_there shapes ns b (Vectors a v u) s h = OfVectors (type_at ns a) (term_at ns v) (term_at ns u) s.0 s.1 s.2 h.triggered
 
 -- the table triggers what they trigger
-pub askers_ask : (shapes : List Shape) (ns : List Node) (b : Branch) (xs : List Asker) → All (IsStanding ns b) xs → (name : Axiom) (ts : List TermData) (p : FormulaData) → AsksOfSome (length xs) (asks_at shapes ns xs) name ts p → Asks shapes b name ts p
+pub askers_ask : (shapes : List Shape) (ns : List Node) (b : Branch) (xs : List Asker) → All (IsPresent ns b) xs → (name : Axiom) (ts : List TermData) (p : FormulaData) → AsksOfSome (length xs) (asks_at shapes ns xs) name ts p → Asks shapes b name ts p
 askers_ask shapes ns b xs all name ts p a =
-    triggered shapes b (asks_there shapes ns b (slice_index_or xs a.place Always) (all a.place Always a.before) a.triggered)
+    triggered shapes b (asks_there shapes ns b (slice_index_or xs a.position Always) (all a.position Always a.before) a.triggered)
 
-place_of : (xs : List Asker) (x : Asker) (k : ℕ) → k < length xs → slice_index_or xs k x ≡ x → slice_index_or xs k Always ≡ x
-place_of [] x k w e = absurd (omega (arith, w))
-place_of (y ∷ xs) x zero w e = e
-place_of (y ∷ xs) x (suc k) w e = place_of xs x k (omega (arith, w)) e
+position_of : (xs : List Asker) (x : Asker) (k : ℕ) → k < length xs → slice_index_or xs k x ≡ x → slice_index_or xs k Always ≡ x
+position_of [] x k w e = absurd (omega (arith, w))
+position_of (y ∷ xs) x zero w e = e
+position_of (y ∷ xs) x (suc k) w e = position_of xs x k (omega (arith, w)) e
 
 -- they trigger what one of them triggers
 pub one_asks : (shapes : List Shape) (ns : List Node) (xs : List Asker) (x : Asker) → Contains xs x → {name : Axiom} {ts : List TermData} {p : FormulaData} → asks_of shapes ns x name ts p → AsksOfSome (length xs) (asks_at shapes ns xs) name ts p
 one_asks shapes ns xs x (k, w, e) {name} {ts} {p} h = record {
-  place = k;
+  position = k;
   before = w;
-  triggered = subst (λ (y : Asker). asks_of shapes ns y name ts p) (sym (place_of xs x k w e)) h;
+  triggered = subst (λ (y : Asker). asks_of shapes ns y name ts p) (sym (position_of xs x k w e)) h;
 }
 
 -- what is due by the table is due

@@ -25,12 +25,12 @@ use Rattle.tableau.proofs.BranchLemmas.{term_item, term_number, known_term}
 use Rattle.tableau.proofs.NearLemmas.{joined_of_class, class_of_joined}
 use Rattle.axiom_strategy.specs.Numbers.{AreNumberMarks}
 use Rattle.axiom_strategy.specs.Denials.{AreDenied}
-use Rattle.axiom_strategy.specs.Places.{IsReadIn, ArePlaces}
+use Rattle.axiom_strategy.specs.Positions.{IsReadIn, ArePositions}
 use Rattle.axiom_strategy.specs.Cuts.{NoCut, IsCut, IsShallowTerm, AreCandidates, IsDeniedEither, IsOpen, NoOpenPair, IsOpenPair, IsKnownBelow, AreAllKnown}
-use Rattle.axiom_strategy.specs.declared.decisions.places.Place.{Place}
+use Rattle.axiom_strategy.specs.declared.decisions.positions.Position.{Position}
 use Rattle.axiom_strategy.proofs.DenialLemmas.{equation_alike, denied_by, turned_by, classes_denied}
 use Rattle.axiom_strategy.proofs.GrownLemmas.{number_grown, so_after}
-use Rattle.axiom_strategy.proofs.PlaceLemmas.{index_number, read_index, read_terms}
+use Rattle.axiom_strategy.proofs.PositionLemmas.{index_number, read_index, read_terms}
 
 -- ---- depth
 
@@ -101,7 +101,7 @@ module _ (ns : List Node) (one : IsOneNumber ns) (d : BranchData) (over : IsOver
           is_other_term = t.stands;
         }
 
-    module _ (terms : List ℕ) (are : AreBranchTerms ns b terms) (marks : List Bool) (numbers : AreNumberMarks ns b marks) (denied : List (ℕ × ℕ)) (denials : AreDenied ns b c denied) (candidates : List ℕ) (chosen : AreCandidates ns c marks terms candidates) (all : List Place) (lists : List (ℕ × List ℕ)) (places : ArePlaces ns b c groups candidates all lists) where
+    module _ (terms : List ℕ) (are : AreBranchTerms ns b terms) (marks : List Bool) (numbers : AreNumberMarks ns b marks) (denied : List (ℕ × ℕ)) (denials : AreDenied ns b c denied) (candidates : List ℕ) (chosen : AreCandidates ns c marks terms candidates) (all : List Position) (lists : List (ℕ × List ℕ)) (positions : ArePositions ns b c groups candidates all lists) where
       candidate_term : (n : ℕ) → Contains candidates n → IsBranchTerm ns b n
       candidate_term n h = (are.each n).0 (chosen.terms_are n h)
 
@@ -112,7 +112,7 @@ module _ (ns : List Node) (one : IsOneNumber ns) (d : BranchData) (over : IsOver
         triggered = inl (read_indexes i j s t read);
         no_numbers = λ h. o.not_both (record { left = (numbers.each i s.number).1 h.left; right = (numbers.each j t.number).1 h.right });
         undecided = record { not_joined = not_joined; not_denied = not_denied };
-        is_new = record { new = λ h. not_joined (ByEntry h.place (term_at ns i) (term_at ns j) h.says) };
+        is_new = record { new = λ h. not_joined (ByEntry h.position (term_at ns i) (term_at ns j) h.says) };
         denial_is_new = record { new = λ h. not_denied (record { formula = EqFormula (term_at ns i) (term_at ns j); stands = h; alike = inl (equation_alike b (term_at ns i) (term_at ns j) (term_at ns i) (term_at ns j) (itself i s) (itself j t)) }) };
         shallow = shallow_both (term_at ns i) (term_at ns j) (term_shallow i s si) (term_shallow j t sj);
       }
@@ -131,8 +131,8 @@ module _ (ns : List Node) (one : IsOneNumber ns) (d : BranchData) (over : IsOver
 
       pub pair_due : (p : ℕ × ℕ) → IsOpenPair c marks denied all lists p → IsBranchTerm ns b p.0 × IsBranchTerm ns b p.1 × CutDue b (term_at ns p.0) (term_at ns p.1)
       pair_due p h =
-          let q = (places.places h.group p.0).0 h.one in
-          let r = (places.by_group h.group p.1).0 h.other in
+          let q = (positions.positions h.group p.0).0 h.one in
+          let r = (positions.by_group h.group p.1).0 h.other in
           let s = candidate_term p.0 q.candidate in
           let t = candidate_term p.1 r.candidate in
           (s, t, open_due p.0 p.1 s t (chosen.shallow p.0 q.candidate) (chosen.shallow p.1 r.candidate) (record { group = h.group; one_read = q.read; other_read = r.read }) h.is_open)
@@ -148,8 +148,8 @@ module _ (ns : List Node) (one : IsOneNumber ns) (d : BranchData) (over : IsOver
           let p = chosen.all i ((are.each i).1 s) (number_shallow i s (shallow_left (term_at ns i) (term_at ns j) due.shallow)) in
           let q = chosen.all j ((are.each j).1 t) (number_shallow j t (shallow_right (term_at ns i) (term_at ns j) due.shallow)) in
           none.none read.group p.candidate q.candidate
-          ((places.places read.group p.candidate).1 (record { candidate = p.among; read = subst (IsReadIn ns b c groups read.group) (sym p.same_class) read.one_read }))
-          ((places.by_group read.group q.candidate).1 (record { candidate = q.among; read = subst (IsReadIn ns b c groups read.group) (sym q.same_class) read.other_read }))
+          ((positions.positions read.group p.candidate).1 (record { candidate = p.among; read = subst (IsReadIn ns b c groups read.group) (sym p.same_class) read.one_read }))
+          ((positions.by_group read.group q.candidate).1 (record { candidate = q.among; read = subst (IsReadIn ns b c groups read.group) (sym q.same_class) read.other_read }))
           (record {
             apart = λ e. due.undecided.not_joined (joined_of_class ns one d over c classes exact i j s t (sym p.same_class ∙ e ∙ q.same_class));
             not_denied = λ m. due.undecided.not_denied (denied_so i j s t (subst (λ x. IsDeniedEither denied x (class_of c j)) p.same_class (subst (IsDeniedEither denied (class_of c p.candidate)) q.same_class m)));
@@ -180,7 +180,7 @@ module _ (ns : List Node) (one : IsOneNumber ns) (d : BranchData) (over : IsOver
 
       -- what the code requires of the index terms
       pub all_known : (length marks ≡ length ns) → AreAllKnown c (length marks) all lists
-      all_known long = record { places = λ g t m. known t ((places.places g t).0 m).candidate; by_group = λ g t m. known t ((places.by_group g t).0 m).candidate }
+      all_known long = record { positions = λ g t m. known t ((positions.positions g t).0 m).candidate; by_group = λ g t m. known t ((positions.by_group g t).0 m).candidate }
         where
           known : (t : ℕ) → Contains candidates t → IsKnownBelow c (length marks) t
           known t m = let s = candidate_term t m in record { known = known_term ns one d over c classes t s; below = (let w = s.number.within in omega (arith, long, w)) }

@@ -28,10 +28,10 @@ use Rattle.axiom_strategy.proofs.NumberLemmas.{says_one, past_says, same_term}
 
 -- the sides of a negated equation are terms of the branch
 pub left_stands : (b : Branch) (t u : TermData) → Stands b (NotFormula (EqFormula t u)) → IsTerm b t
-left_stands b t u h = record { generation = h.says.entry.generation; holds = record { place = h.place; entry = h.says.entry; found = h.says.found; inside = subst (λ p. IsInFormula t p) (sym h.says.is) (InDenied (EqFormula t u) (InLeft Eq t u Itself)); same = refl } }
+left_stands b t u h = record { generation = h.says.entry.generation; holds = record { position = h.position; entry = h.says.entry; found = h.says.found; inside = subst (λ p. IsInFormula t p) (sym h.says.is) (InDenied (EqFormula t u) (InLeft Eq t u Itself)); same = refl } }
 
 pub right_stands : (b : Branch) (t u : TermData) → Stands b (NotFormula (EqFormula t u)) → IsTerm b u
-right_stands b t u h = record { generation = h.says.entry.generation; holds = record { place = h.place; entry = h.says.entry; found = h.says.found; inside = subst (λ p. IsInFormula u p) (sym h.says.is) (InDenied (EqFormula t u) (InRight Eq t u Itself)); same = refl } }
+right_stands b t u h = record { generation = h.says.entry.generation; holds = record { position = h.position; entry = h.says.entry; found = h.says.found; inside = subst (λ p. IsInFormula u p) (sym h.says.is) (InDenied (EqFormula t u) (InRight Eq t u Itself)); same = refl } }
 
 -- an equation up to classes
 record AreSidesJoined (b : Branch) (p : FormulaData) (t u : TermData) : Type 0 where
@@ -62,7 +62,7 @@ pub entry_denies : (ns : List Node) (d : BranchData) (i : ℕ) (e : PoolEntry) �
 entry_denies ns d i e found None h = record { none = λ t u k. h t u (sym (said_is ns d i e (NotFormula (EqFormula t u)) found k)) }
 entry_denies ns d i e found (Some p) h =
     let says : Says (branch_in ns d) i (NotFormula (EqFormula (term_at ns p.0) (term_at ns p.1))) = subst (Says (branch_in ns d) i) h.is (entry_says ns d i e found) in
-    let stands : Stands (branch_in ns d) (NotFormula (EqFormula (term_at ns p.0) (term_at ns p.1))) = record { place = i; says = says } in
+    let stands : Stands (branch_in ns d) (NotFormula (EqFormula (term_at ns p.0) (term_at ns p.1))) = record { position = i; says = says } in
     record {
       left = record { number = h.left; stands = left_stands (branch_in ns d) (term_at ns p.0) (term_at ns p.1) stands };
       right = record { number = h.right; stands = right_stands (branch_in ns d) (term_at ns p.0) (term_at ns p.1) stands };
@@ -84,12 +84,12 @@ same_sides ns one b i p q h k =
 -- one of the first entries states that terms of these classes differ
 pub record IsDeniedBefore (ns : List Node) (b : Branch) (c : BranchClassesData) (count one other : ℕ) : Type 0 where
   pub denied : IsDeniedClass ns b c one other
-  pub before : denied.place < count
+  pub before : denied.position < count
 
 -- the last of them does
 record IsDeniedLast (ns : List Node) (b : Branch) (c : BranchClassesData) (count one other : ℕ) : Type 0 where
   denied : IsDeniedClass ns b c one other
-  last : denied.place ≡ count
+  last : denied.position ≡ count
 
 pub record AreDeniedBefore (ns : List Node) (b : Branch) (c : BranchClassesData) (count : ℕ) (denied : List (ℕ × ℕ)) : Type 0 where
   pub are : (one other : ℕ) → Contains denied (one, other) → IsDeniedBefore ns b c count one other
@@ -101,7 +101,7 @@ module _ (ns : List Node) (b : Branch) (c : BranchClassesData) where
 
   -- by an earlier one, or by the last of them
   denied_cases : (count x y : ℕ) → IsDeniedBefore ns b c (count + 1) x y → IsDeniedBefore ns b c count x y ⊎ IsDeniedLast ns b c count x y
-  denied_cases count x y h = elim (cases_lt h.denied.place count) [
+  denied_cases count x y h = elim (cases_lt h.denied.position count) [
     | inl w ↦ inl (record { denied = h.denied; before = w })
     | inr w ↦ inr (record { denied = h.denied; last = (let l = h.before in omega (arith, l, w)) })
   ]
@@ -123,7 +123,7 @@ module _ (ns : List Node) (b : Branch) (c : BranchClassesData) where
     denied_more count denied more p h denies added = record { are = are; all = all }
       where
         new : IsDeniedBefore ns b c (count + 1) (class_of c p.0) (class_of c p.1)
-        new = record { denied = record { place = count; sides = p; denies = denies; is_one = refl; is_other = refl }; before = omega arith }
+        new = record { denied = record { position = count; sides = p; denies = denies; is_one = refl; is_other = refl }; before = omega arith }
 
         are : (x y : ℕ) → Contains more (x, y) → IsDeniedBefore ns b c (count + 1) x y
         are x y m = elim (added.only (x, y) m) [
@@ -145,7 +145,7 @@ module _ (ns : List Node) (b : Branch) (c : BranchClassesData) where
         ]
 
 pub denied_done : (ns : List Node) (d : BranchData) (c : BranchClassesData) (count : ℕ) (denied : List (ℕ × ℕ)) → length d.entries ≤ count → AreDeniedBefore ns (branch_in ns d) c count denied → AreDenied ns (branch_in ns d) c denied
-denied_done ns d c count denied w h = record { each = λ x y. (λ m. (h.are x y m).denied, λ k. h.all x y (record { denied = k; before = (let l = says_within ns d k.place (NotFormula (EqFormula (term_at ns k.sides.0) (term_at ns k.sides.1))) k.denies.says in omega (arith, l, w)) })) }
+denied_done ns d c count denied w h = record { each = λ x y. (λ m. (h.are x y m).denied, λ k. h.all x y (record { denied = k; before = (let l = says_within ns d k.position (NotFormula (EqFormula (term_at ns k.sides.0) (term_at ns k.sides.1))) k.denies.says in omega (arith, l, w)) })) }
 
 module _ (ns : List Node) (one : IsOneNumber ns) (d : BranchData) (over : IsOver ns d) (c : BranchClassesData) (classes : AreClassesOf ns d c) where
   abbrev b : Branch
@@ -155,7 +155,7 @@ module _ (ns : List Node) (one : IsOneNumber ns) (d : BranchData) (over : IsOver
 
   module _ (exact : AreExact c) where
     stands_so : (x y : ℕ) (h : IsDeniedClass ns b c x y) → Stands b (NotFormula (EqFormula (term_at ns h.sides.0) (term_at ns h.sides.1)))
-    stands_so x y h = record { place = h.place; says = h.denies.says }
+    stands_so x y h = record { position = h.position; says = h.denies.says }
 
     sides_are : (i j : ℕ) → IsBranchTerm ns b i → IsBranchTerm ns b j → (h : IsDeniedClass ns b c (class_of c i) (class_of c j)) → IsAlike b [] (EqFormula (term_at ns h.sides.0) (term_at ns h.sides.1)) (EqFormula (term_at ns i) (term_at ns j))
     sides_are i j s t h =
@@ -177,12 +177,12 @@ module _ (ns : List Node) (one : IsOneNumber ns) (d : BranchData) (over : IsOver
         let left : term_at ns l.number ≡ h.one = ap term_in l.is in
         let right : term_at ns r.number ≡ h.other = ap term_in r.is in
         record {
-          place = said.place;
+          position = said.position;
           sides = (l.number, r.number);
           denies = record {
             left = l.term;
             right = r.term;
-            says = subst (λ x. Says b said.place (NotFormula (EqFormula x (term_at ns r.number)))) (sym left) (subst (λ x. Says b said.place (NotFormula (EqFormula h.one x))) (sym right) said.says);
+            says = subst (λ x. Says b said.position (NotFormula (EqFormula x (term_at ns r.number)))) (sym left) (subst (λ x. Says b said.position (NotFormula (EqFormula h.one x))) (sym right) said.says);
           };
           is_one = class_of_joined ns one d over c classes exact l.number i l.term s (subst (λ x. Joined b x (term_at ns i)) (sym left) h.left);
           is_other = class_of_joined ns one d over c classes exact r.number j r.term t (subst (λ x. Joined b x (term_at ns j)) (sym right) h.right);

@@ -209,12 +209,12 @@ module _ (asks : Asking) where
   triggered_at (MoreTriggered x a xs as' h r) only (suc k) y e = triggered_at r only.1 k y e
 
   pub listed_asks : {ns : List Node} {xs : List TriggeredAxiom} → ListsAll ns xs asks → (name : Axiom) (ts : List TermData) (p : FormulaData) → IsListed ns xs name ts p → asks name ts p
-  listed_asks h name ts p l = subst (λ (c : Triggered). asks c.name c.terms c.formula) l.is (triggered_at h.are h.exactly.only l.place l.instance l.found)
+  listed_asks h name ts p l = subst (λ (c : Triggered). asks c.name c.terms c.formula) l.is (triggered_at h.are h.exactly.only l.position l.instance l.found)
 
 pub among_listed : {ns : List Node} {a : Triggered} {xs : List TriggeredAxiom} {as' : List Triggered} {name : Axiom} {ts : List TermData} {p : FormulaData} → IsAmong a as' → AreTriggered ns xs as' → a ≡ record { name = name; terms = ts; formula = p } → IsListed ns xs name ts p
-among_listed (IsHere _) (MoreTriggered x a xs as' h r) e = record { place = 0; instance = x; found = refl; is = same_triggered h ∙ ap spelled e }
+among_listed (IsHere _) (MoreTriggered x a xs as' h r) e = record { position = 0; instance = x; found = refl; is = same_triggered h ∙ ap spelled e }
 among_listed (IsLater _ _ m) (MoreTriggered x a xs as' h r) e =
-    let rest = among_listed m r e in record { place = suc rest.place; instance = rest.instance; found = rest.found; is = rest.is }
+    let rest = among_listed m r e in record { position = suc rest.position; instance = rest.instance; found = rest.found; is = rest.is }
 
 -- the result for a list of all instances of a trigger
 pub answer_listed : {ns : List Node} {xs : List TriggeredAxiom} (b : Branch) (wanted : WantedAxioms) (asks : Asking) (o : Option AxiomStep) → ListsAll ns xs asks → MatchOption o (NoneDue b wanted (IsListed ns xs)) (IsDueStep ns b wanted (IsListed ns xs)) → MatchOption o (NoneDue b wanted asks) (IsDueStep ns b wanted asks)
@@ -242,11 +242,11 @@ module _ (ns : List Node) (b : Branch) (wanted : WantedAxioms) (xs : List Trigge
 
   pub before_all : (i : ℕ) → length xs ≤ i → NoneBefore ns b wanted xs i → NoneDue b wanted (IsListed ns xs)
   before_all i w h = record {
-    none = λ name p g wants due. (h.none due.triggered.place due.triggered.instance (let v = slice_get_within xs due.triggered.place due.triggered.instance due.triggered.found in omega (arith, v, w)) due.triggered.found).none name p g wants (listed_only name p g due);
+    none = λ name p g wants due. (h.none due.triggered.position due.triggered.instance (let v = slice_get_within xs due.triggered.position due.triggered.instance due.triggered.found in omega (arith, v, w)) due.triggered.found).none name p g wants (listed_only name p g due);
   }
 
   pub listed_step : (i : ℕ) (x : TriggeredAxiom) (step : AxiomStep) → slice_get xs i ≡ Some x → IsDueStep ns b wanted (IsOnly (triggered_in ns x)) step → IsDueStep ns b wanted (IsListed ns xs) step
-  listed_step i x step found h = step_as (λ name ts p a. record { place = i; instance = x; found = found; is = a.is }) h
+  listed_step i x step found h = step_as (λ name ts p a. record { position = i; instance = x; found = found; is = a.is }) h
 
 -- ---- one of the first triggers
 
@@ -258,10 +258,10 @@ module _ {b : Branch} {wanted : WantedAxioms} (asks : ℕ → Asking) where
   some_more i h here = record { none = none }
     where
       none : (name : Axiom) (p : FormulaData) (g : ℕ) → IsWanted wanted name → IsDue b (AsksOfSome (i + 1) asks) name p g → ⊥
-      none name p g w due = elim (cases_lt due.triggered.place i) [ inl l ↦ h.none name p g w (record { terms = due.terms; triggered = record { place = due.triggered.place; before = l; triggered = due.triggered.triggered }; generations = due.generations; is_new = due.is_new; shallow = due.shallow }) | inr l ↦ (let v = due.triggered.before in let same : due.triggered.place ≡ i = omega (arith, v, l) in here.none name p g w (record { terms = due.terms; triggered = subst (λ k. asks k name due.terms p) same due.triggered.triggered; generations = due.generations; is_new = due.is_new; shallow = due.shallow })) ]
+      none name p g w due = elim (cases_lt due.triggered.position i) [ inl l ↦ h.none name p g w (record { terms = due.terms; triggered = record { position = due.triggered.position; before = l; triggered = due.triggered.triggered }; generations = due.generations; is_new = due.is_new; shallow = due.shallow }) | inr l ↦ (let v = due.triggered.before in let same : due.triggered.position ≡ i = omega (arith, v, l) in here.none name p g w (record { terms = due.terms; triggered = subst (λ k. asks k name due.terms p) same due.triggered.triggered; generations = due.generations; is_new = due.is_new; shallow = due.shallow })) ]
 
   pub some_all : (i n : ℕ) → n ≤ i → NoneDue b wanted (AsksOfSome i asks) → NoneDue b wanted (AsksOfSome n asks)
-  some_all i n w h = none_as (λ name ts p a. record { place = a.place; before = (let v = a.before in omega (arith, v, w)); triggered = a.triggered }) h
+  some_all i n w h = none_as (λ name ts p a. record { position = a.position; before = (let v = a.before in omega (arith, v, w)); triggered = a.triggered }) h
 
   pub some_step : {ns : List Node} {step : AxiomStep} (i n : ℕ) → i < n → IsDueStep ns b wanted (asks i) step → IsDueStep ns b wanted (AsksOfSome n asks) step
-  some_step i n w h = step_as (λ name ts p a. record { place = i; before = w; triggered = a }) h
+  some_step i n w h = step_as (λ name ts p a. record { position = i; before = w; triggered = a }) h

@@ -60,13 +60,13 @@ module _ (shapes : List Shape) (ns : List Node) (kept : List Kept) (h : AreKnown
       let is : IsKept shapes ns there = subst (IsKept shapes ns) (get_or_from_slice_get kept found.0 there there found.2) (h.each found.0 there (slice_get_within kept found.0 there found.2)) in
       subst (λ (y : Asker). ListsAll ns xs (asks_of shapes ns y)) (sym (same_asker x found.1 found.3)) is.lists
 
-  pub found_list : (place : ℕ) → slice_get (values_of kept) place ≡ lookup (eq-value.it x) kept → true ≡ is_some (lookup (eq-value.it x) kept) → ListsAll ns (list_at kept place) (asks_of shapes ns x)
-  found_list place e some = go (lookup (eq-value.it x) kept) refl
+  pub found_list : (position : ℕ) → slice_get (values_of kept) position ≡ lookup (eq-value.it x) kept → true ≡ is_some (lookup (eq-value.it x) kept) → ListsAll ns (list_at kept position) (asks_of shapes ns x)
+  found_list position e some = go (lookup (eq-value.it x) kept) refl
     where
-      go : (o : Option (List TriggeredAxiom)) → lookup (eq-value.it x) kept ≡ o → ListsAll ns (list_at kept place) (asks_of shapes ns x)
+      go : (o : Option (List TriggeredAxiom)) → lookup (eq-value.it x) kept ≡ o → ListsAll ns (list_at kept position) (asks_of shapes ns x)
       go None f = absurd (true≢false (some ∙ ap is_some f))
       go (Some xs) f =
-          let is : list_at kept place ≡ xs = ap (λ (o : Option (List TriggeredAxiom)). unwrap_or o []) (sym (slice_get-map (λ (k : Kept). k.1) kept place) ∙ e ∙ f) in
+          let is : list_at kept position ≡ xs = ap (λ (o : Option (List TriggeredAxiom)). unwrap_or o []) (sym (slice_get-map (λ (k : Kept). k.1) kept position) ∙ e ∙ f) in
           subst (λ (ys : List TriggeredAxiom). ListsAll ns ys (asks_of shapes ns x)) (sym is) (looked_up xs f)
 
   -- one more list, the last
@@ -78,8 +78,8 @@ module _ (shapes : List Shape) (ns : List Node) (kept : List Kept) (h : AreKnown
           each = All-append (IsKept shapes ms) kept (one ∷ []) (known_stay shapes ns ms kept grown h).each (All-cons (IsKept shapes ms) one [] (kept_of shapes grown x xs number all) (All-nil (IsKept shapes ms)));
         })
 
-    pub last_list : (place : ℕ) → place ≡ length kept → ListsAll ms (list_at new place) (asks_of shapes ns x)
-    last_list place p =
-        let there : slice_get new place ≡ Some (x, xs) = ap (λ (es : List Kept). slice_get es place) e ∙ ap (slice_get (kept ++ (x, xs) ∷ [])) p ∙ last_there kept (x, xs) in
-        let is : list_at new place ≡ xs = ap (λ (o : Option Kept). unwrap_or (option_map (λ (k : Kept). k.1) o) []) there in
+    pub last_list : (position : ℕ) → position ≡ length kept → ListsAll ms (list_at new position) (asks_of shapes ns x)
+    last_list position p =
+        let there : slice_get new position ≡ Some (x, xs) = ap (λ (es : List Kept). slice_get es position) e ∙ ap (slice_get (kept ++ (x, xs) ∷ [])) p ∙ last_there kept (x, xs) in
+        let is : list_at new position ≡ xs = ap (λ (o : Option Kept). unwrap_or (option_map (λ (k : Kept). k.1) o) []) there in
         subst (λ (ys : List TriggeredAxiom). ListsAll ms ys (asks_of shapes ns x)) (sym is) all

@@ -18,7 +18,7 @@ pub mod NearLemmas
 pub mod ShapeLemmas
 pub mod NumberLemmas
 pub mod DenialLemmas
-pub mod PlaceLemmas
+pub mod PositionLemmas
 pub mod StableLemmas
 pub mod ChoiceLemmas
 pub mod OpenLemmas

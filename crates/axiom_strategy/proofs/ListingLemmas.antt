@@ -21,7 +21,7 @@ use Rattle.tableau.proofs.EntryLemmas.{still_says}
 use Rattle.axiom_instances.specs.declared.triggered.TriggeredTerms.TheVariants.{None as NoTerms}
 use Rattle.axiom_instances.specs.declared.triggered.TriggeredAxiom.{TriggeredAxiom}
 use Rattle.axiom_instances.specs.Lists.{Triggered, ListsAll}
-use Rattle.axiom_instances.proofs.StandingLaws.{stands}
+use Rattle.axiom_instances.proofs.PresentLaws.{stands}
 use Rattle.axiom_strategy.specs.declared.askers.Asker.{Asker}
 use Rattle.axiom_strategy.specs.declared.due.WantedAxioms.TheVariants.{All as AllAxioms}
 use Rattle.axiom_strategy.specs.declared.due.AxiomStep.{AxiomStep}
@@ -32,7 +32,7 @@ use Rattle.axiom_strategy.specs.Families.{AskEverything}
 use Rattle.axiom_strategy.specs.Listing.{IsListedStep, AreDueSteps, AddsDueSteps, AreDueInstances}
 use Rattle.axiom_strategy.proofs.DueLemmas.{due_as, step_as, step_stays, listed_asks, among_listed, some_none, some_step}
 use Rattle.axiom_strategy.proofs.AskerLemmas.{asks_kept, askers_ask, axiom_step}
-use Rattle.axiom_strategy.proofs.NextLemmas.{standing}
+use Rattle.axiom_strategy.proofs.NextLemmas.{present}
 
 -- ---- generations
 
@@ -98,13 +98,13 @@ module _ {ns : List Node} {b : Branch} (asks : ℕ → Asking) where
   pub more_steps : (i : ℕ) (xs ys : List AxiomStep) → AreDueSteps ns b (AsksOfSome i asks) xs → AreDueSteps ns b (asks i) ys → AreDueSteps ns b (AsksOfSome (i + 1) asks) (xs ++ ys)
   more_steps i xs ys h here = record {
     due = All-append (IsDueStep ns b AllAxioms (AsksOfSome (i + 1) asks)) xs ys
-        (λ k d w. step_as (λ name ts p a. record { place = a.place; before = (let v = a.before in omega (arith, v)); triggered = a.triggered }) (h.due k d w))
+        (λ k d w. step_as (λ name ts p a. record { position = a.position; before = (let v = a.before in omega (arith, v)); triggered = a.triggered }) (h.due k d w))
         (λ k d w. some_step asks i (i + 1) (omega arith) (here.due k d w));
     all = all;
   }
     where
       all : (name : Axiom) (p : FormulaData) (g : ℕ) → IsDue b (AsksOfSome (i + 1) asks) name p g → IsListedStep ns (xs ++ ys) name p g
-      all name p g due = elim (cases_lt due.triggered.place i) [ inl l ↦ in_first ys (h.all name p g (record { terms = due.terms; triggered = record { place = due.triggered.place; before = l; triggered = due.triggered.triggered }; generations = due.generations; is_new = due.is_new; shallow = due.shallow })) | inr l ↦ (let v = due.triggered.before in let same : due.triggered.place ≡ i = omega (arith, v, l) in in_second xs (here.all name p g (record { terms = due.terms; triggered = subst (λ k. asks k name due.terms p) same due.triggered.triggered; generations = due.generations; is_new = due.is_new; shallow = due.shallow }))) ]
+      all name p g due = elim (cases_lt due.triggered.position i) [ inl l ↦ in_first ys (h.all name p g (record { terms = due.terms; triggered = record { position = due.triggered.position; before = l; triggered = due.triggered.triggered }; generations = due.generations; is_new = due.is_new; shallow = due.shallow })) | inr l ↦ (let v = due.triggered.before in let same : due.triggered.position ≡ i = omega (arith, v, l) in in_second xs (here.all name p g (record { terms = due.terms; triggered = subst (λ k. asks k name due.terms p) same due.triggered.triggered; generations = due.generations; is_new = due.is_new; shallow = due.shallow }))) ]
 
   pub adds_none : (old : List AxiomStep) → AddsDueSteps ns b (AsksOfSome 0 asks) old old
   adds_none old = record { more = []; is = sym (append-nil old); are_due = no_steps }
@@ -134,17 +134,17 @@ module _ (ns : List Node) (b : Branch) (xs : List TriggeredAxiom) where
 
   as_listed : (name : Axiom) (ts : List TermData) (p : FormulaData) → AsksOfSome (length xs) (only_at ns xs) name ts p → IsListed ns xs name ts p
   as_listed name ts p a = record {
-    place = a.place;
-    instance = get_or xs a.place no_instance;
-    found = slice_get-get_or xs a.place no_instance a.before;
+    position = a.position;
+    instance = get_or xs a.position no_instance;
+    found = slice_get-get_or xs a.position no_instance a.before;
     is = a.triggered.is;
   }
 
   from_listed : (name : Axiom) (ts : List TermData) (p : FormulaData) → IsListed ns xs name ts p → AsksOfSome (length xs) (only_at ns xs) name ts p
   from_listed name ts p l = record {
-    place = l.place;
-    before = slice_get_within xs l.place l.instance l.found;
-    triggered = record { is = ap (triggered_in ns) (get_or_from_slice_get xs l.place l.instance no_instance l.found) ∙ l.is };
+    position = l.position;
+    before = slice_get_within xs l.position l.instance l.found;
+    triggered = record { is = ap (triggered_in ns) (get_or_from_slice_get xs l.position l.instance no_instance l.found) ∙ l.is };
   }
 
   pub adds_listed : (i : ℕ) (old new : List AxiomStep) → i ≡ length xs → AddsDueSteps ns b (AsksOfSome i (only_at ns xs)) old new → AddsDueSteps ns b (IsListed ns xs) old new
@@ -176,7 +176,7 @@ pub all_due : (shapes : List Shape) (ns ks : List Node) (d : BranchData) → IsO
 all_due shapes ns ks d over askers h grown steps due =
     let b = branch_in ns d in
     subst (λ (c : Branch). AreDueInstances ks shapes c steps) (sym (still_says ns ks grown d over))
-    (listed_as (askers_ask shapes ns b askers (standing ns b askers h)) (λ name ts p a. h.all shapes name ts p (stands shapes b a)) due)
+    (listed_as (askers_ask shapes ns b askers (present ns b askers h)) (λ name ts p a. h.all shapes name ts p (stands shapes b a)) due)
 
 pub listed_due : (ns : List Node) (shapes : List Shape) (b : Branch) (steps : List AxiomStep) → AreDueInstances ns shapes b steps → All (IsAxiomStep ns shapes b AllAxioms) steps
 listed_due ns shapes b steps h = λ k d w. axiom_step (h.due k d w)

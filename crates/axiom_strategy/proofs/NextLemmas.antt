@@ -15,8 +15,8 @@ use Rattle.certificates.specs.BranchesBranch.{Branch, formula_of, Stands}
 use Rattle.tableau.specs.PoolBranches.{BranchData, branch_in, IsOver}
 use Rattle.tableau.proofs.EntryLemmas.{still_says}
 use Rattle.tableau.specs.Terms.{AreBranchTerms}
-use Rattle.axiom_instances.specs.Standing.{IsTriggeredOn, Always as AtAllTimes, OfTerm, OfType, OfTypeAlone, OfTypeBeside, OfRead, OfItem, OfVectors}
-use Rattle.axiom_instances.proofs.StandingLaws.{stands}
+use Rattle.axiom_instances.specs.Present.{IsTriggeredOn, Always as AtAllTimes, OfTerm, OfType, OfTypeAlone, OfTypeBeside, OfRead, OfItem, OfVectors}
+use Rattle.axiom_instances.proofs.PresentLaws.{stands}
 use Rattle.axiom_instances.specs.Fresh.{HasFresh}
 use Rattle.axiom_strategy.specs.declared.askers.Asker.{Asker}
 use Rattle.axiom_strategy.specs.declared.askers.Asker.TheVariants.{Always}
@@ -24,7 +24,7 @@ use Rattle.axiom_strategy.specs.declared.due.WantedAxioms.TheVariants.{All as Ev
 use Rattle.axiom_strategy.specs.declared.due.AxiomStep.{AxiomStep}
 use Rattle.axiom_strategy.specs.declared.typings.Typing.{Typing}
 use Rattle.axiom_strategy.specs.Due.{NoneDue, IsDueStep, AsksOfSome, NoAxiom, IsAxiomStep}
-use Rattle.axiom_strategy.specs.Askers.{AreAskers, asks_at, IsStanding, range_askers}
+use Rattle.axiom_strategy.specs.Askers.{AreAskers, asks_at, IsPresent, range_askers}
 use Rattle.axiom_strategy.specs.Typings.{AreTypings}
 use Rattle.axiom_strategy.specs.Families.{IsAskerOn, AskAll, AsksOfTypes, ByAlways, ByType, ByTypeBeside, AsksOfReads, ByRead, AsksOfItems, ByItemRead, AsksOfPairs, ByPair, HasVariable, AskEverything}
 use Rattle.axiom_strategy.proofs.DueLemmas.{none_as, step_as}
@@ -44,9 +44,9 @@ right_false true c e = absurd (true≢false e)
 not_free : (b : Branch) (n : ℕ) (p : FormulaData) → All (λ (q : FormulaData). free_in n q ≡ false) (map formula_of b) → Stands b p → free_in n p ≡ false
 not_free b n p new s =
     let e = s.says.entry in
-    let w = slice_get_within b s.place e s.says.found in
-    let found : slice_index_or (map formula_of b) s.place (formula_of e) ≡ p = get_or-map formula_of b s.place e (formula_of e) w ∙ ap formula_of (get_or_from_slice_get b s.place e e s.says.found) ∙ s.says.is in
-    ap (free_in n) (sym found) ∙ new s.place (formula_of e) (omega (arith, w, length-map b formula_of))
+    let w = slice_get_within b s.position e s.says.found in
+    let found : slice_index_or (map formula_of b) s.position (formula_of e) ≡ p = get_or-map formula_of b s.position e (formula_of e) w ∙ ap formula_of (get_or_from_slice_get b s.position e e s.says.found) ∙ s.says.is in
+    ap (free_in n) (sym found) ∙ new s.position (formula_of e) (omega (arith, w, length-map b formula_of))
 
 has_fresh : {b : Branch} {v u : TermData} → HasVariable b → Stands b (DifferFormula v u) → HasFresh v u
 has_fresh {b} {v} {u} room s =
@@ -62,10 +62,10 @@ has_fresh {b} {v} {u} room s =
 
 module _ (ns : List Node) (shapes : List Shape) (xs ys : List Asker) {name : Axiom} {ts : List TermData} {p : FormulaData} where
   triggered_left : AsksOfSome (length xs) (asks_at shapes ns xs) name ts p → AsksOfSome (length (xs ++ ys)) (asks_at shapes ns (xs ++ ys)) name ts p
-  triggered_left h = one_asks shapes ns (xs ++ ys) (slice_index_or xs h.place Always) (Contains-append_left xs ys (slice_index_or xs h.place Always) (Contains-get_or xs h.place Always h.before)) h.triggered
+  triggered_left h = one_asks shapes ns (xs ++ ys) (slice_index_or xs h.position Always) (Contains-append_left xs ys (slice_index_or xs h.position Always) (Contains-get_or xs h.position Always h.before)) h.triggered
 
   triggered_right : AsksOfSome (length ys) (asks_at shapes ns ys) name ts p → AsksOfSome (length (xs ++ ys)) (asks_at shapes ns (xs ++ ys)) name ts p
-  triggered_right h = one_asks shapes ns (xs ++ ys) (slice_index_or ys h.place Always) (Contains-append_right xs ys (slice_index_or ys h.place Always) (Contains-get_or ys h.place Always h.before)) h.triggered
+  triggered_right h = one_asks shapes ns (xs ++ ys) (slice_index_or ys h.position Always) (Contains-append_right xs ys (slice_index_or ys h.position Always) (Contains-get_or ys h.position Always h.before)) h.triggered
 
 -- ---- all lists
 
@@ -126,8 +126,8 @@ module _ (ns : List Node) (one : IsOneNumber ns) (d : BranchData) (over : IsOver
 pub askers_of : (ns : List Node) (b : Branch) (askers : List Asker) → AskEverything ns b askers → AreAskers ns askers
 askers_of ns b askers h = record { each = λ k w. (h.on k Always w).numbers }
 
-pub standing : (ns : List Node) (b : Branch) (askers : List Asker) → AskEverything ns b askers → All (IsStanding ns b) askers
-standing ns b askers h = λ k x w. (h.on k x w).stands
+pub present : (ns : List Node) (b : Branch) (askers : List Asker) → AskEverything ns b askers → All (IsPresent ns b) askers
+present ns b askers h = λ k x w. (h.on k x w).stands
 
 module _ (shapes : List Shape) (ns : List Node) (d : BranchData) (over : IsOver ns d) (askers : List Asker) (h : AskEverything ns (branch_in ns d) askers) where
   abbrev here : Branch
@@ -137,4 +137,4 @@ module _ (shapes : List Shape) (ns : List Node) (d : BranchData) (over : IsOver 
   next_answer {ks} grown None none =
       subst (λ (c : Branch). NoAxiom shapes c Everything) (sym (still_says ns ks grown d over)) (none_as (λ name ts p a. h.all shapes name ts p (stands shapes here a)) none)
   next_answer {ks} grown (Some step) due =
-      subst (λ (c : Branch). IsAxiomStep ks shapes c Everything step) (sym (still_says ns ks grown d over)) (axiom_step (step_as (askers_ask shapes ns here askers (standing ns here askers h)) due))
+      subst (λ (c : Branch). IsAxiomStep ks shapes c Everything step) (sym (still_says ns ks grown d over)) (axiom_step (step_as (askers_ask shapes ns here askers (present ns here askers h)) due))

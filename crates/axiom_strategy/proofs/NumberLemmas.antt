@@ -17,7 +17,8 @@ use Rattle.tableau.proofs.AnswerLemmas.{stored}
 use Rattle.tableau.specs.Numbers.{formula_at}
 use Rattle.tableau.proofs.EntryLemmas.{entry_says, said_is, says_within}
 use Rattle.tableau.specs.Terms.{term_at}
-use Rattle.axiom_strategy.specs.Numbers.{mark_at, IsNumberSaid, SaysNumber, SaysNoNumber, AreNumberMarks}
+use Rattle.tableau.specs.WholeNumbers.{IsNumberSaid}
+use Rattle.axiom_strategy.specs.Numbers.{mark_at, SaysNumber, SaysNoNumber, AreNumberMarks}
 
 -- an entry states one formula
 pub says_one : (b : Branch) (i : ℕ) (p q : FormulaData) → Says b i p → Says b i q → p ≡ q
@@ -49,9 +50,9 @@ entry_number ns d i e found (Some term) h = record { number = h.number; says = s
 
 -- one of the first entries states it
 pub record IsSaidBefore (b : Branch) (count : ℕ) (p : FormulaData) : Type 0 where
-  pub place : ℕ
-  pub before : place < count
-  pub says : Says b place p
+  pub position : ℕ
+  pub before : position < count
+  pub says : Says b position p
 
 -- the terms that the first entries state to be numbers
 pub record AreMarkedBefore (ns : List Node) (b : Branch) (count : ℕ) (marks : List Bool) : Type 0 where
@@ -61,13 +62,13 @@ pub record AreMarkedBefore (ns : List Node) (b : Branch) (count : ℕ) (marks : 
 
 module _ (ns : List Node) (b : Branch) where
   said_more : (count : ℕ) (p : FormulaData) → IsSaidBefore b count p → IsSaidBefore b (count + 1) p
-  said_more count p h = record { place = h.place; before = (let w = h.before in omega (arith, w)); says = h.says }
+  said_more count p h = record { position = h.position; before = (let w = h.before in omega (arith, w)); says = h.says }
 
   -- by an earlier one, or by the last of them
   said_cases : (count : ℕ) (p : FormulaData) → IsSaidBefore b (count + 1) p → IsSaidBefore b count p ⊎ Says b count p
-  said_cases count p h = elim (cases_lt h.place count) [
-    | inl w ↦ inl (record { place = h.place; before = w; says = h.says })
-    | inr w ↦ inr (let l = h.before in let at : h.place ≡ count = omega (arith, l, w) in subst (λ k. Says b k p) at h.says)
+  said_cases count p h = elim (cases_lt h.position count) [
+    | inl w ↦ inl (record { position = h.position; before = w; says = h.says })
+    | inr w ↦ inr (let l = h.before in let at : h.position ≡ count = omega (arith, l, w) in subst (λ k. Says b k p) at h.says)
   ]
 
   pub marks_begun : (marks : List Bool) → length marks ≡ length ns → ((n : ℕ) → n < length ns → mark_at marks n ≡ false) → AreMarkedBefore ns b 0 marks
@@ -90,7 +91,7 @@ module _ (ns : List Node) (b : Branch) where
       where
         marked : (n : ℕ) → IsTermNumber ns n → mark_at (set marks term true) n ≡ true → IsSaidBefore b (count + 1) (IsFormula NumType (term_at ns n))
         marked n t m = elim (cases_eq n term) [
-          | inl q ↦ record { place = count; before = omega arith; says = subst (λ k. Says b count (IsFormula NumType (term_at ns k))) (sym q) said.says }
+          | inl q ↦ record { position = count; before = omega arith; says = subst (λ k. Says b count (IsFormula NumType (term_at ns k))) (sym q) said.says }
           | inr q ↦ said_more count (IsFormula NumType (term_at ns n)) (h.marked n t (sym (get_or-set_other marks term n true false q) ∙ m))
         ]
 
@@ -112,5 +113,5 @@ module _ (ns : List Node) (b : Branch) where
 pub marks_done : (ns : List Node) (d : BranchData) (count : ℕ) (marks : List Bool) → length d.entries ≤ count → AreMarkedBefore ns (branch_in ns d) count marks → AreNumberMarks ns (branch_in ns d) marks
 marks_done ns d count marks w h = record {
   one_each = h.one_each;
-  each = λ n t. (λ m. (let s = h.marked n t m in record { place = s.place; says = s.says }), λ s. h.all n t (record { place = s.place; before = (let l = says_within ns d s.place (IsFormula NumType (term_at ns n)) s.says in omega (arith, l, w)); says = s.says }));
+  each = λ n t. (λ m. (let s = h.marked n t m in record { position = s.position; says = s.says }), λ s. h.all n t (record { position = s.position; before = (let l = says_within ns d s.position (IsFormula NumType (term_at ns n)) s.says in omega (arith, l, w)); says = s.says }));
 }

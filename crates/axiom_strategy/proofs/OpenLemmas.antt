@@ -5,9 +5,9 @@ use Rattle.std.proofs.lemmas.List.Elements.{Contains-push_cases, Contains-get_or
 use Rattle.base.specs.Lists.{list_in}
 use Rattle.congruence_closure.specs.Known.{BranchClassesData, class_of}
 use Rattle.axiom_strategy.specs.Numbers.{AreBothMarked}
-use Rattle.axiom_strategy.specs.Places.{at_group}
+use Rattle.axiom_strategy.specs.Positions.{at_group}
 use Rattle.axiom_strategy.specs.Cuts.{IsDeniedEither, IsOpen, NoneOpenWith, IsOpenWith, NoOpenPair, IsOpenPair, IsKnownBelow, AreAllKnown}
-use Rattle.axiom_strategy.specs.declared.decisions.places.Place.{Place}
+use Rattle.axiom_strategy.specs.declared.decisions.positions.Position.{Position}
 
 module _ (c : BranchClassesData) (marks : List Bool) (denied : List (ℕ × ℕ)) where
   -- ---- of two terms
@@ -28,25 +28,25 @@ module _ (c : BranchClassesData) (marks : List Bool) (denied : List (ℕ × ℕ)
 
   module _ (lists : List (ℕ × List ℕ)) where
     -- none of these index terms is in such a pair
-    pub record NoneOpenAt (places : List Place) : Type 0 where
-      pub none : (p : Place) → Contains places p → NoneOpenWith c marks denied p.term (list_in lists p.group)
+    pub record NoneOpenAt (positions : List Position) : Type 0 where
+      pub none : (p : Position) → Contains positions p → NoneOpenWith c marks denied p.term (list_in lists p.group)
 
-    pub places_begun : NoneOpenAt []
-    places_begun = record { none = λ p h. absurd (let w = h.1 in omega (arith, w)) }
+    pub positions_begun : NoneOpenAt []
+    positions_begun = record { none = λ p h. absurd (let w = h.1 in omega (arith, w)) }
 
-    pub places_more : (places : List Place) (p : Place) → NoneOpenAt places → NoneOpenWith c marks denied p.term (list_in lists p.group) → NoneOpenAt (places ++ p ∷ [])
-    places_more places p h none = record { none = λ q m. elim (Contains-push_cases places p q m) [ inl o ↦ h.none q o | inr o ↦ subst (λ (x : Place). NoneOpenWith c marks denied x.term (list_in lists x.group)) o none ] }
+    pub positions_more : (positions : List Position) (p : Position) → NoneOpenAt positions → NoneOpenWith c marks denied p.term (list_in lists p.group) → NoneOpenAt (positions ++ p ∷ [])
+    positions_more positions p h none = record { none = λ q m. elim (Contains-push_cases positions p q m) [ inl o ↦ h.none q o | inr o ↦ subst (λ (x : Position). NoneOpenWith c marks denied x.term (list_in lists x.group)) o none ] }
 
-    pub places_done : (places : List Place) → NoneOpenAt places → NoOpenPair c marks denied places lists
-    places_done places h = record { none = λ g t u m n o. (h.none (at_group g t) m).none u n o }
+    pub positions_done : (positions : List Position) → NoneOpenAt positions → NoOpenPair c marks denied positions lists
+    positions_done positions h = record { none = λ g t u m n o. (h.none (at_group g t) m).none u n o }
 
-    pub place_opens : (places : List Place) (i : ℕ) (d : Place) (u : ℕ) → i < length places → IsOpenWith c marks denied (get_or places i d).term (list_in lists (get_or places i d).group) u → IsOpenPair c marks denied places lists ((get_or places i d).term, u)
-    place_opens places i d u w h = record { group = (get_or places i d).group; one = Contains-get_or places i d w; other = h.among; is_open = h.is_open }
+    pub position_opens : (positions : List Position) (i : ℕ) (d : Position) (u : ℕ) → i < length positions → IsOpenWith c marks denied (get_or positions i d).term (list_in lists (get_or positions i d).group) u → IsOpenPair c marks denied positions lists ((get_or positions i d).term, u)
+    position_opens positions i d u w h = record { group = (get_or positions i d).group; one = Contains-get_or positions i d w; other = h.among; is_open = h.is_open }
 
 -- ---- facts about all index terms
 
-pub place_known : (c : BranchClassesData) (count : ℕ) (all : List Place) (lists : List (ℕ × List ℕ)) → AreAllKnown c count all lists → (i : ℕ) (d : Place) → i < length all → IsKnownBelow c count (get_or all i d).term
-place_known c count all lists h i d w = h.places (get_or all i d).group (get_or all i d).term (Contains-get_or all i d w)
+pub position_known : (c : BranchClassesData) (count : ℕ) (all : List Position) (lists : List (ℕ × List ℕ)) → AreAllKnown c count all lists → (i : ℕ) (d : Position) → i < length all → IsKnownBelow c count (get_or all i d).term
+position_known c count all lists h i d w = h.positions (get_or all i d).group (get_or all i d).term (Contains-get_or all i d w)
 
-pub others_known : (c : BranchClassesData) (count : ℕ) (all : List Place) (lists : List (ℕ × List ℕ)) → AreAllKnown c count all lists → (group : ℕ) → All (IsKnownBelow c count) (list_in lists group)
+pub others_known : (c : BranchClassesData) (count : ℕ) (all : List Position) (lists : List (ℕ × List ℕ)) → AreAllKnown c count all lists → (group : ℕ) → All (IsKnownBelow c count) (list_in lists group)
 others_known c count all lists h group = λ i d w. h.by_group group (get_or (list_in lists group) i d) (Contains-get_or (list_in lists group) i d w)

@@ -31,9 +31,9 @@ use Rattle.tableau.proofs.BranchLemmas.{term_number}
 use Rattle.tableau.proofs.NearLemmas.{joined_of_class, class_of_joined}
 use Rattle.axiom_strategy.specs.Numbers.{mark_at, AreBothMarked, AreNumberMarks}
 use Rattle.axiom_strategy.specs.Denials.{DeniesSides, DeniesNone}
-use Rattle.axiom_strategy.specs.Places.{at_group, ArePlaces}
-use Rattle.axiom_strategy.specs.Orders.{NoOrder, IsOrder, order_row, IsFresh, NotFresh, IsFreshStep, IsAddable, IsWith, IsListed, IsInGroup, AreOfBranch, NoneFresh, IsFreshPair, AreMarked, IsDeniedAt, NoneDeniedAt, IsDeniedPair, AreDeniedPairs, IsNumberPair, AreNumberPlaces}
-use Rattle.axiom_strategy.specs.declared.decisions.places.Place.{Place}
+use Rattle.axiom_strategy.specs.Positions.{at_group, ArePositions}
+use Rattle.axiom_strategy.specs.Orders.{NoOrder, IsOrder, order_row, IsFresh, NotFresh, IsFreshStep, IsAddable, IsWith, IsListed, IsInGroup, AreOfBranch, NoneFresh, IsFreshPair, AreMarked, IsDeniedAt, NoneDeniedAt, IsDeniedPair, AreDeniedPairs, IsNumberPair, AreNumberPositions}
+use Rattle.axiom_strategy.specs.declared.decisions.positions.Position.{Position}
 use Rattle.axiom_strategy.specs.declared.decisions.orders.OrderStep.{OrderStep}
 use Rattle.axiom_strategy.proofs.DenialLemmas.{left_stands, right_stands, same_sides}
 use Rattle.axiom_strategy.proofs.CutLemmas.{indexes_read, read_indexes}
@@ -167,13 +167,13 @@ module _ (ns : List Node) (b : Branch) where
     pub groups_begun : NoneFresh ns b (IsInGroup [] lists)
     groups_begun = record { none = λ x u p f. absurd (let w = p.one.1 in omega (arith, w)) }
 
-    pub groups_more : (all : List Place) (p : Place) → NoneFresh ns b (IsInGroup all lists) → NoneFresh ns b (IsWith p.term (list_in lists p.group)) → NoneFresh ns b (IsInGroup (all ++ p ∷ []) lists)
+    pub groups_more : (all : List Position) (p : Position) → NoneFresh ns b (IsInGroup all lists) → NoneFresh ns b (IsWith p.term (list_in lists p.group)) → NoneFresh ns b (IsInGroup (all ++ p ∷ []) lists)
     groups_more all p h one = record { none = none }
       where
         none : (x y : ℕ) → IsInGroup (all ++ p ∷ []) lists x y → IsFresh b (term_at ns x) (term_at ns y) → ⊥
         none x y q f = elim (Contains-push_cases all p (at_group q.group x) q.one) [
           | inl o ↦ h.none x y (record { group = q.group; one = o; other = q.other }) f
-          | inr o ↦ one.none x y (record { is_left = ap (λ (k : Place). k.term) (sym o); among = subst (λ k. Contains (list_in lists k) y) (ap (λ (k : Place). k.group) (sym o)) q.other }) f
+          | inr o ↦ one.none x y (record { is_left = ap (λ (k : Position). k.term) (sym o); among = subst (λ k. Contains (list_in lists k) y) (ap (λ (k : Position). k.group) (sym o)) q.other }) f
         ]
 
 -- one of these pairs is one of all
@@ -184,7 +184,7 @@ pub of_branch_narrower : (ns : List Node) (b : Branch) (P Q : ℕ → ℕ → Ty
 of_branch_narrower ns b P Q wider h = record { each = λ t u p. h.each t u (wider t u p) }
 
 -- the others of the group of an index term
-pub with_in_group : (all : List Place) (lists : List (ℕ × List ℕ)) (i : ℕ) (d : Place) → i < length all → (t u : ℕ) → IsWith (get_or all i d).term (list_in lists (get_or all i d).group) t u → IsInGroup all lists t u
+pub with_in_group : (all : List Position) (lists : List (ℕ × List ℕ)) (i : ℕ) (d : Position) → i < length all → (t u : ℕ) → IsWith (get_or all i d).term (list_in lists (get_or all i d).group) t u → IsInGroup all lists t u
 with_in_group all lists i d w t u h = record {
   group = (get_or all i d).group;
   one = subst (λ k. Contains all (at_group (get_or all i d).group k)) (sym h.is_left) (Contains-get_or all i d w);
@@ -251,22 +251,22 @@ module _ (ns : List Node) (one : IsOneNumber ns) (d : BranchData) (over : IsOver
       are : (q : ℕ × ℕ) → Contains (pairs ++ p ∷ []) q → IsDeniedPair ns b q
       are q m = elim (Contains-push_cases pairs p q m) [
         | inl o ↦ h.are q o
-        | inr o ↦ subst (IsDeniedPair ns b) o (record { place = count; at = at })
+        | inr o ↦ subst (IsDeniedPair ns b) o (record { position = count; at = at })
       ]
 
       all : (i : ℕ) (q : ℕ × ℕ) → i < count + 1 → IsDeniedAt ns b i q → Contains (pairs ++ p ∷ []) q
       all i q w k = elim (cases_lt i count) [
         | inl l ↦ Contains-append_left pairs (p ∷ []) q (h.all i q l k)
         | inr l ↦ (
-            let place : i ≡ count = omega (arith, w, l) in
-            subst (Contains (pairs ++ p ∷ [])) (same_sides ns one b count p q at.sides (subst (λ m. DeniesSides ns b m q) place k.sides)) (Contains-push pairs p))
+            let position : i ≡ count = omega (arith, w, l) in
+            subst (Contains (pairs ++ p ∷ [])) (same_sides ns one b count p q at.sides (subst (λ m. DeniesSides ns b m q) position k.sides)) (Contains-push pairs p))
       ]
 
   pub pairs_done : (count : ℕ) (pairs : List (ℕ × ℕ)) → length d.entries ≤ count → ArePairsBefore ns b count pairs → AreDeniedPairs ns b pairs
   pairs_done count pairs w h = record { each = λ p. (h.are p, back p) }
     where
       back : (p : ℕ × ℕ) → IsDeniedPair ns b p → Contains pairs p
-      back p k = h.all k.place p (let l = says_within ns d k.place (NotFormula (EqFormula (term_at ns p.0) (term_at ns p.1))) k.at.sides.says in omega (arith, l, w)) k.at
+      back p k = h.all k.position p (let l = says_within ns d k.position (NotFormula (EqFormula (term_at ns p.0) (term_at ns p.1))) k.at.sides.says in omega (arith, l, w)) k.at
 
   -- ---- the equation that one entry negates
 
@@ -288,14 +288,14 @@ module _ (ns : List Node) (one : IsOneNumber ns) (d : BranchData) (over : IsOver
 
     -- ---- numbers as indexes
 
-    module _ (c : BranchClassesData) (classes : AreClassesOf ns d c) (exact : AreExact c) (groups : List ℕ) (near : AreGroups ns b groups) (terms found : List ℕ) (are : AreBranchTerms ns b terms) (marked : AreMarked marks terms found) (all : List Place) (lists : List (ℕ × List ℕ)) (places : ArePlaces ns b c groups found all lists) where
-      pub number_places : AreNumberPlaces ns b all lists
-      number_places = record { each = λ t u. (there t u, back t u) }
+    module _ (c : BranchClassesData) (classes : AreClassesOf ns d c) (exact : AreExact c) (groups : List ℕ) (near : AreGroups ns b groups) (terms found : List ℕ) (are : AreBranchTerms ns b terms) (marked : AreMarked marks terms found) (all : List Position) (lists : List (ℕ × List ℕ)) (positions : ArePositions ns b c groups found all lists) where
+      pub number_positions : AreNumberPositions ns b all lists
+      number_positions = record { each = λ t u. (there t u, back t u) }
         where
           there : (t u : ℕ) → IsInGroup all lists t u → IsNumberPair ns b t u
           there t u h =
-              let p = (places.places h.group t).0 h.one in
-              let q = (places.by_group h.group u).0 h.other in
+              let p = (positions.positions h.group t).0 h.one in
+              let q = (positions.by_group h.group u).0 h.other in
               let x = (marked.each t).0 p.candidate in
               let y = (marked.each u).0 q.candidate in
               let s = (are.each t).0 x.0 in
@@ -312,8 +312,8 @@ module _ (ns : List Node) (one : IsOneNumber ns) (d : BranchData) (over : IsOver
               let r = indexes_read ns one d over c classes exact groups near t u h.left h.right h.indexes in
               record {
                 group = r.group;
-                one = (places.places r.group t).1 (record { candidate = (marked.each t).1 ((are.each t).1 h.left, (numbers.each t h.left.number).1 h.numbers.left); read = r.one_read });
-                other = (places.by_group r.group u).1 (record { candidate = (marked.each u).1 ((are.each u).1 h.right, (numbers.each u h.right.number).1 h.numbers.right); read = r.other_read });
+                one = (positions.positions r.group t).1 (record { candidate = (marked.each t).1 ((are.each t).1 h.left, (numbers.each t h.left.number).1 h.numbers.left); read = r.one_read });
+                other = (positions.by_group r.group u).1 (record { candidate = (marked.each u).1 ((are.each u).1 h.right, (numbers.each u h.right.number).1 h.numbers.right); read = r.other_read });
               }
 
 -- ---- due instances
@@ -341,28 +341,28 @@ module _ (b : Branch) where
 
 -- for numbers as indexes
 
-module _ (ns : List Node) (d : BranchData) (over : IsOver ns d) (all : List Place) (lists : List (ℕ × List ℕ)) (places : AreNumberPlaces ns (branch_in ns d) all lists) where
-  abbrev at_places : Branch
-  at_places = branch_in ns d
+module _ (ns : List Node) (d : BranchData) (over : IsOver ns d) (all : List Position) (lists : List (ℕ × List ℕ)) (positions : AreNumberPositions ns (branch_in ns d) all lists) where
+  abbrev at_positions : Branch
+  at_positions = branch_in ns d
 
-  pub groups_of_branch : AreOfBranch ns at_places (IsInGroup all lists)
-  groups_of_branch = record { each = λ t u p. (let h = (places.each t u).0 p in (h.left, h.right)) }
+  pub groups_of_branch : AreOfBranch ns at_positions (IsInGroup all lists)
+  groups_of_branch = record { each = λ t u p. (let h = (positions.each t u).0 p in (h.left, h.right)) }
 
-  pub group_order : (ms : List Node) (step : OrderStep) → IsFreshPair ns ms at_places (IsInGroup all lists) step → IsOrder ms at_places step
+  pub group_order : (ms : List Node) (step : OrderStep) → IsFreshPair ns ms at_positions (IsInGroup all lists) step → IsOrder ms at_positions step
   group_order ms step h =
-      let k = (places.each h.left h.right).0 h.is_pair in
+      let k = (positions.each h.left h.right).0 h.is_pair in
       record {
         formula = trichotomy_axiom (term_at ns h.left) (term_at ns h.right);
         numbered = h.is_step.numbered;
-        due = order_due at_places (term_at ns h.left) (term_at ns h.right) step.generation (inl k.indexes) k.numbers h.is_step.fresh h.is_step.generations;
+        due = order_due at_positions (term_at ns h.left) (term_at ns h.right) step.generation (inl k.indexes) k.numbers h.is_step.fresh h.is_step.generations;
       }
 
-  pub equal_answer : {E : Type 0} (ks : List Node) (grown : Extends ns ks) → (r : Result (Option OrderStep) E) → IfOk r (λ found. IfSome found (IsFreshPair ns ks at_places (IsInGroup all lists))) → IfOk r (λ found. IfSome found (IsOrder ks (branch_in ks d)))
+  pub equal_answer : {E : Type 0} (ks : List Node) (grown : Extends ns ks) → (r : Result (Option OrderStep) E) → IfOk r (λ found. IfSome found (IsFreshPair ns ks at_positions (IsInGroup all lists))) → IfOk r (λ found. IfSome found (IsOrder ks (branch_in ks d)))
   equal_answer ks grown (Ok None) h = h
   equal_answer ks grown (Ok (Some step)) h = subst (λ b. IsOrder ks b step) (sym (branch_grown ns ks grown d over)) (group_order ks step h)
   equal_answer ks grown (Err e) h = h
 
-module _ (ns : List Node) (one : IsOneNumber ns) (d : BranchData) (over : IsOver ns d) (pairs : List (ℕ × ℕ)) (denied : AreDeniedPairs ns (branch_in ns d) pairs) (all : List Place) (lists : List (ℕ × List ℕ)) (places : AreNumberPlaces ns (branch_in ns d) all lists) where
+module _ (ns : List Node) (one : IsOneNumber ns) (d : BranchData) (over : IsOver ns d) (pairs : List (ℕ × ℕ)) (denied : AreDeniedPairs ns (branch_in ns d) pairs) (all : List Position) (lists : List (ℕ × List ℕ)) (positions : AreNumberPositions ns (branch_in ns d) all lists) where
   abbrev branch : Branch
   branch = branch_in ns d
 
@@ -372,7 +372,7 @@ module _ (ns : List Node) (one : IsOneNumber ns) (d : BranchData) (over : IsOver
   pub listed_order : (ms : List Node) (step : OrderStep) → IsFreshPair ns ms branch (IsListed pairs) step → IsOrder ms branch step
   listed_order ms step h =
       let k = (denied.each (h.left, h.right)).0 h.is_pair.among in
-      let stands : Stands branch (NotFormula (EqFormula (term_at ns h.left) (term_at ns h.right))) = record { place = k.place; says = k.at.sides.says } in
+      let stands : Stands branch (NotFormula (EqFormula (term_at ns h.left) (term_at ns h.right))) = record { position = k.position; says = k.at.sides.says } in
       record {
         formula = trichotomy_axiom (term_at ns h.left) (term_at ns h.right);
         numbered = h.is_step.numbered;
@@ -394,10 +394,10 @@ module _ (ns : List Node) (one : IsOneNumber ns) (d : BranchData) (over : IsOver
       go : (t u : TermData) → AsksDecision branch t u → AreNumbers branch t u → IsFresh branch t u → ⊥
       go t u (inl h) numbers fresh =
           at_numbers t u h.is_term h.is_other_term (λ x y. AreIndexes branch x y × AreNumbers branch x y × IsFresh branch x y) (h, numbers, fresh)
-          (λ i j s r k. no_grouped.none i j ((places.each i j).1 (record { left = s; right = r; indexes = k.0; numbers = k.1 })) k.2)
+          (λ i j s r k. no_grouped.none i j ((positions.each i j).1 (record { left = s; right = r; indexes = k.0; numbers = k.1 })) k.2)
       go t u (inr h) numbers fresh =
           at_numbers t u (left_stands branch t u h) (right_stands branch t u h) (λ x y. Stands branch (NotFormula (EqFormula x y)) × AreNumbers branch x y × IsFresh branch x y) (h, numbers, fresh)
-          (λ i j s r k. no_listed.none i j (record { among = (denied.each (i, j)).1 (record { place = k.0.place; at = record { sides = record { left = s; right = r; says = k.0.says }; numbers = k.1 } }) }) k.2)
+          (λ i j s r k. no_listed.none i j (record { among = (denied.each (i, j)).1 (record { position = k.0.position; at = record { sides = record { left = s; right = r; says = k.0.says }; numbers = k.1 } }) }) k.2)
 
   -- ---- results in an extended pool
 
@@ -405,6 +405,6 @@ module _ (ns : List Node) (one : IsOneNumber ns) (d : BranchData) (over : IsOver
   first_answer ks grown step h = subst (λ b. IsOrder ks b step) (sym (branch_grown ns ks grown d over)) (listed_order ks step h)
 
   pub last_answer : {E : Type 0} (ms ks : List Node) (grown : Extends ns ms) (wider : Extends ms ks) → NoneFresh ns branch (IsListed pairs) → (r : Result (Option OrderStep) E) → IfOk r (λ found. MatchOption found (NoneFresh ms (branch_in ms d) (IsInGroup all lists)) (IsFreshPair ms ks (branch_in ms d) (IsInGroup all lists))) → IfOk r (λ found. MatchOption found (NoOrder (branch_in ks d)) (IsOrder ks (branch_in ks d)))
-  last_answer ms ks grown wider none (Ok None) h = subst NoOrder (sym (branch_grown ns ks (extends_then grown wider) d over)) (none_left none (none_before ns ms grown d over (IsInGroup all lists) (groups_of_branch ns d over all lists places) h))
-  last_answer ms ks grown wider none (Ok (Some step)) h = subst (λ b. IsOrder ks b step) (sym (branch_grown ns ks (extends_then grown wider) d over)) (group_order ns d over all lists places ks step (pair_before ns ms grown d over (IsInGroup all lists) ks step (groups_of_branch ns d over all lists places) h))
+  last_answer ms ks grown wider none (Ok None) h = subst NoOrder (sym (branch_grown ns ks (extends_then grown wider) d over)) (none_left none (none_before ns ms grown d over (IsInGroup all lists) (groups_of_branch ns d over all lists positions) h))
+  last_answer ms ks grown wider none (Ok (Some step)) h = subst (λ b. IsOrder ks b step) (sym (branch_grown ns ks (extends_then grown wider) d over)) (group_order ns d over all lists positions ks step (pair_before ns ms grown d over (IsInGroup all lists) ks step (groups_of_branch ns d over all lists positions) h))
   last_answer ms ks grown wider none (Err e) h = h

@@ -24,16 +24,16 @@ use Rattle.tableau.proofs.EntryLemmas.{says_within, still_says}
 use Rattle.tableau.specs.Terms.{IsBranchTerm, AreBranchTerms}
 use Rattle.tableau.proofs.BranchLemmas.{term_number}
 use Rattle.axiom_instances.specs.Asks.{AlwaysTriggered, TruthsDiffering, TrueHolding, FalseFailing, NothingFailing, AsksOfTerm, AsksOfType, AsksOfTypeAlone, ByNothing, AsksOfTypeBeside, ByEmptyTyped, BySetTyped, ByPushTyped, ByPopTyped, AsksOfRead, ByStoreRead, ByPushRead, ByPopRead, BySetRead, AsksOfItem, ByItem, AsksOfVectors, ByVectors}
-use Rattle.axiom_instances.specs.Standing.{IsTriggeredOn, Always as AtAllTimes, OfTerm, OfType, OfTypeAlone, OfTypeBeside, OfRead, OfItem, OfVectors}
+use Rattle.axiom_instances.specs.Present.{IsTriggeredOn, Always as AtAllTimes, OfTerm, OfType, OfTypeAlone, OfTypeBeside, OfRead, OfItem, OfVectors}
 use Rattle.axiom_instances.specs.Numbers.{term_at, type_at}
-use Rattle.axiom_instances.proofs.StandingLaws.{stands}
+use Rattle.axiom_instances.proofs.PresentLaws.{stands}
 use Rattle.axiom_strategy.specs.declared.askers.Asker.{Asker}
 use Rattle.axiom_strategy.specs.declared.askers.Asker.TheVariants.{Always, Term}
 use Rattle.axiom_strategy.specs.declared.due.WantedAxioms.TheVariants.{Ranges}
 use Rattle.axiom_strategy.specs.declared.due.AxiomStep.{AxiomStep}
 use Rattle.axiom_strategy.specs.declared.typings.Typing.{Typing as TypingPair}
 use Rattle.axiom_strategy.specs.Due.{Asking, IsWanted, NoneDue, IsDueStep, AsksOfSome, NoAxiom, IsAxiomStep, NothingOfRanges}
-use Rattle.axiom_strategy.specs.Askers.{IsAsker, AreAskers, asks_at, IsStanding, term_asker, typing_asker, range_askers}
+use Rattle.axiom_strategy.specs.Askers.{IsAsker, AreAskers, asks_at, IsPresent, term_asker, typing_asker, range_askers}
 use Rattle.axiom_strategy.specs.Typings.{IsTyping, Gives, Denies, IsGivenOrDenied, IsListedTyping, AreTypings}
 use Rattle.axiom_strategy.proofs.DueLemmas.{step_as}
 use Rattle.axiom_strategy.proofs.AskerLemmas.{askers_ask, one_asks, axiom_step}
@@ -79,9 +79,9 @@ contains_map f xs x (k, w, e) = (k, omega (arith, w, length-map xs f), get_or-ma
 pub typed_by : (ns : List Node) (b : Branch) (typing : TypingPair) → IsGivenOrDenied ns b typing → IsTyped b (type_at ns typing.of) (term_at ns typing.term)
 typed_by ns b typing h = go h.entry.says h.entry.is.is
   where
-    go : {q : FormulaData} {a : TypeData} {t : TermData} → Says b h.place q → IsTyping q a t → IsTyped b a t
-    go s (Gives a t) = Said (record { place = h.place; says = s })
-    go s (Denies a t) = Denied (record { place = h.place; says = s })
+    go : {q : FormulaData} {a : TypeData} {t : TermData} → Says b h.position q → IsTyping q a t → IsTyped b a t
+    go s (Gives a t) = Said (record { position = h.position; says = s })
+    go s (Denies a t) = Denied (record { position = h.position; says = s })
 
 module _ (ns : List Node) (b : Branch) (terms : List ℕ) (are : AreBranchTerms ns b terms) (count : ℕ) (typings : List TypingPair) (typed : AreTypings ns b count typings) where
   of_terms : (P : Asker → Type 0) → ((n : ℕ) → IsBranchTerm ns b n → P (term_asker n)) → All P (map term_asker terms)
@@ -99,8 +99,8 @@ module _ (ns : List Node) (b : Branch) (terms : List ℕ) (are : AreBranchTerms 
   pub askers_are : AreAskers ns (range_askers terms typings)
   askers_are = record { each = λ k w. askers_numbered k Always w }
 
-  pub askers_stand : All (IsStanding ns b) (range_askers terms typings)
-  askers_stand = both (IsStanding ns b) (λ n h. h.stands) (λ x h. typed_by ns b x h)
+  pub askers_stand : All (IsPresent ns b) (range_askers terms typings)
+  askers_stand = both (IsPresent ns b) (λ n h. h.stands) (λ x h. typed_by ns b x h)
 
 module _ (shapes : List Shape) (ns : List Node) (one : IsOneNumber ns) (d : BranchData) (over : IsOver ns d) (terms : List ℕ) (are : AreBranchTerms ns (branch_in ns d) terms) (typings : List TypingPair) (typed : AreTypings ns (branch_in ns d) (length d.entries) typings) where
   abbrev b : Branch
@@ -120,14 +120,14 @@ module _ (shapes : List Shape) (ns : List Node) (one : IsOneNumber ns) (d : Bran
 
   of_listed : {a : TypeData} {t : TermData} {name : Axiom} {ts : List TermData} {p : FormulaData} → IsListedTyping ns typings a t → AsksOfType shapes a t name ts p → AsksHere name ts p
   of_listed {a} {t} {name} {ts} {p} l h =
-      let within = slice_get_within typings l.place l.typing l.found in
-      let here : Contains typings l.typing = (l.place, within, get_or_from_slice_get typings l.place l.typing l.typing l.found) in
+      let within = slice_get_within typings l.position l.typing l.found in
+      let here : Contains typings l.typing = (l.position, within, get_or_from_slice_get typings l.position l.typing l.typing l.found) in
       let among = Contains-append_right (map term_asker terms) (map typing_asker typings) (typing_asker l.typing) (contains_map typing_asker typings l.typing here) in
       one_asks shapes ns askers (typing_asker l.typing) among (subst (λ c. AsksOfType shapes c (term_at ns l.typing.term) name ts p) (sym l.type_is) (subst (λ u. AsksOfType shapes a u name ts p) (sym l.term_is) h))
 
   pub of_type : {a : TypeData} {t : TermData} {name : Axiom} {ts : List TermData} {p : FormulaData} → IsTyped b a t → AsksOfType shapes a t name ts p → AsksHere name ts p
-  of_type {a} {t} (Said s) h = of_listed (typed.all s.place (IsFormula a t) a t (says_within ns d s.place (IsFormula a t) s.says) s.says (Gives a t)) h
-  of_type {a} {t} (Denied s) h = of_listed (typed.all s.place (NotFormula (IsFormula a t)) a t (says_within ns d s.place (NotFormula (IsFormula a t)) s.says) s.says (Denies a t)) h
+  of_type {a} {t} (Said s) h = of_listed (typed.all s.position (IsFormula a t) a t (says_within ns d s.position (IsFormula a t) s.says) s.says (Gives a t)) h
+  of_type {a} {t} (Denied s) h = of_listed (typed.all s.position (NotFormula (IsFormula a t)) a t (says_within ns d s.position (NotFormula (IsFormula a t)) s.says) s.says (Denies a t)) h
 
   of_ranges : {name : Axiom} {ts : List TermData} {p : FormulaData} → IsWanted Ranges name → IsTriggeredOn shapes b name ts p → AsksHere name ts p
   of_ranges w (AtAllTimes h) = absurd (not_always h w)

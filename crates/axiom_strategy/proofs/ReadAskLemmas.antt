@@ -21,7 +21,7 @@ use Rattle.tableau.proofs.BranchLemmas.{term_number}
 use Rattle.axiom_instances.specs.declared.reading.TermForm.{TermForm}
 use Rattle.axiom_instances.specs.Asks.{AsksOfRead, AsksOfItem}
 use Rattle.axiom_instances.specs.Numbers.{IsTermNumber, HasForm, term_at}
-use Rattle.axiom_instances.specs.Standing.{IsReadAt}
+use Rattle.axiom_instances.specs.Present.{IsReadAt}
 use Rattle.axiom_strategy.specs.declared.askers.Asker.{Asker}
 use Rattle.axiom_strategy.specs.declared.askers.Asker.TheVariants.{Read, Item}
 use Rattle.axiom_strategy.specs.declared.reads.Reading.{Reading}

@@ -51,32 +51,32 @@ no_reads ns c reading = none_listed (IsReadOf ns c reading []) (λ k x r. none_t
 
 module _ (ns : List Node) (c : BranchClassesData) (reading : Reading) (xs : List ℕ) (i : ℕ) (w : i < length xs) where
   read_kept : (k x : ℕ) → IsReadOf ns c reading (take i xs) k x → IsReadOf ns c reading (take (i + 1) xs) k x
-  read_kept k x r = record { number = r.number; among = taken_kept xs i 0 w r.number r.among; parts = r.parts; read = r.read; same_from = r.same_from; same_place = r.same_place }
+  read_kept k x r = record { number = r.number; among = taken_kept xs i 0 w r.number r.among; parts = r.parts; read = r.read; same_from = r.same_from; same_position = r.same_position }
 
   pub read_passed : {lists : List (ℕ × List ℕ)} → AreListed (IsReadOf ns c reading (take i xs)) lists → ((p : ℕ × ℕ) → IsBinary ns (operator_of reading) (get_or xs i 0) p.0 p.1 → ⊥) → AreListed (IsReadOf ns c reading (take (i + 1) xs)) lists
   read_passed h none = as_listed (IsReadOf ns c reading (take i xs)) (IsReadOf ns c reading (take (i + 1) xs)) h (λ k x. (there k x, read_kept k x))
     where
       there : (k x : ℕ) → IsReadOf ns c reading (take (i + 1) xs) k x → IsReadOf ns c reading (take i xs) k x
       there k x r = elim (taken_cases xs i 0 w r.number r.among) [
-        | inl o ↦ record { number = r.number; among = o; parts = r.parts; read = r.read; same_from = r.same_from; same_place = r.same_place }
+        | inl o ↦ record { number = r.number; among = o; parts = r.parts; read = r.read; same_from = r.same_from; same_position = r.same_position }
         | inr e ↦ absurd (none r.parts (subst (λ n. IsBinary ns (operator_of reading) n r.parts.0 r.parts.1) (sym e) r.read))
       ]
 
-  pub read_taken : IsOneNumber ns → {lists more : List (ℕ × List ℕ)} (from place : ℕ) {of class : ℕ} → of ≡ class_of c from → class ≡ class_of c place → IsBinary ns (operator_of reading) (get_or xs i 0) from place → AreListed (IsReadOf ns c reading (take i xs)) lists → HasOneMore lists more of class → AreListed (IsReadOf ns c reading (take (i + 1) xs)) more
-  read_taken one from place {of} {class} e f read h more = one_listed (IsReadOf ns c reading (take i xs)) (IsReadOf ns c reading (take (i + 1) xs)) h more (λ k x. (there k x, back k x))
+  pub read_taken : IsOneNumber ns → {lists more : List (ℕ × List ℕ)} (from position : ℕ) {of class : ℕ} → of ≡ class_of c from → class ≡ class_of c position → IsBinary ns (operator_of reading) (get_or xs i 0) from position → AreListed (IsReadOf ns c reading (take i xs)) lists → HasOneMore lists more of class → AreListed (IsReadOf ns c reading (take (i + 1) xs)) more
+  read_taken one from position {of} {class} e f read h more = one_listed (IsReadOf ns c reading (take i xs)) (IsReadOf ns c reading (take (i + 1) xs)) h more (λ k x. (there k x, back k x))
     where
       there : (k x : ℕ) → IsReadOf ns c reading (take (i + 1) xs) k x → IsReadOf ns c reading (take i xs) k x ⊎ ((k ≡ of) × (x ≡ class))
       there k x r = elim (taken_cases xs i 0 w r.number r.among) [
-        | inl o ↦ inl (record { number = r.number; among = o; parts = r.parts; read = r.read; same_from = r.same_from; same_place = r.same_place })
+        | inl o ↦ inl (record { number = r.number; among = o; parts = r.parts; read = r.read; same_from = r.same_from; same_position = r.same_position })
         | inr s ↦ (
             let again = subst (λ n. IsBinary ns (operator_of reading) n r.parts.0 r.parts.1) (sym s) r.read in
-            let same = same_parts ns one (get_or xs i 0) (operator_of reading) r.parts.0 r.parts.1 from place again read in
-            inr (sym r.same_from ∙ ap (class_of c) same.0 ∙ sym e, sym r.same_place ∙ ap (class_of c) same.1 ∙ sym f))
+            let same = same_parts ns one (get_or xs i 0) (operator_of reading) r.parts.0 r.parts.1 from position again read in
+            inr (sym r.same_from ∙ ap (class_of c) same.0 ∙ sym e, sym r.same_position ∙ ap (class_of c) same.1 ∙ sym f))
       ]
 
       back : (k x : ℕ) → IsReadOf ns c reading (take i xs) k x ⊎ ((k ≡ of) × (x ≡ class)) → IsReadOf ns c reading (take (i + 1) xs) k x
       back k x (inl r) = read_kept k x r
-      back k x (inr s) = record { number = get_or xs i 0; among = taken_last xs i 0 w; parts = (from, place); read = read; same_from = sym e ∙ sym s.0; same_place = sym f ∙ sym s.1 }
+      back k x (inr s) = record { number = get_or xs i 0; among = taken_last xs i 0 w; parts = (from, position); read = read; same_from = sym e ∙ sym s.0; same_position = sym f ∙ sym s.1 }
 
 -- ---- the terms at whose classes a term is read
 
@@ -93,12 +93,12 @@ module _ (ns : List Node) (one : IsOneNumber ns) (d : BranchData) (over : IsOver
     number : ℕ
     term : IsBranchTerm ns b number
     from : ℕ
-    place : ℕ
-    read : IsBinary ns o number from place
+    position : ℕ
+    read : IsBinary ns o number from position
     from_term : IsBranchTerm ns b from
-    place_term : IsBranchTerm ns b place
+    position_term : IsBranchTerm ns b position
     from_is : term_at ns from ≡ t
-    place_is : term_at ns place ≡ u
+    position_is : term_at ns position ≡ u
 
   found_read : (o : BinaryOperator) (t u : TermData) → IsTerm b (BinaryTerm o t u) → IsFoundRead o t u
   found_read o t u s =
@@ -111,16 +111,16 @@ module _ (ns : List Node) (one : IsOneNumber ns) (d : BranchData) (over : IsOver
         number = n.number;
         term = n.term;
         from = l.number;
-        place = r.number;
+        position = r.number;
         read = record {
           whole = record { within = n.term.number.within; is = n.is ∙ (λ i. TermItem (BinaryTerm o (sym left i) (sym right i))) };
           first = record { within = l.term.number.within; is = l.is ∙ ap TermItem (sym left) };
           second = record { within = r.term.number.within; is = r.is ∙ ap TermItem (sym right) };
         };
         from_term = l.term;
-        place_term = r.term;
+        position_term = r.term;
         from_is = left;
-        place_is = right;
+        position_is = right;
       }
 
   by_read : (reading : Reading) (t k : ℕ) → IsBranchTerm ns b t → IsBranchTerm ns b k → (m u : TermData) → IsTerm b (BinaryTerm (operator_of reading) m u) → Joined b m (term_at ns t) → Joined b u (term_at ns k) → Contains (list_in (reads_in index reading) (class_of c t)) (class_of c k)
@@ -129,10 +129,10 @@ module _ (ns : List Node) (one : IsOneNumber ns) (d : BranchData) (over : IsOver
       ((reads_are reading).each (class_of c t) (class_of c k)).1 (record {
         number = f.number;
         among = (h.are.each f.number).1 f.term;
-        parts = (f.from, f.place);
+        parts = (f.from, f.position);
         read = f.read;
         same_from = class_of_joined ns one d over c classes exact f.from t f.from_term s (subst (λ (v : TermData). Joined b v (term_at ns t)) (sym f.from_is) joined);
-        same_place = class_of_joined ns one d over c classes exact f.place k f.place_term r (subst (λ (v : TermData). Joined b v (term_at ns k)) (sym f.place_is) joined_key);
+        same_position = class_of_joined ns one d over c classes exact f.position k f.position_term r (subst (λ (v : TermData). Joined b v (term_at ns k)) (sym f.position_is) joined_key);
       })
 
   by_class : (reading : Reading) (t k : ℕ) → IsBranchTerm ns b k → Contains (list_in (reads_in index reading) (class_of c t)) (class_of c k) → Contains (keys_in index c reading t) k
@@ -141,12 +141,12 @@ module _ (ns : List Node) (one : IsOneNumber ns) (d : BranchData) (over : IsOver
       ((h.members.each (class_of c k) k).1 (record { among = (h.are.each k).1 r; is = refl }))
 
   pub to_key : (reading : Reading) (t k : ℕ) → IsBranchTerm ns b t → IsBranchTerm ns b k → IsReadBy b reading (term_at ns t) (term_at ns k) → Contains (keys_in index c reading t) k
-  to_key OfMemory t k s r g = by_class OfMemory t k r (by_read OfMemory t k s r g.memory g.place g.stands g.same_memory g.same_place)
-  to_key OfVector t k s r g = by_class OfVector t k r (by_read OfVector t k s r g.vector g.place g.stands g.same_vector g.same_place)
+  to_key OfMemory t k s r g = by_class OfMemory t k r (by_read OfMemory t k s r g.memory g.position g.stands g.same_memory g.same_position)
+  to_key OfVector t k s r g = by_class OfVector t k r (by_read OfVector t k s r g.vector g.position g.stands g.same_vector g.same_position)
 
   as_read : (reading : Reading) (m u t k : TermData) → IsTerm b (BinaryTerm (operator_of reading) m u) → Joined b m t → Joined b u k → IsReadBy b reading t k
-  as_read OfMemory m u t k stands joined joined_key = record { memory = m; place = u; stands = stands; same_memory = joined; same_place = joined_key }
-  as_read OfVector m u t k stands joined joined_key = record { vector = m; place = u; stands = stands; same_vector = joined; same_place = joined_key }
+  as_read OfMemory m u t k stands joined joined_key = record { memory = m; position = u; stands = stands; same_memory = joined; same_position = joined_key }
+  as_read OfVector m u t k stands joined joined_key = record { vector = m; position = u; stands = stands; same_vector = joined; same_position = joined_key }
 
   pub from_key : (reading : Reading) (t k : ℕ) → IsBranchTerm ns b t → Contains (keys_in index c reading t) k → IsBranchTerm ns b k × IsReadBy b reading (term_at ns t) (term_at ns k)
   from_key reading t k s m =
@@ -160,5 +160,5 @@ module _ (ns : List Node) (one : IsOneNumber ns) (d : BranchData) (over : IsOver
         key,
         as_read reading (term_at ns r.parts.0) (term_at ns r.parts.1) (term_at ns t) (term_at ns k) stands
             (joined_of_class ns one d over c classes exact r.parts.0 t terms.0 s r.same_from)
-            (joined_of_class ns one d over c classes exact r.parts.1 k terms.1 key (r.same_place ∙ sym member.is)),
+            (joined_of_class ns one d over c classes exact r.parts.1 k terms.1 key (r.same_position ∙ sym member.is)),
       )

@@ -15,7 +15,7 @@ use Rattle.tableau.specs.Terms.{IsBranchTerm}
 use Rattle.axiom_instances.specs.declared.reading.TermForm.{TermForm}
 use Rattle.axiom_instances.specs.declared.reading.TermForm.TheVariants.{Constant, Unary, Binary, Ternary, If, Pack, SetField, Other}
 use Rattle.axiom_instances.specs.Numbers.{IsTermNumber, HasForm, IsBinary, IsOtherTerm, IsVariable, IsField, IsNone, term_at, terms_at, type_at, formula_at}
-use Rattle.axiom_instances.specs.Standing.{IsReadAt, StoreRead, PushRead, PopRead, SetRead}
+use Rattle.axiom_instances.specs.Present.{IsReadAt, StoreRead, PushRead, PopRead, SetRead}
 use Rattle.axiom_strategy.specs.declared.reads.Reading.{Reading}
 use Rattle.axiom_strategy.specs.declared.reads.Reading.TheVariants.{OfMemory, OfVector}
 use Rattle.axiom_strategy.specs.Reads.{operator_of, read_parts, made_of, IsReadBy}
@@ -44,7 +44,7 @@ pub part_stands : (b : Branch) (t s : TermData) → Contains (parts_of_term t) s
 part_stands b t s m h = record {
   generation = h.generation;
   holds = record {
-    place = h.holds.place;
+    position = h.holds.position;
     entry = h.holds.entry;
     found = h.holds.found;
     inside = part_in_formula t s m h.holds.entry.formula h.holds.inside;

@@ -38,7 +38,7 @@ typed_stands : {b : Branch} {a : TypeData} {t : TermData} → IsTyped b a t → 
 typed_stands {b} {a} {t} (Said s) = record {
   generation = s.says.entry.generation;
   holds = record {
-    place = s.place;
+    position = s.position;
     entry = s.says.entry;
     found = s.says.found;
     inside = subst (λ (p : FormulaData). IsInFormula t p) (sym s.says.is) (InTyped a t Itself);
@@ -48,7 +48,7 @@ typed_stands {b} {a} {t} (Said s) = record {
 typed_stands {b} {a} {t} (Denied s) = record {
   generation = s.says.entry.generation;
   holds = record {
-    place = s.place;
+    position = s.position;
     entry = s.says.entry;
     found = s.says.found;
     inside = subst (λ (p : FormulaData). IsInFormula t p) (sym s.says.is) (InDenied (IsFormula a t) (InTyped a t Itself));
@@ -64,11 +64,11 @@ module _ (ns : List Node) (d : BranchData) (typings : List Typing) (typed : AreT
   b = branch_in ns d
 
   pub listed_typing : {a : TypeData} {t : TermData} → IsTyped b a t → IsListedTyping ns typings a t
-  listed_typing {a} {t} (Said s) = typed.all s.place (IsFormula a t) a t (says_within ns d s.place (IsFormula a t) s.says) s.says (Gives a t)
-  listed_typing {a} {t} (Denied s) = typed.all s.place (NotFormula (IsFormula a t)) a t (says_within ns d s.place (NotFormula (IsFormula a t)) s.says) s.says (Denies a t)
+  listed_typing {a} {t} (Said s) = typed.all s.position (IsFormula a t) a t (says_within ns d s.position (IsFormula a t) s.says) s.says (Gives a t)
+  listed_typing {a} {t} (Denied s) = typed.all s.position (NotFormula (IsFormula a t)) a t (says_within ns d s.position (NotFormula (IsFormula a t)) s.says) s.says (Denies a t)
 
   pub among : {a : TypeData} {t : TermData} (l : IsListedTyping ns typings a t) → Contains typings l.typing
-  among l = (l.place, slice_get_within typings l.place l.typing l.found, get_or_from_slice_get typings l.place l.typing l.typing l.found)
+  among l = (l.position, slice_get_within typings l.position l.typing l.found, get_or_from_slice_get typings l.position l.typing l.typing l.found)
 
   pub given_at : (x : Typing) → Contains typings x → IsGivenOrDenied ns b x
   given_at x (k, w, e) = subst (IsGivenOrDenied ns b) e (typed.each k (slice_index_or typings k x) (slice_get-get_or typings k x w))

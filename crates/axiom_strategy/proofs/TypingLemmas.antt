@@ -26,13 +26,11 @@ use Rattle.tableau.proofs.AnswerLemmas.{stored}
 use Rattle.tableau.proofs.EntryLemmas.{entry_says, said_is}
 use Rattle.axiom_instances.specs.Numbers.{term_at, type_at, formula_at}
 use Rattle.axiom_strategy.specs.declared.typings.Typing.{Typing}
-use Rattle.axiom_strategy.specs.Typings.{IsTyping, Gives, Denies, given_of, denied_of, IsNoGiving, IsGivingOf, IsNoDenial, IsDenialOf, IsUntyped, IsTypingOf, IsUntypedEntry, IsTypingEntry, IsGivenOrDenied, IsListedTyping, AreTypings}
+use Rattle.term_pool.specs.Forms.{IsNoDenial}
+use Rattle.axiom_strategy.specs.Typings.{IsTyping, Gives, Denies, given_of, IsNoGiving, IsGivingOf, IsUntyped, IsTypingOf, IsUntypedEntry, IsTypingEntry, IsGivenOrDenied, IsListedTyping, AreTypings}
 
 typing_is : {x y : Typing} → Some x ≡ Some y → x ≡ y
 typing_is e = cc
-
-number_is : {x y : ℕ} → Some x ≡ Some y → x ≡ y
-number_is e = cc
 
 -- ---- formulas by their nodes
 
@@ -77,59 +75,12 @@ no_giving_item xs (OneNode h a) d = giving_one h (nth xs a)
 no_giving_item xs (TwoNode h a b) d = giving_two h a b (nth xs a) (nth xs b) d
 no_giving_item xs (ThreeNode h a b c) d = giving_three h (nth xs a) (nth xs b) (nth xs c)
 
-denial_leaf : (h : Leaf) → IsNoDenial (formula_in (leaf_item h))
-denial_leaf (Var n) = record { none = λ q e. absurd (cc) }
-denial_leaf (Constant c) = record { none = λ q e. absurd (cc) }
-denial_leaf _ = record { none = λ q e. absurd (cc) }
-
-denial_one : (h : One) (k : ℕ) (x : Item) → denied_of (OneNode h k) ≡ None → IsNoDenial (formula_in (one_item h x))
-denial_one (Unary o) k x d = record { none = λ q e. absurd (cc) }
-denial_one Holds k x d = record { none = λ q e. absurd (cc) }
-denial_one Not k x d = absurd (cc)
-denial_one (Join o) k x d = record { none = λ q e. absurd (cc) }
-denial_one TypeVector k x d = record { none = λ q e. absurd (cc) }
-denial_one TypeShared k x d = record { none = λ q e. absurd (cc) }
-denial_one TypeMutable k x d = record { none = λ q e. absurd (cc) }
-denial_one TypeTuple k x d = record { none = λ q e. absurd (cc) }
-denial_one (ConsByte j) k x d = record { none = λ q e. absurd (cc) }
-
-denial_two : (h : Two) (x y : Item) → IsNoDenial (formula_in (two_item h x y))
-denial_two (Binary o) x y = record { none = λ q e. absurd (cc) }
-denial_two Pack x y = record { none = λ q e. absurd (cc) }
-denial_two (Field j) x y = record { none = λ q e. absurd (cc) }
-denial_two (Compare o) x y = record { none = λ q e. absurd (cc) }
-denial_two Is x y = record { none = λ q e. absurd (cc) }
-denial_two (Connect o) x y = record { none = λ q e. absurd (cc) }
-denial_two (Quantify o n) x y = record { none = λ q e. absurd (cc) }
-denial_two ConsTerm x y = record { none = λ q e. absurd (cc) }
-denial_two ConsTrigger x y = record { none = λ q e. absurd (cc) }
-denial_two ConsFormula x y = record { none = λ q e. absurd (cc) }
-denial_two ConsType x y = record { none = λ q e. absurd (cc) }
-
-denial_three : (h : Three) (x y z : Item) → IsNoDenial (formula_in (three_item h x y z))
-denial_three (Ternary o) x y z = record { none = λ q e. absurd (cc) }
-denial_three (SetField k) x y z = record { none = λ q e. absurd (cc) }
-denial_three If x y z = record { none = λ q e. absurd (cc) }
-denial_three (TypeStruct s) x y z = record { none = λ q e. absurd (cc) }
-
-no_denial_item : (xs : List Item) (n : Node) → denied_of n ≡ None → IsNoDenial (formula_in (item_of xs n))
-no_denial_item xs (LeafNode h) d = denial_leaf h
-no_denial_item xs (OneNode h a) d = denial_one h a (nth xs a) d
-no_denial_item xs (TwoNode h a b) d = denial_two h (nth xs a) (nth xs b)
-no_denial_item xs (ThreeNode h a b c) d = denial_three h (nth xs a) (nth xs b) (nth xs c)
-
 module _ (ns : List Node) (n : ℕ) where
   pub no_giving : (node : Node) → IsMade ns n node → given_of node ≡ None → IsNoGiving (formula_at ns n)
   no_giving node m d = subst IsNoGiving (sym (ap formula_in m.item)) (no_giving_item (items ns) node d)
 
-  pub no_denial : (node : Node) → IsMade ns n node → denied_of node ≡ None → IsNoDenial (formula_at ns n)
-  no_denial node m d = subst IsNoDenial (sym (ap formula_in m.item)) (no_denial_item (items ns) node d)
-
   pub past_giving : length ns ≤ n → IsNoGiving (formula_at ns n)
   past_giving w = record { none = λ a t e. (let past : AnyOfFormula NoFormulas ≡ IsFormula a t = sym (ap formula_in (item_past ns n w)) ∙ e in absurd (cc)) }
-
-  pub past_denial : length ns ≤ n → IsNoDenial (formula_at ns n)
-  past_denial w = record { none = λ q e. (let past : AnyOfFormula NoFormulas ≡ NotFormula q = sym (ap formula_in (item_past ns n w)) ∙ e in absurd (cc)) }
 
   within_made : {node : Node} → IsMade ns n node → n < length ns
   within_made {node} m = slice_get_within ns n node m.found
@@ -144,12 +95,6 @@ module _ (ns : List Node) (n : ℕ) where
         term = record { within = omega (arith, w, e2); is = sym (a_term (item_at ns b) m.parts.1.sort) };
         is = ap formula_in m.item;
       }
-
-  denial_made : (a : ℕ) → IsMade ns n (OneNode Not a) → IsDenialOf ns (formula_at ns n) a
-  denial_made a m =
-      let w = within_made m in
-      let e = m.parts.earlier in
-      record { number = record { within = omega (arith, w, e); sort = m.parts.sort }; is = ap formula_in m.item }
 
   gives_node : (node : Node) (typing : Typing) → given_of node ≡ Some typing → IsMade ns n node → IsGivingOf ns (formula_at ns n) typing
   gives_node (LeafNode h) typing e m = absurd (cc)
@@ -167,27 +112,9 @@ module _ (ns : List Node) (n : ℕ) where
   gives_node (TwoNode ConsFormula a b) typing e m = absurd (cc)
   gives_node (TwoNode ConsType a b) typing e m = absurd (cc)
 
-  denies_node : (node : Node) (denied : ℕ) → denied_of node ≡ Some denied → IsMade ns n node → IsDenialOf ns (formula_at ns n) denied
-  denies_node (LeafNode h) denied e m = absurd (cc)
-  denies_node (TwoNode h a b) denied e m = absurd (cc)
-  denies_node (ThreeNode h a b c) denied e m = absurd (cc)
-  denies_node (OneNode Not a) denied e m = subst (IsDenialOf ns (formula_at ns n)) (number_is e) (denial_made a m)
-  denies_node (OneNode (Unary o) a) denied e m = absurd (cc)
-  denies_node (OneNode Holds a) denied e m = absurd (cc)
-  denies_node (OneNode (Join o) a) denied e m = absurd (cc)
-  denies_node (OneNode TypeVector a) denied e m = absurd (cc)
-  denies_node (OneNode TypeShared a) denied e m = absurd (cc)
-  denies_node (OneNode TypeMutable a) denied e m = absurd (cc)
-  denies_node (OneNode TypeTuple a) denied e m = absurd (cc)
-  denies_node (OneNode (ConsByte k) a) denied e m = absurd (cc)
-
   pub giving_answer : (node : Node) (o : Option Typing) → IsMade ns n node → o ≡ given_of node → MatchOption o (IsNoGiving (formula_at ns n)) (IsGivingOf ns (formula_at ns n))
   giving_answer node None m e = no_giving node m (sym e)
   giving_answer node (Some typing) m e = gives_node node typing (sym e) m
-
-  pub denial_answer : (node : Node) (o : Option ℕ) → IsMade ns n node → o ≡ denied_of node → MatchOption o (IsNoDenial (formula_at ns n)) (IsDenialOf ns (formula_at ns n))
-  denial_answer node None m e = no_denial node m (sym e)
-  denial_answer node (Some denied) m e = denies_node node denied (sym e) m
 
 -- ---- formulas that give a type or deny it
 
@@ -279,9 +206,9 @@ module _ (ns : List Node) (b : Branch) where
 
   listed_more : (xs : List Typing) (x : Typing) (a : TypeData) (t : TermData) → IsListedTyping ns xs a t → IsListedTyping ns (xs ++ x ∷ []) a t
   listed_more xs x a t h = record {
-    place = h.place;
+    position = h.position;
     typing = h.typing;
-    found = slice_get-append_left xs (x ∷ []) h.place h.typing h.found;
+    found = slice_get-append_left xs (x ∷ []) h.position h.typing h.found;
     type_is = h.type_is;
     term_is = h.term_is;
   }
@@ -293,7 +220,7 @@ module _ (ns : List Node) (b : Branch) where
       last = slice_get-last xs x
 
       each : (k : ℕ) (typing : Typing) → slice_get (xs ++ x ∷ []) k ≡ Some typing → IsGivenOrDenied ns b typing
-      each k typing f = elim (pushed_cases xs x k typing f) [ inl old ↦ h.each k typing old | inr new ↦ subst (IsGivenOrDenied ns b) new (record { place = i; entry = entry }) ]
+      each k typing f = elim (pushed_cases xs x k typing f) [ inl old ↦ h.each k typing old | inr new ↦ subst (IsGivenOrDenied ns b) new (record { position = i; entry = entry }) ]
 
       all : (j : ℕ) (p : FormulaData) (a : TypeData) (t : TermData) → j < i + 1 → Says b j p → IsTyping p a t → IsListedTyping ns (xs ++ x ∷ []) a t
-      all j p a t w says typed = elim (cases_lt j i) [ inl l ↦ listed_more xs x a t (h.all j p a t l says typed) | inr l ↦ (let same : j ≡ i = omega (arith, w, l) in let own = one_says b i entry.formula p entry.says (subst (λ k. Says b k p) same says) in let both = same_typing (subst (λ q. IsTyping q (type_at ns x.of) (term_at ns x.term)) own entry.is.is) typed in record { place = length xs; typing = x; found = last; type_is = both.0; term_is = both.1 }) ]
+      all j p a t w says typed = elim (cases_lt j i) [ inl l ↦ listed_more xs x a t (h.all j p a t l says typed) | inr l ↦ (let same : j ≡ i = omega (arith, w, l) in let own = one_says b i entry.formula p entry.says (subst (λ k. Says b k p) same says) in let both = same_typing (subst (λ q. IsTyping q (type_at ns x.of) (term_at ns x.term)) own entry.is.is) typed in record { position = length xs; typing = x; found = last; type_is = both.0; term_is = both.1 }) ]

@@ -94,7 +94,7 @@ module _ (pairs : List (ℕ × ℕ)) (left right : ℕ) (start : List Asker) (xs
 
 module _ (ns : List Node) (b : Branch) (lists : List (ℕ × List ℕ)) (pairs : List (ℕ × ℕ)) where
   denied_kept : (count : ℕ) (x : Asker) → IsDeniedPair ns b lists pairs count x → IsDeniedPair ns b lists pairs (count + 1) x
-  denied_kept count x s = record { place = s.place; before = (let w = s.before in omega (arith, w)); sides = s.sides; denies = s.denies; pair = s.pair }
+  denied_kept count x s = record { position = s.position; before = (let w = s.before in omega (arith, w)); sides = s.sides; denies = s.denies; pair = s.pair }
 
   pub denied_begun : AreDeniedPairs ns b lists pairs 0 []
   denied_begun = record { each = λ x. (λ m. absurd (none_taken x m), λ s. absurd (let w = s.before in omega (arith, w))) }
@@ -103,11 +103,11 @@ module _ (ns : List Node) (b : Branch) (lists : List (ℕ × List ℕ)) (pairs :
   denied_passed {count} {askers} h none = record { each = λ x. (λ m. denied_kept count x ((h.each x).0 m), back x) }
     where
       back : (x : Asker) → IsDeniedPair ns b lists pairs (count + 1) x → Contains askers x
-      back x s = elim (cases_lt s.place count) [
-        | inl l ↦ (h.each x).1 (record { place = s.place; before = l; sides = s.sides; denies = s.denies; pair = s.pair })
+      back x s = elim (cases_lt s.position count) [
+        | inl l ↦ (h.each x).1 (record { position = s.position; before = l; sides = s.sides; denies = s.denies; pair = s.pair })
         | inr l ↦ absurd (
             let w = s.before in
-            let same : s.place ≡ count = omega (arith, l, w) in
+            let same : s.position ≡ count = omega (arith, l, w) in
             none.none (term_at ns s.sides.0) (term_at ns s.sides.1) (subst (λ k. Says b k (NotFormula (EqFormula (term_at ns s.sides.0) (term_at ns s.sides.1)))) same s.denies.says))
       ]
 
@@ -117,15 +117,15 @@ module _ (ns : List Node) (b : Branch) (lists : List (ℕ × List ℕ)) (pairs :
       there : (x : Asker) → Contains more x → IsDeniedPair ns b lists pairs (count + 1) x
       there x m = elim ((put.each x).0 m) [
         | inl o ↦ denied_kept count x ((h.each x).0 o)
-        | inr p ↦ record { place = count; before = omega arith; sides = sides; denies = denies; pair = p }
+        | inr p ↦ record { position = count; before = omega arith; sides = sides; denies = denies; pair = p }
       ]
 
       back : (x : Asker) → IsDeniedPair ns b lists pairs (count + 1) x → Contains more x
-      back x s = elim (cases_lt s.place count) [
-        | inl l ↦ (put.each x).1 (inl ((h.each x).1 (record { place = s.place; before = l; sides = s.sides; denies = s.denies; pair = s.pair })))
+      back x s = elim (cases_lt s.position count) [
+        | inl l ↦ (put.each x).1 (inl ((h.each x).1 (record { position = s.position; before = l; sides = s.sides; denies = s.denies; pair = s.pair })))
         | inr l ↦ (
             let w = s.before in
-            let last : s.place ≡ count = omega (arith, l, w) in
+            let last : s.position ≡ count = omega (arith, l, w) in
             let same : s.sides ≡ sides = same_sides ns one b count s.sides sides (subst (λ k. DeniesSides ns b k s.sides) last s.denies) denies in
             (put.each x).1 (inr (subst (λ (q : ℕ × ℕ). IsPairOf (list_in lists q.0) pairs q.0 q.1 x) same s.pair)))
       ]
@@ -148,13 +148,13 @@ module _ (ns : List Node) (one : IsOneNumber ns) (d : BranchData) (typings : Lis
       let right = of_type s.sides.1 s.pair.of ((paired.each s.sides.1 s.pair.of).0 s.pair.second) in
       subst (IsAskerOn ns b) (sym s.pair.is) (record {
         numbers = record { of = left.of; first = left.term; second = right.term };
-        stands = (record { place = s.place; says = s.denies.says }, left.typed, right.typed);
+        stands = (record { position = s.position; says = s.denies.says }, left.typed, right.typed);
       })
 
   -- an entry states that the terms with these numbers differ
-  says_there : {a c : TypeData} {v u : TermData} (s : Stands b (DifferFormula v u)) (l : IsListedTyping ns typings a v) (r : IsListedTyping ns typings c u) → Says b s.place (NotFormula (EqFormula (term_at ns l.typing.term) (term_at ns r.typing.term)))
+  says_there : {a c : TypeData} {v u : TermData} (s : Stands b (DifferFormula v u)) (l : IsListedTyping ns typings a v) (r : IsListedTyping ns typings c u) → Says b s.position (NotFormula (EqFormula (term_at ns l.typing.term) (term_at ns r.typing.term)))
   says_there {v = v} s l r =
-      subst (λ (t : TermData). Says b s.place (NotFormula (EqFormula t (term_at ns r.typing.term)))) (sym l.term_is) (subst (λ (t : TermData). Says b s.place (NotFormula (EqFormula v t))) (sym r.term_is) s.says)
+      subst (λ (t : TermData). Says b s.position (NotFormula (EqFormula t (term_at ns r.typing.term)))) (sym l.term_is) (subst (λ (t : TermData). Says b s.position (NotFormula (EqFormula v t))) (sym r.term_is) s.says)
 
   listed_pair : {a : TypeData} {v u : TermData} → Stands b (DifferFormula v u) → (l : IsListedTyping ns typings a v) (r : IsListedTyping ns typings a u) → Contains askers (Vectors l.typing.of l.typing.term r.typing.term)
   listed_pair s l r =
@@ -165,11 +165,11 @@ module _ (ns : List Node) (one : IsOneNumber ns) (d : BranchData) (typings : Lis
       let t = term_at ns l.typing.term in
       let u = term_at ns r.typing.term in
       let same : r.typing.of ≡ l.typing.of = same_type ns one r.typing.of l.typing.of y.of x.of (r.type_is ∙ sym l.type_is) in
-      let says : Says b s.place (NotFormula (EqFormula t u)) = says_there s l r in
-      let stands : Stands b (NotFormula (EqFormula t u)) = record { place = s.place; says = says } in
+      let says : Says b s.position (NotFormula (EqFormula t u)) = says_there s l r in
+      let stands : Stands b (NotFormula (EqFormula t u)) = record { position = s.position; says = says } in
       (h.each (Vectors l.typing.of l.typing.term r.typing.term)).1 (record {
-        place = s.place;
-        before = says_within ns d s.place (NotFormula (EqFormula t u)) says;
+        position = s.position;
+        before = says_within ns d s.position (NotFormula (EqFormula t u)) says;
         sides = (l.typing.term, r.typing.term);
         denies = record {
           left = record { number = term_number x.term; stands = left_stands b t u stands };

@@ -7,7 +7,7 @@ use Rattle.certificates.specs.BranchesBranch.{Branch, Stands, IsTyped, IsTerm}
 use Rattle.certificates.specs.Joined.{IsItemRead}
 use Rattle.certificates.specs.Table.{HasTyped}
 use Rattle.axiom_instances.specs.Asks.{AlwaysTriggered, AsksOfTerm, AsksOfType, AsksOfTypeAlone, AsksOfTypeBeside, AsksOfRead, AsksOfItem}
-use Rattle.axiom_instances.specs.Standing.{IsReadAt}
+use Rattle.axiom_instances.specs.Present.{IsReadAt}
 use Rattle.axiom_instances.specs.Numbers.{IsTermNumber, IsTypeNumber, term_at, type_at}
 use Rattle.axiom_instances.specs.VectorRows.{AsksOfPair}
 use Rattle.axiom_strategy.specs.declared.askers.Asker.{Asker}
@@ -62,16 +62,16 @@ asks_at shapes ns askers k = asks_of shapes ns (slice_index_or askers k Always)
 
 -- ---- triggers on a branch
 
-abbrev pub IsStanding : List Node → Branch → Asker → Type 0
-IsStanding ns b Always = Unit {0}
-IsStanding ns b (Term t) = IsTerm b (term_at ns t)
-IsStanding ns b (Typing a t) = IsTyped b (type_at ns a) (term_at ns t)
-IsStanding ns b (TypeAlone a) = HasTyped b (type_at ns a)
-IsStanding ns b (Beside a t) = HasTyped b (type_at ns a) × IsTerm b (term_at ns t)
-IsStanding ns b (Read t k) = IsTerm b (term_at ns t) × IsTerm b (term_at ns k) × IsReadAt b (term_at ns t) (term_at ns k)
-IsStanding ns b (Item a v i) =
+abbrev pub IsPresent : List Node → Branch → Asker → Type 0
+IsPresent ns b Always = Unit {0}
+IsPresent ns b (Term t) = IsTerm b (term_at ns t)
+IsPresent ns b (Typing a t) = IsTyped b (type_at ns a) (term_at ns t)
+IsPresent ns b (TypeAlone a) = HasTyped b (type_at ns a)
+IsPresent ns b (Beside a t) = HasTyped b (type_at ns a) × IsTerm b (term_at ns t)
+IsPresent ns b (Read t k) = IsTerm b (term_at ns t) × IsTerm b (term_at ns k) × IsReadAt b (term_at ns t) (term_at ns k)
+IsPresent ns b (Item a v i) =
     IsTyped b (type_at ns a) (term_at ns v) × IsTerm b (term_at ns i) × IsItemRead b (term_at ns v) (term_at ns i)
-IsStanding ns b (Vectors a v u) =
+IsPresent ns b (Vectors a v u) =
     Stands b (DifferFormula (term_at ns v) (term_at ns u)) × IsTyped b (type_at ns a) (term_at ns v) × IsTyped b (type_at ns a) (term_at ns u)
 
 -- ---- triggers of the range axioms

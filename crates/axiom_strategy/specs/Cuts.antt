@@ -13,8 +13,8 @@ use Rattle.base.specs.Lists.{list_in}
 use Rattle.base.specs.KeyedPairs.{AreMore}
 use Rattle.tableau.specs.Terms.{term_at}
 use Rattle.axiom_strategy.specs.Numbers.{mark_at, AreBothMarked}
-use Rattle.axiom_strategy.specs.Places.{at_group}
-use Rattle.axiom_strategy.specs.declared.decisions.places.Place.{Place}
+use Rattle.axiom_strategy.specs.Positions.{at_group}
+use Rattle.axiom_strategy.specs.declared.decisions.positions.Position.{Position}
 use Rattle.axiom_strategy.specs.declared.decisions.cuts.CutStep.{CutStep}
 
 -- no cut is due
@@ -76,10 +76,10 @@ pub record IsOpenWith (c : BranchClassesData) (marks : List Bool) (denied : List
   pub is_open : IsOpen c marks denied t u
 
 -- two terms that index one group
-pub record NoOpenPair (c : BranchClassesData) (marks : List Bool) (denied : List (ℕ × ℕ)) (all : List Place) (lists : List (ℕ × List ℕ)) : Type 0 where
+pub record NoOpenPair (c : BranchClassesData) (marks : List Bool) (denied : List (ℕ × ℕ)) (all : List Position) (lists : List (ℕ × List ℕ)) : Type 0 where
   pub none : (group t u : ℕ) → Contains all (at_group group t) → Contains (list_in lists group) u → IsOpen c marks denied t u → ⊥
 
-pub record IsOpenPair (c : BranchClassesData) (marks : List Bool) (denied : List (ℕ × ℕ)) (all : List Place) (lists : List (ℕ × List ℕ)) (pair : ℕ × ℕ) : Type 0 where
+pub record IsOpenPair (c : BranchClassesData) (marks : List Bool) (denied : List (ℕ × ℕ)) (all : List Position) (lists : List (ℕ × List ℕ)) (pair : ℕ × ℕ) : Type 0 where
   pub group : ℕ
   pub one : Contains all (at_group group pair.0)
   pub other : Contains (list_in lists group) pair.1
@@ -90,6 +90,6 @@ pub record IsKnownBelow (c : BranchClassesData) (count t : ℕ) : Type 0 where
   pub known : IsKnown c t
   pub below : t < count
 
-pub record AreAllKnown (c : BranchClassesData) (count : ℕ) (all : List Place) (lists : List (ℕ × List ℕ)) : Type 0 where
-  pub places : (group t : ℕ) → Contains all (at_group group t) → IsKnownBelow c count t
+pub record AreAllKnown (c : BranchClassesData) (count : ℕ) (all : List Position) (lists : List (ℕ × List ℕ)) : Type 0 where
+  pub positions : (group t : ℕ) → Contains all (at_group group t) → IsKnownBelow c count t
   pub by_group : (group t : ℕ) → Contains (list_in lists group) t → IsKnownBelow c count t

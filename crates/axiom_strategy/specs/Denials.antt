@@ -1,26 +1,12 @@
 -- Equations that entries negate, by number and up to classes.
-use Rattle.std.specs.Prelude.{◌≡◌, ◌↔◌, ℕ, List, Contains, Option, Some, None}
+use Rattle.std.specs.Prelude.{◌≡◌, ◌↔◌, ℕ, List, Contains}
 use Rattle.fol.specs.FormulaData.{TermData, EqFormula, NotFormula}
-use Rattle.fol.specs.declared.operators.Comparison.TheVariants.{Eq}
-use Rattle.term_pool.specs.declared.node.One.TheVariants.{Not}
-use Rattle.term_pool.specs.declared.node.Two.TheVariants.{Compare}
 use Rattle.term_pool.specs.declared.node.Node.{Node}
-use Rattle.term_pool.specs.declared.node.Node.TheVariants.{One as OneNode, Two as TwoNode}
 use Rattle.certificates.specs.BranchesBranch.{Branch, Says}
 use Rattle.tableau.specs.PoolBranches.{IsTermNumber}
 use Rattle.congruence_closure.specs.Known.{BranchClassesData, class_of}
 use Rattle.tableau.specs.Numbers.{formula_at}
 use Rattle.tableau.specs.Terms.{term_at, IsBranchTerm}
-
--- the formula that a formula negates
-abbrev pub denied_part : Node → Option ℕ
-denied_part (OneNode Not p) = Some p
-denied_part _ = None
-
--- the sides of an equation
-abbrev pub sides_of : Node → Option (ℕ × ℕ)
-sides_of (TwoNode (Compare Eq) t u) = Some (t, u)
-sides_of _ = None
 
 -- the formula states that the terms differ
 pub record AreSidesDenied (ns : List Node) (formula : ℕ) (sides : ℕ × ℕ) : Type 0 where
@@ -39,9 +25,9 @@ pub record DeniesNone (b : Branch) (i : ℕ) : Type 0 where
 
 -- an entry states that a term of the one class differs from a term of the other
 pub record IsDeniedClass (ns : List Node) (b : Branch) (c : BranchClassesData) (one other : ℕ) : Type 0 where
-  pub place : ℕ
+  pub position : ℕ
   pub sides : ℕ × ℕ
-  pub denies : DeniesSides ns b place sides
+  pub denies : DeniesSides ns b position sides
   pub is_one : class_of c sides.0 ≡ one
   pub is_other : class_of c sides.1 ≡ other
 

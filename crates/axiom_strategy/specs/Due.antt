@@ -46,9 +46,9 @@ pub record IsDueStep (ns : List Node) (b : Branch) (wanted : WantedAxioms) (asks
 
 -- one of the first `count` triggers triggers it
 pub record AsksOfSome (count : ℕ) (asks : ℕ → Asking) (name : Axiom) (ts : List TermData) (p : FormulaData) : Type 0 where
-  pub place : ℕ
-  pub before : place < count
-  pub triggered : asks place name ts p
+  pub position : ℕ
+  pub before : position < count
+  pub triggered : asks position name ts p
 
 -- ---- by the table of axioms
 

@@ -6,19 +6,19 @@ use Rattle.certificates.specs.Due.{CutDue}
 use Rattle.congruence_closure.specs.Known.{BranchClassesData}
 use Rattle.tableau.specs.Terms.{term_at, IsBranchTerm, AreBranchTerms}
 use Rattle.tableau.specs.Groups.{AreGroups}
-use Rattle.axiom_strategy.specs.Places.{ArePlaces}
+use Rattle.axiom_strategy.specs.Positions.{ArePositions}
 use Rattle.axiom_strategy.specs.Cuts.{AreCandidates}
-use Rattle.axiom_strategy.specs.declared.decisions.places.Place.{Place}
+use Rattle.axiom_strategy.specs.declared.decisions.positions.Position.{Position}
 
 -- the index terms among the candidates of the branch's terms, by groups of aliasing memories and vectors
-pub record AreCutPlaces (ns : List Node) (b : Branch) (c : BranchClassesData) (marks : List Bool) (all : List Place) (lists : List (ℕ × List ℕ)) : Type 0 where
+pub record AreCutPositions (ns : List Node) (b : Branch) (c : BranchClassesData) (marks : List Bool) (all : List Position) (lists : List (ℕ × List ℕ)) : Type 0 where
   pub groups : List ℕ
   pub near : AreGroups ns b groups
   pub terms : List ℕ
   pub are : AreBranchTerms ns b terms
   pub candidates : List ℕ
   pub chosen : AreCandidates ns c marks terms candidates
-  pub places : ArePlaces ns b c groups candidates all lists
+  pub positions : ArePositions ns b c groups candidates all lists
 
 pub record IsDuePair (ns : List Node) (b : Branch) (pair : ℕ × ℕ) : Type 0 where
   pub left : IsBranchTerm ns b pair.0

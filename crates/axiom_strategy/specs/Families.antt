@@ -12,16 +12,16 @@ use Rattle.certificates.specs.Due.{IsVariable}
 use Rattle.certificates.specs.Joined.{IsItemRead}
 use Rattle.certificates.specs.Table.{HasTyped}
 use Rattle.axiom_instances.specs.Asks.{AlwaysTriggered, AsksOfTypeAlone, AsksOfTypeBeside, AsksOfRead, AsksOfItem}
-use Rattle.axiom_instances.specs.Standing.{IsReadAt, IsTriggeredOn}
+use Rattle.axiom_instances.specs.Present.{IsReadAt, IsTriggeredOn}
 use Rattle.axiom_instances.specs.VectorRows.{AsksOfPair}
 use Rattle.axiom_strategy.specs.declared.askers.Asker.{Asker}
 use Rattle.axiom_strategy.specs.Due.{Asking, AsksOfSome}
-use Rattle.axiom_strategy.specs.Askers.{IsAsker, asks_at, IsStanding}
+use Rattle.axiom_strategy.specs.Askers.{IsAsker, asks_at, IsPresent}
 
 -- the numbers are those of types and terms on the branch
 pub record IsAskerOn (ns : List Node) (b : Branch) (x : Asker) : Type 0 where
   pub numbers : IsAsker ns x
-  pub stands : IsStanding ns b x
+  pub stands : IsPresent ns b x
 
 -- each trigger is on the branch, and together they trigger all these instances
 pub record AskAll (ns : List Node) (b : Branch) (askers : List Asker) (asks : Asking) : Type 0 where

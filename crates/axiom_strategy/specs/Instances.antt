@@ -68,7 +68,7 @@ pub record IsOnly (a : Triggered) (name : Axiom) (ts : List TermData) (p : Formu
 
 -- the instances of a list
 pub record IsListed (ns : List Node) (xs : List TriggeredAxiom) (name : Axiom) (ts : List TermData) (p : FormulaData) : Type 0 where
-  pub place : ℕ
+  pub position : ℕ
   pub instance : TriggeredAxiom
-  pub found : slice_get xs place ≡ Some instance
+  pub found : slice_get xs position ≡ Some instance
   pub is : triggered_in ns instance ≡ record { name = name; terms = ts; formula = p }

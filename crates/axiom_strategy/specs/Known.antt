@@ -19,4 +19,4 @@ pub record AreKnownInstances (shapes : List Shape) (ns : List Node) (kept : List
 
 -- the list at an index; the empty list for an index past the end
 abbrev pub list_at : List (Asker × List TriggeredAxiom) → ℕ → List TriggeredAxiom
-list_at kept place = unwrap_or (option_map (λ e. e.1) (slice_get kept place)) []
+list_at kept position = unwrap_or (option_map (λ e. e.1) (slice_get kept position)) []

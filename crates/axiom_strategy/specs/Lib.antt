@@ -12,7 +12,7 @@ pub mod Next
 pub mod Listing
 pub mod Numbers
 pub mod Denials
-pub mod Places
+pub mod Positions
 pub mod Cuts
 pub mod DuePairs
 pub mod Orders

@@ -15,8 +15,8 @@ use Rattle.base.specs.Lists.{list_in}
 use Rattle.tableau.specs.Terms.{term_at, IsBranchTerm}
 use Rattle.axiom_strategy.specs.Numbers.{mark_at}
 use Rattle.axiom_strategy.specs.Denials.{DeniesSides}
-use Rattle.axiom_strategy.specs.Places.{at_group}
-use Rattle.axiom_strategy.specs.declared.decisions.places.Place.{Place}
+use Rattle.axiom_strategy.specs.Positions.{at_group}
+use Rattle.axiom_strategy.specs.declared.decisions.positions.Position.{Position}
 use Rattle.axiom_strategy.specs.declared.decisions.orders.OrderStep.{OrderStep}
 
 -- no instance is due
@@ -64,7 +64,7 @@ pub record IsListed (pairs : List (ℕ × ℕ)) (t u : ℕ) : Type 0 where
   pub among : Contains pairs (t, u)
 
 -- terms that index one group
-pub record IsInGroup (all : List Place) (lists : List (ℕ × List ℕ)) (t u : ℕ) : Type 0 where
+pub record IsInGroup (all : List Position) (lists : List (ℕ × List ℕ)) (t u : ℕ) : Type 0 where
   pub group : ℕ
   pub one : Contains all (at_group group t)
   pub other : Contains (list_in lists group) u
@@ -98,8 +98,8 @@ pub record NoneDeniedAt (ns : List Node) (b : Branch) (i : ℕ) : Type 0 where
 
 -- some entry states that the numbers differ
 pub record IsDeniedPair (ns : List Node) (b : Branch) (p : ℕ × ℕ) : Type 0 where
-  pub place : ℕ
-  pub at : IsDeniedAt ns b place p
+  pub position : ℕ
+  pub at : IsDeniedAt ns b position p
 
 pub record AreDeniedPairs (ns : List Node) (b : Branch) (pairs : List (ℕ × ℕ)) : Type 0 where
   pub each : (p : ℕ × ℕ) → Contains pairs p ↔ IsDeniedPair ns b p
@@ -111,5 +111,5 @@ pub record IsNumberPair (ns : List Node) (b : Branch) (t u : ℕ) : Type 0 where
   pub indexes : AreIndexes b (term_at ns t) (term_at ns u)
   pub numbers : AreNumbers b (term_at ns t) (term_at ns u)
 
-pub record AreNumberPlaces (ns : List Node) (b : Branch) (all : List Place) (lists : List (ℕ × List ℕ)) : Type 0 where
+pub record AreNumberPositions (ns : List Node) (b : Branch) (all : List Position) (lists : List (ℕ × List ℕ)) : Type 0 where
   pub each : (t u : ℕ) → IsInGroup all lists t u ↔ IsNumberPair ns b t u

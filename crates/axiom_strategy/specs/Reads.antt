@@ -64,13 +64,13 @@ pub record IsMember (c : BranchClassesData) (terms : List ℕ) (class n : ℕ) :
   pub is : class_of c n ≡ class
 
 -- one of these terms reads something of the first class at something of the second
-pub record IsReadOf (ns : List Node) (c : BranchClassesData) (reading : Reading) (terms : List ℕ) (from place : ℕ) : Type 0 where
+pub record IsReadOf (ns : List Node) (c : BranchClassesData) (reading : Reading) (terms : List ℕ) (from position : ℕ) : Type 0 where
   pub number : ℕ
   pub among : Contains terms number
   pub parts : ℕ × ℕ
   pub read : IsBinary ns (operator_of reading) number parts.0 parts.1
   pub same_from : class_of c parts.0 ≡ from
-  pub same_place : class_of c parts.1 ≡ place
+  pub same_position : class_of c parts.1 ≡ position
 
 -- the terms of the branch by class, and the reads among them
 pub record IsReadIndex (ns : List Node) (b : Branch) (c : BranchClassesData) (index : ReadIndex) : Type 0 where

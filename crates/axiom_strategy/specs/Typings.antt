@@ -2,13 +2,11 @@
 use Rattle.std.specs.Prelude.{◌≡◌, ℕ, ◌<◌, List, slice_get, Option, Some, None}
 use Rattle.base.specs.TypeData.{TypeData}
 use Rattle.fol.specs.FormulaData.{TermData, FormulaData, IsFormula, NotFormula}
-use Rattle.term_pool.specs.declared.node.One.TheVariants.{Not}
 use Rattle.term_pool.specs.declared.node.Two.TheVariants.{Is}
 use Rattle.term_pool.specs.declared.node.Node.{Node}
-use Rattle.term_pool.specs.declared.node.Node.TheVariants.{One as OneNode, Two as TwoNode}
+use Rattle.term_pool.specs.declared.node.Node.TheVariants.{Two as TwoNode}
 use Rattle.certificates.specs.BranchesBranch.{Branch, Says}
-use Rattle.tableau.specs.PoolBranches.{IsFormulaNumber}
-use Rattle.axiom_instances.specs.Numbers.{IsTermNumber, IsTypeNumber, term_at, type_at, formula_at}
+use Rattle.axiom_instances.specs.Numbers.{IsTermNumber, IsTypeNumber, term_at, type_at}
 use Rattle.axiom_strategy.specs.declared.typings.Typing.{Typing}
 
 -- the formula gives the type to the term or denies it
@@ -28,18 +26,6 @@ pub record IsGivingOf (ns : List Node) (p : FormulaData) (typing : Typing) : Typ
 abbrev pub given_of : Node → Option Typing
 given_of (TwoNode Is a b) = Some (record { of = a; term = b })
 given_of _ = None
-
--- the formula is no negation; it negates the formula with this number
-pub record IsNoDenial (p : FormulaData) : Type 0 where
-  pub none : (q : FormulaData) → p ≡ NotFormula q → ⊥
-
-pub record IsDenialOf (ns : List Node) (p : FormulaData) (denied : ℕ) : Type 0 where
-  pub number : IsFormulaNumber ns denied
-  pub is : p ≡ NotFormula (formula_at ns denied)
-
-abbrev pub denied_of : Node → Option ℕ
-denied_of (OneNode Not a) = Some a
-denied_of _ = None
 
 pub record IsUntyped (p : FormulaData) : Type 0 where
   pub none : (a : TypeData) (t : TermData) → IsTyping p a t → ⊥
@@ -64,14 +50,14 @@ pub record IsTypingEntry (ns : List Node) (b : Branch) (i : ℕ) (typing : Typin
 
 -- some entry gives this type to this term or denies it
 pub record IsGivenOrDenied (ns : List Node) (b : Branch) (typing : Typing) : Type 0 where
-  pub place : ℕ
-  pub entry : IsTypingEntry ns b place typing
+  pub position : ℕ
+  pub entry : IsTypingEntry ns b position typing
 
 -- some number of a list is that of the type and the term
 pub record IsListedTyping (ns : List Node) (typings : List Typing) (a : TypeData) (t : TermData) : Type 0 where
-  pub place : ℕ
+  pub position : ℕ
   pub typing : Typing
-  pub found : slice_get typings place ≡ Some typing
+  pub found : slice_get typings position ≡ Some typing
   pub type_is : type_at ns typing.of ≡ a
   pub term_is : term_at ns typing.term ≡ t
 

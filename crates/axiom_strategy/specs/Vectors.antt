@@ -28,10 +28,10 @@ pub record IsPairOf (types : List ℕ) (pairs : List (ℕ × ℕ)) (left right :
 
 -- terms that one of the first entries states to differ, with a type that both have
 pub record IsDeniedPair (ns : List Node) (b : Branch) (lists : List (ℕ × List ℕ)) (pairs : List (ℕ × ℕ)) (count : ℕ) (x : Asker) : Type 0 where
-  pub place : ℕ
-  pub before : place < count
+  pub position : ℕ
+  pub before : position < count
   pub sides : ℕ × ℕ
-  pub denies : DeniesSides ns b place sides
+  pub denies : DeniesSides ns b position sides
   pub pair : IsPairOf (list_in lists sides.0) pairs sides.0 sides.1 x
 
 pub record AreDeniedPairs (ns : List Node) (b : Branch) (lists : List (ℕ × List ℕ)) (pairs : List (ℕ × ℕ)) (count : ℕ) (askers : List Asker) : Type 0 where

@@ -64,7 +64,7 @@ pub(crate) fn instances_of(
         Asker::TypeAlone(of) => axioms_of_type(alloc, pool, of),
         Asker::Beside(of, term) => axioms_of_type_beside(alloc, pool, of, term),
         Asker::Read(term, key) => axioms_of_read(alloc, pool, term, key),
-        Asker::Item(of, vector, place) => axioms_of_item(alloc, pool, of, vector, place),
+        Asker::Item(of, vector, position) => axioms_of_item(alloc, pool, of, vector, position),
         Asker::Vectors(of, vector, other) => axioms_of_vectors(alloc, pool, of, vector, other),
     }
 }
@@ -87,8 +87,8 @@ pub(crate) fn next_of(
     ensures known { OnOk result (AreKnownInstances shapes.now pool.new known.new) }
     ensures due { IfOk result (λ found. MatchOption found (NoneDue (branch_in pool.old branch.now) wanted (asks_of shapes.now pool.old asker)) (IsDueStep pool.new (branch_in pool.old branch.now) wanted (asks_of shapes.now pool.old asker))) }
 {
-    let place = known.place_of(alloc, pool, shapes, asker)?;
-    Ok(first_due(pool, branch, wanted, known.list(place)))
+    let position = known.position_of(alloc, pool, shapes, asker)?;
+    Ok(first_due(pool, branch, wanted, known.list(position)))
 }
 
 /// Returns the first instance that one of these triggers triggers and that is wanted and due; `None` if there is none.

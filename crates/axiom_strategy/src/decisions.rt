@@ -6,4 +6,4 @@ pub mod denials;
 pub mod equal_orders;
 mod numbers;
 pub mod orders;
-mod places;
+pub mod positions;

@@ -77,7 +77,7 @@ impl KnownInstances {
     /// # Errors
     ///
     /// Only if memory runs out.
-    pub fn place_of(
+    pub fn position_of(
         &mut self,
         alloc: Global,
         pool: &mut Pool,
@@ -89,22 +89,22 @@ impl KnownInstances {
         requires known { AreKnownInstances shapes.now pool.old self.old }
         ensures extends { Extends pool.old pool.new }
         ensures known { OnOk result (AreKnownInstances shapes.now pool.new self.new) }
-        ensures all { IfOk result (λ place. ListsAll pool.new (list_at self.new place) (asks_of shapes.now pool.old asker)) }
+        ensures all { IfOk result (λ position. ListsAll pool.new (list_at self.new position) (asks_of shapes.now pool.old asker)) }
     {
-        if let Some(place) = self.lists.get_index_of(&asker) {
-            return Ok(place);
+        if let Some(position) = self.lists.get_index_of(&asker) {
+            return Ok(position);
         }
         let items = instances_of(alloc, pool, shapes, asker)?;
-        let place = self.lists.len();
+        let position = self.lists.len();
         self.lists.insert(asker, Instances { items })?;
-        Ok(place)
+        Ok(position)
     }
 
     /// The list at an index; the empty list for an index past the end.
-    pub fn list(&self, place: usize) -> &[TriggeredAxiom]
-        ensures { result.now ≡ list_at self.now place }
+    pub fn list(&self, position: usize) -> &[TriggeredAxiom]
+        ensures { result.now ≡ list_at self.now position }
     {
-        match self.lists.get_index(place) {
+        match self.lists.get_index(position) {
             Some((_, list)) => list.as_slice(),
             None => &[],
         }

@@ -36,11 +36,11 @@ fn is_length_of(pool: &Pool, term: usize, vector: usize) -> bool {
 }
 
 // Decides whether a read is a read-back: it reads at the very index of the last write.
-fn is_plain(pool: &Pool, from: usize, place: usize) -> bool {
+fn is_plain(pool: &Pool, from: usize, position: usize) -> bool {
     match term_form(pool, from) {
-        TermForm::Ternary(Ternary::Store, _, key, _) => key == place,
-        TermForm::Ternary(Ternary::Set, _, at, _) => at == place,
-        TermForm::Binary(Binary::Push, vector, _) => is_length_of(pool, place, vector),
+        TermForm::Ternary(Ternary::Store, _, key, _) => key == position,
+        TermForm::Ternary(Ternary::Set, _, at, _) => at == position,
+        TermForm::Binary(Binary::Push, vector, _) => is_length_of(pool, position, vector),
         _ => false,
     }
 }
@@ -49,7 +49,7 @@ fn is_plain(pool: &Pool, from: usize, place: usize) -> bool {
 fn read_in(pool: &Pool, term: usize) -> Option<(usize, usize)> {
     match term_form(pool, term) {
         TermForm::Binary(Binary::Select, memory, key) => Some((memory, key)),
-        TermForm::Binary(Binary::At, vector, place) => Some((vector, place)),
+        TermForm::Binary(Binary::At, vector, position) => Some((vector, position)),
         _ => None,
     }
 }
@@ -74,13 +74,13 @@ fn near_reads(
 ) -> Result<Pairs, NoMemory> {
     let mut reads = Pairs::new(alloc);
     for number in terms {
-        let Some((from, place)) = read_in(pool, *number) else {
+        let Some((from, position)) = read_in(pool, *number) else {
             continue;
         };
-        if is_plain(pool, from, place) {
+        if is_plain(pool, from, position) {
             continue;
         }
-        if let Some((of, at)) = both_classes(classes, from, place) {
+        if let Some((of, at)) = both_classes(classes, from, position) {
             reads.add(of, at)?;
         }
     }
@@ -90,8 +90,8 @@ fn near_reads(
 // ---- their triggers
 
 // Decides whether something of the first term's class is so read at the second term's class.
-fn is_read(classes: &BranchClasses, reads: &Pairs, from: usize, place: usize) -> bool {
-    match both_classes(classes, from, place) {
+fn is_read(classes: &BranchClasses, reads: &Pairs, from: usize, position: usize) -> bool {
+    match both_classes(classes, from, position) {
         Some((of, at)) => reads.has(of, at),
         None => false,
     }

@@ -58,7 +58,7 @@ fn at_parts(form: TermForm) -> Option<(usize, usize)>
     ensures { result ≡ at_parts form }
 {
     match form {
-        TermForm::Binary(Binary::At, vector, place) => Some((vector, place)),
+        TermForm::Binary(Binary::At, vector, position) => Some((vector, position)),
         _ => None,
     }
 }
@@ -127,11 +127,11 @@ fn reads_by_class(
     let mut sets = KeyedSets::new(alloc);
     for number in terms {
         let form = term_form(pool, *number);
-        let Some((from, place)) = read_parts(reading, form) else {
+        let Some((from, position)) = read_parts(reading, form) else {
             continue;
         };
         let of = classes.class(from);
-        let class = classes.class(place);
+        let class = classes.class(position);
         sets.add(of, class)?;
     }
     Ok(sets)
@@ -163,7 +163,7 @@ pub fn read_index(
 
 impl ReadIndex {
     // The classes at which something of this class is read.
-    fn places(&self, reading: Reading, class: usize) -> &[usize]
+    fn positions(&self, reading: Reading, class: usize) -> &[usize]
         ensures { result.now ≡ list_in (reads_in self.now reading) class }
     {
         match reading {
@@ -196,8 +196,8 @@ fn keys(
     ensures { IfOk result (λ keys. keys.items ≡ keys_in index.now classes.now reading term) }
 {
     let class = classes.class(term);
-    let places = index.places(reading, class);
-    terms_of(alloc, &index.members, places)
+    let positions = index.positions(reading, class);
+    terms_of(alloc, &index.members, positions)
 }
 
 // ---- triggers
@@ -267,16 +267,16 @@ pub fn read_askers(
 }
 
 // Appends a trigger for a type and a vector with each of the indexes.
-fn add_places(
+fn add_positions(
     askers: &mut Vec<Asker>,
     of: usize,
     vector: usize,
-    places: &[usize],
+    positions: &[usize],
 ) -> Result<(), NoMemory>
-    ensures { OnOk result (askers.new.items ≡ askers.old.items ++ map (item_asker of vector) places.now) }
+    ensures { OnOk result (askers.new.items ≡ askers.old.items ++ map (item_asker of vector) positions.now) }
 {
-    for place in places {
-        askers.push(Asker::Item(of, vector, *place))?;
+    for position in positions {
+        askers.push(Asker::Item(of, vector, *position))?;
     }
     Ok(())
 }
@@ -302,8 +302,8 @@ pub fn item_askers(
     classes.exact();
     let mut askers = Vec::new(alloc);
     for typing in typings {
-        let places = keys(alloc, index, classes, Reading::OfVector, typing.term)?;
-        add_places(&mut askers, typing.of, typing.term, places.as_slice())?;
+        let positions = keys(alloc, index, classes, Reading::OfVector, typing.term)?;
+        add_positions(&mut askers, typing.of, typing.term, positions.as_slice())?;
     }
     Ok(askers)
 }

@@ -3,12 +3,12 @@
 ghost use Rattle.std.specs.Prelude.{◌≡◌, ◌+◌, length, IfOk, OnOk, MatchOption};
 ghost use Rattle.tableau.specs.PoolBranches.{branch_in, IsFormulaNumber, IsOver};
 ghost use Rattle.axiom_instances.specs.Numbers.{formula_at};
-ghost use Rattle.axiom_strategy.specs.Typings.{given_of, denied_of, IsNoGiving, IsGivingOf, IsNoDenial, IsDenialOf, IsUntyped, IsTypingOf, IsUntypedEntry, IsTypingEntry, AreTypings};
+ghost use Rattle.axiom_strategy.specs.Typings.{given_of, IsNoGiving, IsGivingOf, IsUntyped, IsTypingOf, IsUntypedEntry, IsTypingEntry, AreTypings};
 
 use base::memory::NoMemory;
 use std::alloc::Global;
 use tableau::branch::PoolBranch;
-use term_pool::node::{Node, One, Two};
+use term_pool::node::{Node, Two};
 use term_pool::pool::Pool;
 
 /// A type that is given to a term or denied it, by number.
@@ -27,31 +27,12 @@ fn given_of(node: Node) -> Option<Typing>
     }
 }
 
-fn denied_of(node: Node) -> Option<usize>
-    ensures { result ≡ denied_of node }
-{
-    match node {
-        Node::One(One::Not, denied) => Some(denied),
-        _ => None,
-    }
-}
-
 // The type and the term of a formula stating that the term has the type.
 fn given_type(pool: &Pool, formula: usize) -> Option<Typing>
     ensures { MatchOption result (IsNoGiving (formula_at pool.now formula)) (IsGivingOf pool.now (formula_at pool.now formula)) }
 {
     match pool.node(formula) {
         Some(node) => given_of(node),
-        None => None,
-    }
-}
-
-// The formula that a formula negates.
-fn denied_formula(pool: &Pool, formula: usize) -> Option<usize>
-    ensures { MatchOption result (IsNoDenial (formula_at pool.now formula)) (IsDenialOf pool.now (formula_at pool.now formula)) }
-{
-    match pool.node(formula) {
-        Some(node) => denied_of(node),
         None => None,
     }
 }
@@ -64,7 +45,7 @@ pub fn typing_of(pool: &Pool, formula: usize) -> Option<Typing>
     if let Some(typing) = given_type(pool, formula) {
         return Some(typing);
     }
-    let Some(denied) = denied_formula(pool, formula) else {
+    let Some(denied) = pool.denied(formula) else {
         return None;
     };
     given_type(pool, denied)

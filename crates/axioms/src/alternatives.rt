@@ -49,11 +49,11 @@ fn is_at_set(below: &Formula, above: &Formula, other: &Formula, left: &Term, rig
         ↔ IsAlternative Alternative.AtSet (below.now ∷ above.now ∷ other.now ∷ EqFormula left.now right.now ∷ []) }
 {
     match &left.node {
-        TermNode::Binary(Binary::At, set, place) => match &set.node {
+        TermNode::Binary(Binary::At, set, position) => match &set.node {
             TermNode::Ternary(Ternary::Set, vector, at, item) => {
-                same_term(at, place)
+                same_term(at, position)
                     && same_term(item, right)
-                    && is_outside(below, above, other, vector, place)
+                    && is_outside(below, above, other, vector, position)
             }
             _ => false,
         },
@@ -124,11 +124,11 @@ fn is_differ_at(formula: &Formula, left: &Term, right: &Term) -> bool
         ↔ ((i : ℕ) × (free_in_term i left.now ≡ false) × (free_in_term i right.now ≡ false) × (formula.now ≡ DifferAtFormula i left.now right.now)) }
 {
     match &formula.node {
-        FormulaNode::Quantify(Quantifier::Exists, place, triggers, body) => {
+        FormulaNode::Quantify(Quantifier::Exists, position, triggers, body) => {
             are_no_triggers(triggers.as_slice())
-                && !is_free_in_term(*place, left)
-                && !is_free_in_term(*place, right)
-                && is_difference(body, *place, left, right)
+                && !is_free_in_term(*position, left)
+                && !is_free_in_term(*position, right)
+                && is_difference(body, *position, left, right)
         }
         _ => false,
     }
@@ -144,26 +144,26 @@ fn are_no_triggers(triggers: &[Trigger]) -> bool
 }
 
 #[tactic(auto, using(fol::specs::FormulaData::formulas_of_injective))]
-fn is_difference(formula: &Formula, place: u32, left: &Term, right: &Term) -> bool
+fn is_difference(formula: &Formula, position: u32, left: &Term, right: &Term) -> bool
     ensures { IsTrue result
-        ↔ (formula.now ≡ AllOfFormula (formulas_of (LeFormula (number 0) (VarTerm place) ∷ LessFormula (VarTerm place) (LenTerm left.now) ∷ DifferFormula (AtTerm left.now (VarTerm place)) (AtTerm right.now (VarTerm place)) ∷ []))) }
+        ↔ (formula.now ≡ AllOfFormula (formulas_of (LeFormula (number 0) (VarTerm position) ∷ LessFormula (VarTerm position) (LenTerm left.now) ∷ DifferFormula (AtTerm left.now (VarTerm position)) (AtTerm right.now (VarTerm position)) ∷ []))) }
 {
     match &formula.node {
         FormulaNode::Join(Junction::AllOf, parts) => {
-            are_difference(parts.as_slice(), place, left, right)
+            are_difference(parts.as_slice(), position, left, right)
         }
         _ => false,
     }
 }
 
-fn are_difference(parts: &[Formula], place: u32, left: &Term, right: &Term) -> bool
+fn are_difference(parts: &[Formula], position: u32, left: &Term, right: &Term) -> bool
     ensures { IsTrue result
-        ↔ (parts.now ≡ LeFormula (number 0) (VarTerm place) ∷ LessFormula (VarTerm place) (LenTerm left.now) ∷ DifferFormula (AtTerm left.now (VarTerm place)) (AtTerm right.now (VarTerm place)) ∷ []) }
+        ↔ (parts.now ≡ LeFormula (number 0) (VarTerm position) ∷ LessFormula (VarTerm position) (LenTerm left.now) ∷ DifferFormula (AtTerm left.now (VarTerm position)) (AtTerm right.now (VarTerm position)) ∷ []) }
 {
     parts.len() == 3
-        && is_place_from_zero(&parts[0], place)
-        && is_place_below_len(&parts[1], place, left)
-        && is_other_item(&parts[2], place, left, right)
+        && is_position_from_zero(&parts[0], position)
+        && is_position_below_len(&parts[1], position, left)
+        && is_other_item(&parts[2], position, left, right)
 }
 
 fn is_variable(term: &Term, number: u32) -> bool
@@ -175,66 +175,66 @@ fn is_variable(term: &Term, number: u32) -> bool
     }
 }
 
-fn is_place_from_zero(formula: &Formula, place: u32) -> bool
-    ensures { IsTrue result ↔ (formula.now ≡ LeFormula (number 0) (VarTerm place)) }
+fn is_position_from_zero(formula: &Formula, position: u32) -> bool
+    ensures { IsTrue result ↔ (formula.now ≡ LeFormula (number 0) (VarTerm position)) }
 {
     match &formula.node {
         FormulaNode::Compare(Comparison::Le, zero, found) => {
-            is_numeral(zero, 0) && is_variable(found, place)
+            is_numeral(zero, 0) && is_variable(found, position)
         }
         _ => false,
     }
 }
 
-fn is_place_below_len(formula: &Formula, place: u32, vector: &Term) -> bool
-    ensures { IsTrue result ↔ (formula.now ≡ LessFormula (VarTerm place) (LenTerm vector.now)) }
+fn is_position_below_len(formula: &Formula, position: u32, vector: &Term) -> bool
+    ensures { IsTrue result ↔ (formula.now ≡ LessFormula (VarTerm position) (LenTerm vector.now)) }
 {
     match &formula.node {
-        FormulaNode::Not(inner) => is_len_at_most(inner, vector, place),
+        FormulaNode::Not(inner) => is_len_at_most(inner, vector, position),
         _ => false,
     }
 }
 
-fn is_len_at_most(formula: &Formula, vector: &Term, place: u32) -> bool
-    ensures { IsTrue result ↔ (formula.now ≡ LeFormula (LenTerm vector.now) (VarTerm place)) }
+fn is_len_at_most(formula: &Formula, vector: &Term, position: u32) -> bool
+    ensures { IsTrue result ↔ (formula.now ≡ LeFormula (LenTerm vector.now) (VarTerm position)) }
 {
     match &formula.node {
         FormulaNode::Compare(Comparison::Le, length, found) => {
-            is_unary(length, Unary::Len, vector) && is_variable(found, place)
+            is_unary(length, Unary::Len, vector) && is_variable(found, position)
         }
         _ => false,
     }
 }
 
-fn is_other_item(formula: &Formula, place: u32, left: &Term, right: &Term) -> bool
+fn is_other_item(formula: &Formula, position: u32, left: &Term, right: &Term) -> bool
     ensures { IsTrue result
-        ↔ (formula.now ≡ DifferFormula (AtTerm left.now (VarTerm place)) (AtTerm right.now (VarTerm place))) }
+        ↔ (formula.now ≡ DifferFormula (AtTerm left.now (VarTerm position)) (AtTerm right.now (VarTerm position))) }
 {
     match &formula.node {
-        FormulaNode::Not(inner) => is_same_item(inner, place, left, right),
+        FormulaNode::Not(inner) => is_same_item(inner, position, left, right),
         _ => false,
     }
 }
 
-fn is_same_item(formula: &Formula, place: u32, left: &Term, right: &Term) -> bool
+fn is_same_item(formula: &Formula, position: u32, left: &Term, right: &Term) -> bool
     ensures { IsTrue result
-        ↔ (formula.now ≡ EqFormula (AtTerm left.now (VarTerm place)) (AtTerm right.now (VarTerm place))) }
+        ↔ (formula.now ≡ EqFormula (AtTerm left.now (VarTerm position)) (AtTerm right.now (VarTerm position))) }
 {
     match &formula.node {
         FormulaNode::Compare(Comparison::Eq, a, b) => {
-            is_item_at(a, left, place) && is_item_at(b, right, place)
+            is_item_at(a, left, position) && is_item_at(b, right, position)
         }
         _ => false,
     }
 }
 
 // Decides whether the term is the item of the vector at the index given by the variable.
-fn is_item_at(term: &Term, vector: &Term, place: u32) -> bool
-    ensures { IsTrue result ↔ (term.now ≡ AtTerm vector.now (VarTerm place)) }
+fn is_item_at(term: &Term, vector: &Term, position: u32) -> bool
+    ensures { IsTrue result ↔ (term.now ≡ AtTerm vector.now (VarTerm position)) }
 {
     match &term.node {
         TermNode::Binary(Binary::At, found, at) => {
-            same_term(found, vector) && is_variable(at, place)
+            same_term(found, vector) && is_variable(at, position)
         }
         _ => false,
     }

@@ -95,9 +95,9 @@ fn is_at_pushed(left: &Term, right: &Term) -> bool
     ensures { IsTrue result ↔ IsEquation Equation.AtPushed left.now right.now }
 {
     match &left.node {
-        TermNode::Binary(Binary::At, pushed, place) => match &pushed.node {
+        TermNode::Binary(Binary::At, pushed, position) => match &pushed.node {
             TermNode::Binary(Binary::Push, vector, item) => {
-                is_unary(place, Unary::Len, vector) && same_term(item, right)
+                is_unary(position, Unary::Len, vector) && same_term(item, right)
             }
             _ => false,
         },

@@ -43,9 +43,9 @@ fn is_at_other_pushed(unless: &Formula, left: &Term, right: &Term) -> bool
     ensures { IsTrue result ↔ IsException Exception.AtOtherPushed unless.now left.now right.now }
 {
     match &left.node {
-        TermNode::Binary(Binary::At, pushed, place) => match &pushed.node {
+        TermNode::Binary(Binary::At, pushed, position) => match &pushed.node {
             TermNode::Binary(Binary::Push, vector, _) => {
-                is_len(unless, place, vector) && is_binary(right, Binary::At, vector, place)
+                is_len(unless, position, vector) && is_binary(right, Binary::At, vector, position)
             }
             _ => false,
         },
@@ -71,7 +71,7 @@ fn is_len_popped(unless: &Formula, left: &Term, right: &Term) -> bool
     match &left.node {
         TermNode::Unary(Unary::Len, popped) => match &popped.node {
             TermNode::Unary(Unary::Pop, vector) => {
-                is_empty(unless, vector) && is_last_place(right, vector)
+                is_empty(unless, vector) && is_last_position(right, vector)
             }
             _ => false,
         },
@@ -92,7 +92,7 @@ fn is_empty(formula: &Formula, vector: &Term) -> bool
 }
 
 // Decides whether the term is the length of the vector minus 1.
-fn is_last_place(term: &Term, vector: &Term) -> bool
+fn is_last_position(term: &Term, vector: &Term) -> bool
     ensures { IsTrue result ↔ (term.now ≡ SubTerm (LenTerm vector.now) (number 1)) }
 {
     match &term.node {
@@ -107,10 +107,10 @@ fn is_at_popped(unless: &Formula, left: &Term, right: &Term) -> bool
     ensures { IsTrue result ↔ IsException Exception.AtPopped unless.now left.now right.now }
 {
     match &left.node {
-        TermNode::Binary(Binary::At, popped, place) => match &popped.node {
+        TermNode::Binary(Binary::At, popped, position) => match &popped.node {
             TermNode::Unary(Unary::Pop, vector) => {
-                is_from_last_place(unless, vector, place)
-                    && is_binary(right, Binary::At, vector, place)
+                is_from_last_position(unless, vector, position)
+                    && is_binary(right, Binary::At, vector, position)
             }
             _ => false,
         },
@@ -119,12 +119,12 @@ fn is_at_popped(unless: &Formula, left: &Term, right: &Term) -> bool
 }
 
 // Decides whether the formula states that the term is at least the length of the vector minus 1.
-fn is_from_last_place(formula: &Formula, vector: &Term, term: &Term) -> bool
+fn is_from_last_position(formula: &Formula, vector: &Term, term: &Term) -> bool
     ensures { IsTrue result ↔ (formula.now ≡ LeFormula (SubTerm (LenTerm vector.now) (number 1)) term.now) }
 {
     match &formula.node {
         FormulaNode::Compare(Comparison::Le, low, found) => {
-            is_last_place(low, vector) && same_term(found, term)
+            is_last_position(low, vector) && same_term(found, term)
         }
         _ => false,
     }
@@ -134,10 +134,10 @@ fn is_at_other_set(unless: &Formula, left: &Term, right: &Term) -> bool
     ensures { IsTrue result ↔ IsException Exception.AtOtherSet unless.now left.now right.now }
 {
     match &left.node {
-        TermNode::Binary(Binary::At, set, place) => match &set.node {
+        TermNode::Binary(Binary::At, set, position) => match &set.node {
             TermNode::Ternary(Ternary::Set, vector, at, _) => {
-                is_compare(unless, Comparison::Eq, at, place)
-                    && is_binary(right, Binary::At, vector, place)
+                is_compare(unless, Comparison::Eq, at, position)
+                    && is_binary(right, Binary::At, vector, position)
             }
             _ => false,
         },

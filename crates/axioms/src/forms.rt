@@ -154,12 +154,14 @@ pub fn is_outside(
     above: &Formula,
     other: &Formula,
     vector: &Term,
-    place: &Term,
+    position: &Term,
 ) -> bool
     ensures { IsTrue result
-        ↔ ((below.now ≡ LessFormula place.now (number 0)) × (above.now ≡ LeFormula (LenTerm vector.now) place.now) × (other.now ≡ NotFormula (WholeFormula place.now))) }
+        ↔ ((below.now ≡ LessFormula position.now (number 0)) × (above.now ≡ LeFormula (LenTerm vector.now) position.now) × (other.now ≡ NotFormula (WholeFormula position.now))) }
 {
-    is_below_zero(below, place) && is_from_len(above, vector, place) && is_no_whole(other, place)
+    is_below_zero(below, position)
+        && is_from_len(above, vector, position)
+        && is_no_whole(other, position)
 }
 
 fn is_below_zero(formula: &Formula, term: &Term) -> bool

@@ -50,9 +50,9 @@ fn are_item_cases(premise: &Formula, cases: &[Formula]) -> bool
     let last = &cases[3];
     match &last.node {
         FormulaNode::Is(of, item) => match &item.node {
-            TermNode::Binary(Binary::At, vector, place) => {
+            TermNode::Binary(Binary::At, vector, position) => {
                 is_vector(premise, of, vector)
-                    && is_outside(&cases[0], &cases[1], &cases[2], vector, place)
+                    && is_outside(&cases[0], &cases[1], &cases[2], vector, position)
             }
             _ => false,
         },

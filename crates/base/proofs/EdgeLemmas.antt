@@ -4,7 +4,7 @@ use Rattle.std.proofs.lemmas.List.{get_or-set_other, get_or_past, length-set, le
 use Rattle.std.specs.Result.{is_err}
 use Rattle.std.proofs.lemmas.Grind.{get_or-set_at}
 use Rattle.std.proofs.lemmas.Bool.{cases_eq, cases_lt}
-use Rattle.base.specs.Circles.{IsEdge, AreMirrored, IsWithin}
+use Rattle.base.specs.GraphReachability.{IsEdge, AreMirrored, IsWithin}
 
 -- an edge begins and ends at a number of the graph
 pub edge_begins : (graph : List (List ℕ)) (i j : ℕ) → IsEdge graph i j → i < length graph

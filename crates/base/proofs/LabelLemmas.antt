@@ -4,7 +4,7 @@ use Rattle.std.proofs.lemmas.List.{get_or-set_other, get_or_past, length-set, le
 use Rattle.std.specs.Option.{is_some}
 use Rattle.std.proofs.lemmas.Grind.{get_or-set_at}
 use Rattle.std.proofs.lemmas.Bool.{cases_eq, cases_lt}
-use Rattle.base.specs.Circles.{IsEdge, Reaches, Here}
+use Rattle.base.specs.GraphReachability.{IsEdge, Reaches, Here}
 use Rattle.base.specs.Labelling.{label, IsAtLeast, NoneIsOpen, IsFrom, IsLabelling, unlabelled, waiting}
 use Rattle.base.proofs.ReachLemmas.{reach_push}
 
@@ -45,51 +45,51 @@ label_begin sources order =
 
 -- ---- the number at the next index of the order
 
-module _ (sources : List (List ℕ)) (order : List ℕ) (place : ℕ) (labels : List (Option ℕ)) (within : place < length order) (labelling : IsLabelling sources order (place + 1) labels [] NoneIsOpen) where
-  pub label_skip : (l : ℕ) → label labels (get_or order place 0) ≡ Some l → IsLabelling sources order place labels [] NoneIsOpen
+module _ (sources : List (List ℕ)) (order : List ℕ) (position : ℕ) (labels : List (Option ℕ)) (within : position < length order) (labelling : IsLabelling sources order (position + 1) labels [] NoneIsOpen) where
+  pub label_skip : (l : ℕ) → label labels (get_or order position 0) ≡ Some l → IsLabelling sources order position labels [] NoneIsOpen
   label_skip l h = record {
     long = labelling.long;
     led = λ x m e. let p = labelling.led x m e in let p0 = p.0 in (omega arith, p.1, p.2);
     pending = λ y i. absurd i;
     closed = labelling.closed;
-    above = λ k a b. elim (cases_eq k place) [
-      | inl e ↦ (let p0 = (labelling.led (get_or order place 0) l h).0 in (l, ap (λ (x : ℕ). label labels (get_or order x 0)) e ∙ h, omega arith))
+    above = λ k a b. elim (cases_eq k position) [
+      | inl e ↦ (let p0 = (labelling.led (get_or order position 0) l h).0 in (l, ap (λ (x : ℕ). label labels (get_or order x 0)) e ∙ h, omega arith))
       | inr d ↦ labelling.above k (omega arith) b
     ];
   }
 
-  pub label_root : get_or order place 0 < length sources → label labels (get_or order place 0) ≡ None → IsLabelling sources order place (set labels (get_or order place 0) (Some place)) (get_or order place 0 ∷ []) NoneIsOpen
+  pub label_root : get_or order position 0 < length sources → label labels (get_or order position 0) ≡ None → IsLabelling sources order position (set labels (get_or order position 0) (Some position)) (get_or order position 0 ∷ []) NoneIsOpen
   label_root n fresh =
-      let root = get_or order place 0 in
+      let root = get_or order position 0 in
       let long = labelling.long in
-      let inside : get_or order place 0 < length labels = omega arith in
-      let other : (x l : ℕ) → x ≢ get_or order place 0 → label (set labels (get_or order place 0) (Some place)) x ≡ Some l → label labels x ≡ Some l = (λ x l d h. sym (label_other labels (get_or order place 0) x place d) ∙ h) in
+      let inside : get_or order position 0 < length labels = omega arith in
+      let other : (x l : ℕ) → x ≢ get_or order position 0 → label (set labels (get_or order position 0) (Some position)) x ≡ Some l → label labels x ≡ Some l = (λ x l d h. sym (label_other labels (get_or order position 0) x position d) ∙ h) in
       record {
-        long = length-set labels root (Some place) ∙ labelling.long;
+        long = length-set labels root (Some position) ∙ labelling.long;
         led = λ x l h. elim (cases_eq x root) [
-          | inl e ↦ (let g = label_same labels root x place e inside in
-              let s : l ≡ place = cc in
+          | inl e ↦ (let g = label_same labels root x position e inside in
+              let s : l ≡ position = cc in
               (omega arith, omega arith, subst (λ (y : ℕ). Reaches sources (get_or order l 0) y) (ap (λ (y : ℕ). get_or order y 0) s ∙ sym e) Here))
           | inr d ↦ (let p = labelling.led x l (other x l d h) in let p0 = p.0 in (omega arith, p.1, p.2))
         ];
-        pending = λ y i. elim i [ inl e ↦ label_same labels root y place e inside | inr o ↦ absurd o ];
+        pending = λ y i. elim i [ inl e ↦ label_same labels root y position e inside | inr o ↦ absurd o ];
         closed = λ y k l h b. elim (cases_eq y root) [
           | inl e ↦ inr (inl (inl e))
           | inr d ↦ elim (labelling.closed y k l (other y l d h) b) [
-            | inl a ↦ inl (at_least_kept labels root _ place l fresh a)
+            | inl a ↦ inl (at_least_kept labels root _ position l fresh a)
             | inr o ↦ elim o [ inl i ↦ absurd i | inr i ↦ absurd i ]
           ]
         ];
-        above = λ k a b. elim (cases_eq k place) [
-          | inl e ↦ (place, label_same labels root (get_or order k 0) place (ap (λ (x : ℕ). get_or order x 0) e) inside, omega arith)
-          | inr d ↦ at_least_kept labels root (get_or order k 0) place k fresh (labelling.above k (omega arith) b)
+        above = λ k a b. elim (cases_eq k position) [
+          | inl e ↦ (position, label_same labels root (get_or order k 0) position (ap (λ (x : ℕ). get_or order x 0) e) inside, omega arith)
+          | inr d ↦ at_least_kept labels root (get_or order k 0) position k fresh (labelling.above k (omega arith) b)
         ];
       }
 
 -- ---- a number whose sources are labelled
 
-module _ (sources : List (List ℕ)) (order : List ℕ) (place : ℕ) (labels : List (Option ℕ)) (node : ℕ) (work : List ℕ) where
-  pub label_open : IsLabelling sources order place labels (node ∷ work) NoneIsOpen → IsLabelling sources order place labels work (IsFrom node 0)
+module _ (sources : List (List ℕ)) (order : List ℕ) (position : ℕ) (labels : List (Option ℕ)) (node : ℕ) (work : List ℕ) where
+  pub label_open : IsLabelling sources order position labels (node ∷ work) NoneIsOpen → IsLabelling sources order position labels work (IsFrom node 0)
   label_open labelling = record {
     long = labelling.long;
     led = labelling.led;
@@ -104,7 +104,7 @@ module _ (sources : List (List ℕ)) (order : List ℕ) (place : ℕ) (labels : 
     above = labelling.above;
   }
 
-  pub label_close : (next : ℕ) → length (get_or sources node []) ≤ next → IsLabelling sources order place labels work (IsFrom node next) → IsLabelling sources order place labels work NoneIsOpen
+  pub label_close : (next : ℕ) → length (get_or sources node []) ≤ next → IsLabelling sources order position labels work (IsFrom node next) → IsLabelling sources order position labels work NoneIsOpen
   label_close next all labelling = record {
     long = labelling.long;
     led = labelling.led;
@@ -119,7 +119,7 @@ module _ (sources : List (List ℕ)) (order : List ℕ) (place : ℕ) (labels : 
     above = labelling.above;
   }
 
-  pub label_pass : (next l : ℕ) → label labels node ≡ Some place → label labels (get_or (get_or sources node []) next 0) ≡ Some l → IsLabelling sources order place labels work (IsFrom node next) → IsLabelling sources order place labels work (IsFrom node (next + 1))
+  pub label_pass : (next l : ℕ) → label labels node ≡ Some position → label labels (get_or (get_or sources node []) next 0) ≡ Some l → IsLabelling sources order position labels work (IsFrom node next) → IsLabelling sources order position labels work (IsFrom node (next + 1))
   label_pass next l own h labelling = record {
     long = labelling.long;
     led = labelling.led;
@@ -130,7 +130,7 @@ module _ (sources : List (List ℕ)) (order : List ℕ) (place : ℕ) (labels : 
         | inl i ↦ inr (inl i)
         | inr n ↦ elim (cases_eq k next) [
           | inl e ↦ (let q = ap (λ (x : ℕ). label labels x) n.0 in
-              let s : m ≡ place = cc in
+              let s : m ≡ position = cc in
               let p = (labelling.led _ l h).0 in
               inl (l, ap (λ (x : ℕ). label labels (get_or (get_or sources x []) k 0)) n.0 ∙ ap (λ (x : ℕ). label labels (get_or (get_or sources node []) x 0)) e ∙ h, omega arith))
           | inr d ↦ (let n1 = n.1 in inr (inr (n.0, omega arith)))
@@ -140,42 +140,42 @@ module _ (sources : List (List ℕ)) (order : List ℕ) (place : ℕ) (labels : 
     above = labelling.above;
   }
 
-  pub label_source : (next source : ℕ) → label labels node ≡ Some place → next < length (get_or sources node []) → get_or (get_or sources node []) next 0 ≡ source → source < length labels → label labels source ≡ None → IsLabelling sources order place labels work (IsFrom node next) → IsLabelling sources order place (set labels source (Some place)) (source ∷ work) (IsFrom node (next + 1))
+  pub label_source : (next source : ℕ) → label labels node ≡ Some position → next < length (get_or sources node []) → get_or (get_or sources node []) next 0 ≡ source → source < length labels → label labels source ≡ None → IsLabelling sources order position labels work (IsFrom node next) → IsLabelling sources order position (set labels source (Some position)) (source ∷ work) (IsFrom node (next + 1))
   label_source next source own l is inside fresh labelling =
-      let other : (x l : ℕ) → x ≢ source → label (set labels source (Some place)) x ≡ Some l → label labels x ≡ Some l = (λ x l d h. sym (label_other labels source x place d) ∙ h) in
-      let mine = labelling.led node place own in
+      let other : (x l : ℕ) → x ≢ source → label (set labels source (Some position)) x ≡ Some l → label labels x ≡ Some l = (λ x l d h. sym (label_other labels source x position d) ∙ h) in
+      let mine = labelling.led node position own in
       let edge : IsEdge sources node source = (next, l, is) in
       record {
-        long = length-set labels source (Some place) ∙ labelling.long;
+        long = length-set labels source (Some position) ∙ labelling.long;
         led = λ x l h. elim (cases_eq x source) [
-          | inl e ↦ (let g = label_same labels source x place e inside in
-              let s : l ≡ place = cc in
+          | inl e ↦ (let g = label_same labels source x position e inside in
+              let s : l ≡ position = cc in
               let m1 = mine.1 in
               (omega arith, omega arith, subst (λ (y : ℕ). Reaches sources (get_or order l 0) y) (sym e) (subst (λ (y : ℕ). Reaches sources (get_or order y 0) source) (sym s) (reach_push mine.2 edge))))
           | inr d ↦ labelling.led x l (other x l d h)
         ];
         pending = λ y i. elim i [
-          | inl e ↦ label_same labels source y place e inside
-          | inr o ↦ label_kept labels source y place place fresh (labelling.pending y o)
+          | inl e ↦ label_same labels source y position e inside
+          | inr o ↦ label_kept labels source y position position fresh (labelling.pending y o)
         ];
         closed = λ y k m h b. elim (cases_eq y source) [
           | inl e ↦ inr (inl (inl e))
           | inr d ↦ elim (labelling.closed y k m (other y m d h) b) [
-            | inl a ↦ inl (at_least_kept labels source _ place m fresh a)
+            | inl a ↦ inl (at_least_kept labels source _ position m fresh a)
             | inr o ↦ elim o [
               | inl i ↦ inr (inl (inr i))
               | inr n ↦ elim (cases_eq k next) [
                 | inl e ↦ (let q = ap (λ (x : ℕ). label labels x) n.0 in
                     let g = other y m d h in
-                    let s : m ≡ place = cc in
+                    let s : m ≡ position = cc in
                     let at : get_or (get_or sources y []) k 0 ≡ source = ap (λ (x : ℕ). get_or (get_or sources x []) k 0) n.0 ∙ ap (λ (x : ℕ). get_or (get_or sources node []) x 0) e ∙ is in
-                    inl (place, label_same labels source (get_or (get_or sources y []) k 0) place at inside, omega arith))
+                    inl (position, label_same labels source (get_or (get_or sources y []) k 0) position at inside, omega arith))
                 | inr c ↦ (let n1 = n.1 in inr (inr (n.0, omega arith)))
               ]
             ]
           ]
         ];
-        above = λ k a b. at_least_kept labels source (get_or order k 0) place k fresh (labelling.above k a b);
+        above = λ k a b. at_least_kept labels source (get_or order k 0) position k fresh (labelling.above k a b);
       }
 
 -- ---- the measure

@@ -5,10 +5,10 @@ pub mod PairLaws
 pub mod TruthValues
 pub mod WholeNumbers
 pub mod PairLemmas
-pub mod CircleLemmas
+pub mod CycleLemmas
 pub mod EdgeLemmas
 pub mod LabelLemmas
-pub mod OnCircleLemmas
+pub mod OnCycleLemmas
 pub mod ReachLemmas
 pub mod RootLemmas
 pub mod WalkLemmas

@@ -4,10 +4,10 @@ use Rattle.std.specs.Prelude.{All, Contains}
 use Rattle.std.proofs.Math.Seq.{take-suc}
 use Rattle.std.proofs.Math.Bool.{or_assoc}
 use Rattle.std.proofs.lemmas.List.Elements.{Contains-push, Contains-push_cases, Contains-append_left}
-use Rattle.base.specs.Circles as graph
+use Rattle.base.specs.GraphReachability as graph
 use Rattle.base.proofs.EdgeLemmas.{edge_kept, edge_new, edge_pushed, no_edge}
 use Rattle.base.specs.declared.marked_cycles.edge.MarkedEdge.{MarkedEdge}
-use Rattle.base.specs.MarkedCircles.{IsEdge, IsWithin, Leads, Directly, Over}
+use Rattle.base.specs.MarkedCycles.{IsEdge, IsWithin, Leads, Directly, Over}
 use Rattle.base.specs.Graphs.{HasEdgesOf}
 
 pub no_edges : (count : ℕ) → HasEdgesOf (replicate count []) []

@@ -1,7 +1,7 @@
 -- Paths: concatenation and reversal.
 use Rattle.std.proofs.Common.{◌≡◌, ℕ, ◌<◌, List, [], ◌∷◌, ◌++◌, length, get_or, reverse, sym, ◌∙◌, ap, arith}
 use Rattle.std.proofs.lemmas.List.{get_or_read, reverse-append}
-use Rattle.base.specs.Circles.{IsEdge, Reaches, Here, Along, AreMirrored, IsWithin}
+use Rattle.base.specs.GraphReachability.{IsEdge, Reaches, Here, Along, AreMirrored, IsWithin}
 
 pub reach_push : {graph : List (List ℕ)} {i j k : ℕ} → Reaches graph i j → IsEdge graph j k → Reaches graph i k
 reach_push Here e = Along e Here
@@ -11,9 +11,9 @@ pub reach_join : {graph : List (List ℕ)} {i j k : ℕ} → Reaches graph i j �
 reach_join Here q = q
 reach_join (Along e p) q = Along e (reach_join p q)
 
-pub reach_turned : {graph sources : List (List ℕ)} {i j : ℕ} → AreMirrored graph sources → Reaches sources i j → Reaches graph j i
-reach_turned m Here = Here
-reach_turned m (Along e p) = reach_push (reach_turned m p) (m.back _ _ e)
+pub reach_reversed : {graph sources : List (List ℕ)} {i j : ℕ} → AreMirrored graph sources → Reaches sources i j → Reaches graph j i
+reach_reversed m Here = Here
+reach_reversed m (Along e p) = reach_push (reach_reversed m p) (m.back _ _ e)
 
 -- the targets that are read, and the next one
 pub targets_are : (graph : List (List ℕ)) (node : ℕ) (read slice : List ℕ) → node < length graph → read ≡ get_or graph node read → slice ≡ read → slice ≡ get_or graph node []

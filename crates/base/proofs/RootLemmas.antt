@@ -3,11 +3,11 @@ use Rattle.std.proofs.Common.{◌≡◌, ℕ, ◌<◌, List, [], length, get_or,
 use Rattle.std.specs.Prelude.{IfOk}
 use Rattle.base.specs.declared.cycles.walk.Mark.{Mark}
 use Rattle.base.specs.declared.cycles.walk.Mark.TheVariants.{Finished}
-use Rattle.base.specs.Circles.{AreMirrored, AreTogether, AreRoots}
+use Rattle.base.specs.GraphReachability.{AreMirrored, AreTogether, AreRoots}
 use Rattle.base.specs.Walking.{mark, IsSeen, IsWalk}
 use Rattle.base.specs.Labelling.{label, root_of, AreNumbers, NoneIsOpen, IsLabelling}
 use Rattle.base.proofs.WalkLemmas.{seen_within}
-use Rattle.base.proofs.CircleLemmas.{root_together, same_label}
+use Rattle.base.proofs.CycleLemmas.{root_together, same_label}
 
 finished_seen : (marks : List Mark) (i k : ℕ) → mark marks i ≡ Finished k → IsSeen marks i
 finished_seen marks i k f u = cc

@@ -6,7 +6,7 @@ use Rattle.std.proofs.lemmas.Bool.{cases_eq, cases_lt}
 use Rattle.base.specs.declared.cycles.walk.Mark.{Mark}
 use Rattle.base.specs.declared.cycles.walk.Mark.TheVariants.{Unseen, Open, Finished}
 use Rattle.base.specs.declared.cycles.walk.Visit.{Visit}
-use Rattle.base.specs.Circles.{IsEdge, Reaches, Here, Along}
+use Rattle.base.specs.GraphReachability.{IsEdge, Reaches, Here, Along}
 use Rattle.base.specs.Walking.{mark, IsSeen, KeepsSeen, IsOn, LeadTo, IsPath, IsBefore, IsWalk, steps_unseen, left_unseen, left}
 use Rattle.base.proofs.ReachLemmas.{reach_push}
 

@@ -1,8 +1,8 @@
 -- The graph of given edges, and the components that contain a marked one.
 use Rattle.std.specs.Prelude.{ℕ, ◌==◌, Bool, ◌&&◌, List, slice_index}
-use Rattle.base.specs.Circles as graph
+use Rattle.base.specs.GraphReachability as graph
 use Rattle.base.specs.declared.marked_cycles.edge.MarkedEdge.{MarkedEdge}
-use Rattle.base.specs.MarkedCircles.{IsEdge}
+use Rattle.base.specs.MarkedCycles.{IsEdge}
 
 -- the edges of the graph are these, whatever their marks
 pub record HasEdgesOf (numbers : List (List ℕ)) (edges : List MarkedEdge) : Type 0 where

@@ -7,8 +7,8 @@ pub mod Pairs
 pub mod Rules
 pub mod Lists
 pub mod KeyedPairs
-pub mod Circles
+pub mod GraphReachability
 pub mod Labelling
 pub mod Walking
 pub mod Graphs
-pub mod MarkedCircles
+pub mod MarkedCycles

@@ -3,7 +3,7 @@ use Rattle.std.specs.Prelude.{◌≡◌, ◌≢◌, ℕ, ◌<◌, ◌≤◌, ◌
 use Rattle.base.specs.declared.cycles.walk.Mark.{Mark}
 use Rattle.base.specs.declared.cycles.walk.Mark.TheVariants.{Unseen, Open, Finished}
 use Rattle.base.specs.declared.cycles.walk.Visit.{Visit}
-use Rattle.base.specs.Circles.{IsEdge, Reaches}
+use Rattle.base.specs.GraphReachability.{IsEdge, Reaches}
 
 -- the mark of a number; what is no number of the graph is not seen
 abbrev pub mark : List Mark → ℕ → Mark
@@ -53,7 +53,7 @@ pub record IsWalk (graph : List (List ℕ)) (marks : List Mark) (order : List �
 abbrev pub steps_unseen : Mark → List ℕ → ℕ
 steps_unseen Unseen targets = length targets + 2
 steps_unseen Open targets = 0
-steps_unseen (Finished place) targets = 0
+steps_unseen (Finished position) targets = 0
 
 abbrev pub left_unseen : List (List ℕ) → List Mark → ℕ
 left_unseen [] marks = 0

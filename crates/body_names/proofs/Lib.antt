@@ -1,5 +1,6 @@
 pub mod CodeAddedLaws
 pub mod CodeListings
+pub mod JoinedLaws
 pub mod CodeJoinedLaws
 pub mod PatternListings
 pub mod CodeRemainsLaws
@@ -8,5 +9,3 @@ pub mod SpecJoinedLaws
 pub mod Listings
 pub mod NameListLaws
 pub mod SpecRemainsLaws
-pub mod NumberedLaws
-pub mod TellLaws

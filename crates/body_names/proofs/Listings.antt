@@ -25,16 +25,6 @@ value_listing w scope = record {
   names = λ xs. variables_of_all (spec_expressions_of xs);
 }
 
-pub is_value_listing : (w : SpecScope) (scope : List InScope) → IsListing (value_listing w scope)
-is_value_listing w scope = record {
-  no_trees = λ a. refl;
-  more_trees = λ a x xs. refl;
-  no_spans = refl;
-  more_spans = λ x xs. refl;
-  no_names = refl;
-  more_names = λ x xs. refl;
-}
-
 abbrev pub field_listing : SpecScope → List InScope → Listing ℕ SpecFieldData
 field_listing w scope = record {
   tree = λ n x. MoreTrees (field_tree w scope n x) NoTrees;
@@ -44,16 +34,6 @@ field_listing w scope = record {
   spans = λ xs. spans_of_fields (spec_fields_of xs);
   name = λ x. variables_of_field x;
   names = λ xs. variables_of_fields (spec_fields_of xs);
-}
-
-pub is_field_listing : (w : SpecScope) (scope : List InScope) → IsListing (field_listing w scope)
-is_field_listing w scope = record {
-  no_trees = λ a. refl;
-  more_trees = λ a x xs. refl;
-  no_spans = refl;
-  more_spans = λ x xs. refl;
-  no_names = refl;
-  more_names = λ x xs. refl;
 }
 
 abbrev pub trigger_listing : SpecScope → List InScope → Listing ℕ TriggerData
@@ -78,11 +58,11 @@ is_trigger_listing w scope = record {
 }
 
 -- the variables in scope, and the number of bound ones
-pub record Standing : Type 0 where
+pub record BoundNames : Type 0 where
   pub scope : List InScope
   pub count : ℕ
 
-abbrev pub bind_listing : SpecScope → Listing Standing BindData
+abbrev pub bind_listing : SpecScope → Listing BoundNames BindData
 bind_listing w = record {
   tree = λ a x. bind_tree w a.scope a.count x;
   trees = λ a xs. bind_trees w a.scope a.count (binds_of xs);

@@ -1,35 +1,24 @@
 -- Lists whose items are added one after another: the added and the remaining items make up the whole.
-use Rattle.std.proofs.Common.{◌≡◌, ℕ, suc, ◌+◌, ◌<◌, ◌≤◌, List, [], ◌∷◌, ◌++◌, length, get_or, drop, refl, sym, ap, subst, ◌∙◌, arith, append_assoc, append-nil, add-one, drop-cons}
+use Rattle.std.proofs.Common.{◌≡◌, ℕ, suc, ◌+◌, ◌<◌, ◌≤◌, List, [], ◌∷◌, ◌++◌, length, get_or, drop, sym, ap, subst, ◌∙◌, arith, append_assoc, append-nil, add-one, drop-cons}
 use Rattle.std.proofs.Math.ListN.{drop_of_length-le}
 use Rattle.base.specs.declared.span.Span.{Span}
 use Rattle.program.specs.Trees.{NoTrees}
-use Rattle.program.specs.Listed.{AreSound, inner_all, places, nodes_from_all}
+use Rattle.program.specs.Listed.{AreSound, inner_all, indices, nodes_from_all}
 use Rattle.body_names.specs.declared.spec.building.Building.{Building}
 use Rattle.body_names.specs.SpecForms.{SpecTrees}
-use Rattle.body_names.specs.SpecTrees.{joined}
+use Rattle.body_names.specs.Joined.{joined}
 use Rattle.body_names.specs.SpecAdded.{AddedAll}
-use Rattle.body_names.proofs.SpecJoinedLaws.{joined-nodes, joined-places, joined-size, joined-sound, first-sound, second-sound}
+use Rattle.body_names.proofs.JoinedLaws.{joined-nodes, joined-indices, joined-size, joined-sound, first-sound, second-sound}
 
 -- of the trees that are added from `old` on, whose indices are appended to `first`, `rest` remains to be added
 pub record Remains (trees rest : SpecTrees) (spans more : List Span) (names others : List (List ℕ)) (old now : Building) (first parts : List ℕ) : Type 0 where
   pub sound : AreSound rest → AreSound trees
   pub needs : AreSound trees → AreSound rest
-  pub parts_are : first ++ places (length old.body.nodes) trees ≡ parts ++ places (length now.body.nodes) rest
+  pub parts_are : first ++ indices (length old.body.nodes) trees ≡ parts ++ indices (length now.body.nodes) rest
   pub count : length old.body.nodes + length (inner_all trees) ≡ length now.body.nodes + length (inner_all rest)
   pub nodes : old.body.nodes ++ nodes_from_all (length old.body.nodes) trees ≡ now.body.nodes ++ nodes_from_all (length now.body.nodes) rest
   pub spans_are : old.body.spans ++ spans ≡ now.body.spans ++ more
   pub variables : old.variables ++ names ≡ now.variables ++ others
-
-pub remains-all : (trees : SpecTrees) (spans : List Span) (names : List (List ℕ)) (b : Building) (parts : List ℕ) → Remains trees trees spans spans names names b b parts parts
-remains-all trees spans names b parts = record {
-  sound = λ h. h;
-  needs = λ h. h;
-  parts_are = refl;
-  count = refl;
-  nodes = refl;
-  spans_are = refl;
-  variables = refl;
-}
 
 -- some more are added
 pub remains-less : {trees ts us : SpecTrees} {spans s more : List Span} {names k others : List (List ℕ)} {old now next : Building} {first parts new : List ℕ} → Remains trees (joined ts us) spans (s ++ more) names (k ++ others) old now first parts → AddedAll ts s k now next parts new → Remains trees us spans more names others old next first new
@@ -39,7 +28,7 @@ remains-less {trees} {ts} {us} {spans} {s} {more} {names} {k} {others} {old} {no
     record {
       sound = λ h. r.sound (joined-sound ts us all.sound h);
       needs = λ h. second-sound ts us (r.needs h);
-      parts_are = r.parts_are ∙ ap (λ xs. parts ++ xs) (joined-places c ts us) ∙ sym (append_assoc parts (places c ts) (places (c + length (inner_all ts)) us)) ∙ (λ i. sym all.parts_are i ++ places (behind i) us);
+      parts_are = r.parts_are ∙ ap (λ xs. parts ++ xs) (joined-indices c ts us) ∙ sym (append_assoc parts (indices c ts) (indices (c + length (inner_all ts)) us)) ∙ (λ i. sym all.parts_are i ++ indices (behind i) us);
       count = omega (arith, r.count, all.count, joined-size ts us);
       nodes = r.nodes ∙ ap (λ xs. now.body.nodes ++ xs) (joined-nodes c ts us) ∙ sym (append_assoc now.body.nodes (nodes_from_all c ts) (nodes_from_all (c + length (inner_all ts)) us)) ∙ (λ i. sym all.nodes i ++ nodes_from_all (behind i) us);
       spans_are = r.spans_are ∙ sym (append_assoc now.body.spans s more) ∙ ap (λ xs. xs ++ more) (sym all.spans_are);

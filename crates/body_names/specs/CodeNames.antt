@@ -7,26 +7,26 @@ use Rattle.body_names.specs.PatternTrees.{pattern_names}
 
 abbrev mutual
   pub names_of : ExpressionData → List (List ℕ)
-  names_of (BinaryExpression left operator place right) = names_of left ++ names_of right
-  names_of (AssignExpression target place value) = names_of target ++ names_of value
-  names_of (IfExpression place condition then_branch else_branch) = (names_of condition ++ names_of then_branch) ++ names_of_maybe else_branch
-  names_of (WhileExpression place condition body) = names_of condition ++ names_of body
-  names_of (LoopExpression place body) = names_of body
-  names_of (ReturnExpression place value) = names_of_maybe value
-  names_of (AbortExpression place code) = names_of code
-  names_of (BreakExpression place) = []
-  names_of (ContinueExpression place) = []
-  names_of (UnaryExpression operator place operand) = names_of operand
-  names_of (UseExpression kind place local) = []
+  names_of (BinaryExpression left operator span right) = names_of left ++ names_of right
+  names_of (AssignExpression target span value) = names_of target ++ names_of value
+  names_of (IfExpression span condition then_branch else_branch) = (names_of condition ++ names_of then_branch) ++ names_of_maybe else_branch
+  names_of (WhileExpression span condition body) = names_of condition ++ names_of body
+  names_of (LoopExpression span body) = names_of body
+  names_of (ReturnExpression span value) = names_of_maybe value
+  names_of (AbortExpression span code) = names_of code
+  names_of (BreakExpression span) = []
+  names_of (ContinueExpression span) = []
+  names_of (UnaryExpression operator span operand) = names_of operand
+  names_of (UseExpression kind span local) = []
   names_of (FieldExpression base field) = names_of base
   names_of (LiteralExpression literal) = []
   names_of (PathExpression path) = []
   names_of (CallExpression function types values last) = names_of_expressions values
   names_of (PackExpression path types fields last) = names_of_fields fields
-  names_of (VectorExpression place types items last) = names_of_expressions items
-  names_of (AssertExpression place condition code) = names_of condition ++ names_of code
-  names_of (TupleExpression place items last) = names_of_expressions items
-  names_of (CastExpression place value target) = names_of value
+  names_of (VectorExpression span types items last) = names_of_expressions items
+  names_of (AssertExpression span condition code) = names_of condition ++ names_of code
+  names_of (TupleExpression span items last) = names_of_expressions items
+  names_of (CastExpression span value target) = names_of value
   names_of (BlockExpression block) = names_of_block block
 
   pub names_of_maybe : MaybeExpressionData → List (List ℕ)
@@ -34,12 +34,12 @@ abbrev mutual
   names_of_maybe (SomeExpression value) = names_of value
 
   pub names_of_block : BlockData → List (List ℕ)
-  names_of_block (BlockOf place spec items value) = names_of_items items ++ names_of_maybe value
+  names_of_block (BlockOf span spec items value) = names_of_items items ++ names_of_maybe value
 
   -- a pattern comes before its value
   pub names_of_item : ItemData → List (List ℕ)
   names_of_item (ExpressionItem expression) = names_of expression
-  names_of_item (LetItem place pattern annotation value) = pattern_names pattern ++ names_of_maybe value
+  names_of_item (LetItem span pattern annotation value) = pattern_names pattern ++ names_of_maybe value
 
   pub names_of_items : ItemsData → List (List ℕ)
   names_of_items NoItems = []
@@ -65,7 +65,7 @@ numbered n (name ∷ names) = record { name = name; number = n } ∷ numbered (n
 -- the names that an item brings into scope after it, if n names are bound before it
 abbrev pub entered_by : ℕ → ItemData → List InScope
 entered_by n (ExpressionItem expression) = []
-entered_by n (LetItem place pattern annotation value) = numbered n (pattern_names pattern)
+entered_by n (LetItem span pattern annotation value) = numbered n (pattern_names pattern)
 
 abbrev pub entered_by_all : ℕ → ItemsData → List InScope
 entered_by_all n NoItems = []

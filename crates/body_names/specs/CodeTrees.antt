@@ -14,14 +14,11 @@ use Rattle.program.specs.declared.code.CodeBinary.TheVariants.{Operator, Assign,
 use Rattle.program.specs.declared.code.CodeMany.TheVariants.{Pack, Tuple, Block}
 use Rattle.scopes.specs.declared.scope.InScope.{InScope}
 use Rattle.scopes.specs.TypeMeanings.{TypeScope}
-use Rattle.body_names.specs.CodeForms.{CodeTree, CodeTrees, leaf_tree, unary_tree, binary_tree, many_tree, operator_of, unary_of, use_of, literal_meaning, local_meaning, value_meaning, cast_meaning, declare_meaning, let_meaning, call_meaning, vector_meaning, fields_meaning}
+use Rattle.body_names.specs.CodeForms.{CodeTree, CodeTrees, leaf_tree, unary_tree, binary_tree, many_tree, unary_of, use_of, literal_meaning, local_meaning, value_meaning, cast_meaning, declare_meaning, let_meaning, call_meaning, vector_meaning}
+use Rattle.body_names.specs.SharedWords.{fields_meaning, operator_of}
 use Rattle.body_names.specs.PatternTrees.{pattern_names, pattern_tree, parenthesized}
 use Rattle.body_names.specs.CodeNames.{names_of, names_of_item, names_of_items, names_of_field, entered_by, entered_by_all}
-
--- the concatenation of two lists of trees
-abbrev pub joined : CodeTrees → CodeTrees → CodeTrees
-joined NoTrees us = us
-joined (MoreTrees t ts) us = MoreTrees t (joined ts us)
+use Rattle.body_names.specs.Joined.{joined}
 
 abbrev pub is_there : MaybeExpressionData → Bool
 is_there NoExpression = false
@@ -38,22 +35,22 @@ fields_of_values (MoreFieldValues one more) = field_of_value one ∷ fields_of_v
 
 abbrev mutual
   pub code_tree : TypeScope → List InScope → ℕ → ExpressionData → CodeTree
-  code_tree w scope n (BinaryExpression left operator place right) =
+  code_tree w scope n (BinaryExpression left operator span right) =
       BinaryTree (Operator (operator_of operator)) (code_tree w scope n left) (code_tree w scope (n + length (names_of left)) right)
-  code_tree w scope n (AssignExpression target place value) =
+  code_tree w scope n (AssignExpression target span value) =
       BinaryTree Assign (code_tree w scope n target) (code_tree w scope (n + length (names_of target)) value)
-  code_tree w scope n (IfExpression place condition then_branch else_branch) =
+  code_tree w scope n (IfExpression span condition then_branch else_branch) =
       if_tree w scope ((n + length (names_of condition)) + length (names_of then_branch)) (code_tree w scope n condition)
       (code_tree w scope (n + length (names_of condition)) then_branch) else_branch
-  code_tree w scope n (WhileExpression place condition body) =
+  code_tree w scope n (WhileExpression span condition body) =
       BinaryTree While (code_tree w scope n condition) (code_tree w scope (n + length (names_of condition)) body)
-  code_tree w scope n (LoopExpression place body) = UnaryTree Loop (code_tree w scope n body)
-  code_tree w scope n (ReturnExpression place value) = return_tree w scope n value
-  code_tree w scope n (AbortExpression place code) = UnaryTree Abort (code_tree w scope n code)
-  code_tree w scope n (BreakExpression place) = LeafTree Break
-  code_tree w scope n (ContinueExpression place) = LeafTree Continue
-  code_tree w scope n (UnaryExpression operator place operand) = UnaryTree (unary_of operator) (code_tree w scope n operand)
-  code_tree w scope n (UseExpression kind place local) = leaf_tree (local_meaning (use_of kind) scope local.text)
+  code_tree w scope n (LoopExpression span body) = UnaryTree Loop (code_tree w scope n body)
+  code_tree w scope n (ReturnExpression span value) = return_tree w scope n value
+  code_tree w scope n (AbortExpression span code) = UnaryTree Abort (code_tree w scope n code)
+  code_tree w scope n (BreakExpression span) = LeafTree Break
+  code_tree w scope n (ContinueExpression span) = LeafTree Continue
+  code_tree w scope n (UnaryExpression operator span operand) = UnaryTree (unary_of operator) (code_tree w scope n operand)
+  code_tree w scope n (UseExpression kind span local) = leaf_tree (local_meaning (use_of kind) scope local.text)
   code_tree w scope n (FieldExpression base field) = UnaryTree (Field field.text) (code_tree w scope n base)
   code_tree w scope n (LiteralExpression literal) = leaf_tree (literal_meaning w literal)
   code_tree w scope n (PathExpression path) = leaf_tree (value_meaning w scope path)
@@ -61,11 +58,11 @@ abbrev mutual
       many_tree (call_meaning w function types) (code_trees w scope n values)
   code_tree w scope n (PackExpression path types fields last) =
       many_tree (option_map Pack (fields_meaning w path types (fields_of_values fields))) (field_trees w scope n fields)
-  code_tree w scope n (VectorExpression place types items last) = many_tree (vector_meaning w types) (code_trees w scope n items)
-  code_tree w scope n (AssertExpression place condition code) =
+  code_tree w scope n (VectorExpression span types items last) = many_tree (vector_meaning w types) (code_trees w scope n items)
+  code_tree w scope n (AssertExpression span condition code) =
       BinaryTree Assert (code_tree w scope n condition) (code_tree w scope (n + length (names_of condition)) code)
-  code_tree w scope n (TupleExpression place items last) = parenthesized Tuple (code_trees w scope n items)
-  code_tree w scope n (CastExpression place value target) = unary_tree (cast_meaning w target) (code_tree w scope n value)
+  code_tree w scope n (TupleExpression span items last) = parenthesized Tuple (code_trees w scope n items)
+  code_tree w scope n (CastExpression span value target) = unary_tree (cast_meaning w target) (code_tree w scope n value)
   code_tree w scope n (BlockExpression block) = block_tree w scope n block
 
   -- a condition and a branch, and possibly another branch, before which n names are bound
@@ -79,7 +76,7 @@ abbrev mutual
 
   -- the names that the items of a block bind are in scope up to its end
   pub block_tree : TypeScope → List InScope → ℕ → BlockData → CodeTree
-  block_tree w scope n (BlockOf place spec items value) =
+  block_tree w scope n (BlockOf span spec items value) =
       ManyTree (Block (is_there value))
       (joined (item_trees w scope n items) (last_trees w (scope ++ entered_by_all n items) (n + length (names_of_items items)) value))
 
@@ -95,7 +92,7 @@ abbrev mutual
   -- the names of a `let` are in scope after it: its value uses those in scope before it
   pub item_tree : TypeScope → List InScope → ℕ → ItemData → CodeTree
   item_tree w scope n (ExpressionItem expression) = UnaryTree Discard (code_tree w scope n expression)
-  item_tree w scope n (LetItem place pattern annotation value) =
+  item_tree w scope n (LetItem span pattern annotation value) =
       let_tree w scope (n + length (pattern_names pattern)) annotation (pattern_tree w n pattern) value
 
   pub let_tree : TypeScope → List InScope → ℕ → Option SourceTypeData → CodeTree → MaybeExpressionData → CodeTree

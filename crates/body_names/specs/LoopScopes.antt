@@ -8,11 +8,19 @@ use Rattle.scopes.specs.declared.scope.InScope.{InScope}
 use Rattle.body_names.specs.CodeNames.{names_of, names_of_item, names_of_items, names_of_field, entered_by, entered_by_all, numbered}
 use Rattle.body_names.specs.CodeSpans.{spans_of, spans_of_item, spans_of_items, spans_of_field}
 use Rattle.body_names.specs.PatternTrees.{pattern_names, pattern_spans}
-use Rattle.body_names.specs.declared.loop_scopes.loop_scope.LoopScope.{LoopScope}
+use Rattle.body_names.specs.declared.code.loops.LoopScope.{LoopScope}
+
+-- a loop whose index is not known yet
+abbrev pub begun : List InScope → LoopScope
+begun scope = record { at = 0; names = scope }
+
+-- the loop with its index
+abbrev pub with_index : ℕ → LoopScope → LoopScope
+with_index at loop = record { at = at; names = loop.names }
 
 -- the block begins with a spec block
 abbrev pub has_spec : BlockData → Bool
-has_spec (BlockOf place spec items value) = is_some spec
+has_spec (BlockOf span spec items value) = is_some spec
 
 -- the expression is a block that begins with a spec block
 abbrev pub begins_with_spec : ExpressionData → Bool
@@ -27,34 +35,34 @@ own_scope has at scope = if has then record { at = at; names = scope } ∷ [] el
 -- before it. Each node has one span, so there are as many nodes as spans.
 abbrev mutual
   pub loops_of : List InScope → ℕ → ℕ → ExpressionData → List LoopScope
-  loops_of scope n k (BinaryExpression left operator place right) =
+  loops_of scope n k (BinaryExpression left operator span right) =
       loops_of scope n k left ++ loops_of scope (n + length (names_of left)) (k + length (spans_of left)) right
-  loops_of scope n k (AssignExpression target place value) =
+  loops_of scope n k (AssignExpression target span value) =
       loops_of scope n k target ++ loops_of scope (n + length (names_of target)) (k + length (spans_of target)) value
-  loops_of scope n k (IfExpression place condition then_branch else_branch) =
+  loops_of scope n k (IfExpression span condition then_branch else_branch) =
       (loops_of scope n k condition ++ loops_of scope (n + length (names_of condition)) (k + length (spans_of condition)) then_branch)
       ++ loops_of_maybe scope ((n + length (names_of condition)) + length (names_of then_branch)) ((k + length (spans_of condition)) + length (spans_of then_branch)) else_branch
-  loops_of scope n k (WhileExpression place condition body) =
+  loops_of scope n k (WhileExpression span condition body) =
       own_scope (begins_with_spec condition) ((k + length (spans_of condition)) + length (spans_of body)) scope
       ++ (loops_of scope n k condition ++ loops_of scope (n + length (names_of condition)) (k + length (spans_of condition)) body)
-  loops_of scope n k (LoopExpression place body) =
+  loops_of scope n k (LoopExpression span body) =
       own_scope (begins_with_spec body) (k + length (spans_of body)) scope ++ loops_of scope n k body
-  loops_of scope n k (ReturnExpression place value) = loops_of_maybe scope n k value
-  loops_of scope n k (AbortExpression place code) = loops_of scope n k code
-  loops_of scope n k (BreakExpression place) = []
-  loops_of scope n k (ContinueExpression place) = []
-  loops_of scope n k (UnaryExpression operator place operand) = loops_of scope n k operand
-  loops_of scope n k (UseExpression kind place local) = []
+  loops_of scope n k (ReturnExpression span value) = loops_of_maybe scope n k value
+  loops_of scope n k (AbortExpression span code) = loops_of scope n k code
+  loops_of scope n k (BreakExpression span) = []
+  loops_of scope n k (ContinueExpression span) = []
+  loops_of scope n k (UnaryExpression operator span operand) = loops_of scope n k operand
+  loops_of scope n k (UseExpression kind span local) = []
   loops_of scope n k (FieldExpression base field) = loops_of scope n k base
   loops_of scope n k (LiteralExpression literal) = []
   loops_of scope n k (PathExpression path) = []
   loops_of scope n k (CallExpression function types values last) = loops_of_expressions scope n k values
   loops_of scope n k (PackExpression path types fields last) = loops_of_fields scope n k fields
-  loops_of scope n k (VectorExpression place types items last) = loops_of_expressions scope n k items
-  loops_of scope n k (AssertExpression place condition code) =
+  loops_of scope n k (VectorExpression span types items last) = loops_of_expressions scope n k items
+  loops_of scope n k (AssertExpression span condition code) =
       loops_of scope n k condition ++ loops_of scope (n + length (names_of condition)) (k + length (spans_of condition)) code
-  loops_of scope n k (TupleExpression place items last) = loops_of_expressions scope n k items
-  loops_of scope n k (CastExpression place value target) = loops_of scope n k value
+  loops_of scope n k (TupleExpression span items last) = loops_of_expressions scope n k items
+  loops_of scope n k (CastExpression span value target) = loops_of scope n k value
   loops_of scope n k (BlockExpression block) = loops_of_block scope n k block
 
   pub loops_of_maybe : List InScope → ℕ → ℕ → MaybeExpressionData → List LoopScope
@@ -63,7 +71,7 @@ abbrev mutual
 
   -- the names that the items of a block bind are in scope up to its end
   pub loops_of_block : List InScope → ℕ → ℕ → BlockData → List LoopScope
-  loops_of_block scope n k (BlockOf place spec items value) =
+  loops_of_block scope n k (BlockOf span spec items value) =
       loops_of_items scope n k items
       ++ loops_of_maybe (scope ++ entered_by_all n items) (n + length (names_of_items items)) (k + length (spans_of_items items)) value
 
@@ -76,7 +84,7 @@ abbrev mutual
   -- the names of a `let` are in scope after it
   pub loops_of_item : List InScope → ℕ → ℕ → ItemData → List LoopScope
   loops_of_item scope n k (ExpressionItem expression) = loops_of scope n k expression
-  loops_of_item scope n k (LetItem place pattern annotation value) =
+  loops_of_item scope n k (LetItem span pattern annotation value) =
       loops_of_maybe scope (n + length (pattern_names pattern)) (k + length (pattern_spans pattern)) value
 
   pub loops_of_field : List InScope → ℕ → ℕ → FieldValueData → List LoopScope

@@ -9,10 +9,10 @@ later (Some n) other = Some (suc n)
 later None other = other
 
 -- the index of the last name that is equal
-abbrev pub last_place : List (List ℕ) → List ℕ → Option ℕ
-last_place [] name = None
-last_place (one ∷ more) name = later (last_place more name) (if same_name one name then Some 0 else None)
+abbrev pub last_index : List (List ℕ) → List ℕ → Option ℕ
+last_index [] name = None
+last_index (one ∷ more) name = later (last_index more name) (if same_name one name then Some 0 else None)
 
 -- the entries give the last index of each name
 pub record IsIndexOf (entries : List (List ℕ × ℕ)) (names : List (List ℕ)) : Type 0 where
-  pub found : (name : List ℕ) → lookup (same_name name) entries ≡ last_place names name
+  pub found : (name : List ℕ) → lookup (same_name name) entries ≡ last_index names name

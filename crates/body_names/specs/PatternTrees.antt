@@ -9,8 +9,9 @@ use Rattle.program.specs.declared.code.CodeLeaf.TheVariants.{Bind, Ignore}
 use Rattle.program.specs.declared.code.CodeMany.{CodeMany}
 use Rattle.program.specs.declared.code.CodeMany.TheVariants.{Unpack, TuplePattern as tuple_pattern}
 use Rattle.scopes.specs.TypeMeanings.{TypeScope}
-use Rattle.body_names.specs.CodeForms.{CodeTree, CodeTrees, many_tree, fields_meaning}
-use Rattle.body_names.specs.CodePlaces.{path_place}
+use Rattle.body_names.specs.CodeForms.{CodeTree, CodeTrees, many_tree}
+use Rattle.body_names.specs.SharedWords.{fields_meaning}
+use Rattle.body_names.specs.FirstSpans.{path_span}
 
 -- the tree of items in parentheses: one item in parentheses is that item
 abbrev pub parenthesized : CodeMany → CodeTrees → CodeTree
@@ -22,9 +23,9 @@ parenthesized m (MoreTrees t (MoreTrees u us)) = ManyTree m (MoreTrees t (MoreTr
 abbrev mutual
   pub pattern_names : PatternData → List (List ℕ)
   pattern_names (BindPattern name) = name.text ∷ []
-  pattern_names (IgnorePattern place) = []
+  pattern_names (IgnorePattern span) = []
   pattern_names (UnpackPattern path types fields last) = field_pattern_names fields
-  pattern_names (TuplePattern place items last) = patterns_names items
+  pattern_names (TuplePattern span items last) = patterns_names items
 
   pub patterns_names : PatternsData → List (List ℕ)
   patterns_names NoPatterns = []
@@ -53,10 +54,10 @@ fields_of_patterns (MoreFieldPatterns p ps) = field_of_pattern p ∷ fields_of_p
 abbrev mutual
   pub pattern_tree : TypeScope → ℕ → PatternData → CodeTree
   pattern_tree w n (BindPattern name) = LeafTree (Bind n)
-  pattern_tree w n (IgnorePattern place) = LeafTree Ignore
+  pattern_tree w n (IgnorePattern span) = LeafTree Ignore
   pattern_tree w n (UnpackPattern path types fields last) =
       many_tree (option_map Unpack (fields_meaning w path types (fields_of_patterns fields))) (field_pattern_trees w n fields)
-  pattern_tree w n (TuplePattern place items last) = parenthesized tuple_pattern (pattern_trees w n items)
+  pattern_tree w n (TuplePattern span items last) = parenthesized tuple_pattern (pattern_trees w n items)
 
   pub pattern_trees : TypeScope → ℕ → PatternsData → CodeTrees
   pattern_trees w n NoPatterns = NoTrees
@@ -73,24 +74,24 @@ abbrev mutual
 
 -- items in parentheses have a span of their own, unless there is just one
 abbrev pub patterns_own : Span → PatternsData → List Span
-patterns_own place NoPatterns = place ∷ []
-patterns_own place (MorePatterns p NoPatterns) = []
-patterns_own place (MorePatterns p (MorePatterns q qs)) = place ∷ []
+patterns_own span NoPatterns = span ∷ []
+patterns_own span (MorePatterns p NoPatterns) = []
+patterns_own span (MorePatterns p (MorePatterns q qs)) = span ∷ []
 
 -- the spans of a pattern's nodes: of the first token of each
 abbrev mutual
   pub pattern_spans : PatternData → List Span
-  pattern_spans (BindPattern name) = name.place ∷ []
-  pattern_spans (IgnorePattern place) = place ∷ []
-  pattern_spans (UnpackPattern path types fields last) = field_patterns_spans fields ++ path_place path ∷ []
-  pattern_spans (TuplePattern place items last) = patterns_spans items ++ patterns_own place items
+  pattern_spans (BindPattern name) = name.span ∷ []
+  pattern_spans (IgnorePattern span) = span ∷ []
+  pattern_spans (UnpackPattern path types fields last) = field_patterns_spans fields ++ path_span path ∷ []
+  pattern_spans (TuplePattern span items last) = patterns_spans items ++ patterns_own span items
 
   pub patterns_spans : PatternsData → List Span
   patterns_spans NoPatterns = []
   patterns_spans (MorePatterns p ps) = pattern_spans p ++ patterns_spans ps
 
   pub field_pattern_spans : FieldPatternData → List Span
-  field_pattern_spans (ShortFieldPattern name) = name.place ∷ []
+  field_pattern_spans (ShortFieldPattern name) = name.span ∷ []
   field_pattern_spans (LongFieldPattern name pattern) = pattern_spans pattern
 
   pub field_patterns_spans : FieldPatternsData → List Span

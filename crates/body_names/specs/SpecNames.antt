@@ -6,19 +6,19 @@ use Rattle.scopes.specs.declared.scope.InScope.{InScope}
 
 abbrev mutual
   pub variables_of : SpecExpressionData → List (List ℕ)
-  variables_of (SpecBinary left operator place right) = variables_of left ++ variables_of right
-  variables_of (SpecQuantified quantifier place binds terms body) =
+  variables_of (SpecBinary left operator span right) = variables_of left ++ variables_of right
+  variables_of (SpecQuantified quantifier span binds terms body) =
       (variables_of_binds binds ++ variables_of_triggers terms) ++ variables_of body
-  variables_of (SpecIf place condition then_branch else_branch) =
+  variables_of (SpecIf span condition then_branch else_branch) =
       (variables_of condition ++ variables_of then_branch) ++ variables_of else_branch
-  variables_of (SpecNot place operand) = variables_of operand
+  variables_of (SpecNot span operand) = variables_of operand
   variables_of (SpecField base field) = variables_of base
   variables_of (SpecIndex base index) = variables_of base ++ variables_of index
   variables_of (SpecLiteral literal) = []
   variables_of (SpecPath path) = []
   variables_of (SpecCall function types values last) = variables_of_all values
   variables_of (SpecPack path types fields last) = variables_of_fields fields
-  variables_of (SpecParenthesized place inside) = variables_of inside
+  variables_of (SpecParenthesized span inside) = variables_of inside
 
   -- a variable comes before its range
   pub variables_of_bind : BindData → List (List ℕ)

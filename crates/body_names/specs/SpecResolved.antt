@@ -2,12 +2,13 @@
 use Rattle.std.specs.Prelude.{◌≡◌, ℕ, List, [], length}
 use Rattle.base.specs.declared.span.Span.{Span}
 use Rattle.syntax_tree.specs.SpecExpressionData.{SpecExpressionData, SpecExpressionsData, SpecFieldsData}
-use Rattle.program.specs.Listed.{IsSound, AreSound, before, nodes_of, nodes_from_all, places}
+use Rattle.program.specs.Listed.{IsSound, AreSound, before, nodes_of, nodes_from_all, indices}
 use Rattle.body_names.specs.declared.spec.expression.ResolvedSpec.{ResolvedSpec}
 use Rattle.body_names.specs.declared.spec.expression.ResolvedSpecs.{ResolvedSpecs}
 use Rattle.body_names.specs.SpecForms.{SpecScope, SpecTree, SpecTrees}
 use Rattle.body_names.specs.SpecNames.{variables_of_fields}
-use Rattle.body_names.specs.SpecTrees.{field_trees, joined, spec_tree, spec_trees}
+use Rattle.body_names.specs.SpecTrees.{field_trees, spec_tree, spec_trees}
+use Rattle.body_names.specs.Joined.{joined}
 
 -- the tree of a single expression: sound exactly if each use in it has a meaning
 abbrev pub expression_tree : SpecScope → SpecExpressionData → SpecTree
@@ -26,7 +27,7 @@ binding_trees w given implied = joined (field_trees w [] 0 given) (field_trees w
 pub record IsResolved (tree : SpecTree) (spans : List Span) (variables : List (List ℕ)) (resolved : ResolvedSpec) : Type 0 where
   pub sound : IsSound tree
   pub nodes : resolved.body.nodes ≡ nodes_of tree
-  pub place_is : resolved.place ≡ before tree
+  pub index_is : resolved.index ≡ before tree
   pub spans_are : resolved.body.spans ≡ spans
   pub variables_are : resolved.variables ≡ variables
 
@@ -34,6 +35,6 @@ pub record IsResolved (tree : SpecTree) (spans : List Span) (variables : List (L
 pub record AreResolved (trees : SpecTrees) (spans : List Span) (variables : List (List ℕ)) (resolved : ResolvedSpecs) : Type 0 where
   pub sound : AreSound trees
   pub nodes : resolved.body.nodes ≡ nodes_from_all 0 trees
-  pub places_are : resolved.places ≡ places 0 trees
+  pub indices_are : resolved.indices ≡ indices 0 trees
   pub spans_are : resolved.body.spans ≡ spans
   pub variables_are : resolved.variables ≡ variables

@@ -3,6 +3,7 @@
 -- those bound before it. A use without a meaning has a bad tree, so a tree is sound exactly if each use in it has a
 -- meaning. Source: the Move Specification Language reference, "Expressions".
 use Rattle.std.specs.Prelude.{ℕ, ◌+◌, List, [], ◌∷◌, ◌++◌, length}
+use Rattle.std.specs.Option.{option_map}
 use Rattle.syntax_tree.specs.declared.path.Path.TheVariants.{Name as name_path}
 use Rattle.syntax_tree.specs.SpecExpressionData.{SpecExpressionData, SpecBinary, SpecQuantified, SpecIf, SpecNot, SpecField, SpecIndex, SpecLiteral, SpecPath, SpecCall, SpecPack, SpecParenthesized, BindData, TypedBind, RangeBind, TriggerData, TriggerOf, SpecFieldData, ShortSpecField, LongSpecField, SpecExpressionsData, NoSpecExpressions, MoreSpecExpressions, BindsData, NoBinds, MoreBinds, TriggersData, NoTriggers, MoreTriggers, SpecFieldsData, NoSpecFields, MoreSpecFields, list_of_spec_expressions}
 use Rattle.program.specs.Trees.{UnaryTree, BinaryTree, IfTree, ManyTree, NoTrees, MoreTrees}
@@ -10,16 +11,13 @@ use Rattle.program.specs.declared.spec.Domain.TheVariants.{Of, In}
 use Rattle.program.specs.declared.spec.Bind.{Bind}
 use Rattle.program.specs.declared.spec.SpecUnary.TheVariants.{Not, Field}
 use Rattle.program.specs.declared.spec.SpecBinary.TheVariants.{Operator, Index}
-use Rattle.program.specs.declared.spec.SpecMany.TheVariants.{Quantified}
+use Rattle.program.specs.declared.spec.SpecMany.TheVariants.{Pack, Quantified}
 use Rattle.scopes.specs.declared.scope.InScope.{InScope}
 use Rattle.scopes.specs.TypeMeanings.{TypeScope}
-use Rattle.body_names.specs.SpecForms.{SpecScope, SpecTree, SpecTrees, leaf_tree, many_tree, spec_operator_of, quantifier_of, literal_meaning, value_meaning, domain_type, domain_trees, call_meaning, pack_meaning}
+use Rattle.body_names.specs.SpecForms.{SpecScope, SpecTree, SpecTrees, leaf_tree, many_tree, spec_operator_of, quantifier_of, literal_meaning, value_meaning, domain_type, domain_trees, call_meaning}
+use Rattle.body_names.specs.SharedWords.{fields_meaning}
 use Rattle.body_names.specs.SpecNames.{variables_of, variables_of_bind, variables_of_binds, variables_of_trigger, variables_of_triggers, variables_of_field, entered_by, entered_by_all}
-
--- the concatenation of two lists of trees
-abbrev pub joined : SpecTrees → SpecTrees → SpecTrees
-joined NoTrees us = us
-joined (MoreTrees t ts) us = MoreTrees t (joined ts us)
+use Rattle.body_names.specs.Joined.{joined}
 
 abbrev pub field_of_value : SpecFieldData → List ℕ
 field_of_value (ShortSpecField name) = name.text
@@ -49,17 +47,17 @@ binds_in w n (MoreBinds one more) = bind_of w n one ∷ binds_in w (n + length (
 
 abbrev mutual
   pub spec_tree : SpecScope → List InScope → ℕ → SpecExpressionData → SpecTree
-  spec_tree w scope n (SpecBinary left operator place right) =
+  spec_tree w scope n (SpecBinary left operator span right) =
       BinaryTree (Operator (spec_operator_of operator)) (spec_tree w scope n left)
       (spec_tree w scope (n + length (variables_of left)) right)
-  spec_tree w scope n (SpecQuantified quantifier place binds terms body) =
+  spec_tree w scope n (SpecQuantified quantifier span binds terms body) =
       ManyTree (Quantified (quantifier_of quantifier) (binds_in w.types n binds) (terms_of_triggers terms))
       (joined (joined (bind_trees w scope n binds) (trigger_trees w (scope ++ entered_by_all n binds) (n + length (variables_of_binds binds)) terms))
       (MoreTrees (spec_tree w (scope ++ entered_by_all n binds) ((n + length (variables_of_binds binds)) + length (variables_of_triggers terms)) body) NoTrees))
-  spec_tree w scope n (SpecIf place condition then_branch else_branch) =
+  spec_tree w scope n (SpecIf span condition then_branch else_branch) =
       IfTree (spec_tree w scope n condition) (spec_tree w scope (n + length (variables_of condition)) then_branch)
       (spec_tree w scope ((n + length (variables_of condition)) + length (variables_of then_branch)) else_branch)
-  spec_tree w scope n (SpecNot place operand) = UnaryTree Not (spec_tree w scope n operand)
+  spec_tree w scope n (SpecNot span operand) = UnaryTree Not (spec_tree w scope n operand)
   spec_tree w scope n (SpecField base field) = UnaryTree (Field field.text) (spec_tree w scope n base)
   spec_tree w scope n (SpecIndex base index) =
       BinaryTree Index (spec_tree w scope n base) (spec_tree w scope (n + length (variables_of base)) index)
@@ -68,8 +66,8 @@ abbrev mutual
   spec_tree w scope n (SpecCall function types values last) =
       many_tree (call_meaning w.types function types) (spec_trees w scope n values)
   spec_tree w scope n (SpecPack path types fields last) =
-      many_tree (pack_meaning w.types path types (fields_of_values fields)) (field_trees w scope n fields)
-  spec_tree w scope n (SpecParenthesized place inside) = spec_tree w scope n inside
+      many_tree (option_map Pack (fields_meaning w.types path types (fields_of_values fields))) (field_trees w scope n fields)
+  spec_tree w scope n (SpecParenthesized span inside) = spec_tree w scope n inside
 
   -- the variables before its own are in scope in a range
   pub bind_tree : SpecScope → List InScope → ℕ → BindData → SpecTrees

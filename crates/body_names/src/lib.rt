@@ -1,6 +1,7 @@
-//! Resolution of names in bodies: in code, in spec expressions, and in the specs of loops.
+//! Resolution of names in bodies: in code and in spec expressions.
 #![tactic(auto)]
 
 pub mod code;
-pub mod loop_scopes;
+mod first_spans;
 pub mod spec;
+mod words;

@@ -7,7 +7,7 @@ pub mod fields;
 pub mod forms;
 pub mod name_list;
 pub mod outer;
-mod places;
+mod spans;
 mod triggers;
 mod values;
 
@@ -21,13 +21,15 @@ ghost use Rattle.body_names.specs.SpecForms.{domain_trees, domain_type, quantifi
 ghost use Rattle.body_names.specs.SpecSetting.{setting};
 ghost use Rattle.body_names.specs.SpecNames.{entered_by, entered_by_all, variables_of, variables_of_all, variables_of_bind, variables_of_binds, variables_of_field, variables_of_fields, variables_of_trigger, variables_of_triggers};
 ghost use Rattle.body_names.specs.SpecSpans.{spans_of, spans_of_all, spans_of_bind, spans_of_binds, spans_of_field, spans_of_fields, spans_of_trigger, spans_of_triggers};
-ghost use Rattle.body_names.specs.SpecTrees.{bind_of, bind_tree, bind_trees, binds_in, field_tree, field_trees, joined, spec_tree, spec_trees, terms_of_triggers, trigger_tree, trigger_trees};
+ghost use Rattle.body_names.specs.SpecTrees.{bind_of, bind_tree, bind_trees, binds_in, field_tree, field_trees, spec_tree, spec_trees, terms_of_triggers, trigger_tree, trigger_trees};
+ghost use Rattle.body_names.specs.Joined.{joined};
 
+use crate::first_spans::path_span;
 use crate::spec::building::Building;
 use crate::spec::context::Context;
 use crate::spec::fields::pack;
 use crate::spec::forms::{call, domain, quantifier_of, spec_operator_of};
-use crate::spec::places::{first_place, path_place};
+use crate::spec::spans::first_span;
 use crate::spec::triggers::counts_of;
 use crate::spec::values::{resolve_literal, resolve_shorthand, resolve_value};
 use base::name::Name;
@@ -47,7 +49,7 @@ pub fn resolve_spec(
     into: &mut Building,
     expression: &SpecExpression,
 ) -> Result<usize, NameFault>
-    ensures added { IfOk result (λ place. Added (spec_tree (setting context.now) into.old.scope (length into.old.variables) expression.now) (spans_of expression.now) (variables_of expression.now) into.old into.new place) }
+    ensures added { IfOk result (λ index. Added (spec_tree (setting context.now) into.old.scope (length into.old.variables) expression.now) (spans_of expression.now) (variables_of expression.now) into.old into.new index) }
     ensures scope { OnOk result (into.new.scope ≡ into.old.scope) }
     ensures unknown { IfErr result (λ fault. IfUnknown fault (IsSound (spec_tree (setting context.now) into.old.scope (length into.old.variables) expression.now) → ⊥)) }
 {
@@ -55,38 +57,38 @@ pub fn resolve_spec(
         SpecNode::Binary {
             left,
             operator,
-            place,
+            span,
             right,
         } => {
             let node = SpecBinary::Operator(spec_operator_of(*operator));
-            resolve_two(context, into, left, right, node, *place)
+            resolve_two(context, into, left, right, node, *span)
         }
         SpecNode::Quantified {
             quantifier,
-            place,
+            span,
             binds,
             triggers,
             body,
         } => {
             let quantifier = quantifier_of(*quantifier);
-            resolve_quantified(context, into, quantifier, *place, binds, triggers, body)
+            resolve_quantified(context, into, quantifier, *span, binds, triggers, body)
         }
         SpecNode::If {
-            place,
+            span,
             condition,
             then_branch,
             else_branch,
-        } => { resolve_branches(context, into, *place, condition, then_branch, else_branch) }
-        SpecNode::Not { place, operand } => {
-            resolve_one(context, into, operand, SpecUnary::Not, *place)
+        } => { resolve_branches(context, into, *span, condition, then_branch, else_branch) }
+        SpecNode::Not { span, operand } => {
+            resolve_one(context, into, operand, SpecUnary::Not, *span)
         }
         SpecNode::Field { base, field } => {
             let name = field.text.try_clone(context.alloc)?;
-            resolve_one(context, into, base, SpecUnary::Field(name), field.place)
+            resolve_one(context, into, base, SpecUnary::Field(name), field.span)
         }
         SpecNode::Index { base, index } => {
-            let place = first_place(base);
-            resolve_two(context, into, base, index, SpecBinary::Index, place)
+            let span = first_span(base);
+            resolve_two(context, into, base, index, SpecBinary::Index, span)
         }
         SpecNode::Literal(literal) => resolve_literal(context, into, literal),
         SpecNode::Path(path) => resolve_value(context, into, path),
@@ -97,7 +99,7 @@ pub fn resolve_spec(
             ..
         } => {
             let node = call(context, function, arguments)?;
-            resolve_call(context, into, values, node, path_place(function))
+            resolve_call(context, into, values, node, path_span(function))
         }
         SpecNode::Pack {
             path,
@@ -106,7 +108,7 @@ pub fn resolve_spec(
             ..
         } => {
             let node = pack(context, path, arguments, fields)?;
-            resolve_pack(context, into, fields, node, path_place(path))
+            resolve_pack(context, into, fields, node, path_span(path))
         }
         SpecNode::Parenthesized { inner, .. } => resolve_spec(context, into, inner),
     }
@@ -121,13 +123,13 @@ fn resolve_one(
     node: SpecUnary,
     span: Span,
 ) -> Result<usize, NameFault>
-    ensures added { IfOk result (λ place. Added (UnaryTree node (spec_tree (setting context.now) into.old.scope (length into.old.variables) part.now)) (spans_of part.now ++ span ∷ []) (variables_of part.now) into.old into.new place) }
+    ensures added { IfOk result (λ index. Added (UnaryTree node (spec_tree (setting context.now) into.old.scope (length into.old.variables) part.now)) (spans_of part.now ++ span ∷ []) (variables_of part.now) into.old into.new index) }
     ensures scope { OnOk result (into.new.scope ≡ into.old.scope) }
     ensures unknown { IfErr result (λ fault. IfUnknown fault (IsSound (UnaryTree node (spec_tree (setting context.now) into.old.scope (length into.old.variables) part.now)) → ⊥)) }
 {
     let part = resolve_spec(context, into, part)?;
-    let place = into.add(Node::Unary(node, part), span)?;
-    Ok(place)
+    let index = into.add(Node::Unary(node, part), span)?;
+    Ok(index)
 }
 
 /// Resolves a form with two children, the first of which comes before the second in the source.
@@ -140,14 +142,14 @@ fn resolve_two(
     node: SpecBinary,
     span: Span,
 ) -> Result<usize, NameFault>
-    ensures added { IfOk result (λ place. Added (BinaryTree node (spec_tree (setting context.now) into.old.scope (length into.old.variables) left.now) (spec_tree (setting context.now) into.old.scope (length into.old.variables + length (variables_of left.now)) right.now)) ((spans_of left.now ++ spans_of right.now) ++ span ∷ []) (variables_of left.now ++ variables_of right.now) into.old into.new place) }
+    ensures added { IfOk result (λ index. Added (BinaryTree node (spec_tree (setting context.now) into.old.scope (length into.old.variables) left.now) (spec_tree (setting context.now) into.old.scope (length into.old.variables + length (variables_of left.now)) right.now)) ((spans_of left.now ++ spans_of right.now) ++ span ∷ []) (variables_of left.now ++ variables_of right.now) into.old into.new index) }
     ensures scope { OnOk result (into.new.scope ≡ into.old.scope) }
     ensures unknown { IfErr result (λ fault. IfUnknown fault (IsSound (BinaryTree node (spec_tree (setting context.now) into.old.scope (length into.old.variables) left.now) (spec_tree (setting context.now) into.old.scope (length into.old.variables + length (variables_of left.now)) right.now)) → ⊥)) }
 {
     let left = resolve_spec(context, into, left)?;
     let right = resolve_spec(context, into, right)?;
-    let place = into.add(Node::Binary(node, left, right), span)?;
-    Ok(place)
+    let index = into.add(Node::Binary(node, left, right), span)?;
+    Ok(index)
 }
 
 /// Resolves a condition with two branches.
@@ -160,15 +162,15 @@ fn resolve_branches(
     then_branch: &SpecExpression,
     else_branch: &SpecExpression,
 ) -> Result<usize, NameFault>
-    ensures added { IfOk result (λ place. Added (IfTree (spec_tree (setting context.now) into.old.scope (length into.old.variables) condition.now) (spec_tree (setting context.now) into.old.scope (length into.old.variables + length (variables_of condition.now)) then_branch.now) (spec_tree (setting context.now) into.old.scope ((length into.old.variables + length (variables_of condition.now)) + length (variables_of then_branch.now)) else_branch.now)) (((spans_of condition.now ++ spans_of then_branch.now) ++ spans_of else_branch.now) ++ span ∷ []) ((variables_of condition.now ++ variables_of then_branch.now) ++ variables_of else_branch.now) into.old into.new place) }
+    ensures added { IfOk result (λ index. Added (IfTree (spec_tree (setting context.now) into.old.scope (length into.old.variables) condition.now) (spec_tree (setting context.now) into.old.scope (length into.old.variables + length (variables_of condition.now)) then_branch.now) (spec_tree (setting context.now) into.old.scope ((length into.old.variables + length (variables_of condition.now)) + length (variables_of then_branch.now)) else_branch.now)) (((spans_of condition.now ++ spans_of then_branch.now) ++ spans_of else_branch.now) ++ span ∷ []) ((variables_of condition.now ++ variables_of then_branch.now) ++ variables_of else_branch.now) into.old into.new index) }
     ensures scope { OnOk result (into.new.scope ≡ into.old.scope) }
     ensures unknown { IfErr result (λ fault. IfUnknown fault (IsSound (IfTree (spec_tree (setting context.now) into.old.scope (length into.old.variables) condition.now) (spec_tree (setting context.now) into.old.scope (length into.old.variables + length (variables_of condition.now)) then_branch.now) (spec_tree (setting context.now) into.old.scope ((length into.old.variables + length (variables_of condition.now)) + length (variables_of then_branch.now)) else_branch.now)) → ⊥)) }
 {
     let condition = resolve_spec(context, into, condition)?;
     let then_branch = resolve_spec(context, into, then_branch)?;
     let else_branch = resolve_spec(context, into, else_branch)?;
-    let place = into.add(Node::If(condition, then_branch, else_branch), span)?;
-    Ok(place)
+    let index = into.add(Node::If(condition, then_branch, else_branch), span)?;
+    Ok(index)
 }
 
 /// Resolves a call with its values.
@@ -180,14 +182,14 @@ fn resolve_call(
     node: SpecMany,
     span: Span,
 ) -> Result<usize, NameFault>
-    ensures added { IfOk result (λ place. Added (ManyTree node (spec_trees (setting context.now) into.old.scope (length into.old.variables) (spec_expressions_of values.now))) (spans_of_all (spec_expressions_of values.now) ++ span ∷ []) (variables_of_all (spec_expressions_of values.now)) into.old into.new place) }
+    ensures added { IfOk result (λ index. Added (ManyTree node (spec_trees (setting context.now) into.old.scope (length into.old.variables) (spec_expressions_of values.now))) (spans_of_all (spec_expressions_of values.now) ++ span ∷ []) (variables_of_all (spec_expressions_of values.now)) into.old into.new index) }
     ensures scope { OnOk result (into.new.scope ≡ into.old.scope) }
     ensures unknown { IfErr result (λ fault. IfUnknown fault (IsSound (ManyTree node (spec_trees (setting context.now) into.old.scope (length into.old.variables) (spec_expressions_of values.now))) → ⊥)) }
 {
     let mut parts = Sequence::new(context.alloc);
     resolve_values(context, into, &mut parts, values)?;
-    let place = into.add(Node::Many(node, parts), span)?;
-    Ok(place)
+    let index = into.add(Node::Many(node, parts), span)?;
+    Ok(index)
 }
 
 /// Resolves spec expressions, one after another. Appends the indices of their nodes to `parts`.
@@ -235,14 +237,14 @@ fn resolve_pack(
     node: SpecMany,
     span: Span,
 ) -> Result<usize, NameFault>
-    ensures added { IfOk result (λ place. Added (ManyTree node (field_trees (setting context.now) into.old.scope (length into.old.variables) (spec_fields_of fields.now))) (spans_of_fields (spec_fields_of fields.now) ++ span ∷ []) (variables_of_fields (spec_fields_of fields.now)) into.old into.new place) }
+    ensures added { IfOk result (λ index. Added (ManyTree node (field_trees (setting context.now) into.old.scope (length into.old.variables) (spec_fields_of fields.now))) (spans_of_fields (spec_fields_of fields.now) ++ span ∷ []) (variables_of_fields (spec_fields_of fields.now)) into.old into.new index) }
     ensures scope { OnOk result (into.new.scope ≡ into.old.scope) }
     ensures unknown { IfErr result (λ fault. IfUnknown fault (IsSound (ManyTree node (field_trees (setting context.now) into.old.scope (length into.old.variables) (spec_fields_of fields.now))) → ⊥)) }
 {
     let mut parts = Sequence::new(context.alloc);
     resolve_fields(context, into, &mut parts, fields)?;
-    let place = into.add(Node::Many(node, parts), span)?;
-    Ok(place)
+    let index = into.add(Node::Many(node, parts), span)?;
+    Ok(index)
 }
 
 /// Resolves the values of fields, one after another. Appends the indices of their nodes to `parts`.
@@ -288,7 +290,7 @@ fn resolve_field(
     into: &mut Building,
     field: &SpecField,
 ) -> Result<usize, NameFault>
-    ensures added { IfOk result (λ place. Added (field_tree (setting context.now) into.old.scope (length into.old.variables) field.now) (spans_of_field field.now) (variables_of_field field.now) into.old into.new place) }
+    ensures added { IfOk result (λ index. Added (field_tree (setting context.now) into.old.scope (length into.old.variables) field.now) (spans_of_field field.now) (variables_of_field field.now) into.old into.new index) }
     ensures scope { OnOk result (into.new.scope ≡ into.old.scope) }
     ensures unknown { IfErr result (λ fault. IfUnknown fault (IsSound (field_tree (setting context.now) into.old.scope (length into.old.variables) field.now) → ⊥)) }
 {
@@ -309,7 +311,7 @@ fn resolve_quantified(
     triggers: &[Trigger],
     body: &SpecExpression,
 ) -> Result<usize, NameFault>
-    ensures added { IfOk result (λ place. Added (ManyTree (SpecMany.Quantified quantifier (binds_in ((setting context.now).types) (length into.old.variables) (binds_of binds.now)) (terms_of_triggers (triggers_of triggers.now))) (joined (joined (bind_trees (setting context.now) into.old.scope (length into.old.variables) (binds_of binds.now)) (trigger_trees (setting context.now) (into.old.scope ++ entered_by_all (length into.old.variables) (binds_of binds.now)) (length into.old.variables + length (variables_of_binds (binds_of binds.now))) (triggers_of triggers.now))) (MoreTrees (spec_tree (setting context.now) (into.old.scope ++ entered_by_all (length into.old.variables) (binds_of binds.now)) ((length into.old.variables + length (variables_of_binds (binds_of binds.now))) + length (variables_of_triggers (triggers_of triggers.now))) body.now) NoTrees))) (((spans_of_binds (binds_of binds.now) ++ spans_of_triggers (triggers_of triggers.now)) ++ spans_of body.now) ++ span ∷ []) ((variables_of_binds (binds_of binds.now) ++ variables_of_triggers (triggers_of triggers.now)) ++ variables_of body.now) into.old into.new place) }
+    ensures added { IfOk result (λ index. Added (ManyTree (SpecMany.Quantified quantifier (binds_in ((setting context.now).types) (length into.old.variables) (binds_of binds.now)) (terms_of_triggers (triggers_of triggers.now))) (joined (joined (bind_trees (setting context.now) into.old.scope (length into.old.variables) (binds_of binds.now)) (trigger_trees (setting context.now) (into.old.scope ++ entered_by_all (length into.old.variables) (binds_of binds.now)) (length into.old.variables + length (variables_of_binds (binds_of binds.now))) (triggers_of triggers.now))) (MoreTrees (spec_tree (setting context.now) (into.old.scope ++ entered_by_all (length into.old.variables) (binds_of binds.now)) ((length into.old.variables + length (variables_of_binds (binds_of binds.now))) + length (variables_of_triggers (triggers_of triggers.now))) body.now) NoTrees))) (((spans_of_binds (binds_of binds.now) ++ spans_of_triggers (triggers_of triggers.now)) ++ spans_of body.now) ++ span ∷ []) ((variables_of_binds (binds_of binds.now) ++ variables_of_triggers (triggers_of triggers.now)) ++ variables_of body.now) into.old into.new index) }
     ensures scope { OnOk result (into.new.scope ≡ into.old.scope) }
     ensures unknown { IfErr result (λ fault. IfUnknown fault (IsSound (ManyTree (SpecMany.Quantified quantifier (binds_in ((setting context.now).types) (length into.old.variables) (binds_of binds.now)) (terms_of_triggers (triggers_of triggers.now))) (joined (joined (bind_trees (setting context.now) into.old.scope (length into.old.variables) (binds_of binds.now)) (trigger_trees (setting context.now) (into.old.scope ++ entered_by_all (length into.old.variables) (binds_of binds.now)) (length into.old.variables + length (variables_of_binds (binds_of binds.now))) (triggers_of triggers.now))) (MoreTrees (spec_tree (setting context.now) (into.old.scope ++ entered_by_all (length into.old.variables) (binds_of binds.now)) ((length into.old.variables + length (variables_of_binds (binds_of binds.now))) + length (variables_of_triggers (triggers_of triggers.now))) body.now) NoTrees))) → ⊥)) }
 {
@@ -322,9 +324,9 @@ fn resolve_quantified(
         binds: bound,
         triggers,
     };
-    let place = into.add(Node::Many(node, parts), span)?;
+    let index = into.add(Node::Many(node, parts), span)?;
     into.scope.leave(entered);
-    Ok(place)
+    Ok(index)
 }
 
 /// Resolves the ranges of a quantifier's variables, the terms of its triggers, and its body. Returns the variables.

@@ -30,12 +30,12 @@ use Rattle.unification.specs.declared.type_variables.slots.Slot.{Slot}
 use Rattle.typing_rules.specs.Answers.{System, Typings, HasTyping, NodeIsRead}
 use Rattle.typing_rules.specs.CodeSystems.{function_setting, function_system}
 use Rattle.typing_rules.specs.FieldBars.{BarsUse, IsJudged, first_steps}
-use Rattle.typing_rules.specs.Settings.{first_argument, place_count}
+use Rattle.typing_rules.specs.Settings.{first_argument, variable_count}
 use Rattle.typing_rules.specs.Sorts.{behind, struct_in}
 use Rattle.typing_rules.specs.Pools.{type_at, type_of, types}
 use Rattle.typing_rules.specs.declared.type_pool.PoolType.{PoolType}
 use Rattle.type_constraints.specs.Storage.{IsStorageNode}
-use Rattle.type_constraints.proofs.Places.{first_within, next_first, storage_node_arity}
+use Rattle.type_constraints.proofs.Variables.{first_within, next_first, storage_node_arity}
 use Rattle.unification.specs.Ranked.{rank_at}
 use Rattle.unification.specs.Roots.{AreRoots}
 use Rattle.unification.specs.Numbers.{IsNumberOf, NumberSays, TableSays, number_at}
@@ -44,7 +44,7 @@ use Rattle.unification.specs.declared.solution.forced.Forced.{Forced}
 use Rattle.unification.proofs.Refilling.{plain, plain_typing}
 use Rattle.body_types.specs.Owners.{OwnerSays}
 use Rattle.body_types.specs.BarredUsesKnown.{IsKnown, IsLast}
-use Rattle.body_types.specs.Nodes.{CallBars, FieldBars, IsTold, NodeBars, NoneBars, SomeBars, StorageBars}
+use Rattle.body_types.specs.Nodes.{CallBars, FieldBars, IsListed, NodeBars, NoneBars, SomeBars, StorageBars}
 use Rattle.body_types.specs.declared.barred_uses.known.Known.{Known}
 use Rattle.body_types.proofs.Steps.{fewer, last_among, still_read}
 
@@ -78,9 +78,9 @@ an_owner slots own base owner false ranked says h = (
   λ b. refl,
 )
 
-pub number_says : (slots : List Slot) (roots : List ℕ) (pool : List PoolType) (numbers : List (Option ℕ)) (p : ℕ) (found : Option ℕ) → IsTold slots roots pool numbers → p < length slots → number_at numbers p ≡ found →
+pub number_says : (slots : List Slot) (roots : List ℕ) (pool : List PoolType) (numbers : List (Option ℕ)) (p : ℕ) (found : Option ℕ) → IsListed slots roots pool numbers → p < length slots → number_at numbers p ≡ found →
     NumberSays slots pool p found
-number_says slots roots pool numbers p found told lt e = subst (λ (o : Option ℕ). NumberSays slots pool p o) e (told.table.each p lt)
+number_says slots roots pool numbers p found known lt e = subst (λ (o : Option ℕ). NumberSays slots pool p o) e (known.table.each p lt)
 
 pub no_number : (slots : List Slot) (pool : List PoolType) (own : ModuleId) (params : List TypeParameter) (first : ℕ) → ((r : ℕ → ℕ) × IsRank slots r) → NumberSays slots pool first None →
     Decides false (StorageBars own params (Meets slots) first)
@@ -104,15 +104,15 @@ a_number slots pool own params first number entry false ranked is one v = (
 -- ---- nodes
 
 -- the type argument of a storage operation is a type variable of the system
-pub storage_within : (program : Program) (f : Function) (n first places m : ℕ) (form : CodeNode) → slice_get f.body.nodes n ≡ Some form → first ≡ first_argument (function_setting program f) n →
-    places ≡ place_count (function_setting program f) → places ≤ m → IsStorageNode form → first < m
-storage_within program f n first places m form stands at count longer is =
+pub storage_within : (program : Program) (f : Function) (n first variables m : ℕ) (form : CodeNode) → slice_get f.body.nodes n ≡ Some form → first ≡ first_argument (function_setting program f) n →
+    variables ≡ variable_count (function_setting program f) → variables ≤ m → IsStorageNode form → first < m
+storage_within program f n first variables m form stands at count longer is =
     let next = next_first program f n form stands in
     let end = first_within program f (n + 1) in
     let arity = storage_node_arity program form is in
     omega (arith, next, end, arity, at, count, longer)
 
-pub nodes_within : (program : Program) (f : Function) → length f.body.nodes ≤ place_count (function_setting program f)
+pub nodes_within : (program : Program) (f : Function) → length f.body.nodes ≤ variable_count (function_setting program f)
 nodes_within program f = omega arith
 
 module _ (program : Program) (f : Function) (own : ModuleId) (params : List TypeParameter) (These : Typing → Type 0) where
@@ -177,7 +177,7 @@ module _ (program : Program) (f : Function) (own : ModuleId) (count : ℕ) (know
     stands = stands;
     judged = judged n lt;
     owner = h.0;
-    settled = settled_to known.slots.items (place_count (function_setting program f)) a (Typings (first_steps (function_system program f) (suc count))) (λ (x : TypeData). struct_in (behind x)) (Some h.0) k.knows
+    settled = settled_to known.slots.items (variable_count (function_setting program f)) a (Typings (first_steps (function_system program f) (suc count))) (λ (x : TypeData). struct_in (behind x)) (Some h.0) k.knows
         (let inside = nodes_within program f in omega (arith, lt, is_read, below, inside)) h.1.0;
     elsewhere = h.1.1;
   })
@@ -194,8 +194,8 @@ module _ (program : Program) (f : Function) (own : ModuleId) (count : ℕ) (know
     callee_is = is;
     judged = judged n lt;
     of = h.0;
-    settled = settled_to known.slots.items (place_count (function_setting program f)) (start n) (Typings (first_steps (function_system program f) (suc count))) (λ (x : TypeData). x) h.0 k.knows
-        (storage_within program f n (start n) (place_count (function_setting program f)) (place_count (function_setting program f)) (Many (Call c) parts) stands refl refl (omega arith)
+    settled = settled_to known.slots.items (variable_count (function_setting program f)) (start n) (Typings (first_steps (function_system program f) (suc count))) (λ (x : TypeData). x) h.0 k.knows
+        (storage_within program f n (start n) (variable_count (function_setting program f)) (variable_count (function_setting program f)) (Many (Call c) parts) stands refl refl (omega arith)
         (subst (λ (x : Callee). IsStorageNode (Many (Call (record { callee = x; types = c.types })) parts)) (sym is) tt)) h.1.0;
     barred = h.1.1;
   })
@@ -268,9 +268,9 @@ decided program f own count known read slots params found es ep k last e some no
     (λ h. subst (λ (ss : List Slot). NoneBars program f own f.type_parameters (Meets ss) read) es (subst (λ (ps : List TypeParameter). NoneBars program f own ps (Meets slots) read) ep (no_one h)))
 
 -- what is known of the type variables
-pub told : (known : Known) (s : System) (slots : List Slot) (pool : List PoolType) (forced : Forced) (roots : List ℕ) (numbers : List (Option ℕ)) → IsKnown s known → slots ≡ known.slots.items → roots ≡ forced.roots.items → numbers ≡ forced.numbers.items →
-    ForcedSays slots pool forced → IsTold slots roots pool numbers
-told known s slots pool forced roots numbers k es er en says = record {
+pub given : (known : Known) (s : System) (slots : List Slot) (pool : List PoolType) (forced : Forced) (roots : List ℕ) (numbers : List (Option ℕ)) → IsKnown s known → slots ≡ known.slots.items → roots ≡ forced.roots.items → numbers ≡ forced.numbers.items →
+    ForcedSays slots pool forced → IsListed slots roots pool numbers
+given known s slots pool forced roots numbers k es er en says = record {
   fits = subst (λ (ss : List Slot). Fits ss) (sym es) k.knows.fits;
   roots_are = subst (λ (rs : List ℕ). AreRoots slots rs (length slots)) (sym er) says.roots_are;
   ranked = (rank_at known.ranking.ranks.items, subst (λ (ss : List Slot). IsRank ss (rank_at known.ranking.ranks.items)) (sym es) k.ranking.is_rank);
@@ -285,5 +285,5 @@ nothing_judged program f own none = (λ e. absurd (false≢true e), λ u. absurd
     no_use (inl b) = none b.count b.judged.exists
     no_use (inr b) = none b.count b.judged.exists
 
-pub places_longer : (known : Known) (s : System) (slots : List Slot) → IsKnown s known → slots ≡ known.slots.items → known.places ≤ length slots
-places_longer known s slots k e = let long = k.knows.longer in let count = k.count in let same = ap length e in omega (arith, long, count, same)
+pub variables_longer : (known : Known) (s : System) (slots : List Slot) → IsKnown s known → slots ≡ known.slots.items → known.variables ≤ length slots
+variables_longer known s slots k e = let long = k.knows.longer in let count = k.count in let same = ap length e in omega (arith, long, count, same)

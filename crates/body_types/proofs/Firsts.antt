@@ -29,35 +29,35 @@ some_same x y e = cc
 
 module _ (program : Program) where
   pub no_function : IsFirstOrNone (FirstsBreak program 0) None
-  no_function = λ place h. let b = h.1.0 in omega arith
+  no_function = λ span h. let b = h.1.0 in omega arith
 
   -- the function with this number
   module _ (n : ℕ) (id : FunctionId) (f : Function) (at : slice_get program.functions n ≡ Some (id, f)) where
-    breaks_here : (place : Span) → FunctionBreaks program n place → (f.place ≡ place) × BarsUse program (function_home id) f
-    breaks_here place b =
+    breaks_here : (span : Span) → FunctionBreaks program n span → (f.span ≡ span) × BarsUse program (function_home id) f
+    breaks_here span b =
         let one : ◌≡◌ {A = FunctionId × Function} (b.id, b.function) (id, f) = some_same (b.id, b.function) (id, f) (sym b.stands ∙ at) in (
-          ap (λ (d : FunctionId × Function). d.1.place) (sym one) ∙ b.place_is,
+          ap (λ (d : FunctionId × Function). d.1.span) (sym one) ∙ b.span_is,
           subst (λ (d : FunctionId × Function). BarsUse program (function_home d.0) d.1) one b.bars,
         )
 
-    of_one : (found : Bool) → Decides found (BarsUse program (function_home id) f) → IsFirstOrNone (FunctionBreaks program n) (if found then Some f.place else None)
-    of_one false d = λ place b. false≢true (d.1 (breaks_here place b).1)
+    of_one : (found : Bool) → Decides found (BarsUse program (function_home id) f) → IsFirstOrNone (FunctionBreaks program n) (if found then Some f.span else None)
+    of_one false d = λ span b. false≢true (d.1 (breaks_here span b).1)
     of_one true d = record {
-      one = record { id = id; function = f; stands = at; place_is = refl; bars = d.0 refl };
-      first = λ other b before. irreflexive f.place (subst (λ (p : Span). IsBefore p f.place) (sym (breaks_here other b).0) before);
+      one = record { id = id; function = f; stands = at; span_is = refl; bars = d.0 refl };
+      first = λ other b before. irreflexive f.span (subst (λ (p : Span). IsBefore p f.span) (sym (breaks_here other b).0) before);
     }
 
-    split : (place : Span) → FirstsBreak program (n + 1) place → FirstsBreak program n place ⊎ FunctionBreaks program n place
-    split place h = elim (cases_lt h.0 n) [
+    split : (span : Span) → FirstsBreak program (n + 1) span → FirstsBreak program n span ⊎ FunctionBreaks program n span
+    split span h = elim (cases_lt h.0 n) [
       | inl less ↦ inl (h.0, (less, h.1.1))
-      | inr more ↦ inr (let b = h.1.0 in let same : h.0 ≡ n = omega (arith, b, more) in subst (λ (k : ℕ). FunctionBreaks program k place) same h.1.1)
+      | inr more ↦ inr (let b = h.1.0 in let same : h.0 ≡ n = omega (arith, b, more) in subst (λ (k : ℕ). FunctionBreaks program k span) same h.1.1)
     ]
 
-    join : (place : Span) → FirstsBreak program n place ⊎ FunctionBreaks program n place → FirstsBreak program (n + 1) place
-    join place (inl h) = (h.0, ((let b = h.1.0 in omega (arith, b)), h.1.1))
-    join place (inr h) = (n, (omega arith, h))
+    join : (span : Span) → FirstsBreak program n span ⊎ FunctionBreaks program n span → FirstsBreak program (n + 1) span
+    join span (inl h) = (h.0, ((let b = h.1.0 in omega (arith, b)), h.1.1))
+    join span (inr h) = (n, (omega arith, h))
 
-    pub next_function : (is_barred : Bool) (found next o : Option Span) → Decides is_barred (BarsUse program (function_home id) f) → next ≡ (if is_barred then Some f.place else None)
+    pub next_function : (is_barred : Bool) (found next o : Option Span) → Decides is_barred (BarsUse program (function_home id) f) → next ≡ (if is_barred then Some f.span else None)
         → IsFirstOrNone (FirstsBreak program n) found → IsEarlier found next o → IsFirstOrNone (FirstsBreak program (n + 1)) o
     next_function is_barred found next o d is first e =
         first_renamed (λ p. FirstsBreak program n p ⊎ FunctionBreaks program n p) (FirstsBreak program (n + 1)) o join split
@@ -65,8 +65,8 @@ module _ (program : Program) where
         (subst (λ (p : Option Span). IsFirstOrNone (FunctionBreaks program n) p) (sym is) (of_one is_barred d)) e)
 
   -- for all functions
-  broken : (n : ℕ) (place : Span) → FirstsBreak program n place → BreaksVisibility program place
-  broken n place h =
+  broken : (n : ℕ) (span : Span) → FirstsBreak program n span → BreaksVisibility program span
+  broken n span h =
       let b = h.1.1 in
       record {
         id = b.id;
@@ -76,12 +76,12 @@ module _ (program : Program) where
           slice_get_within program.functions h.0 (b.id, b.function) b.stands,
           get_or_from_slice_get program.functions h.0 (b.id, b.function) (b.id, b.function) b.stands,
         );
-        place_is = b.place_is;
+        span_is = b.span_is;
         bars = b.bars;
       }
 
-  found_among : (n : ℕ) (place : Span) → length program.functions ≤ n → BreaksVisibility program place → FirstsBreak program n place
-  found_among n place le b =
+  found_among : (n : ℕ) (span : Span) → length program.functions ≤ n → BreaksVisibility program span → FirstsBreak program n span
+  found_among n span le b =
       let lt = b.declared.1 in (
         b.declared.0,
         (
@@ -90,11 +90,11 @@ module _ (program : Program) where
             id = b.id;
             function = b.function;
             stands = slice_get-get_or program.functions b.declared.0 (b.id, b.function) lt ∙ ap Some b.declared.2;
-            place_is = b.place_is;
+            span_is = b.span_is;
             bars = b.bars;
           },
         ),
       )
 
   pub all_functions : (n : ℕ) (found : Option Span) → length program.functions ≤ n → IsFirstOrNone (FirstsBreak program n) found → IsFirstOrNone (BreaksVisibility program) found
-  all_functions n found le first = first_renamed (FirstsBreak program n) (BreaksVisibility program) found (broken n) (λ place b. found_among n place le b) first
+  all_functions n found le first = first_renamed (FirstsBreak program n) (BreaksVisibility program) found (broken n) (λ span b. found_among n span le b) first

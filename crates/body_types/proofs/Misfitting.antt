@@ -45,7 +45,7 @@ others_fit value (TupleType ts) e = refl
 both_answers : (b : Bool) → b ≡ true → b ≡ false → ⊥
 both_answers b t f = false≢true (sym f ∙ t)
 
-pub fits_none : (s : System) (d : Defaulted) (p value : ℕ) → WidthSays d p None → HasDefaults s d → p < s.places → Decides false (NumberMisfits s p value)
+pub fits_none : (s : System) (d : Defaulted) (p value : ℕ) → WidthSays d p None → HasDefaults s d → p < s.variables → Decides false (NumberMisfits s p value)
 fits_none s d p value says has lt =
     let found = says s has lt in (
       λ e. absurd (false≢true e),
@@ -59,7 +59,7 @@ not_true false e = refl
 false_not : (b : Bool) → b ≡ false → not b ≡ true
 false_not b e = ap not e
 
-pub fits_width : (s : System) (d : Defaulted) (p value : ℕ) (w : Width) (fits : Bool) → IsSound d → WidthSays d p (Some w) → fits ≡ number_fits value (IntType w) → HasDefaults s d → p < s.places →
+pub fits_width : (s : System) (d : Defaulted) (p value : ℕ) (w : Width) (fits : Bool) → IsSound d → WidthSays d p (Some w) → fits ≡ number_fits value (IntType w) → HasDefaults s d → p < s.variables →
     Decides (not fits) (NumberMisfits s p value)
 fits_width s d p value w fits sound says is has lt =
     let known = says s has lt in (
@@ -96,7 +96,7 @@ number_at s nodes p value node found is number decides = (
 pub some_misfit : (s : System) (nodes : List CodeNode) (read p : ℕ) (found : Bool) → found ≡ true → p < read → ReadsNodes s nodes read → Decides found (MisfitAt s nodes p) → Decides true (Misfits s nodes)
 some_misfit s nodes read p found e lt reads decides =
     let m = decides.0 e in
-    (λ q. record { place = p; number = m.number; stands = m.stands; is_read = reads.done p lt; misfits = m.misfits.each }, λ q. refl)
+    (λ q. record { variable = p; number = m.number; stands = m.stands; is_read = reads.done p lt; misfits = m.misfits.each }, λ q. refl)
 
 pub none_more : (s : System) (nodes : List CodeNode) (i : ℕ) (found : Bool) → found ≡ false → Decides found (MisfitAt s nodes i) → ((k : ℕ) → k < i → MisfitAt s nodes k → ⊥) → (k : ℕ) → k < i + 1 → MisfitAt s nodes k → ⊥
 none_more s nodes i found e decides before = below_more (λ k. MisfitAt s nodes k → ⊥) i before (λ m. both_answers found (decides.1 m) e)
@@ -107,9 +107,9 @@ stands_within (x ∷ nodes) zero node is = omega arith
 stands_within (x ∷ nodes) (suc p) node is = let lt = stands_within nodes p node is in omega (arith, lt)
 
 misfit_nowhere : (s : System) (nodes : List CodeNode) (read i : ℕ) → read ≤ i → ReadsNodes s nodes read → ((k : ℕ) → k < i → MisfitAt s nodes k → ⊥) → Misfits s nodes → ⊥
-misfit_nowhere s nodes read i le reads none m = elim (cases_lt m.place read) [
-  | inl less ↦ none m.place (omega (arith, less, le)) (record { number = m.number; stands = m.stands; misfits = record { each = m.misfits } })
-  | inr more ↦ reads.left m.place more (stands_within nodes m.place (Leaf (Number m.number)) m.stands) m.is_read
+misfit_nowhere s nodes read i le reads none m = elim (cases_lt m.variable read) [
+  | inl less ↦ none m.variable (omega (arith, less, le)) (record { number = m.number; stands = m.stands; misfits = record { each = m.misfits } })
+  | inr more ↦ reads.left m.variable more (stands_within nodes m.variable (Leaf (Number m.number)) m.stands) m.is_read
 ]
 
 pub no_misfit : (s : System) (nodes : List CodeNode) (read i : ℕ) → read ≤ i → ReadsNodes s nodes read → ((k : ℕ) → k < i → MisfitAt s nodes k → ⊥) → Decides false (Misfits s nodes)

@@ -11,7 +11,7 @@ use Rattle.unification.specs.declared.type_variables.slots.Wrap.{Wrap}
 use Rattle.unification.specs.declared.type_variables.slots.Wrap.TheVariants.{Vector, Shared, Mutable}
 use Rattle.unification.specs.declared.type_variables.slots.Group.{Group}
 use Rattle.unification.specs.declared.type_variables.slots.Group.TheVariants.{Struct, Tuple}
-use Rattle.unification.specs.declared.type_variables.slots.Term.TheVariants.{Place, Closed, Made, Grouped}
+use Rattle.unification.specs.declared.type_variables.slots.Term.TheVariants.{Variable, Closed, Made, Grouped}
 use Rattle.unification.specs.declared.type_variables.slots.Slot.{Slot}
 use Rattle.unification.specs.declared.type_variables.slots.Slot.TheVariants.{Open, Bound}
 use Rattle.unification.proofs.Becoming.{bound_says}
@@ -66,7 +66,7 @@ open_owner slots t q s (Some id) e o h = absurd (none_some id h)
 struct_at : (slots : List Slot) (t : Typing) (q : ℕ) (x : Slot) (found : Option StructId) → q < length slots → Meets slots t → Opens slots t found → slot_at slots q ≡ x → IsRoot x → SlotIs x found →
     struct_in (t q) ≡ found
 struct_at slots t q (Open s) found lt m o e root h = open_struct slots t q s found e o h
-struct_at slots t q (Bound (Place a)) found lt m o e root h = absurd root
+struct_at slots t q (Bound (Variable a)) found lt m o e root h = absurd root
 struct_at slots t q (Bound (Closed of)) found lt m o e root h = ap struct_in (bound_says slots q (Closed of) t lt e m) ∙ sym h
 struct_at slots t q (Bound (Made w a)) found lt m o e root h = ap struct_in (bound_says slots q (Made w a) t lt e m) ∙ wrapped_struct w (t a) ∙ sym h
 struct_at slots t q (Bound (Grouped g first n)) found lt m o e root h = ap struct_in (bound_says slots q (Grouped g first n) t lt e m) ∙ group_struct g t first n found h
@@ -83,7 +83,7 @@ made_fits slots q a w fits lt e = let h : a < length slots = subst (λ (x : Slot
 owner_of : (slots : List Slot) (roots : List ℕ) (t : Typing) (q : ℕ) (x : Slot) (found : Option StructId) → Fits slots → AreRoots slots roots (length slots) → q < length slots → Meets slots t → Opens slots t found →
     slot_at slots q ≡ x → IsRoot x → SlotOwner slots roots x found → struct_in (behind (t q)) ≡ found
 owner_of slots roots t q (Open s) found fits are lt m o e root h = open_owner slots t q s found e o h
-owner_of slots roots t q (Bound (Place a)) found fits are lt m o e root h = absurd root
+owner_of slots roots t q (Bound (Variable a)) found fits are lt m o e root h = absurd root
 owner_of slots roots t q (Bound (Closed of)) found fits are lt m o e root h = ap (λ (a : TypeData). struct_in (behind a)) (bound_says slots q (Closed of) t lt e m) ∙ sym h
 owner_of slots roots t q (Bound (Made w a)) found fits are lt m o e root h =
     let inside : a < length slots = made_fits slots q a w fits lt e in
@@ -93,9 +93,9 @@ owner_of slots roots t q (Bound (Made w a)) found fits are lt m o e root h =
 owner_of slots roots t q (Bound (Grouped g first n)) found fits are lt m o e root h =
     ap (λ (a : TypeData). struct_in (behind a)) (bound_says slots q (Grouped g first n) t lt e m) ∙ group_owner g t first n found h
 
-place_owner : (slots : List Slot) (roots : List ℕ) (t : Typing) (p : ℕ) (found : Option StructId) → Fits slots → AreRoots slots roots (length slots) → p < length slots → Meets slots t → Opens slots t found →
+variable_owner : (slots : List Slot) (roots : List ℕ) (t : Typing) (p : ℕ) (found : Option StructId) → Fits slots → AreRoots slots roots (length slots) → p < length slots → Meets slots t → Opens slots t found →
     SlotOwner slots roots (slot_at slots (slice_index roots p)) found → struct_in (behind (t p)) ≡ found
-place_owner slots roots t p found fits are lt m o h =
+variable_owner slots roots t p found fits are lt m o h =
     let r = are.each p lt in
     ap (λ (a : TypeData). struct_in (behind a)) (r.same t m)
     ∙ owner_of slots roots t (slice_index roots p) (slot_at slots (slice_index roots p)) found fits are r.within m o refl r.is_root h
@@ -105,5 +105,5 @@ pub owner_says : (slots : List Slot) (roots : List ℕ) (p : ℕ) (found : Optio
 owner_says slots roots p None fits are ranked lt h =
     let t : Typing = refill_by slots (λ q. plain) ranked.0 in
     let m : Meets slots t = plain_typing slots ranked.0 ranked.1 in
-    (t, (m, place_owner slots roots t p None fits are lt m (λ q s e. refill_by-open slots (λ q. plain) ranked.0 q s e) h))
-owner_says slots roots p (Some id) fits are ranked lt h = λ t m. place_owner slots roots t p (Some id) fits are lt m tt h
+    (t, (m, variable_owner slots roots t p None fits are lt m (λ q s e. refill_by-open slots (λ q. plain) ranked.0 q s e) h))
+owner_says slots roots p (Some id) fits are ranked lt h = λ t m. variable_owner slots roots t p (Some id) fits are lt m tt h

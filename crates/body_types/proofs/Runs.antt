@@ -13,7 +13,7 @@ use Rattle.program.specs.declared.code.CodeBinary.TheVariants.{Operator, Assign,
 use Rattle.program.specs.CodeNodes.{CodeNode}
 use Rattle.typing_rules.specs.declared.constant.ConstantValue.{ConstantValue}
 use Rattle.typing_rules.specs.ConstantRuns.{typed_number, negated, cast_to, joined, node_value, value_by, value_at, run_of}
-use Rattle.body_types.specs.Told.{TypesNumbers, TellsRuns}
+use Rattle.body_types.specs.KnownTypes.{TypesNumbers, TellsRuns}
 use Rattle.std.specs.Prelude.{option_and_then}
 
 abbrev Values : Type 0
@@ -53,36 +53,36 @@ same_node v w of to n (Many m xs) b e h = refl
 
 module _ (nodes : List CodeNode) (t : ℕ → TypeData) where
   -- the next node, from the values of those before it
-  next_run : (values : List (Option ConstantValue)) (told : ℕ → TypeData) (node : CodeNode) (levels : ℕ) → IsBelow (length values) node → slice_get nodes (length values) ≡ Some node → TypesNumbers nodes told t
+  next_run : (values : List (Option ConstantValue)) (known : ℕ → TypeData) (node : CodeNode) (levels : ℕ) → IsBelow (length values) node → slice_get nodes (length values) ≡ Some node → TypesNumbers nodes known t
       → ((k : ℕ) → k < length values → get_or values k None ≡ value_at nodes t levels k)
-      → node_value (λ k. get_or values k None) (told (length values)) node ≡ value_at nodes t (suc levels) (length values)
-  next_run values told node levels below e numbers each =
+      → node_value (λ k. get_or values k None) (known (length values)) node ≡ value_at nodes t (suc levels) (length values)
+  next_run values known node levels below e numbers each =
       let n = length values in
-      same_node (λ k. get_or values k None) (value_at nodes t levels) (told n) (t n) n node below each
+      same_node (λ k. get_or values k None) (value_at nodes t levels) (known n) (t n) n node below each
       (λ x q. sym (numbers.each n x (e ∙ ap (λ (y : CodeNode). Some y) q)))
       ∙ ap (value_by (value_at nodes t levels) (t n)) (sym e)
 
-  next_at : (values : List (Option ConstantValue)) (told : ℕ → TypeData) (node : CodeNode) (levels : ℕ) → length values < levels → IsBelow (length values) node → slice_get nodes (length values) ≡ Some node → TypesNumbers nodes told t
-      → TellsRuns values nodes told → node_value (λ k. get_or values k None) (told (length values)) node ≡ value_at nodes t levels (length values)
-  next_at values told node zero h below e numbers runs = absurd (omega arith)
-  next_at values told node (suc levels) h below e numbers runs =
-      next_run values told node levels below e numbers (λ k lt. runs.each t numbers k levels lt (omega arith))
+  next_at : (values : List (Option ConstantValue)) (known : ℕ → TypeData) (node : CodeNode) (levels : ℕ) → length values < levels → IsBelow (length values) node → slice_get nodes (length values) ≡ Some node → TypesNumbers nodes known t
+      → TellsRuns values nodes known → node_value (λ k. get_or values k None) (known (length values)) node ≡ value_at nodes t levels (length values)
+  next_at values known node zero h below e numbers runs = absurd (omega arith)
+  next_at values known node (suc levels) h below e numbers runs =
+      next_run values known node levels below e numbers (λ k lt. runs.each t numbers k levels lt (omega arith))
 
 -- the run of one more node
-pub one_more : (nodes : List CodeNode) (values : List (Option ConstantValue)) (told : ℕ → TypeData) (node : CodeNode) (value : Option ConstantValue) → IsBelow (length values) node → slice_get nodes (length values) ≡ Some node
-    → value ≡ node_value (λ k. get_or values k None) (told (length values)) node → TellsRuns values nodes told → TellsRuns (values ++ value ∷ []) nodes told
-one_more nodes values told node value below e is runs = record {
+pub one_more : (nodes : List CodeNode) (values : List (Option ConstantValue)) (known : ℕ → TypeData) (node : CodeNode) (value : Option ConstantValue) → IsBelow (length values) node → slice_get nodes (length values) ≡ Some node
+    → value ≡ node_value (λ k. get_or values k None) (known (length values)) node → TellsRuns values nodes known → TellsRuns (values ++ value ∷ []) nodes known
+one_more nodes values known node value below e is runs = record {
   each = λ t numbers n levels h l.
       below_more (λ k. k < levels → get_or (values ++ value ∷ []) k None ≡ value_at nodes t levels k) (length values)
       (λ k lt more. get_or_append_left values (value ∷ []) None k lt ∙ runs.each t numbers k levels lt more)
-      (λ more. get_or-append_seam values value [] None ∙ is ∙ next_at nodes t values told node levels more below e numbers runs)
+      (λ more. get_or-append_seam values value [] None ∙ is ∙ next_at nodes t values known node levels more below e numbers runs)
       n (omega (arith, length-append values (value ∷ []))) l;
 }
 
 -- the run of the last node
-pub last_run : (nodes : List CodeNode) (values : List (Option ConstantValue)) (told t : ℕ → TypeData) (l : ℕ) → length values ≡ length nodes → length values ≡ suc l → TellsRuns values nodes told → TypesNumbers nodes told t
+pub last_run : (nodes : List CodeNode) (values : List (Option ConstantValue)) (known t : ℕ → TypeData) (l : ℕ) → length values ≡ length nodes → length values ≡ suc l → TellsRuns values nodes known → TypesNumbers nodes known t
     → get_or values l None ≡ run_of nodes t
-last_run nodes values told t l same long runs numbers =
+last_run nodes values known t l same long runs numbers =
     let last : l ≡ length nodes - 1 = omega arith in
     runs.each t numbers l (length nodes) (omega arith) (omega arith) ∙ ap (λ (k : ℕ). value_at nodes t (length nodes) k) last
 

@@ -112,12 +112,12 @@ says_at s walk reading e w = subst (λ (r : Reading). WalkSays s walk.slots.item
 reads_of : (s : System) (walk : Walk) → Walked s walk.slots.items walk.progress → HasTyping s → ReadsSteps s walk.progress.count
 reads_of s walk w has = record { done = w.done; left = w.left has.0 has.1 }
 
-pub read_whole : (s : System) (walk : Walk) → walk.progress.reading ≡ Whole → IsWalkOf s walk → IsReadOf s walk.places walk.slots.items walk.progress.count
+pub read_whole : (s : System) (walk : Walk) → walk.progress.reading ≡ Whole → IsWalkOf s walk → IsReadOf s walk.variables walk.slots.items walk.progress.count
 read_whole s walk e w =
     let says : WalkSays s walk.slots.items Whole = says_at s walk Whole e w.walked in
     record { knows = says.0; count = w.count; reads = reads_of s walk w.walked }
 
-pub read_stopped : (s : System) (walk : Walk) → walk.progress.reading ≡ Stopped → IsWalkOf s walk → IsReadOf s walk.places walk.slots.items walk.progress.count
+pub read_stopped : (s : System) (walk : Walk) → walk.progress.reading ≡ Stopped → IsWalkOf s walk → IsReadOf s walk.variables walk.slots.items walk.progress.count
 read_stopped s walk e w =
     let says : WalkSays s walk.slots.items Stopped = says_at s walk Stopped e w.walked in
     record { knows = says.0; count = w.count; reads = reads_of s walk w.walked }
@@ -127,12 +127,12 @@ clash_untypable s walk e w = says_at s walk Clash e w.walked
 
 -- ---- what is known of slots
 
-pub none_known : (s : System) (places steps : ℕ) (slots seen : List Slot) → seen ≡ slots → ((t : Typing) → Meets seen t → ⊥) → IsReadOf s places slots steps → IsUntypable s
-none_known s places steps slots seen e none k = λ t h.
+pub none_known : (s : System) (variables steps : ℕ) (slots seen : List Slot) → seen ≡ slots → ((t : Typing) → Meets seen t → ⊥) → IsReadOf s variables slots steps → IsUntypable s
+none_known s variables steps slots seen e none k = λ t h.
     (let r = k.knows.to t h in none r.0 (subst (λ (xs : List Slot). Meets xs r.0) (sym e) r.1.1))
 
 pub some_known : (s : System) (known : Known) (seen : List Slot) → seen ≡ known.slots.items → IsRanking seen known.ranking.ranks.items known.ranking.order.items →
-    IsReadOf s known.places known.slots.items known.steps → IsKnown s known
+    IsReadOf s known.variables known.slots.items known.steps → IsKnown s known
 some_known s known seen e ranking k =
     let order : IsRanking known.slots.items known.ranking.ranks.items known.ranking.order.items = subst (λ (xs : List Slot). IsRanking xs known.ranking.ranks.items known.ranking.order.items) e ranking in
     let has : HasTyping s = (refill_by known.slots.items (λ p. plain) (rank_at known.ranking.ranks.items), k.knows.from _ (plain_typing known.slots.items (rank_at known.ranking.ranks.items) order.is_rank)) in

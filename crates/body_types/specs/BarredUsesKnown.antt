@@ -18,18 +18,18 @@ pub record ReadsSteps (s : System) (count : ℕ) : Type 0 where
 -- a system, and the walk that read it
 pub record IsWalkOf (s : System) (walk : Walk) : Type 0 where
   pub walked : Walked s walk.slots.items walk.progress
-  pub count : walk.places ≡ s.places
+  pub count : walk.variables ≡ s.variables
 
 -- the slots know its typings
-pub record IsReadOf (s : System) (places : ℕ) (slots : List Slot) (steps : ℕ) : Type 0 where
-  pub knows : Knows slots s.places (Typings s)
-  pub count : places ≡ s.places
+pub record IsReadOf (s : System) (variables : ℕ) (slots : List Slot) (steps : ℕ) : Type 0 where
+  pub knows : Knows slots s.variables (Typings s)
+  pub count : variables ≡ s.variables
   pub reads : HasTyping s → ReadsSteps s steps
 
 -- and it has typings
 pub record IsKnown (s : System) (known : Known) : Type 0 where
-  pub knows : Knows known.slots.items s.places (Typings s)
-  pub count : known.places ≡ s.places
+  pub knows : Knows known.slots.items s.variables (Typings s)
+  pub count : known.variables ≡ s.variables
   pub ranking : IsRanking known.slots.items known.ranking.ranks.items known.ranking.order.items
   pub exists : HasTyping s
   pub reads : ReadsSteps s known.steps

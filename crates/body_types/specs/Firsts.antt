@@ -8,13 +8,13 @@ use Rattle.program.specs.Homes.{function_home}
 use Rattle.typing_rules.specs.FieldBars.{BarsUse}
 
 -- the function with this number, with this span
-pub record FunctionBreaks (program : Program) (number : ℕ) (place : Span) : Type 0 where
+pub record FunctionBreaks (program : Program) (number : ℕ) (span : Span) : Type 0 where
   pub id : FunctionId
   pub function : Function
   pub stands : slice_get program.functions number ≡ Some (id, function)
-  pub place_is : function.place ≡ place
+  pub span_is : function.span ≡ span
   pub bars : BarsUse program (function_home id) function
 
 -- one of the first so many functions, with this span
 abbrev pub FirstsBreak : Program → ℕ → Span → Type 0
-FirstsBreak program n place = (k : ℕ) × ((k < n) × FunctionBreaks program k place)
+FirstsBreak program n variable = (k : ℕ) × ((k < n) × FunctionBreaks program k variable)

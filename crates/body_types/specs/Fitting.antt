@@ -17,11 +17,11 @@ pub record IsNumber (node : CodeNode) (value : ℕ) : Type 0 where
   pub value_is : number.value ≡ value
 
 -- the number is no value of the type of the type variable, in every typing with default integer types
-pub record NumberMisfits (s : System) (place value : ℕ) : Type 0 where
-  pub each : (t : Typing) → IsDefaulted s t → number_fits value (t place) ≡ false
+pub record NumberMisfits (s : System) (variable value : ℕ) : Type 0 where
+  pub each : (t : Typing) → IsDefaulted s t → number_fits value (t variable) ≡ false
 
 -- the node is such a number literal
-pub record MisfitAt (s : System) (nodes : List CodeNode) (place : ℕ) : Type 0 where
+pub record MisfitAt (s : System) (nodes : List CodeNode) (variable : ℕ) : Type 0 where
   pub number : NumberData
-  pub stands : slice_get nodes place ≡ Some (Leaf (Number number))
-  pub misfits : NumberMisfits s place number.value
+  pub stands : slice_get nodes variable ≡ Some (Leaf (Number number))
+  pub misfits : NumberMisfits s variable number.value

@@ -6,7 +6,7 @@ pub mod CodeTyped
 pub mod Runs
 pub mod SpecKnown
 pub mod SpecTyped
-pub mod Told
+pub mod KnownTypes
 pub mod Owners
 pub mod BarredUsesKnown
 pub mod Nodes

@@ -63,7 +63,7 @@ pub record NoneBars (program : Program) (f : Function) (own : ModuleId) (types :
 
 -- what is known of the types of type variables: the representative of each, and the number of its type in the pool, if
 -- it has one
-pub record IsTold (slots : List Slot) (roots : List ℕ) (pool : List PoolType) (numbers : List (Option ℕ)) : Type 0 where
+pub record IsListed (slots : List Slot) (roots : List ℕ) (pool : List PoolType) (numbers : List (Option ℕ)) : Type 0 where
   pub fits : Fits slots
   pub roots_are : AreRoots slots roots (length slots)
   pub ranked : (r : ℕ → ℕ) × IsRank slots r

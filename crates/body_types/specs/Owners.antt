@@ -6,7 +6,7 @@ use Rattle.unification.specs.declared.type_variables.slots.Wrap.{Wrap}
 use Rattle.unification.specs.declared.type_variables.slots.Wrap.TheVariants.{Vector, Shared, Mutable}
 use Rattle.unification.specs.declared.type_variables.slots.Group.{Group}
 use Rattle.unification.specs.declared.type_variables.slots.Group.TheVariants.{Struct, Tuple}
-use Rattle.unification.specs.declared.type_variables.slots.Term.TheVariants.{Place, Closed, Made, Grouped}
+use Rattle.unification.specs.declared.type_variables.slots.Term.TheVariants.{Variable, Closed, Made, Grouped}
 use Rattle.unification.specs.declared.type_variables.slots.Slot.{Slot}
 use Rattle.unification.specs.declared.type_variables.slots.Slot.TheVariants.{Open, Bound}
 use Rattle.typing_rules.specs.Sorts.{behind, struct_in}
@@ -23,7 +23,7 @@ GroupIs Tuple found = found ≡ None
 -- the struct of a slot that does not refer to another variable
 abbrev pub SlotIs : Slot → Option StructId → Type 0
 SlotIs (Open s) found = found ≡ None
-SlotIs (Bound (Place q)) found = Unit {0}
+SlotIs (Bound (Variable q)) found = Unit {0}
 SlotIs (Bound (Closed of)) found = found ≡ struct_in of.now
 SlotIs (Bound (Made w q)) found = found ≡ None
 SlotIs (Bound (Grouped g first n)) found = GroupIs g found
@@ -37,7 +37,7 @@ MadeOwner to Mutable found = SlotIs to found
 -- the struct that the type of a slot is, or points at
 abbrev pub SlotOwner : List Slot → List ℕ → Slot → Option StructId → Type 0
 SlotOwner slots roots (Open s) found = found ≡ None
-SlotOwner slots roots (Bound (Place q)) found = Unit {0}
+SlotOwner slots roots (Bound (Variable q)) found = Unit {0}
 SlotOwner slots roots (Bound (Closed of)) found = found ≡ struct_in (behind of.now)
 SlotOwner slots roots (Bound (Made w q)) found = MadeOwner (slot_at slots (slice_index roots q)) w found
 SlotOwner slots roots (Bound (Grouped g first n)) found = GroupIs g found

@@ -15,16 +15,16 @@ abbrev pub integer_types : List TypeData
 integer_types = IntType U8 ∷ IntType U16 ∷ IntType U32 ∷ IntType U64 ∷ IntType U128 ∷ []
 
 -- the type variable has the integer type with this number
-pub record IsNumberType (s : System) (place number : ℕ) : Type 0 where
-  pub is : (t : Typing) → IsDefaulted s t → t place ≡ type_at integer_types number
+pub record IsNumberType (s : System) (variable number : ℕ) : Type 0 where
+  pub is : (t : Typing) → IsDefaulted s t → t variable ≡ type_at integer_types number
 
 -- the type variable of a node that is a number literal has this type
-pub record IsNodeType (s : System) (nodes : List CodeNode) (place number : ℕ) : Type 0 where
-  pub is : (value : NumberData) → slice_get nodes place ≡ Some (Leaf (Number value)) → IsNumberType s place number
+pub record IsNodeType (s : System) (nodes : List CodeNode) (variable number : ℕ) : Type 0 where
+  pub is : (value : NumberData) → slice_get nodes variable ≡ Some (Leaf (Number value)) → IsNumberType s variable number
 
 -- the types of the first nodes, as many as there are numbers
 pub record AreNodeTypes (s : System) (nodes : List CodeNode) (numbers : List ℕ) : Type 0 where
-  pub each : (place : ℕ) → place < length numbers → IsNodeType s nodes place (slice_index_or numbers place 0)
+  pub each : (variable : ℕ) → variable < length numbers → IsNodeType s nodes variable (slice_index_or numbers variable 0)
 
 -- a run of these nodes does not return
 pub record FailsToRun (s : System) (nodes : List CodeNode) : Type 0 where

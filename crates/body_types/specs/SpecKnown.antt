@@ -12,13 +12,13 @@ use Rattle.type_solver.specs.declared.spec_systems.systems.Walk.{Walk}
 -- a system, and the walk that read it
 pub record IsWalkOf (s : System) (walk : Walk) : Type 0 where
   pub walked : Walked s walk.slots.items walk.progress
-  pub count : s.places ≡ walk.places
+  pub count : s.variables ≡ walk.variables
   pub alone : ChoosesNothing s
 
 -- the slots know its typings
-pub record IsKnown (s : System) (slots : List Slot) (places : ℕ) : Type 0 where
-  pub knows : Knows slots s.places (Typings s)
-  pub count : s.places ≡ places
+pub record IsKnown (s : System) (slots : List Slot) (variables : ℕ) : Type 0 where
+  pub knows : Knows slots s.variables (Typings s)
+  pub count : s.variables ≡ variables
   pub alone : ChoosesNothing s
 
 -- no head is open

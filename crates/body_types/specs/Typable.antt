@@ -18,13 +18,13 @@ use Rattle.body_types.specs.declared.code.typable.Typable.{Typable}
 
 -- a system of code with these nodes
 pub record IsCode (s : System) (nodes : List CodeNode) : Type 0 where
-  pub inside : length nodes ≤ s.places
+  pub inside : length nodes ≤ s.variables
   pub dropped : s.dropped ≡ flat_map dropped_by nodes
 
 -- a system, and the walk that read it
 pub record IsWalkOf (s : System) (walk : Walk) : Type 0 where
   pub walked : Walked s walk.slots.items walk.progress
-  pub count : s.places ≡ walk.places
+  pub count : s.variables ≡ walk.variables
   pub integer : s.open_integer ≡ Some u64_type
 
 abbrev pub is_whole : Reading → Bool
@@ -38,9 +38,9 @@ HeadsSay s Stopped = HasOpenHead s.reading s.steps
 HeadsSay s Clash = ⊥
 
 -- the slots know its typings
-pub record IsKnownOf (s : System) (places : ℕ) (slots : List Slot) (progress : Progress) : Type 0 where
-  pub knows : Knows slots s.places (Typings s)
-  pub count : s.places ≡ places
+pub record IsKnownOf (s : System) (variables : ℕ) (slots : List Slot) (progress : Progress) : Type 0 where
+  pub knows : Knows slots s.variables (Typings s)
+  pub count : s.variables ≡ variables
   pub integer : s.open_integer ≡ Some u64_type
   pub reads : HasTyping s → ReadsSteps s progress.count
   pub heads : HasTyping s → HeadsSay s progress.reading
@@ -49,7 +49,7 @@ pub record IsKnownOf (s : System) (places : ℕ) (slots : List Slot) (progress :
 pub record IsTypable (s : System) (known : Typable) : Type 0 where
   pub sound : IsSound known.defaulted
   pub has : HasDefaults s known.defaulted
-  pub count : s.places ≡ known.places
+  pub count : s.variables ≡ known.variables
   pub reads : ReadsSteps s known.progress.count
   pub heads : HeadsSay s known.progress.reading
 

@@ -37,8 +37,8 @@ fn meaning(name: SpecName) -> (&'static str, usize) {
 
 /// Writes what the names in a body mean, in the order of the text.
 pub fn push_names(alloc: Global, line: &mut String, body: &SpecBody) -> Result<(), NoMemory> {
-    for place in 0..body.len() {
-        if let Node::Leaf(SpecLeaf::Name(name)) = body.node(place) {
+    for index in 0..body.len() {
+        if let Node::Leaf(SpecLeaf::Name(name)) = body.node(index) {
             let (word, number) = meaning(*name);
             line.push_str(word)?;
             push_number(alloc, line, number)?;

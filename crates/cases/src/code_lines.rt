@@ -107,14 +107,14 @@ pub fn push_code(
 ) -> Result<(), NoMemory> {
     for number in 0..program.constants.len() {
         if let Some((id, constant)) = program.constants.entry(number) {
-            if constant.place.file == file {
+            if constant.span.file == file {
                 push_constant(alloc, lines, program, &id.name, constant)?;
             }
         }
     }
     for number in 0..program.functions.len() {
         if let Some((id, function)) = program.functions.entry(number) {
-            if function.place.file == file {
+            if function.span.file == file {
                 push_function(alloc, lines, program, &id.name, function)?;
             }
         }

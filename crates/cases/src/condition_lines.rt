@@ -49,9 +49,9 @@ fn push_typing(
         SpecTyping::Ambiguous(_) => line.push_str(": open")?,
         SpecTyping::Typed(_) => line.push_str(": typed")?,
     }
-    for place in 0..count {
+    for index in 0..count {
         line.push(' ')?;
-        match typing.type_of(place) {
+        match typing.type_of(index) {
             Some(number) => push_type(alloc, line, pool, number)?,
             None => line.push('?')?,
         }
@@ -114,8 +114,8 @@ fn push_clauses(
             owner,
             lets: lets.as_slice(),
         };
-        let told = push_clause(alloc, lines, program, names, block, clause)?;
-        lets.push(told)?;
+        let known = push_clause(alloc, lines, program, names, block, clause)?;
+        lets.push(known)?;
     }
     Ok(())
 }
@@ -224,14 +224,14 @@ fn push_shared(
 ) -> Result<(), NoMemory> {
     for number in 0..program.spec_functions.len() {
         if let Some((id, function)) = program.spec_functions.entry(number) {
-            if function.place.file == file {
+            if function.span.file == file {
                 push_function(alloc, lines, program, &id.name, function)?;
             }
         }
     }
     for number in 0..program.modules.len() {
         if let Some((_, of)) = program.modules.entry(number) {
-            if of.place.file == file {
+            if of.span.file == file {
                 let title = Title {
                     word: "spec module",
                     name: None,
@@ -251,7 +251,7 @@ fn push_shared(
     }
     for number in 0..program.schemas.len() {
         if let Some((id, schema)) = program.schemas.entry(number) {
-            if schema.place.file == file {
+            if schema.span.file == file {
                 push_schema(alloc, lines, program, &id.name, schema)?;
             }
         }
@@ -268,7 +268,7 @@ fn push_owned(
 ) -> Result<(), NoMemory> {
     for number in 0..program.structs.len() {
         if let Some((id, of)) = program.structs.entry(number) {
-            if of.place.file == file {
+            if of.span.file == file {
                 let name = Some(&id.name);
                 let title = Title {
                     word: "spec ",
@@ -282,7 +282,7 @@ fn push_owned(
     }
     for number in 0..program.functions.len() {
         if let Some((id, function)) = program.functions.entry(number) {
-            if function.place.file == file {
+            if function.span.file == file {
                 let name = Some(&id.name);
                 let title = Title {
                     word: "spec ",

@@ -204,7 +204,7 @@ fn form_line(alloc: Global, found: &Tokens) -> Result<String, NoMemory> {
 /// Why tokens were not parsed.
 pub fn fault_line(alloc: Global, found: &Tokens, fault: ParseFault) -> Result<String, NoMemory> {
     match fault {
-        ParseFault::Grammar(place) => Ok(format!(in alloc; "grammar at byte {place}")?),
+        ParseFault::Grammar(span) => Ok(format!(in alloc; "grammar at byte {span}")?),
         ParseFault::LeftOut(index) => {
             let mut line = format!(in alloc; "left out at token {index}: ")?;
             match str::from_utf8(marker_at(found.as_slice(), index)) {

@@ -5,7 +5,7 @@ use base::memory::NoMemory;
 use base::span::Span;
 use body_types::barred_uses::first::first_barred;
 use body_types::code::plain::code_types;
-use declaration_cycles::first::first_circle;
+use declaration_cycles::first::first_cycle;
 use definite_assignment::whole_program::flow::{FlowFault, flow_fault};
 use program::program::Program;
 use scopes::module_uses::uses_of;
@@ -21,12 +21,12 @@ fn push_rule(
     lines: &mut String,
     texts: &[SourceText],
     rule: &str,
-    place: Span,
+    span: Span,
 ) -> Result<(), NoMemory> {
     lines.push_str(rule)?;
     lines.push_str(": ")?;
-    if let Some(source) = texts.get(place.file as usize) {
-        for letter in source.text.as_str().chars().skip(place.start as usize) {
+    if let Some(source) = texts.get(span.file as usize) {
+        for letter in source.text.as_str().chars().skip(span.start as usize) {
             if letter == '(' || letter == '<' || letter == '{' || letter == ':' {
                 break;
             }
@@ -45,10 +45,10 @@ fn push_first(
     lines: &mut String,
     texts: &[SourceText],
     rule: &str,
-    place: Option<Span>,
+    span: Option<Span>,
 ) -> Result<(), NoMemory> {
-    match place {
-        Some(place) => push_rule(lines, texts, rule, place),
+    match span {
+        Some(span) => push_rule(lines, texts, rule, span),
         None => Ok(()),
     }
 }
@@ -68,16 +68,16 @@ pub fn push_faults(
     let faults = code_faults(alloc, &types, program, &typings)?;
     push_first(lines, texts, "code: untyped", faults.untyped)?;
     push_first(lines, texts, "code: open", faults.unsettled)?;
-    if let Some(told) = function_types(alloc, &typings)? {
-        let abilities = ability_fault(alloc, program, &told)?;
+    if let Some(known) = function_types(alloc, &typings)? {
+        let abilities = ability_fault(alloc, program, &known)?;
         push_first(lines, texts, "code: ability", abilities)?;
-        let acquires = acquires_fault(alloc, program, &told)?;
+        let acquires = acquires_fault(alloc, program, &known)?;
         push_first(lines, texts, "code: acquires", acquires)?;
-        match flow_fault(alloc, program, &told)? {
-            Some(FlowFault::Unassigned(place)) => {
-                push_rule(lines, texts, "code: unassigned", place)?
+        match flow_fault(alloc, program, &known)? {
+            Some(FlowFault::Unassigned(span)) => {
+                push_rule(lines, texts, "code: unassigned", span)?
             }
-            Some(FlowFault::Undropped(place)) => push_rule(lines, texts, "code: undropped", place)?,
+            Some(FlowFault::Undropped(span)) => push_rule(lines, texts, "code: undropped", span)?,
             None => {}
         }
     }
@@ -90,12 +90,12 @@ fn push_type_fault(
     fault: TypeFault,
 ) -> Result<(), NoMemory> {
     match fault {
-        TypeFault::NoTyping(place) => push_rule(lines, texts, "no typing", place),
-        TypeFault::Ambiguous(place) => push_rule(lines, texts, "ambiguous", place),
-        TypeFault::Ability(place) => push_rule(lines, texts, "ability", place),
-        TypeFault::Acquires(place) => push_rule(lines, texts, "acquires", place),
-        TypeFault::Unassigned(place) => push_rule(lines, texts, "unassigned", place),
-        TypeFault::Undropped(place) => push_rule(lines, texts, "undropped", place),
+        TypeFault::NoTyping(span) => push_rule(lines, texts, "no typing", span),
+        TypeFault::Ambiguous(span) => push_rule(lines, texts, "ambiguous", span),
+        TypeFault::Ability(span) => push_rule(lines, texts, "ability", span),
+        TypeFault::Acquires(span) => push_rule(lines, texts, "acquires", span),
+        TypeFault::Unassigned(span) => push_rule(lines, texts, "unassigned", span),
+        TypeFault::Undropped(span) => push_rule(lines, texts, "undropped", span),
         TypeFault::NoMemory => Err(NoMemory),
     }
 }
@@ -107,7 +107,7 @@ fn typed(
     program: &Program,
 ) -> Result<Option<Vec<FunctionTyping>>, TypeFault> {
     let uses = uses_of(alloc, sources, program)?;
-    match first_circle(alloc, program, uses.as_slice())? {
+    match first_cycle(alloc, program, uses.as_slice())? {
         None => Ok(Some(type_program(alloc, program)?)),
         Some(_) => Ok(None),
     }

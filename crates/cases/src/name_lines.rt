@@ -110,8 +110,8 @@ pub fn name_lines(alloc: Global, texts: &[SourceText]) -> Result<String, NoMemor
             push_owners(alloc, &mut lines, &program)?;
             push_functions(alloc, &mut lines, &program)?;
         }
-        Err(ResolveFault::Unknown { place, .. }) => {
-            let start = place.start;
+        Err(ResolveFault::Unknown { span, .. }) => {
+            let start = span.start;
             let text = format!(in alloc; "a name means nothing in what begins at byte {start}")?;
             lines.push_str(text.as_str())?;
         }

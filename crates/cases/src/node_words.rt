@@ -77,8 +77,8 @@ fn many_word(many: &CodeMany) -> &'static str {
 
 /// Writes the nodes of a body in their order, each by a word, and locals with their numbers.
 pub fn push_nodes(alloc: Global, line: &mut String, body: &Body) -> Result<(), NoMemory> {
-    for place in 0..body.len() {
-        match body.node(place) {
+    for index in 0..body.len() {
+        match body.node(index) {
             Node::Leaf(leaf) => {
                 push_word(line, leaf_word(leaf))?;
                 if let Some(number) = leaf_number(leaf) {

@@ -56,8 +56,8 @@ pub fn prefix_lines(alloc: Global, case: &Case) -> Result<String, NoMemory> {
     let length = source.text.len();
     for count in 1..length {
         let case = beginning(alloc, source.name.as_str(), source.text.as_str(), count)?;
-        let told = joined(alloc, report_lines(alloc, &case)?.as_str())?;
-        if told.as_str() != answer.as_str() {
+        let known = joined(alloc, report_lines(alloc, &case)?.as_str())?;
+        if known.as_str() != answer.as_str() {
             if count > first {
                 push_run(
                     alloc,
@@ -68,7 +68,7 @@ pub fn prefix_lines(alloc: Global, case: &Case) -> Result<String, NoMemory> {
                 )?;
             }
             first = count;
-            answer = told;
+            answer = known;
         }
     }
     push_run(

@@ -35,24 +35,24 @@ fn clause_word(clause: &Clause) -> &'static str {
     }
 }
 
-fn place_of(spec: &Spec) -> Span {
+fn span_of(spec: &Spec) -> Span {
     match spec {
-        Spec::Module { place, .. } => *place,
-        Spec::Named { place, .. } => *place,
-        Spec::Schema(schema) => schema.place,
-        Spec::Function(function) => function.place,
-        Spec::Loop { place, .. } => *place,
+        Spec::Module { span, .. } => *span,
+        Spec::Named { span, .. } => *span,
+        Spec::Schema(schema) => schema.span,
+        Spec::Function(function) => function.span,
+        Spec::Loop { span, .. } => *span,
     }
 }
 
 /// Whether the tokens from the place of a spec block on begin with those that it is spelled by.
 fn is_spelled(alloc: Global, tokens: &[Token], spec: &Spec) -> Result<bool, NoMemory> {
-    let place = place_of(spec);
+    let span = span_of(spec);
     let spelled = spell_spec(alloc, spec)?;
     let mut rest = tokens;
     for _ in 0..tokens.len() {
         match rest {
-            [first, ..] if first.span == place => {
+            [first, ..] if first.span == span => {
                 return Ok(begins_with(rest, spelled.as_slice()));
             }
             [_, behind @ ..] => rest = behind,
@@ -216,12 +216,12 @@ fn file_line(alloc: Global, found: &Tokens) -> Result<String, NoMemory> {
         Err(fault) => return fault_line(alloc, found, fault),
     };
     let spelled = spell(alloc, &tree)?;
-    let told = if are_spelled(found.as_slice(), spelled.as_slice()) {
+    let known = if are_spelled(found.as_slice(), spelled.as_slice()) {
         "read"
     } else {
         "spelled otherwise"
     };
-    Ok(String::from_str(alloc, told)?)
+    Ok(String::from_str(alloc, known)?)
 }
 
 /// The members of the source that tokens are, or where its reading ends; behind that how they read with spec blocks as

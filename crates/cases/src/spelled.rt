@@ -17,9 +17,9 @@ fn is_kind(kind: &TokenKind, said: &TokenKind) -> bool {
 
 /// Whether a token is one that a tree speaks of.
 fn is_token(token: &Token, said: &Lexeme) -> bool {
-    let is_placed = match said.place {
+    let is_placed = match said.span {
         None => true,
-        Some(place) => place == token.span,
+        Some(span) => span == token.span,
     };
     let is_glued = match said.glued {
         None => true,

@@ -34,13 +34,13 @@ fn push_uses(
     function: &Function,
     states: &LocalStates,
 ) -> Result<(), NoMemory> {
-    for place in 0..function.body.len() {
-        if let Node::Leaf(CodeLeaf::Local(_, local)) = function.body.node(place) {
+    for index in 0..function.body.len() {
+        if let Node::Leaf(CodeLeaf::Local(_, local)) = function.body.node(index) {
             lines.push(' ')?;
             if let Some(name) = function.locals.as_slice().get(*local) {
                 push_name(lines, name)?;
             }
-            lines.push_str(state_word(states.at(place, *local)))?;
+            lines.push_str(state_word(states.at(index, *local)))?;
             lines.push(',')?;
         }
     }
@@ -51,11 +51,11 @@ fn push_uses(
 fn push_states(alloc: Global, lines: &mut String, program: &Program) -> Result<(), NoMemory> {
     let types = code_types(alloc);
     let typings = type_functions(alloc, &types, program)?;
-    let Some(told) = function_types(alloc, &typings)? else {
+    let Some(known) = function_types(alloc, &typings)? else {
         lines.push_str("not typed\n")?;
         return Ok(());
     };
-    let states = program_states(alloc, program, &told)?;
+    let states = program_states(alloc, program, &known)?;
     for (number, of_function) in states.iter().enumerate() {
         if let Some((id, function)) = program.functions.entry(number) {
             lines.push_str("fun ")?;

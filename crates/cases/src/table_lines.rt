@@ -4,7 +4,7 @@ use crate::case_file::SourceText;
 use crate::source_lines::sources_of;
 use crate::type_names::push_type;
 use base::memory::NoMemory;
-use declaration_cycles::first::first_circle;
+use declaration_cycles::first::first_cycle;
 use program::program::Program;
 use resolution::fault::ResolveFault;
 use resolution::resolve::resolve;
@@ -59,7 +59,7 @@ fn typed(
     program: Program,
 ) -> Result<Option<TypedProgram>, TypeFault> {
     let uses = uses_of(alloc, sources, &program)?;
-    match first_circle(alloc, &program, uses.as_slice())? {
+    match first_cycle(alloc, &program, uses.as_slice())? {
         None => Ok(Some(type_program(alloc, program)?)),
         Some(_) => Ok(None),
     }

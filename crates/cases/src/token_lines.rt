@@ -37,8 +37,8 @@ fn push_token(alloc: Global, lines: &mut String, token: &Token) -> Result<(), No
     push_kind(alloc, lines, &token.kind)?;
     let start = token.span.start;
     let end = token.span.end;
-    let place = format!(in alloc; " {start} to {end}")?;
-    lines.push_str(place.as_str())?;
+    let span = format!(in alloc; " {start} to {end}")?;
+    lines.push_str(span.as_str())?;
     lines.push_str(if token.glued { " glued\n" } else { "\n" })?;
     Ok(())
 }

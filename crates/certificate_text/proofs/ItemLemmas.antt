@@ -1,14 +1,14 @@
 -- The length of an item by those of its parts.
-use Rattle.std.proofs.Common.{◌≡◌, ◌⊎◌, inl, inr, ℕ, ◌+◌, ◌<◌, ◌≤◌, true, false, List, [], ◌∷◌, ◌++◌, length, get_or, refl, sym, ap, ◌∙◌, arith, length-append}
-use Rattle.std.proofs.lemmas.List.{get_or_append_left, get_or_push, get_or_past}
+use Rattle.std.proofs.Common.{◌≡◌, ◌⊎◌, inl, inr, ℕ, ◌+◌, ◌<◌, ◌≤◌, List, [], ◌∷◌, ◌++◌, length, get_or, refl, sym, ap, ◌∙◌, arith, length-append}
+use Rattle.std.proofs.lemmas.List.{get_or_append_left, get_or_push}
 use Rattle.std.proofs.lemmas.Bool.{cases_lt}
 use Rattle.std.proofs.lemmas.Option.{slice_get_within}
 use Rattle.fol.specs.declared.operators.Constant.{Constant}
 use Rattle.fol.specs.declared.operators.Constant.TheVariants.{Num, Max, True, False, Nothing, Blank, Empty, Wide}
 use Rattle.fol.specs.declared.operators.Comparison.{Comparison}
 use Rattle.certificates.specs.Lengths.{capped, type_length, types_length, constant_length, term_length, terms_length, triggers_length, formula_length, formulas_length, compared_length}
-use Rattle.term_pool.specs.Items.{Item, NoItem, TermItem, TermsItem, TriggersItem, FormulaItem, FormulasItem, TypeItem, TypesItem, BytesItem, TermSort, TermsSort, TriggersSort, FormulaSort, FormulasSort, TypeSort, TypesSort, BytesSort, sort_of, term_in, terms_in, triggers_in, formula_in, formulas_in, type_in, types_in, bytes_in, leaf_item, one_item, two_item, three_item, one_part, first_of_two, second_of_two, first_of_three, second_of_three, third_of_three}
-use Rattle.term_pool.specs.Pools.{nth, item_of, items_from, items, item_at, HasParts, IsMade}
+use Rattle.term_pool.specs.Items.{Item, TermItem, TermsItem, TriggersItem, FormulaItem, FormulasItem, TypeItem, TypesItem, BytesItem, TermSort, TermsSort, TriggersSort, FormulaSort, FormulasSort, TypeSort, TypesSort, BytesSort, sort_of, term_in, terms_in, triggers_in, formula_in, formulas_in, type_in, types_in, bytes_in, leaf_item, one_item, two_item, three_item, one_part, first_of_two, second_of_two, first_of_three, second_of_three, third_of_three}
+use Rattle.term_pool.specs.Pools.{item_at, HasPart, HasParts, IsMade}
 use Rattle.term_pool.specs.declared.node.Leaf.{Leaf}
 use Rattle.term_pool.specs.declared.node.Leaf.TheVariants.{Var, Constant as ConstantLeaf, TypeBool, TypeInt, TypeNum, TypeAddress, TypeSigner, TypeParam, NilTerms, NilTriggers, NilFormulas, NilTypes, NilBytes}
 use Rattle.term_pool.specs.declared.node.One.{One}
@@ -18,10 +18,11 @@ use Rattle.term_pool.specs.declared.node.Two.TheVariants.{Binary, Pack, Field, C
 use Rattle.term_pool.specs.declared.node.Three.{Three}
 use Rattle.term_pool.specs.declared.node.Three.TheVariants.{Ternary, SetField, If, TypeStruct}
 use Rattle.term_pool.specs.declared.node.Node.{Node}
-use Rattle.term_pool.specs.declared.node.Node.TheVariants.{Leaf as LeafNode, One as OneNode, Two as TwoNode, Three as ThreeNode}
+use Rattle.term_pool.specs.declared.node.Node.TheVariants.{One as OneNode, Two as TwoNode, Three as ThreeNode}
+use Rattle.term_pool.proofs.ItemLemmas.{item_past}
 use Rattle.tableau.specs.Numbers.{formula_at}
 use Rattle.search.specs.Applications.{term_at}
-use Rattle.certificate_text.specs.Lengths.{item_length, length_at, AreFirstLengths, AreLengths, leaf_bytes, one_bytes, two_bytes, three_bytes, is_term_node, is_formula_node}
+use Rattle.certificate_text.specs.Lengths.{item_length, length_at, AreFirstLengths, AreLengths, leaf_bytes, one_bytes, two_bytes, three_bytes}
 
 -- ---- an item of a sort has the length of its reading as that sort
 
@@ -172,100 +173,39 @@ module _ (ns : List Node) (ls : List ℕ) (lens : AreFirstLengths ns ls) where
           let last : i ≡ length ls = omega (arith, h, w, length-append ls (len ∷ [])) in
           ap (λ k. get_or (ls ++ len ∷ []) k 0) last ∙ get_or_push ls len 0 (length ls) refl ∙ is ∙ ap (λ k. capped (item_length (item_at ns k))) (sym last)
 
--- ---- a number of no item
+-- ---- terms and formulas
 
-items_long : (ns : List Node) (xs : List Item) → length (items_from xs ns) ≡ length xs + length ns
-items_long [] xs = omega arith
-items_long (n ∷ ns) xs = (let rest = items_long ns (xs ++ item_of xs n ∷ []) in omega (arith, rest, length-append xs (item_of xs n ∷ [])))
+no_term : (x : Item) → (sort_of x ≡ TermSort → ⊥) → term_length (term_in x) ≡ 1
+no_term (TermItem t) other = absurd (other refl)
+no_term _ other = refl
 
-pub no_item : (ns : List Node) (i : ℕ) → length ns ≤ i → item_at ns i ≡ NoItem
-no_item ns i h = get_or_past (items ns) i NoItem (omega (arith, h, items_long ns []))
-
--- ---- terms
-
-term_item : (xs : List Item) (n : Node) → is_term_node n ≡ true → item_length (item_of xs n) ≡ term_length (term_in (item_of xs n))
-term_item xs (LeafNode (Var n)) e = refl
-term_item xs (LeafNode (ConstantLeaf c)) e = refl
-term_item xs (OneNode (Unary o) a) e = refl
-term_item xs (TwoNode (Binary o) a b) e = refl
-term_item xs (TwoNode Pack a b) e = refl
-term_item xs (TwoNode (Field k) a b) e = refl
-term_item xs (ThreeNode (Ternary o) a b c) e = refl
-term_item xs (ThreeNode (SetField k) a b c) e = refl
-term_item xs (ThreeNode If a b c) e = refl
-term_item xs _ e = absurd (cc)
-
-no_term_item : (xs : List Item) (n : Node) → is_term_node n ≡ false → term_length (term_in (item_of xs n)) ≡ 1
-no_term_item xs (LeafNode (Var n)) e = absurd (cc)
-no_term_item xs (LeafNode (ConstantLeaf c)) e = absurd (cc)
-no_term_item xs (OneNode (Unary o) a) e = absurd (cc)
-no_term_item xs (TwoNode (Binary o) a b) e = absurd (cc)
-no_term_item xs (TwoNode Pack a b) e = absurd (cc)
-no_term_item xs (TwoNode (Field k) a b) e = absurd (cc)
-no_term_item xs (ThreeNode (Ternary o) a b c) e = absurd (cc)
-no_term_item xs (ThreeNode (SetField k) a b c) e = absurd (cc)
-no_term_item xs (ThreeNode If a b c) e = absurd (cc)
-no_term_item xs _ e = refl
-
-formula_item : (xs : List Item) (n : Node) → is_formula_node n ≡ true → item_length (item_of xs n) ≡ formula_length (formula_in (item_of xs n))
-formula_item xs (OneNode Holds a) e = refl
-formula_item xs (OneNode Not a) e = refl
-formula_item xs (OneNode (Join o) a) e = refl
-formula_item xs (TwoNode (Compare o) a b) e = refl
-formula_item xs (TwoNode Is a b) e = refl
-formula_item xs (TwoNode (Connect o) a b) e = refl
-formula_item xs (TwoNode (Quantify o n) a b) e = refl
-formula_item xs _ e = absurd (cc)
-
-leaf_other : (h : Leaf) → formula_length (formula_in (leaf_item h)) ≡ 5
-leaf_other (Var n) = refl
-leaf_other _ = refl
-
-three_other : (h : Three) (x y z : Item) → formula_length (formula_in (three_item h x y z)) ≡ 5
-three_other (Ternary o) x y z = refl
-three_other _ x y z = refl
-
-no_formula_item : (xs : List Item) (n : Node) → is_formula_node n ≡ false → formula_length (formula_in (item_of xs n)) ≡ 5
-no_formula_item xs (OneNode Holds a) e = absurd (cc)
-no_formula_item xs (OneNode Not a) e = absurd (cc)
-no_formula_item xs (OneNode (Join o) a) e = absurd (cc)
-no_formula_item xs (TwoNode (Compare o) a b) e = absurd (cc)
-no_formula_item xs (TwoNode Is a b) e = absurd (cc)
-no_formula_item xs (TwoNode (Connect o) a b) e = absurd (cc)
-no_formula_item xs (TwoNode (Quantify o n) a b) e = absurd (cc)
-no_formula_item xs (LeafNode h) e = leaf_other h
-no_formula_item xs (ThreeNode h a b c) e = three_other h (nth xs a) (nth xs b) (nth xs c)
-no_formula_item xs _ e = refl
+no_formula : (x : Item) → (sort_of x ≡ FormulaSort → ⊥) → formula_length (formula_in x) ≡ 5
+no_formula (FormulaItem p) other = absurd (other refl)
+no_formula _ other = refl
 
 module _ (ns : List Node) (ls : List ℕ) (lens : AreLengths ns ls) where
   within : (i : ℕ) (n : Node) → IsMade ns i n → i < length ls
   within i n m = (let w = slice_get_within ns i n m.found in omega (arith, w, lens.one_each))
 
-  pub term_counted : (i : ℕ) (n : Node) → IsMade ns i n → is_term_node n ≡ true → length_at ls i ≡ capped (term_length (term_at ns i))
-  term_counted i n m e =
-      lens.are.each i (within i n m)
-      ∙ ap (λ x. capped (item_length x)) m.item
-      ∙ ap capped (term_item (items ns) n e)
-      ∙ ap (λ x. capped (term_length (term_in x))) (sym m.item)
+  pub term_counted : (i : ℕ) → HasPart ns (length ns) i TermSort → length_at ls i ≡ capped (term_length (term_at ns i))
+  term_counted i h = lens.are.each i (let w = h.earlier in omega (arith, w, lens.one_each)) ∙ ap capped (sym (term_part (item_at ns i) h.sort))
 
-  pub term_other : (i : ℕ) (n : Node) → IsMade ns i n → is_term_node n ≡ false → 1 ≡ capped (term_length (term_at ns i))
-  term_other i n m e = (let one = ap (λ x. term_length (term_in x)) m.item ∙ no_term_item (items ns) n e in omega (arith, one))
+  pub term_other : (i : ℕ) → (HasPart ns (length ns) i TermSort → ⊥) → 1 ≡ capped (term_length (term_at ns i))
+  term_other i other =
+      elim (cases_lt i (length ns)) [
+        | inl w ↦ (let one = no_term (item_at ns i) (λ e. other (record { earlier = w; sort = e })) in omega (arith, one))
+        | inr w ↦ (let one = ap (λ x. term_length (term_in x)) (item_past ns i w) in omega (arith, one))
+      ]
 
-  pub term_past : (i : ℕ) → length ns ≤ i → 1 ≡ capped (term_length (term_at ns i))
-  term_past i h = (let one = ap (λ x. term_length (term_in x)) (no_item ns i h) in omega (arith, one))
+  pub formula_counted : (i : ℕ) → HasPart ns (length ns) i FormulaSort → length_at ls i ≡ capped (formula_length (formula_at ns i))
+  formula_counted i h = lens.are.each i (let w = h.earlier in omega (arith, w, lens.one_each)) ∙ ap capped (sym (formula_part (item_at ns i) h.sort))
 
-  pub formula_counted : (i : ℕ) (n : Node) → IsMade ns i n → is_formula_node n ≡ true → length_at ls i ≡ capped (formula_length (formula_at ns i))
-  formula_counted i n m e =
-      lens.are.each i (within i n m)
-      ∙ ap (λ x. capped (item_length x)) m.item
-      ∙ ap capped (formula_item (items ns) n e)
-      ∙ ap (λ x. capped (formula_length (formula_in x))) (sym m.item)
-
-  pub formula_other : (i : ℕ) (n : Node) → IsMade ns i n → is_formula_node n ≡ false → 5 ≡ capped (formula_length (formula_at ns i))
-  formula_other i n m e = (let five = ap (λ x. formula_length (formula_in x)) m.item ∙ no_formula_item (items ns) n e in omega (arith, five))
-
-  pub formula_past : (i : ℕ) → length ns ≤ i → 5 ≡ capped (formula_length (formula_at ns i))
-  formula_past i h = (let five = ap (λ x. formula_length (formula_in x)) (no_item ns i h) in omega (arith, five))
+  pub formula_other : (i : ℕ) → (HasPart ns (length ns) i FormulaSort → ⊥) → 5 ≡ capped (formula_length (formula_at ns i))
+  formula_other i other =
+      elim (cases_lt i (length ns)) [
+        | inl w ↦ (let five = no_formula (item_at ns i) (λ e. other (record { earlier = w; sort = e })) in omega (arith, five))
+        | inr w ↦ (let five = ap (λ x. formula_length (formula_in x)) (item_past ns i w) in omega (arith, five))
+      ]
 
   pub compared_counted : (i : ℕ) (o : Comparison) (a b : ℕ) → IsMade ns i (TwoNode (Compare o) a b) → length_at ls a ≡ capped (compared_length (formula_at ns i))
   compared_counted i o a b m =
@@ -274,4 +214,4 @@ module _ (ns : List Node) (ls : List ℕ) (lens : AreLengths ns ls) where
       ∙ ap (λ x. capped (compared_length (formula_in x))) (sym m.item)
 
   pub compared_past : (i : ℕ) → length ns ≤ i → 0 ≡ capped (compared_length (formula_at ns i))
-  compared_past i h = (let none = ap (λ x. compared_length (formula_in x)) (no_item ns i h) in omega (arith, none))
+  compared_past i h = (let none = ap (λ x. compared_length (formula_in x)) (item_past ns i h) in omega (arith, none))

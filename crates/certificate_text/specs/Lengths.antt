@@ -1,19 +1,18 @@
 -- The lengths of the items of a pool in bytes, by their head symbols: the bytes of a head symbol plus the lengths of
 -- its parts.
-use Rattle.std.specs.Prelude.{◌≡◌, ℕ, ◌<◌, Bool, true, false, List, length, slice_index_or}
+use Rattle.std.specs.Prelude.{◌≡◌, ℕ, ◌<◌, List, length, slice_index_or}
 use Rattle.certificates.specs.Lengths.{capped, type_length, types_length, constant_length, binary_length, term_length, terms_length, triggers_length, formula_length, formulas_length}
 use Rattle.term_pool.specs.Items.{Item, NoItem, TermItem, TermsItem, TriggersItem, FormulaItem, FormulasItem, TypeItem, TypesItem, BytesItem}
 use Rattle.term_pool.specs.Pools.{item_at}
 use Rattle.term_pool.specs.declared.node.Leaf.{Leaf}
 use Rattle.term_pool.specs.declared.node.Leaf.TheVariants.{Var, Constant, TypeParam, NilTerms, NilTriggers, NilFormulas, NilTypes, NilBytes}
 use Rattle.term_pool.specs.declared.node.One.{One}
-use Rattle.term_pool.specs.declared.node.One.TheVariants.{Unary, Holds, Not, Join, TypeTuple}
+use Rattle.term_pool.specs.declared.node.One.TheVariants.{Join, TypeTuple}
 use Rattle.term_pool.specs.declared.node.Two.{Two}
-use Rattle.term_pool.specs.declared.node.Two.TheVariants.{Binary, Pack, Field, Compare, Is, Connect, Quantify, ConsTerm, ConsTrigger, ConsFormula, ConsType}
+use Rattle.term_pool.specs.declared.node.Two.TheVariants.{Binary, Pack, Field, Quantify, ConsTerm, ConsTrigger, ConsFormula, ConsType}
 use Rattle.term_pool.specs.declared.node.Three.{Three}
-use Rattle.term_pool.specs.declared.node.Three.TheVariants.{Ternary, SetField, If, TypeStruct}
+use Rattle.term_pool.specs.declared.node.Three.TheVariants.{SetField, TypeStruct}
 use Rattle.term_pool.specs.declared.node.Node.{Node}
-use Rattle.term_pool.specs.declared.node.Node.TheVariants.{Leaf as LeafNode, One as OneNode, Two as TwoNode, Three as ThreeNode}
 
 -- the length of a list excludes its count, which belongs to the head symbol above it
 abbrev pub item_length : Item → ℕ
@@ -72,27 +71,3 @@ abbrev pub three_bytes : Three → ℕ
 three_bytes (SetField k) = 5
 three_bytes (TypeStruct a) = 29
 three_bytes _ = 1
-
--- ---- terms and formulas
-
-abbrev pub is_term_node : Node → Bool
-is_term_node (LeafNode (Var n)) = true
-is_term_node (LeafNode (Constant c)) = true
-is_term_node (OneNode (Unary o) a) = true
-is_term_node (TwoNode (Binary o) a b) = true
-is_term_node (TwoNode Pack a b) = true
-is_term_node (TwoNode (Field k) a b) = true
-is_term_node (ThreeNode (Ternary o) a b c) = true
-is_term_node (ThreeNode (SetField k) a b c) = true
-is_term_node (ThreeNode If a b c) = true
-is_term_node _ = false
-
-abbrev pub is_formula_node : Node → Bool
-is_formula_node (OneNode Holds a) = true
-is_formula_node (OneNode Not a) = true
-is_formula_node (OneNode (Join o) a) = true
-is_formula_node (TwoNode (Compare o) a b) = true
-is_formula_node (TwoNode Is a b) = true
-is_formula_node (TwoNode (Connect o) a b) = true
-is_formula_node (TwoNode (Quantify o n) a b) = true
-is_formula_node _ = false

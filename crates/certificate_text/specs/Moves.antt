@@ -70,17 +70,17 @@ pub record FitsExtension (g : Extension) : Type 0 where
   pub entry : named_entry g.reason < 2 ^ 32
   pub some : spells_first g.reason ≡ true → 0 < length g.formulas.items
 
-abbrev pub equation_place : ChainStep → ℕ
-equation_place (Itself k) = 0
-equation_place (Rewritten r) = r.equation
+abbrev pub equation_position : ChainStep → ℕ
+equation_position (Itself k) = 0
+equation_position (Rewritten r) = r.equation
 
-abbrev pub source_place : ChainStep → ℕ
-source_place (Itself k) = 0
-source_place (Rewritten r) = r.source
+abbrev pub source_position : ChainStep → ℕ
+source_position (Itself k) = 0
+source_position (Rewritten r) = r.source
 
 pub record FitsLink (s : ChainStep) : Type 0 where
-  pub equation : equation_place s < 2 ^ 32
-  pub source : source_place s < 2 ^ 32
+  pub equation : equation_position s < 2 ^ 32
+  pub source : source_position s < 2 ^ 32
 
 pub record FitsClosing (c : Closing) : Type 0 where
   pub links : All FitsLink c.chain.items

@@ -78,7 +78,7 @@ module _ (P : TermData → Type 0) (x : TermData) where
   leaf_cases t p true e = inr (subst P (same_term-equal t x e) p)
   leaf_cases t p false e = inl refl
 
-  term_cases : (t : TermData) → EachUnknown P t → (weight (Some x) t ≡ Some (pos 0)) ⊎ P x
+  pub term_cases : (t : TermData) → EachUnknown P t → (weight (Some x) t ≡ Some (pos 0)) ⊎ P x
   term_cases (ConstantTerm (Num i)) h = inl refl
   term_cases (BinaryTerm Add t u) h =
       sum_cases (P x) ◌+ℤ◌ (weight (Some x) t) (weight (Some x) u) refl (term_cases t h.0) (term_cases u h.1)

@@ -18,8 +18,8 @@ module _ {A B C : Type 0} (f : A → C) (g : B → C) where
       let right : drop i ys ≡ get_or ys i y ∷ drop (i + 1) ys = rw add-one (drop-cons ys i y k) in
       (ap (map f) left ∙ ap (λ z. f z ∷ map f (drop (i + 1) xs)) (sym e), ap (map g) right ∙ ap (λ z. g z ∷ map g (drop (i + 1) ys)) (sym d))
 
-  pub alike_turn : (xs : List A) (ys : List B) (i : ℕ) (x : A) (y : B) → i < length xs → i < length ys → x ≡ get_or xs i x → y ≡ get_or ys i y → f x ≡ g y → AlikeFrom i xs ys → AlikeFrom (i + 1) xs ys
-  alike_turn xs ys i x y h k e d same alike =
+  pub alike_reversed : (xs : List A) (ys : List B) (i : ℕ) (x : A) (y : B) → i < length xs → i < length ys → x ≡ get_or xs i x → y ≡ get_or ys i y → f x ≡ g y → AlikeFrom i xs ys → AlikeFrom (i + 1) xs ys
+  alike_reversed xs ys i x y h k e d same alike =
       let both = here xs ys i x y h k e d in
       record {
         rest = (

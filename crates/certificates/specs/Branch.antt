@@ -11,9 +11,9 @@ entry_formula (Negated p) = NotFormula p.now
 entry_formula (Plain p) = p.now
 
 abbrev pub entries_of : Branch → List FormulaData
-entries_of b = map entry_formula (take b.count b.places)
+entries_of b = map entry_formula (take b.count b.positions)
 
 -- the entries are within the array
 pub record IsCounted (b : Branch) : Type 0 where
-  pub places : length b.places ≡ most_entries
+  pub positions : length b.positions ≡ most_entries
   pub within : b.count ≤ most_entries

@@ -28,8 +28,8 @@ pub record Says (b : Branch) (i : ℕ) (p : FormulaData) : Type 0 where
 
 -- the formula is on the branch
 pub record Stands (b : Branch) (p : FormulaData) : Type 0 where
-  pub place : ℕ
-  pub says : Says b place p
+  pub position : ℕ
+  pub says : Says b position p
 
 -- the formula is not on the branch
 pub record IsNew (b : Branch) (p : FormulaData) : Type 0 where
@@ -42,9 +42,9 @@ pub data IsTyped (b : Branch) (a : TypeData) (t : TermData) : Type 0 where
 
 -- the term occurs on the branch outside quantifiers, in an entry of this generation
 pub record Holds (b : Branch) (t : TermData) (generation : ℕ) : Type 0 where
-  pub place : ℕ
+  pub position : ℕ
   pub entry : Entry
-  pub found : slice_get b place ≡ Some entry
+  pub found : slice_get b position ≡ Some entry
   pub inside : IsInFormula t entry.formula
   pub same : entry.generation ≡ generation
 

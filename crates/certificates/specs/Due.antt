@@ -27,9 +27,9 @@ IsShallow p = formula_depth p ≤ most_deep
 
 -- some formula of a list is new on the branch
 pub record HasNew (b : Branch) (ps : List FormulaData) : Type 0 where
-  pub place : ℕ
+  pub position : ℕ
   pub formula : FormulaData
-  pub found : slice_get ps place ≡ Some formula
+  pub found : slice_get ps position ≡ Some formula
   pub is_new : IsNew b formula
 
 -- ---- alpha, beta and delta rules
@@ -53,9 +53,9 @@ pub record SplitDue (b : Branch) (i : ℕ) (ps : List FormulaData) : Type 0 wher
 
 -- an entry is the instance by a Skolem name of the entry with this number
 pub record IsNamed (b : Branch) (i : ℕ) : Type 0 where
-  pub place : ℕ
+  pub position : ℕ
   pub entry : Entry
-  pub found : slice_get b place ≡ Some entry
+  pub found : slice_get b position ≡ Some entry
   pub names : entry.origin ≡ Name i
 
 -- a number of a variable: these are unsigned integers of 32 bits

@@ -31,7 +31,7 @@ mutual
 
 -- the term occurs in an entry of the branch
 pub record StandsInside (b : Branch) (t : TermData) : Type 0 where
-  pub place : ℕ
+  pub position : ℕ
   pub formula : FormulaData
-  pub says : Says b place formula
+  pub says : Says b position formula
   pub inside : IsInside t formula

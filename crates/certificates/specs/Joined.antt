@@ -63,15 +63,15 @@ mutual
 -- the memory is read at the key: a read of it there is on the branch, up to classes
 pub record IsSelected (b : Branch) (m key : TermData) : Type 0 where
   pub memory : TermData
-  pub place : TermData
-  pub stands : IsTerm b (SelectTerm memory place)
+  pub position : TermData
+  pub stands : IsTerm b (SelectTerm memory position)
   pub same_memory : Joined b memory m
-  pub same_place : Joined b place key
+  pub same_position : Joined b position key
 
 -- the same for a vector at an index
 pub record IsItemRead (b : Branch) (v i : TermData) : Type 0 where
   pub vector : TermData
-  pub place : TermData
-  pub stands : IsTerm b (AtTerm vector place)
+  pub position : TermData
+  pub stands : IsTerm b (AtTerm vector position)
   pub same_vector : Joined b vector v
-  pub same_place : Joined b place i
+  pub same_position : Joined b position i

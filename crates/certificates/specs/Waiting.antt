@@ -24,7 +24,7 @@ fork_cases f = map (case_at f.mark) f.cases.now
 
 -- the forks, the innermost first
 abbrev pub forks_in : Waiting → List Fork
-forks_in w = reverse (take w.count w.places)
+forks_in w = reverse (take w.count w.positions)
 
 -- the cases, the next one first
 abbrev pub cases_in : Waiting → List CaseData
@@ -40,9 +40,9 @@ pub record IsPlaced (i : ℕ) (f : Fork) : Type 0 where
 
 -- the forks are within the array, and each is placed
 pub record IsOrdered (w : Waiting) : Type 0 where
-  pub places : length w.places ≡ most_entries
+  pub positions : length w.positions ≡ most_entries
   pub within : w.count ≤ most_entries
-  pub placed : (i : ℕ) (f : Fork) → i < w.count → slice_get w.places i ≡ Some f → IsPlaced i f
+  pub placed : (i : ℕ) (f : Fork) → i < w.count → slice_get w.positions i ≡ Some f → IsPlaced i f
 
 -- each case extends some of the first entries of the current branch, and no more than the one before it
 abbrev pub AreStacked : ℕ → List CaseData → Type 0

@@ -24,7 +24,7 @@ pub enum Entry<'a> {
 /// A branch: the entries in the first cells of the array, and arbitrary values after them.
 #[derive(Drop)]
 pub struct Branch<'a> {
-    places: [Entry<'a>; MOST_ENTRIES],
+    positions: [Entry<'a>; MOST_ENTRIES],
     count: usize,
 }
 
@@ -35,7 +35,7 @@ impl<'a> Branch<'a> {
         ensures entries { entries_of result ≡ NotFormula formula.now ∷ [] }
     {
         Branch {
-            places: [Entry::Negated(formula); MOST_ENTRIES],
+            positions: [Entry::Negated(formula); MOST_ENTRIES],
             count: 1,
         }
     }
@@ -56,8 +56,8 @@ impl<'a> Branch<'a> {
         ensures entries { entries_of self.new ≡ entries_of self.old ++ formula.now ∷ [] }
     {
         let count = self.count;
-        let places = &mut self.places[..];
-        places[count] = Entry::Plain(formula);
+        let positions = &mut self.positions[..];
+        positions[count] = Entry::Plain(formula);
         self.count += 1;
     }
 
@@ -78,8 +78,8 @@ pub fn entry_at<'a>(branch: &Branch<'a>, index: usize) -> Option<Entry<'a>>
     ensures { option_map entry_formula result ≡ slice_get (entries_of branch.now) index }
 {
     if index < branch.count {
-        let places = &branch.places[..];
-        Some(places[index])
+        let positions = &branch.positions[..];
+        Some(positions[index])
     } else {
         None
     }

@@ -6,7 +6,7 @@ pub mod branches;
 pub mod bytes;
 pub mod certificate;
 pub mod checker;
-mod closing;
+pub mod closing;
 mod forks;
 pub mod linear;
 mod open;

@@ -24,7 +24,7 @@ pub struct Case<'a> {
 /// The forks with remaining cases, in the first cells of the array, the innermost last.
 #[derive(Drop)]
 pub struct Waiting<'a> {
-    places: [Fork<'a>; MOST_ENTRIES],
+    positions: [Fork<'a>; MOST_ENTRIES],
     count: usize,
 }
 
@@ -36,7 +36,7 @@ impl<'a> Waiting<'a> {
         ensures count { count_of result ≡ 0 }
     {
         Waiting {
-            places: [Fork { mark: 0, cases }; MOST_ENTRIES],
+            positions: [Fork { mark: 0, cases }; MOST_ENTRIES],
             count: 0,
         }
     }
@@ -51,8 +51,8 @@ impl<'a> Waiting<'a> {
         ensures count { count_of self.new ≤ mark }
     {
         let count = self.count;
-        let places = &mut self.places[..];
-        places[count] = Fork { mark, cases };
+        let positions = &mut self.positions[..];
+        positions[count] = Fork { mark, cases };
         self.count += 1;
     }
 
@@ -66,11 +66,11 @@ impl<'a> Waiting<'a> {
     {
         while self.count > 0 {
             let last = self.count - 1;
-            let places = &mut self.places[..];
-            let Fork { mark, cases } = places[last];
+            let positions = &mut self.positions[..];
+            let Fork { mark, cases } = positions[last];
             match cases.split_first() {
                 Some((formula, rest)) => {
-                    places[last] = Fork { mark, cases: rest };
+                    positions[last] = Fork { mark, cases: rest };
                     return Some(Case { mark, formula });
                 }
                 None => self.count = last,

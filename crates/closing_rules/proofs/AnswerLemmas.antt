@@ -26,7 +26,7 @@ use Rattle.tableau.proofs.EntryLemmas.{entry_says}
 use Rattle.tableau.specs.Terms.{formula_number, AreClassesOf}
 use Rattle.tableau.proofs.BranchLemmas.{entry_known}
 use Rattle.closing_rules.specs.Clashes.{AreOpposed}
-use Rattle.closing_rules.specs.Forms.{IsDenialOf, IsEquationOf}
+use Rattle.term_pool.specs.Forms.{IsDenialOf, IsEquationOf}
 use Rattle.closing_rules.proofs.FormLemmas.{denial_is}
 use Rattle.explanations.specs.Chains.{term_at, ChainData, Keeps, IsAt}
 use Rattle.explanations.specs.BranchGraphs.{IsLow, AreLow}
@@ -39,14 +39,14 @@ use Rattle.closing_rules.proofs.GraphLemmas.{number_of_node, entry_at, denied_eq
 a_denial : (q : FormulaData) → NotFormula q ≡ JoinFormula AnyOf NoFormulas → ⊥
 a_denial q e = cc
 
-pub denial_grown : (ns ms : List Node) → Extends ns ms → (d e : ChainData) → Keeps d e → (place : ℕ) (q : FormulaData) → IsAt ns d place (NotFormula q) → IsAt ms e place (NotFormula q)
-denial_grown ns ms x d e keeps place q h = at_grown ns ms x d e keeps place (NotFormula q) (a_denial q) h
+pub denial_grown : (ns ms : List Node) → Extends ns ms → (d e : ChainData) → Keeps d e → (position : ℕ) (q : FormulaData) → IsAt ns d position (NotFormula q) → IsAt ms e position (NotFormula q)
+denial_grown ns ms x d e keeps position q h = at_grown ns ms x d e keeps position (NotFormula q) (a_denial q) h
 
-pub equation_denied : (ns ms : List Node) → Extends ns ms → (d e : ChainData) → Keeps d e → (place m n : ℕ) → m < length ns → n < length ns → IsAt ns d place (NotFormula (EqFormula (term_at ns m) (term_at ns n))) → IsAt ms e place (NotFormula (EqFormula (term_at ms m) (term_at ms n)))
-equation_denied ns ms x d e keeps place m n v w h =
+pub equation_denied : (ns ms : List Node) → Extends ns ms → (d e : ChainData) → Keeps d e → (position m n : ℕ) → m < length ns → n < length ns → IsAt ns d position (NotFormula (EqFormula (term_at ns m) (term_at ns n))) → IsAt ms e position (NotFormula (EqFormula (term_at ms m) (term_at ms n)))
+equation_denied ns ms x d e keeps position m n v w h =
     let left : term_at ns m ≡ term_at ms m = ap term_in (sym (item_kept ns ms x m v)) in
     let right : term_at ns n ≡ term_at ms n = ap term_in (sym (item_kept ns ms x n w)) in
-    subst (IsAt ms e place) (λ i. NotFormula (EqFormula (left i) (right i))) (denial_grown ns ms x d e keeps place (EqFormula (term_at ns m) (term_at ns n)) h)
+    subst (IsAt ms e position) (λ i. NotFormula (EqFormula (left i) (right i))) (denial_grown ns ms x d e keeps position (EqFormula (term_at ns m) (term_at ns n)) h)
 
 pub longer_chain : (d e : ChainData) → Keeps d e → (i : ℕ) → i < length d.formulas → i < length e.formulas
 longer_chain d e keeps i w = slice_get_within e.formulas i (get_or d.formulas i 0) (keeps.kept i (get_or d.formulas i 0) (slice_get-get_or d.formulas i 0 w))
@@ -54,7 +54,7 @@ longer_chain d e keeps i w = slice_get_within e.formulas i (get_or d.formulas i 
 -- ---- a branch that is too deep
 
 pub too_deep : (shapes : List Shape) (b : Branch) → HasDeep b → IsFull shapes b
-too_deep shapes b h = Deep h.place h.formula h.says h.deep.deep
+too_deep shapes b h = Deep h.position h.formula h.says h.deep.deep
 
 pub deep_at : (shapes : List Shape) (ns : List Node) (d : BranchData) (i n : ℕ) (e : PoolEntry) → slice_get d.entries i ≡ Some e → e.formula ≡ n → IsDeep (formula_at ns n) → IsFull shapes (branch_in ns d)
 deep_at shapes ns d i n e found is deep = Deep i (formula_at ns e.formula) (entry_says ns d i e found) (subst (λ k. IsDeep (formula_at ns k)) (sym is) deep).deep

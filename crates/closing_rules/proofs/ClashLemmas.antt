@@ -26,7 +26,7 @@ use Rattle.tableau.proofs.EntryLemmas.{entry_says, said_is, says_within}
 use Rattle.tableau.specs.Terms.{term_at, AreClassesOf}
 use Rattle.tableau.proofs.BranchLemmas.{entries_of, entry_known}
 use Rattle.closing_rules.specs.Clashes.{AreOpposed, EquatesJoined, DeniesJoined, IsFalseEntry, IsNotClosedAt, IsNotClosedBefore}
-use Rattle.closing_rules.specs.Forms.{IsNoDenial, IsDenialOf, IsNoEquation, IsEquationOf}
+use Rattle.term_pool.specs.Forms.{IsNoDenial, IsDenialOf, IsNoEquation, IsEquationOf}
 use Rattle.closing_rules.specs.Indexes.{AreKnownEntries, AreEntriesByClass}
 use Rattle.closing_rules.proofs.FormLemmas.{denial_is, denial_number, equation_is, left_number, right_number, item_of_number}
 
@@ -38,13 +38,13 @@ past_says ns d i p none h =
     cc
 
 -- an entry by its number
-pub record IsStanding (ns : List Node) (d : BranchData) (i : ℕ) (p : FormulaData) : Type 0 where
+pub record IsPresent (ns : List Node) (d : BranchData) (i : ℕ) (p : FormulaData) : Type 0 where
   pub entry : PoolEntry
   pub found : slice_get d.entries i ≡ Some entry
   pub is : formula_at ns entry.formula ≡ p
 
-pub standing : (ns : List Node) (d : BranchData) (i : ℕ) (p : FormulaData) → Says (branch_in ns d) i p → IsStanding ns d i p
-standing ns d i p h =
+pub present : (ns : List Node) (d : BranchData) (i : ℕ) (p : FormulaData) → Says (branch_in ns d) i p → IsPresent ns d i p
+present ns d i p h =
     let it = stored ns d.entries i h.entry h.found in
     record { entry = it.entry; found = it.found; is = sym (said_is ns d i it.entry p it.found h) }
 
@@ -63,13 +63,13 @@ module _ (ns : List Node) (one : IsOneNumber ns) (d : BranchData) (over : IsOver
   known_entries = record { each = entry_known ns one d over c classes }
 
   pub left_known : (n : ℕ) (sides : ℕ × ℕ) → IsKnown c n → IsEquationOf ns n sides → IsKnown c sides.0
-  left_known n sides known h = part_known ns c n sides.0 (TwoNode (Compare Eq) sides.0 sides.1) classes.over known h.made.found (inl refl)
+  left_known n sides known h = part_known ns c n sides.0 (TwoNode (Compare Eq) sides.0 sides.1) classes.over known h.found (inl refl)
 
   pub right_known : (n : ℕ) (sides : ℕ × ℕ) → IsKnown c n → IsEquationOf ns n sides → IsKnown c sides.1
-  right_known n sides known h = part_known ns c n sides.1 (TwoNode (Compare Eq) sides.0 sides.1) classes.over known h.made.found (inr refl)
+  right_known n sides known h = part_known ns c n sides.1 (TwoNode (Compare Eq) sides.0 sides.1) classes.over known h.found (inr refl)
 
   pub denied_known : (i inner : ℕ) (e : PoolEntry) → slice_get d.entries i ≡ Some e → IsDenialOf ns e.formula inner → IsKnown c inner
-  denied_known i inner e found h = part_known ns c e.formula inner (OneNode Not inner) classes.over (entry_known ns one d over c classes i e found) h.made.found refl
+  denied_known i inner e found h = part_known ns c e.formula inner (OneNode Not inner) classes.over (entry_known ns one d over c classes i e found) h.found refl
 
   pub equates_answer : (n : ℕ) (sides : ℕ × ℕ) (r : Bool) → IsEquationOf ns n sides → TellsJoined c sides.0 sides.1 r → IsTrue r ↔ EquatesJoined b (formula_at ns n)
   equates_answer n sides r h tells = (there, back)
@@ -157,9 +157,9 @@ module _ (ns : List Node) (d : BranchData) (i : ℕ) where
           where
             no_clash : (p q : FormulaData) → Stands the_branch p → Says the_branch i (NotFormula q) → IsAlike the_branch [] p q → ⊥
             no_clash p q s h a =
-                let it = standing ns d s.place p s.says in
-                let same : class_of c it.entry.formula ≡ class_of c inner = (alike s.place it.entry p it.found it.is).1 (subst (IsAlike the_branch [] p) (sym (denied_is q h)) a) in
-                let has = index.all s.place it.entry it.found in
+                let it = present ns d s.position p s.says in
+                let same : class_of c it.entry.formula ≡ class_of c inner = (alike s.position it.entry p it.found it.is).1 (subst (IsAlike the_branch [] p) (sym (denied_is q h)) a) in
+                let has = index.all s.position it.entry it.found in
                 let never : None ≡ Some has.entry = none ∙ ap find (sym same) ∙ has.found in
                 cc
 
@@ -176,9 +176,9 @@ one_more b i h at = record { each = below_more (IsNotClosedAt b) i h.each at }
 
 pub not_closed : (ns : List Node) (d : BranchData) (count : ℕ) → length d.entries ≤ count → IsNotClosedBefore (branch_in ns d) count → IsNotClosed (branch_in ns d)
 not_closed ns d count w h = record {
-  no_clash = λ p q s n a. (at n.place (NotFormula q) n.says).no_clash p q s n.says a;
-  no_differing = λ t u n j. (at n.place (DifferFormula t u) n.says).no_differing t u n.says j;
-  no_false = λ p s f. (at s.place p s.says).no_false p s.says f;
+  no_clash = λ p q s n a. (at n.position (NotFormula q) n.says).no_clash p q s n.says a;
+  no_differing = λ t u n j. (at n.position (DifferFormula t u) n.says).no_differing t u n.says j;
+  no_false = λ p s f. (at s.position p s.says).no_false p s.says f;
 }
   where
     at : (i : ℕ) (p : FormulaData) → Says (branch_in ns d) i p → IsNotClosedAt (branch_in ns d) i

@@ -10,7 +10,7 @@ use Rattle.tableau.specs.declared.entry.PoolEntry.{PoolEntry}
 use Rattle.tableau.specs.Numbers.{formula_at}
 use Rattle.tableau.proofs.EntryLemmas.{entry_says}
 use Rattle.tableau.specs.Terms.{formula_number}
-use Rattle.closing_rules.specs.Forms.{IsDenialOf}
+use Rattle.term_pool.specs.Forms.{IsDenialOf}
 use Rattle.closing_rules.proofs.FormLemmas.{denial_is}
 use Rattle.certificates.specs.Due.{IsShallow}
 use Rattle.explanations.specs.BranchGraphs.{IsLow, AreLow}
@@ -47,9 +47,9 @@ mapped (e ∷ es) (suc i) n f = let it = mapped es i n f in record { entry = it.
 
 pub all_low : (ns : List Node) (d : BranchData) (count : ℕ) → IsOver ns d → length d.entries ≤ count → AreLowBefore ns d count → AreLow ns (map formula_number d.entries)
 all_low ns d count over w h = record {
-  formula = λ place number f. (let it = mapped d.entries place number f in subst (λ n. sort_of (item_at ns n) ≡ FormulaSort) it.is (over.formulas place it.entry it.found).sort);
-  low = λ place number f. (let it = mapped d.entries place number f in subst (λ n. IsLow (formula_at ns n)) it.is (h.each place it.entry (let l = slice_get_within d.entries place it.entry it.found in omega (arith, l, w)) it.found));
+  formula = λ position number f. (let it = mapped d.entries position number f in subst (λ n. sort_of (item_at ns n) ≡ FormulaSort) it.is (over.formulas position it.entry it.found).sort);
+  low = λ position number f. (let it = mapped d.entries position number f in subst (λ n. IsLow (formula_at ns n)) it.is (h.each position it.entry (let l = slice_get_within d.entries position it.entry it.found in omega (arith, l, w)) it.found));
 }
 
 pub deep_entry : (ns : List Node) (d : BranchData) (i : ℕ) (e : PoolEntry) → slice_get d.entries i ≡ Some e → IsDeep (formula_at ns e.formula) → HasDeep (branch_in ns d)
-deep_entry ns d i e found deep = record { place = i; formula = formula_at ns e.formula; says = entry_says ns d i e found; deep = deep }
+deep_entry ns d i e found deep = record { position = i; formula = formula_at ns e.formula; says = entry_says ns d i e found; deep = deep }

@@ -21,10 +21,10 @@ use Rattle.explanations.specs.Chains.{ChainData, formula_at, IsAt, step_in, Name
 use Rattle.search.specs.declared.trees.application.Closing.{Closing}
 use Rattle.search.specs.Decisions.{IsClosingDue}
 use Rattle.row_reasoning.specs.Chosen.{AreChosen}
-use Rattle.row_reasoning.specs.Cited.{NoneCited, NotCited, OneCited, ArePlacesWithin, IsPlaced, ArePlaced}
+use Rattle.row_reasoning.specs.Cited.{NoneCited, NotCited, OneCited, ArePositionsWithin, IsPlaced, ArePlaced}
 use Rattle.row_reasoning.proofs.CloseLemmas.{closes}
 use Rattle.row_reasoning.proofs.CitedLemmas.{HasCited}
-use Rattle.closing_rules.specs.Places.{AreBelow}
+use Rattle.closing_rules.specs.Positions.{AreBelow}
 
 -- ---- explanations
 
@@ -57,8 +57,8 @@ chain_closes shapes ns b chain is c steps closes w = record {
 
 -- ---- two formulas of an explanation
 
-at_found : (ns : List Node) (d : ChainData) (place : ℕ) (p : FormulaData) → IsAt ns d place p → slice_get (map (formula_at ns) d.formulas) place ≡ Some p
-at_found ns d place p h = go d.formulas place h.found
+at_found : (ns : List Node) (d : ChainData) (position : ℕ) (p : FormulaData) → IsAt ns d position p → slice_get (map (formula_at ns) d.formulas) position ≡ Some p
+at_found ns d position p h = go d.formulas position h.found
   where
     go : (ks : List ℕ) (i : ℕ) → slice_get ks i ≡ Some h.number → slice_get (map (formula_at ns) ks) i ≡ Some p
     go [] i f = absurd (cc)
@@ -70,28 +70,28 @@ clash_closes ns d said denied p h k = (p, at_found ns d said p h, at_found ns d 
 
 -- ---- the entries of rows, at indexes of an explanation
 
-cite_one : (class : TermData → ℕ) (chosen : ℕ → TermData) (ps qs : List FormulaData) (places : List (Option ℕ)) (origin : RowOrigin) (origins : List RowOrigin) (m : ℤ) (ms : List ℤ) → ((m ≡ pos 0 → ⊥) → IsPlaced class chosen ps qs places origin) → HasCited origins ms places class chosen ps qs → HasCited (origin ∷ origins) (m ∷ ms) places class chosen ps qs
-cite_one class chosen ps qs places origin origins (pos zero) ms h rest = record { cited = rest.cited; are = NotCited origin origins ms rest.cited rest.are }
-cite_one class chosen ps qs places origin origins (pos (suc n)) ms h rest = let it = h (λ e. cc) in record { cited = _; are = OneCited origin origins (pos (suc n)) ms it.place rest.cited it.stands rest.are }
-cite_one class chosen ps qs places origin origins (negsuc n) ms h rest = let it = h (λ e. cc) in record { cited = _; are = OneCited origin origins (negsuc n) ms it.place rest.cited it.stands rest.are }
+cite_one : (class : TermData → ℕ) (chosen : ℕ → TermData) (ps qs : List FormulaData) (positions : List (Option ℕ)) (origin : RowOrigin) (origins : List RowOrigin) (m : ℤ) (ms : List ℤ) → ((m ≡ pos 0 → ⊥) → IsPlaced class chosen ps qs positions origin) → HasCited origins ms positions class chosen ps qs → HasCited (origin ∷ origins) (m ∷ ms) positions class chosen ps qs
+cite_one class chosen ps qs positions origin origins (pos zero) ms h rest = record { cited = rest.cited; are = NotCited origin origins ms rest.cited rest.are }
+cite_one class chosen ps qs positions origin origins (pos (suc n)) ms h rest = let it = h (λ e. cc) in record { cited = _; are = OneCited origin origins (pos (suc n)) ms it.position rest.cited it.stands rest.are }
+cite_one class chosen ps qs positions origin origins (negsuc n) ms h rest = let it = h (λ e. cc) in record { cited = _; are = OneCited origin origins (negsuc n) ms it.position rest.cited it.stands rest.are }
 
-has_cited : (class : TermData → ℕ) (chosen : ℕ → TermData) (ps qs : List FormulaData) (places : List (Option ℕ)) (origins : List RowOrigin) (ms : List ℤ) → length ms ≡ length origins → ArePlaced class chosen ps qs origins ms places → HasCited origins ms places class chosen ps qs
-has_cited class chosen ps qs places [] [] e h = record { cited = []; are = NoneCited }
-has_cited class chosen ps qs places [] (m ∷ ms) e h = absurd (omega (arith, e))
-has_cited class chosen ps qs places (o ∷ os) [] e h = absurd (omega (arith, e))
-has_cited class chosen ps qs places (o ∷ os) (m ∷ ms) e h =
-    cite_one class chosen ps qs places o os m ms (h.each zero o m refl refl)
-    (has_cited class chosen ps qs places os ms (omega (arith, e)) (record { each = λ i origin n f g. h.each (suc i) origin n f g }))
+has_cited : (class : TermData → ℕ) (chosen : ℕ → TermData) (ps qs : List FormulaData) (positions : List (Option ℕ)) (origins : List RowOrigin) (ms : List ℤ) → length ms ≡ length origins → ArePlaced class chosen ps qs origins ms positions → HasCited origins ms positions class chosen ps qs
+has_cited class chosen ps qs positions [] [] e h = record { cited = []; are = NoneCited }
+has_cited class chosen ps qs positions [] (m ∷ ms) e h = absurd (omega (arith, e))
+has_cited class chosen ps qs positions (o ∷ os) [] e h = absurd (omega (arith, e))
+has_cited class chosen ps qs positions (o ∷ os) (m ∷ ms) e h =
+    cite_one class chosen ps qs positions o os m ms (h.each zero o m refl refl)
+    (has_cited class chosen ps qs positions os ms (omega (arith, e)) (record { each = λ i origin n f g. h.each (suc i) origin n f g }))
 
-module _ (shapes : List Shape) (ns : List Node) (b : Branch) (chain : ChainData) (is : IsChain ns b chain) (class : TermData → ℕ) (classes : List ℕ) (chosen : ℕ → TermData) (are : AreChosen class classes chosen) (rows : List Inequality) (origins : List RowOrigin) (from : AllZip (IsRowFrom class (formulas b) classes) rows origins) (ms : List ℤ) (contradiction : IsContradiction rows ms) (places : List (Option ℕ)) (one_each : length ms ≡ length origins) (placed : ArePlaced class chosen (formulas b) (map (formula_at ns) chain.formulas) origins ms places) where
+module _ (shapes : List Shape) (ns : List Node) (b : Branch) (chain : ChainData) (is : IsChain ns b chain) (class : TermData → ℕ) (classes : List ℕ) (chosen : ℕ → TermData) (are : AreChosen class classes chosen) (rows : List Inequality) (origins : List RowOrigin) (from : AllZip (IsRowFrom class (formulas b) classes) rows origins) (ms : List ℤ) (contradiction : IsContradiction rows ms) (positions : List (Option ℕ)) (one_each : length ms ≡ length origins) (placed : ArePlaced class chosen (formulas b) (map (formula_at ns) chain.formulas) origins ms positions) where
   pub rows_too_long : most_entries < length chain.formulas → IsFull shapes b
   rows_too_long w =
-      let it = has_cited class chosen (formulas b) (map (formula_at ns) chain.formulas) places origins ms one_each placed in
+      let it = has_cited class chosen (formulas b) (map (formula_at ns) chain.formulas) positions origins ms one_each placed in
       too_long shapes ns b chain is (LinearClose it.cited) (closes class classes chosen are (formulas b) (map (formula_at ns) chain.formulas) rows origins from ms contradiction it.cited it.are) w
 
 -- a short explanation has indexes of few bits
-pub few_places : (limit : ℕ) (places : List (Option ℕ)) → AreBelow limit places → limit ≤ most_entries → ArePlacesWithin places
-few_places limit places h w = record { within = λ entry place f. (let l = h.below entry place f in omega (arith, l, w)) }
+pub few_positions : (limit : ℕ) (positions : List (Option ℕ)) → AreBelow limit positions → limit ≤ most_entries → ArePositionsWithin positions
+few_positions limit positions h w = record { within = λ entry position f. (let l = h.below entry position f in omega (arith, l, w)) }
 
 -- ---- without congruence
 

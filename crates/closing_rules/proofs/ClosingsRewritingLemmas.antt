@@ -6,5 +6,5 @@ use Rattle.term_pool.specs.declared.node.Node.{Node}
 use Rattle.explanations.specs.Chains.{ChainData, IsAt}
 use Rattle.closing_rules.specs.Rewriting.{source_item}
 
-pub source_at : (ns : List Node) (d : ChainData) (place : ℕ) → place < length d.formulas → IsAt ns d place (formula_in (source_item ns d place))
-source_at ns d place w = record { number = _; found = slice_get-get_or d.formulas place 0 w; is = refl }
+pub source_at : (ns : List Node) (d : ChainData) (position : ℕ) → position < length d.formulas → IsAt ns d position (formula_in (source_item ns d position))
+source_at ns d position w = record { number = _; found = slice_get-get_or d.formulas position 0 w; is = refl }

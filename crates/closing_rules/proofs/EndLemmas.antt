@@ -29,16 +29,17 @@ use Rattle.explanations.specs.Derivations.{AreSaid, CanBeginAny}
 use Rattle.explanations.specs.Formulas.{AreInSource}
 use Rattle.explanations.proofs.BranchLemmas.{a_graph, said, begins}
 use Rattle.row_reasoning.specs.Chosen.{with_chosen}
-use Rattle.row_reasoning.specs.Cited.{place_at, IsPlaced, ArePlaced}
-use Rattle.closing_rules.specs.Places.{AreBelow as AreBelowLimit}
-use Rattle.closing_rules.specs.Rewritings.{AreBelow, HasDeepEntry, IsRewriting, AreRewritingsOf, CoverRows, AreSources, ArePlacedBy}
+use Rattle.row_reasoning.specs.Cited.{position_at, IsPlaced, ArePlaced}
+use Rattle.closing_rules.specs.Positions.{AreBelow as AreBelowLimit}
+use Rattle.closing_rules.specs.Rewritings.{AreBelow, IsRewriting, AreRewritingsOf, CoverRows, AreSources, ArePlacedBy}
+use Rattle.closing_rules.specs.Depths.{HasDeep}
 use Rattle.closing_rules.specs.Settings.{IsBase, IsSetting}
 use Rattle.closing_rules.specs.declared.row_closings.rewriting.Rewriting.{Rewriting}
-use Rattle.closing_rules.proofs.RowClosingsDepthLemmas.{number_at_place}
+use Rattle.closing_rules.proofs.RowClosingsDepthLemmas.{number_at_position}
 use Rattle.closing_rules.proofs.SettingLemmas.{entry_formula}
 
-pub full_by_deep : (shapes : List Shape) (b : Branch) → HasDeepEntry b → IsFull shapes b
-full_by_deep shapes b h = Deep h.place h.formula h.says h.deep
+pub full_by_deep : (shapes : List Shape) (b : Branch) → HasDeep b → IsFull shapes b
+full_by_deep shapes b h = Deep h.position h.formula h.says h.deep.deep
 
 -- ---- the explanation over the entries
 
@@ -53,12 +54,12 @@ formulas_are ns (e ∷ es) = ap (λ ps. formula_at ns e.formula ∷ ps) (formula
 module _ (ns : List Node) (d : BranchData) (c : BranchClassesData) (h : IsBase ns d c) where
   pub entries_are : (read numbers : List ℕ) → read ≡ numbers → numbers ≡ map formula_number d.entries → AreEntries ns read (branch_in ns d)
   entries_are read numbers same is = subst (λ ks. AreEntries ns ks (branch_in ns d)) (sym (same ∙ is)) (record {
-    numbers = λ place k f. (let at = number_at_place ns d h.over place k f in subst (λ n. HasPart ns (length ns) n FormulaSort) at.same (record { earlier = (h.over.formulas place at.entry at.found).within; sort = (h.over.formulas place at.entry at.found).sort }));
+    numbers = λ position k f. (let at = number_at_position ns d h.over position k f in subst (λ n. HasPart ns (length ns) n FormulaSort) at.same (record { earlier = (h.over.formulas position at.entry at.found).within; sort = (h.over.formulas position at.entry at.found).sort }));
     are = sym (formulas_are ns d.entries);
   })
 
   pub begins_with : (read numbers : List ℕ) (chain : ChainData) → chain.formulas ≡ read → read ≡ numbers → numbers ≡ map formula_number d.entries → HasEntries chain c.entries
-  begins_with read numbers chain e same is = record { each = λ place number f. ap (λ ks. slice_get ks place) (e ∙ same ∙ is ∙ sym h.classes.entries) ∙ f }
+  begins_with read numbers chain e same is = record { each = λ position number f. ap (λ ks. slice_get ks position) (e ∙ same ∙ is ∙ sym h.classes.entries) ∙ f }
 
   pub graph : IsGraph ns c.classes.nodes c.classes.links c.numbers
   graph = a_graph ns c h.classes.over h.shown h.inside h.low
@@ -73,8 +74,8 @@ module _ (ns : List Node) (d : BranchData) (c : BranchClassesData) (h : IsBase n
   all_begin chain has is = record { each = λ i w t. begins ns c h.classes.over (branch_in ns d) chain h.inside h.low of_branch has is i w t }
 
   -- the index of an entry in the explanation is its own number
-  own_place : (chain : ChainData) → HasEntries chain c.entries → (i : ℕ) (e : PoolEntry) → slice_get d.entries i ≡ Some e → slice_get chain.formulas i ≡ Some e.formula
-  own_place chain has i e f = has.each i e.formula (ap (λ ks. slice_get ks i) h.classes.entries ∙ slice_get-map formula_number d.entries i ∙ ap (option_map formula_number) f)
+  own_position : (chain : ChainData) → HasEntries chain c.entries → (i : ℕ) (e : PoolEntry) → slice_get d.entries i ≡ Some e → slice_get chain.formulas i ≡ Some e.formula
+  own_position chain has i e f = has.each i e.formula (ap (λ ks. slice_get ks i) h.classes.entries ∙ slice_get-map formula_number d.entries i ∙ ap (option_map formula_number) f)
 
   pub all_sources : (names : List ℕ) (find : ℕ → Option ℕ) (chain : ChainData) (rs : List Rewriting) → HasEntries chain c.entries → AreRewritingsOf ns d c names find rs → AreSources ns c.classes.nodes c.classes.links c.numbers chain rs
   all_sources names find chain rs has are = record { each = λ k r f. of_one r (are.each k r f) }
@@ -82,7 +83,7 @@ module _ (ns : List Node) (d : BranchData) (c : BranchClassesData) (h : IsBase n
       of_one : (r : Rewriting) → IsRewriting ns d c names find r → AreInSource ns c.classes.nodes c.classes.links c.numbers chain r.entry r.differences.items
       of_one r it = record {
         number = it.entry.formula;
-        found = own_place chain has r.entry it.entry it.found;
+        found = own_position chain has r.entry it.entry it.found;
         inside = (h.over.formulas r.entry it.entry it.found).within;
         in_turn = it.makes.in_turn;
         each = it.makes.each;
@@ -131,34 +132,34 @@ module _ (ns : List Node) (d : BranchData) (c : BranchClassesData) (names : List
 
   -- ---- the entries at their indexes
 
-  module _ (rs : List Rewriting) (are : AreRewritingsOf ns d c names find rs) (chain : ChainData) (has : HasEntries chain c.entries) (ms : List Node) (e : ChainData) (places : List (Option ℕ)) (placed : ArePlacedBy ns chain c.numbers rs ms e places) where
-    at_found : (place : ℕ) (p : FormulaData) → IsAt ms e place p → slice_get (map (formula_at ms) e.formulas) place ≡ Some p
-    at_found place p at = slice_get-map (formula_at ms) e.formulas place ∙ ap (option_map (formula_at ms)) at.found ∙ ap Some at.is
+  module _ (rs : List Rewriting) (are : AreRewritingsOf ns d c names find rs) (chain : ChainData) (has : HasEntries chain c.entries) (ms : List Node) (e : ChainData) (positions : List (Option ℕ)) (placed : ArePlacedBy ns chain c.numbers rs ms e positions) where
+    at_found : (position : ℕ) (p : FormulaData) → IsAt ms e position p → slice_get (map (formula_at ms) e.formulas) position ≡ Some p
+    at_found position p at = slice_get-map (formula_at ms) e.formulas position ∙ ap (option_map (formula_at ms)) at.found ∙ ap Some at.is
 
-    one_placed : (origin : RowOrigin) (k : ℕ) (r : Rewriting) → slice_get rs k ≡ Some r → r.entry ≡ origin.entry → IsPlaced h.class h.chosen (formulas (branch_in ns d)) (map (formula_at ms) e.formulas) places origin
+    one_placed : (origin : RowOrigin) (k : ℕ) (r : Rewriting) → slice_get rs k ≡ Some r → r.entry ≡ origin.entry → IsPlaced h.class h.chosen (formulas (branch_in ns d)) (map (formula_at ms) e.formulas) positions origin
     one_placed origin k r f same =
         let it = placed.each k r f in
         let other : Rewriting = it.has.rewriting in
-        let re = are.each it.has.place it.has.rewriting it.has.found in
+        let re = are.each it.has.position it.has.rewriting it.has.found in
         let found : slice_get d.entries r.entry ≡ Some re.entry = subst (λ n. slice_get d.entries n ≡ Some re.entry) it.has.same re.found in
-        let at : IsAt ms e it.place (formula_in (after_all ns c.numbers (item_at ns re.entry.formula) it.has.rewriting.differences.items)) = it.at.at re.entry.formula (own_place ns d c h.base chain has r.entry re.entry found) in
+        let at : IsAt ms e it.position (formula_in (after_all ns c.numbers (item_at ns re.entry.formula) it.has.rewriting.differences.items)) = it.at.at re.entry.formula (own_position ns d c h.base chain has r.entry re.entry found) in
         let ends : formula_in (after_all ns c.numbers (item_at ns re.entry.formula) it.has.rewriting.differences.items) ≡ comparison_with (with_chosen h.chosen) (comparison_with (over h.class) (formula_at ns re.entry.formula)) = re.makes.ends h.class h.chosen (h.over_classes r.entry re.entry found) in
         record {
-          place = it.place;
-          found = ap (place_at places) (sym same) ∙ it.found;
+          position = it.position;
+          found = ap (position_at positions) (sym same) ∙ it.found;
           stands = record {
             formula = formula_at ns re.entry.formula;
             found = ap (slice_get (formulas (branch_in ns d))) (sym same) ∙ entry_formula ns d r.entry re.entry found;
-            stands = at_found it.place (comparison_with (with_chosen h.chosen) (comparison_with (over h.class) (formula_at ns re.entry.formula))) (subst (IsAt ms e it.place) ends at);
+            stands = at_found it.position (comparison_with (with_chosen h.chosen) (comparison_with (over h.class) (formula_at ns re.entry.formula))) (subst (IsAt ms e it.position) ends at);
           };
         }
 
-    pub all_placed : (read : List RowOrigin) (table : List (Option ℕ)) → read ≡ rows.origins.items → table ≡ places → CoverRows rows.origins.items zs rs → ArePlaced h.class h.chosen (formulas (branch_in ns d)) (map (formula_at ms) e.formulas) read zs table
+    pub all_placed : (read : List RowOrigin) (table : List (Option ℕ)) → read ≡ rows.origins.items → table ≡ positions → CoverRows rows.origins.items zs rs → ArePlaced h.class h.chosen (formulas (branch_in ns d)) (map (formula_at ms) e.formulas) read zs table
     all_placed read table same kept cover =
         subst (λ os. ArePlaced h.class h.chosen (formulas (branch_in ns d)) (map (formula_at ms) e.formulas) os zs table) (sym same)
         (subst (ArePlaced h.class h.chosen (formulas (branch_in ns d)) (map (formula_at ms) e.formulas) rows.origins.items zs) (sym kept) (record {
-          each = λ i origin m f g other. (let k = cover.each i origin m f g other in one_placed origin k.place k.rewriting k.found k.same);
+          each = λ i origin m f g other. (let k = cover.each i origin m f g other in one_placed origin k.position k.rewriting k.found k.same);
         }))
 
-pub places_below : (ns : List Node) (d : ChainData) (numbers : List ℕ) (rs : List Rewriting) (ms : List Node) (e : ChainData) (places read : List (Option ℕ)) → read ≡ places → ArePlacedBy ns d numbers rs ms e places → AreBelowLimit (length e.formulas) read
-places_below ns d numbers rs ms e places read same h = subst (AreBelowLimit (length e.formulas)) (sym same) (record { below = h.below })
+pub positions_below : (ns : List Node) (d : ChainData) (numbers : List ℕ) (rs : List Rewriting) (ms : List Node) (e : ChainData) (positions read : List (Option ℕ)) → read ≡ positions → ArePlacedBy ns d numbers rs ms e positions → AreBelowLimit (length e.formulas) read
+positions_below ns d numbers rs ms e positions read same h = subst (AreBelowLimit (length e.formulas)) (sym same) (record { below = h.below })

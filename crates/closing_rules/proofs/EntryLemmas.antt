@@ -39,6 +39,6 @@ part_of ns n h = record { earlier = h.within; sort = h.sort }
 -- these numbers are those of the branch
 pub entries_are : (ns : List Node) (d : BranchData) → IsOver ns d → (ks : List ℕ) → ks ≡ map formula_number d.entries → AreEntries ns ks (branch_in ns d)
 entries_are ns d over ks e = record {
-  numbers = λ place k f. (let it = mapped d.entries place k (subst (λ xs. slice_get xs place ≡ Some k) e f) in subst (λ n. HasPart ns (length ns) n FormulaSort) it.is (part_of ns it.entry.formula (over.formulas place it.entry it.found)));
+  numbers = λ position k f. (let it = mapped d.entries position k (subst (λ xs. slice_get xs position ≡ Some k) e f) in subst (λ n. HasPart ns (length ns) n FormulaSort) it.is (part_of ns it.entry.formula (over.formulas position it.entry it.found)));
   are = ap (map (formula_at ns)) e ∙ sym (formulas_are ns d.entries);
 }

@@ -6,7 +6,8 @@ use Rattle.fol.specs.declared.operators.Constant.TheVariants.{False}
 use Rattle.fol.specs.declared.operators.Junction.TheVariants.{AllOf, AnyOf}
 use Rattle.fol.specs.FormulaData.{ConstantTerm, FormulaData, CompareFormula, EqFormula, IsFormula, HoldsFormula, NotFormula, JoinFormula, ConnectFormula, QuantifyFormula, NoFormulas, MoreFormulas}
 use Rattle.certificates.specs.Closes.{IsFalseForm, IsFalseNegated}
-use Rattle.closing_rules.specs.Forms.{IsReflexive, IsNoDenial}
+use Rattle.term_pool.specs.Forms.{IsNoDenial}
+use Rattle.closing_rules.specs.Forms.{IsReflexive}
 
 pub holds : {A : Type 0} → A → IsTrue true ↔ A
 holds a = (λ t. a, λ b. refl)

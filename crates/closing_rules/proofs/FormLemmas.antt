@@ -1,6 +1,6 @@
 -- Forms of formulas by their nodes.
-use Rattle.std.proofs.Common.{◌≡◌, ◌↔◌, ℕ, ◌<◌, Bool, false, List, length, Option, Some, None, refl, sym, ap, ◌∙◌, subst, arith}
-use Rattle.std.specs.Prelude.{◌==◌, IsTrue, MatchOption}
+use Rattle.std.proofs.Common.{◌≡◌, ◌↔◌, ℕ, ◌<◌, Bool, false, List, length, Some, None, refl, sym, ap, ◌∙◌, subst, arith}
+use Rattle.std.specs.Prelude.{◌==◌, IsTrue}
 use Rattle.std.proofs.lemmas.Bool.{eqb-true, eq-eqb}
 use Rattle.std.proofs.lemmas.Option.{slice_get_within}
 use Rattle.fol.specs.declared.operators.Comparison.TheVariants.{Eq}
@@ -22,95 +22,40 @@ use Rattle.term_pool.specs.declared.node.Node.{Node}
 use Rattle.term_pool.specs.declared.node.Node.TheVariants.{Leaf as LeafNode, One as OneNode, Two as TwoNode, Three as ThreeNode}
 use Rattle.term_pool.proofs.ShapeLemmas.{OneShape, shape_of, a_term, a_formula}
 use Rattle.tableau.specs.PoolBranches.{IsFormulaNumber, IsTermNumber}
-use Rattle.congruence_closure.proofs.OverLemmas.{IsNoEquality, no_equation, equation_made}
+use Rattle.congruence_closure.proofs.OverLemmas.{equation_made}
 use Rattle.tableau.specs.Numbers.{formula_at}
 use Rattle.tableau.specs.Terms.{term_at}
 use Rattle.tableau.proofs.NearLemmas.{node_shape, made_shape}
-use Rattle.closing_rules.specs.Forms.{denied_part, sides_of, held_part, is_false_node, any_part, all_part, is_no_first, IsReflexive, IsNoDenial, IsDenialOf, IsNoEquation, IsEquationOf}
+use Rattle.term_pool.specs.Forms.{IsDenialOf, IsNoEquation, IsEquationOf}
+use Rattle.closing_rules.specs.Forms.{held_part, is_false_node, any_part, all_part, is_no_first, IsReflexive}
 
 -- ---- negations
 
-denial_leaf : (h : Leaf) (q : FormulaData) → formula_in (leaf_item h) ≡ NotFormula q → ⊥
-denial_leaf (Var n) q e = cc
-denial_leaf h q e = cc
-
-denial_one : (h : One) (x : Item) (q : FormulaData) → formula_in (one_item h x) ≡ NotFormula q → h ≡ Not
-denial_one Not x q e = refl
-denial_one h x q e = absurd (cc)
-
-denial_two : (h : Two) (x y : Item) (q : FormulaData) → formula_in (two_item h x y) ≡ NotFormula q → ⊥
-denial_two (Binary o) x y q e = cc
-denial_two h x y q e = cc
-
-denial_three : (h : Three) (x y z : Item) (q : FormulaData) → formula_in (three_item h x y z) ≡ NotFormula q → ⊥
-denial_three (Ternary o) x y z q e = cc
-denial_three h x y z q e = cc
-
-no_denial : (ns : List Node) (n : ℕ) (node : Node) → IsMade ns n node → None ≡ denied_part node → (q : FormulaData) → formula_at ns n ≡ NotFormula q → ⊥
-no_denial ns n (LeafNode h) made none q e = denial_leaf h q (ap formula_in (sym made.item) ∙ e)
-no_denial ns n (OneNode h a) made none q e =
-    let head : h ≡ Not = denial_one h (item_at ns a) q (ap formula_in (sym made.item) ∙ e) in
-    let never : None ≡ Some a = none ∙ ap (λ k. denied_part (OneNode k a)) head in
-    cc
-no_denial ns n (TwoNode h a b) made none q e = denial_two h (item_at ns a) (item_at ns b) q (ap formula_in (sym made.item) ∙ e)
-no_denial ns n (ThreeNode h a b c) made none q e = denial_three h (item_at ns a) (item_at ns b) (item_at ns c) q (ap formula_in (sym made.item) ∙ e)
-
-some_denial : (ns : List Node) (n inner : ℕ) (node : Node) → IsMade ns n node → Some inner ≡ denied_part node → IsDenialOf ns n inner
-some_denial ns n inner (OneNode Not a) made some = let same : a ≡ inner = cc in subst (IsDenialOf ns n) same (record { made = made })
-some_denial ns n inner (OneNode _ a) made some = absurd (cc)
-some_denial ns n inner (LeafNode h) made some = absurd (cc)
-some_denial ns n inner (TwoNode h a b) made some = absurd (cc)
-some_denial ns n inner (ThreeNode h a b c) made some = absurd (cc)
-
-pub denial_answer : (ns : List Node) (n : ℕ) (node : Node) → IsMade ns n node → (o : Option ℕ) → o ≡ denied_part node → MatchOption o (IsNoDenial (formula_at ns n)) (IsDenialOf ns n)
-denial_answer ns n node made None e = record { none = no_denial ns n node made e }
-denial_answer ns n node made (Some inner) e = some_denial ns n inner node made e
-
 pub denial_is : (ns : List Node) (n inner : ℕ) → IsDenialOf ns n inner → formula_at ns n ≡ NotFormula (formula_at ns inner)
-denial_is ns n inner h = ap formula_in h.made.item
+denial_is ns n inner h = ap formula_in h.item
 
 pub denial_number : (ns : List Node) (n inner : ℕ) → IsDenialOf ns n inner → IsFormulaNumber ns inner
 denial_number ns n inner h =
-    let w = slice_get_within ns n (OneNode Not inner) h.made.found in
-    let l = h.made.parts.earlier in
-    record { within = omega (arith, w, l); sort = h.made.parts.sort }
+    let w = slice_get_within ns n (OneNode Not inner) h.found in
+    let l = h.parts.earlier in
+    record { within = omega (arith, w, l); sort = h.parts.sort }
 
 -- ---- equations
 
-no_equality : (node : Node) → None ≡ sides_of node → IsNoEquality node
-no_equality (LeafNode h) none = tt
-no_equality (OneNode h a) none = tt
-no_equality (TwoNode h a b) none = λ e. (
-    let sides : ℕ × ℕ = (a, b) in
-    let never : None ≡ Some sides = none ∙ ap (λ k. sides_of (TwoNode k a b)) e in
-    cc)
-no_equality (ThreeNode h a b c) none = tt
-
-some_equation : (ns : List Node) (n : ℕ) (sides : ℕ × ℕ) (node : Node) → IsMade ns n node → Some sides ≡ sides_of node → IsEquationOf ns n sides
-some_equation ns n sides (TwoNode (Compare Eq) a b) made some = let same : (a, b) ≡ sides = cc in subst (IsEquationOf ns n) same (record { made = made })
-some_equation ns n sides (TwoNode _ a b) made some = absurd (cc)
-some_equation ns n sides (LeafNode h) made some = absurd (cc)
-some_equation ns n sides (OneNode h a) made some = absurd (cc)
-some_equation ns n sides (ThreeNode h a b c) made some = absurd (cc)
-
-pub equation_answer : (ns : List Node) (n : ℕ) (node : Node) → IsMade ns n node → (o : Option (ℕ × ℕ)) → o ≡ sides_of node → MatchOption o (IsNoEquation (formula_at ns n)) (IsEquationOf ns n)
-equation_answer ns n node made None e = record { none = no_equation ns n node made (no_equality node e) }
-equation_answer ns n node made (Some sides) e = some_equation ns n sides node made e
-
 pub equation_is : (ns : List Node) (n : ℕ) (sides : ℕ × ℕ) → IsEquationOf ns n sides → formula_at ns n ≡ EqFormula (term_at ns sides.0) (term_at ns sides.1)
-equation_is ns n sides h = equation_made ns n sides.0 sides.1 h.made
+equation_is ns n sides h = equation_made ns n sides.0 sides.1 h
 
 pub left_number : (ns : List Node) (n : ℕ) (sides : ℕ × ℕ) → IsEquationOf ns n sides → IsTermNumber ns sides.0
 left_number ns n sides h =
-    let w = slice_get_within ns n (TwoNode (Compare Eq) sides.0 sides.1) h.made.found in
-    let l = h.made.parts.0.earlier in
-    record { within = omega (arith, w, l); sort = h.made.parts.0.sort }
+    let w = slice_get_within ns n (TwoNode (Compare Eq) sides.0 sides.1) h.found in
+    let l = h.parts.0.earlier in
+    record { within = omega (arith, w, l); sort = h.parts.0.sort }
 
 pub right_number : (ns : List Node) (n : ℕ) (sides : ℕ × ℕ) → IsEquationOf ns n sides → IsTermNumber ns sides.1
 right_number ns n sides h =
-    let w = slice_get_within ns n (TwoNode (Compare Eq) sides.0 sides.1) h.made.found in
-    let l = h.made.parts.1.earlier in
-    record { within = omega (arith, w, l); sort = h.made.parts.1.sort }
+    let w = slice_get_within ns n (TwoNode (Compare Eq) sides.0 sides.1) h.found in
+    let l = h.parts.1.earlier in
+    record { within = omega (arith, w, l); sort = h.parts.1.sort }
 
 -- a term's item is that term
 pub item_of_number : (ns : List Node) (n : ℕ) → IsTermNumber ns n → item_at ns n ≡ TermItem (term_at ns n)

@@ -25,7 +25,7 @@ use Rattle.tableau.proofs.EntryLemmas.{said_is}
 use Rattle.tableau.specs.Terms.{formula_number, AreClassesOf}
 use Rattle.tableau.proofs.BranchLemmas.{entries_of, entry_known}
 use Rattle.closing_rules.specs.Clashes.{AreOpposed, EquatesJoined, DeniesJoined}
-use Rattle.closing_rules.specs.Forms.{IsDenialOf, IsEquationOf}
+use Rattle.term_pool.specs.Forms.{IsDenialOf, IsEquationOf}
 use Rattle.closing_rules.proofs.FormLemmas.{denial_is, denial_number, equation_is}
 use Rattle.closing_rules.proofs.ClashLemmas.{formula_item, left_known, right_known, denied_known, equates_answer, denied_is}
 use Rattle.explanations.specs.Chains.{term_at, ChainData, IsChain}
@@ -100,10 +100,10 @@ module _ (ns : List Node) (one : IsOneNumber ns) (d : BranchData) (over : IsOver
       begins_any chain same is = record { each = λ i w t. begins ns c of.over (branch_in ns d) chain inside low_entries (entries_of ns one d over c of) (begun_with chain same) is i w t }
         where
           begun_with : (e : ChainData) → e.formulas ≡ map formula_number d.entries → HasEntries e c.entries
-          begun_with e s = record { each = λ place number f. subst (λ ks. slice_get ks place ≡ Some number) (of.entries ∙ sym s) f }
+          begun_with e s = record { each = λ position number f. subst (λ ks. slice_get ks position ≡ Some number) (of.entries ∙ sym s) f }
 
     pub links_said : (chain : ChainData) → chain.formulas ≡ map formula_number d.entries → AreSaid ns chain c.classes.links c.numbers
-    links_said chain same = said ns c of.over classes chain (record { each = λ place number f. subst (λ ks. slice_get ks place ≡ Some number) (of.entries ∙ sym same) f })
+    links_said chain same = said ns c of.over classes chain (record { each = λ position number f. subst (λ ks. slice_get ks position ≡ Some number) (of.entries ∙ sym same) f })
 
 -- ---- entries in the explanation
 

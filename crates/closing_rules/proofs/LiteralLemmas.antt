@@ -9,7 +9,7 @@ use Rattle.tableau.specs.PoolBranches.{BranchData, branch_in, IsFirstEntry}
 use Rattle.tableau.specs.declared.entry.PoolEntry.{PoolEntry}
 use Rattle.tableau.specs.Numbers.{formula_at}
 use Rattle.tableau.proofs.EntryLemmas.{says_within}
-use Rattle.closing_rules.specs.Forms.{IsNoDenial, IsDenialOf}
+use Rattle.term_pool.specs.Forms.{IsNoDenial, IsDenialOf}
 use Rattle.closing_rules.specs.Literal.{AreContrary, IsNotLiteralAt, IsNotLiteralBefore, IsNotLiteral}
 use Rattle.closing_rules.proofs.ClashLemmas.{past_says, not_false, no_denial_said, denies, denied_is}
 

@@ -38,8 +38,8 @@ module _ (ns ms : List Node) (g : Extends ns ms) (d : BranchData) (over : IsOver
 
       all : (entry : ℕ) → entry < count + 1 → is_cited cited entry ≡ true → HasRewriting (rs ++ r ∷ []) entry
       all entry w t = elim (cases_eq entry count) [
-        | inl e ↦ record { place = length rs; rewriting = r; found = push_new rs r; same = h.same ∙ sym e }
-        | inr e ↦ (let k = old.all entry (omega (arith, w, e)) t in record { place = k.place; rewriting = k.rewriting; found = push_kept rs r k.rewriting k.place k.found; same = k.same })
+        | inl e ↦ record { position = length rs; rewriting = r; found = push_new rs r; same = h.same ∙ sym e }
+        | inr e ↦ (let k = old.all entry (omega (arith, w, e)) t in record { position = k.position; rewriting = k.rewriting; found = push_kept rs r k.rewriting k.position k.found; same = k.same })
       ]
 
 module _ (ns : List Node) (d : BranchData) (c : BranchClassesData) (names : List ℕ) (find : ℕ → Option ℕ) (cited : List Bool) where

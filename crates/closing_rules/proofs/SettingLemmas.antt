@@ -44,7 +44,7 @@ use Rattle.row_reasoning.specs.StandIns.{IsStandIn, HasStandIn, AreOverClasses}
 use Rattle.row_reasoning.proofs.StandInLemmas.{over_classes_grown}
 use Rattle.closing_rules.specs.Rewritings.{HaveEntryStandIns}
 use Rattle.closing_rules.specs.Settings.{IsBase, IsSetting}
-use Rattle.closing_rules.proofs.RowClosingsDepthLemmas.{number_at_place}
+use Rattle.closing_rules.proofs.RowClosingsDepthLemmas.{number_at_position}
 use Rattle.closing_rules.proofs.RowClosingsRewritingLemmas.{stand_ins_grown}
 use Rattle.closing_rules.proofs.FreshLemmas.{with_fresh, fresh_class, same_class, AreBelowIt, all_from}
 
@@ -76,7 +76,7 @@ module _ (ns : List Node) (one : IsOneNumber ns) (d : BranchData) (over : IsOver
       let within : IsInFormula (term_at ns n) (formula_at ns e.formula) = subst (IsInItem (term_at ns n)) (sym (a_formula (item_at ns e.formula) (over.formulas i e found).sort)) (under_inside ns e.formula n under (term_at ns n) itself) in
       record {
         number = term;
-        stands = record { generation = e.generation; holds = record { place = i; entry = entry_in ns e; found = pure_entry ns d.entries i e found; inside = within; same = refl } };
+        stands = record { generation = e.generation; holds = record { position = i; entry = entry_in ns e; found = pure_entry ns d.entries i e found; inside = within; same = refl } };
       }
 
   module _ (v : ℕ) (limit : above_all (formulas (branch_in ns d)) ≤ v) where
@@ -89,11 +89,11 @@ module _ (ns : List Node) (one : IsOneNumber ns) (d : BranchData) (over : IsOver
         let k : IsKnown c n = known_term ns one d over c classes n h in
         let made = classes.over.made.each n k.node k.found in
         let s = inside.each k.node made.within in
-        let at = number_at_place ns d over s.place s.entry (ap (λ ks. slice_get ks s.place) (sym classes.entries) ∙ s.found) in
+        let at = number_at_position ns d over s.position s.entry (ap (λ ks. slice_get ks s.position) (sym classes.entries) ∙ s.found) in
         let deep : above_item (item_at ns (number_at c.numbers k.node)) ≤ above_item (item_at ns s.entry) = stands_above ns (number_at c.numbers k.node) s.entry s.stands in
         let here : above_item (item_at ns n) ≤ above_item (item_at ns at.entry.formula) = subst (λ i. above_item (item_at ns i) ≤ above_item (item_at ns at.entry.formula)) made.is (subst (λ i. above_item (item_at ns (number_at c.numbers k.node)) ≤ above_item (item_at ns i)) (sym at.same) deep) in
-        let formula : above_item (item_at ns n) ≤ above (formula_at ns at.entry.formula) = subst (λ x. above_item (item_at ns n) ≤ above_item x) (sym (a_formula (item_at ns at.entry.formula) (over.formulas s.place at.entry at.found).sort)) here in
-        at_most (above_term (term_at ns n)) (above (formula_at ns at.entry.formula)) v (subst (λ x. above_item x ≤ above (formula_at ns at.entry.formula)) (sym (a_term (item_at ns n) h.number.sort)) formula) (entry_above s.place at.entry at.found)
+        let formula : above_item (item_at ns n) ≤ above (formula_at ns at.entry.formula) = subst (λ x. above_item (item_at ns n) ≤ above_item x) (sym (a_formula (item_at ns at.entry.formula) (over.formulas s.position at.entry at.found).sort)) here in
+        at_most (above_term (term_at ns n)) (above (formula_at ns at.entry.formula)) v (subst (λ x. above_item x ≤ above (formula_at ns at.entry.formula)) (sym (a_term (item_at ns n) h.number.sort)) formula) (entry_above s.position at.entry at.found)
 
   module _ (names : List ℕ) (rows : BranchRows) (named : AreNamedRows ns (branch_in ns d) names rows) (terms : List ℕ) (are : AreBranchTerms ns (branch_in ns d) terms) (find : ℕ → Option ℕ) (shallowest : AreShallowest ns names terms find) where
     class_is : (n : ℕ) → IsBranchTerm ns (branch_in ns d) n → slice_index names n ≡ named.class (term_at ns n)
@@ -210,14 +210,14 @@ all_named ns b names terms read same long are = subst (All (λ n. n < length nam
 module _ (ns ms : List Node) (g : Extends ns ms) (d : BranchData) (c : BranchClassesData) where
   low_grown : IsOver ns d → c.entries ≡ map formula_number d.entries → AreLow ns c.entries → AreLow ms c.entries
   low_grown over entries low = record {
-    formula = λ place number f. ap sort_of (kept place number f) ∙ low.formula place number f;
-    low = λ place number f. subst (λ x. IsLow (formula_in x)) (sym (kept place number f)) (low.low place number f);
+    formula = λ position number f. ap sort_of (kept position number f) ∙ low.formula position number f;
+    low = λ position number f. subst (λ x. IsLow (formula_in x)) (sym (kept position number f)) (low.low position number f);
   }
     where
-      kept : (place number : ℕ) → slice_get c.entries place ≡ Some number → item_at ms number ≡ item_at ns number
-      kept place number f =
-          let at = number_at_place ns d over place number (ap (λ ks. slice_get ks place) (sym entries) ∙ f) in
-          item_kept ns ms g number (subst (λ k. k < length ns) at.same (over.formulas place at.entry at.found).within)
+      kept : (position number : ℕ) → slice_get c.entries position ≡ Some number → item_at ms number ≡ item_at ns number
+      kept position number f =
+          let at = number_at_position ns d over position number (ap (λ ks. slice_get ks position) (sym entries) ∙ f) in
+          item_kept ns ms g number (subst (λ k. k < length ns) at.same (over.formulas position at.entry at.found).within)
 
   base_grown : IsBase ns d c → IsBase ms d c
   base_grown h = record {

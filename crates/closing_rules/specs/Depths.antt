@@ -15,9 +15,9 @@ pub record IsDeep (p : FormulaData) : Type 0 where
 
 -- some entry is deeper than a step may add
 pub record HasDeep (b : Branch) : Type 0 where
-  pub place : ℕ
+  pub position : ℕ
   pub formula : FormulaData
-  pub says : Says b place formula
+  pub says : Says b position formula
   pub deep : IsDeep formula
 
 -- each of the first entries is no deeper than a step may add, or negates a formula that is not

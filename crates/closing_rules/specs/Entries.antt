@@ -5,7 +5,7 @@ use Rattle.term_pool.specs.declared.node.Node.{Node}
 use Rattle.certificates.specs.BranchesBranch.{Branch, Says}
 use Rattle.tableau.specs.PoolBranches.{BranchData}
 use Rattle.tableau.specs.declared.entry.PoolEntry.{PoolEntry}
-use Rattle.closing_rules.specs.Forms.{IsDenialOf}
+use Rattle.term_pool.specs.Forms.{IsDenialOf}
 
 -- the number of the entry's formula
 pub record IsFormulaOf (d : BranchData) (i n : ℕ) : Type 0 where

@@ -3,7 +3,7 @@ pub mod Forms
 pub mod Indexes
 pub mod Literal
 pub mod Rewriting
-pub mod Places
+pub mod Positions
 pub mod Depths
 pub mod Entries
 pub mod Rewritings

@@ -11,7 +11,7 @@ use Rattle.explanations.specs.declared.derived.replacing.Difference.{Difference}
 
 -- the formula at the index
 abbrev pub source_item : List Node → ChainData → ℕ → Item
-source_item ns d place = item_at ns (slice_index_or d.formulas place 0)
+source_item ns d position = item_at ns (slice_index_or d.formulas position 0)
 
 -- the differences can be replaced in it
 pub record CanRewrite (ns : List Node) (d : ChainData) (numbers : List ℕ) (equations : List (Option ℕ)) (source : ℕ) (ds : List Difference) : Type 0 where

@@ -1,10 +1,8 @@
 -- Rewriting of entries to the same entries with the chosen terms.
 use Rattle.std.specs.Prelude.{◌≡◌, ℕ, ◌<◌, ℤ, pos, Bool, true, false, List, length, slice_get, slice_index_or, Option, Some, None}
-use Rattle.fol.specs.FormulaData.{FormulaData}
 use Rattle.term_pool.specs.declared.node.Node.{Node}
 use Rattle.congruence_closure.specs.declared.classes.link.Link.{Link}
-use Rattle.certificates.specs.BranchesBranch.{Branch, Says}
-use Rattle.certificates.specs.Due.{IsShallow}
+use Rattle.certificates.specs.BranchesBranch.{Branch}
 use Rattle.tableau.specs.PoolBranches.{BranchData}
 use Rattle.tableau.specs.declared.entry.PoolEntry.{PoolEntry}
 use Rattle.row_reasoning.specs.declared.rows.RowOrigin.{RowOrigin}
@@ -13,7 +11,7 @@ use Rattle.explanations.specs.Chains.{ChainData}
 use Rattle.explanations.specs.Replacing.{CanReplaceAt, IsReplacedAt, CanBeginEach}
 use Rattle.explanations.specs.Plans.{IsOnAny}
 use Rattle.explanations.specs.Formulas.{AreInSource}
-use Rattle.row_reasoning.specs.Cited.{place_at}
+use Rattle.row_reasoning.specs.Cited.{position_at}
 use Rattle.row_reasoning.specs.StandIns.{HaveStandIns}
 use Rattle.row_reasoning.specs.DifferencesEntries.{MakeChosen}
 use Rattle.closing_rules.specs.declared.row_closings.rewriting.Rewriting.{Rewriting}
@@ -30,13 +28,6 @@ pub record AreBelow (origins : List RowOrigin) (count : ℕ) : Type 0 where
 -- the entry of each row whose multiplier is not 0 is marked
 pub record AreCited (origins : List RowOrigin) (ms : List ℤ) (cited : List Bool) : Type 0 where
   pub each : (i : ℕ) (o : RowOrigin) (m : ℤ) → slice_get origins i ≡ Some o → slice_get ms i ≡ Some m → (m ≡ pos 0 → ⊥) → is_cited cited o.entry ≡ true
-
--- an entry is deeper than a step may add
-pub record HasDeepEntry (b : Branch) : Type 0 where
-  pub place : ℕ
-  pub formula : FormulaData
-  pub says : Says b place formula
-  pub deep : IsShallow formula → ⊥
 
 -- ---- rewritings
 
@@ -59,9 +50,9 @@ pub record AreRewritingsOf (ns : List Node) (d : BranchData) (c : BranchClassesD
 
 -- one of the rewritings is of the entry
 pub record HasRewriting (rs : List Rewriting) (entry : ℕ) : Type 0 where
-  pub place : ℕ
+  pub position : ℕ
   pub rewriting : Rewriting
-  pub found : slice_get rs place ≡ Some rewriting
+  pub found : slice_get rs position ≡ Some rewriting
   pub same : rewriting.entry ≡ entry
 
 -- the rewritings of the cited entries among the first ones
@@ -77,9 +68,9 @@ pub record CoverRows (origins : List RowOrigin) (ms : List ℤ) (rs : List Rewri
 
 -- the proof forest edge is needed for some of the rewritings
 pub record IsOnEach (rs : List Rewriting) (link : ℕ) : Type 0 where
-  pub place : ℕ
+  pub position : ℕ
   pub rewriting : Rewriting
-  pub found : slice_get rs place ≡ Some rewriting
+  pub found : slice_get rs position ≡ Some rewriting
   pub on : IsOnAny rewriting.differences.items link
 
 -- each rewriting finds its differences in the entry, whose index in the explanation is its own number
@@ -95,17 +86,17 @@ pub record AreReady (ns : List Node) (b : Branch) (d : ChainData) (numbers : Lis
   pub each : (k : ℕ) (r : Rewriting) → slice_get rs k ≡ Some r → IsReady ns b d numbers table r
 
 -- none of the first `count` entries has an index
-pub record AreNoPlaces (count : ℕ) (places : List (Option ℕ)) : Type 0 where
-  pub long : length places ≡ count
-  pub none : (entry : ℕ) → place_at places entry ≡ None
+pub record AreNoPositions (count : ℕ) (positions : List (Option ℕ)) : Type 0 where
+  pub long : length positions ≡ count
+  pub none : (entry : ℕ) → position_at positions entry ≡ None
 
 -- the entry has an index, and the formula there is the result of one of its rewritings
-pub record HasPlaceFor (ns : List Node) (d : ChainData) (numbers : List ℕ) (rs : List Rewriting) (ms : List Node) (e : ChainData) (places : List (Option ℕ)) (entry : ℕ) : Type 0 where
-  pub place : ℕ
-  pub found : place_at places entry ≡ Some place
+pub record HasPositionFor (ns : List Node) (d : ChainData) (numbers : List ℕ) (rs : List Rewriting) (ms : List Node) (e : ChainData) (positions : List (Option ℕ)) (entry : ℕ) : Type 0 where
+  pub position : ℕ
+  pub found : position_at positions entry ≡ Some position
   pub has : HasRewriting rs entry
-  pub at : IsReplacedAt ns d numbers entry has.rewriting.differences.items ms e place
+  pub at : IsReplacedAt ns d numbers entry has.rewriting.differences.items ms e position
 
-pub record ArePlacedBy (ns : List Node) (d : ChainData) (numbers : List ℕ) (rs : List Rewriting) (ms : List Node) (e : ChainData) (places : List (Option ℕ)) : Type 0 where
-  pub each : (k : ℕ) (r : Rewriting) → slice_get rs k ≡ Some r → HasPlaceFor ns d numbers rs ms e places r.entry
-  pub below : (entry place : ℕ) → place_at places entry ≡ Some place → place < length e.formulas
+pub record ArePlacedBy (ns : List Node) (d : ChainData) (numbers : List ℕ) (rs : List Rewriting) (ms : List Node) (e : ChainData) (positions : List (Option ℕ)) : Type 0 where
+  pub each : (k : ℕ) (r : Rewriting) → slice_get rs k ≡ Some r → HasPositionFor ns d numbers rs ms e positions r.entry
+  pub below : (entry position : ℕ) → position_at positions entry ≡ Some position → position < length e.formulas

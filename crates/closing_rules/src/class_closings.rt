@@ -1,7 +1,7 @@
 //! Closings of a branch by a clash up to congruence.
 
 pub mod closing;
-mod depth;
+pub(crate) mod depth;
 mod entries;
 pub mod history;
 mod linked;

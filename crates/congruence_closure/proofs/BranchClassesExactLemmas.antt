@@ -83,7 +83,7 @@ module _ (ns : List Node) (es : List Equation) (cs : List ℕ) (ls : List Link) 
   entry_value i t u s =
       let q : IsEquation ns es t u = equations.all i t u s in
       node_value held ns (class_in cs) tabled q.equation.left (tree_of [] (TermItem t)) q.sides.left.is
-      ∙ ap ClassValue (classes.whole q.equation.left q.equation.right (ByEquation q.place q.equation q.found))
+      ∙ ap ClassValue (classes.whole q.equation.left q.equation.right (ByEquation q.position q.equation q.found))
       ∙ sym (node_value held ns (class_in cs) tabled q.equation.right (tree_of [] (TermItem u)) q.sides.right.is)
 
   class_of : {m n : ℕ} → ClassValue m ≡ ClassValue n → m ≡ n

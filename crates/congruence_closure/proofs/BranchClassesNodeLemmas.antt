@@ -130,7 +130,7 @@ module _ (b : Branch) where
     pub congruent_alike : (i j : ℕ) → Congruent ns es i j → (x y : Tree) → IsTree ns i x → IsTree ns j y → Alike b x y
     congruent_alike _ _ (ByEquation k e f) x y u v =
         let on : IsSaid ns (Says b) e = equations.given k e f in
-        OneClass on.one on.other x y (ByEntry on.place on.one on.other on.says)
+        OneClass on.one on.other x y (ByEntry on.position on.one on.other on.says)
         (one_tree_each ns e.left x (tree_of [] (TermItem on.one)) u on.sides.left.is)
         (one_tree_each ns e.right y (tree_of [] (TermItem on.other)) v on.sides.right.is)
     congruent_alike _ _ (ByLeaf i j h e f) x y u v =

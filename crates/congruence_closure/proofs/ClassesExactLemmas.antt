@@ -78,7 +78,7 @@ module _ (ns : List Node) (es : List Equation) where
 module _ (ns : List Node) (es : List Equation) (c : ℕ → ℕ) (T : Node → Option ℕ) (ls : List Link) (sound : IsSound ns es c ls []) (tabled : AreTabled ns c T []) where
   near_same : (i j : ℕ) → IsNear c [] i j → SameClass c i j
   near_same i j (inl e) = e
-  near_same i j (inr w) = absurd (nothing w.place w.link w.found)
+  near_same i j (inr w) = absurd (nothing w.position w.link w.found)
     where
       nothing : (k : ℕ) (l : Link) → slice_get {X = Link} [] k ≡ Some l → ⊥
       nothing k l e = absurd (cc)

@@ -126,8 +126,8 @@ module _ (ns : List Node) (node : Node) where
           subst (λ ys. Contains ys i) (sym (list_kept ms (length ns ∷ []) (c i) (omega (arith, k, long)))) (members.all i h)
       go i w (inr h) =
           let same : length ns ≡ i = omega (arith, h, w, longer) in
-          let place : length ms ≡ c i = members.one_each ∙ same ∙ sym (named.beyond i h) in
-          subst (λ ys. Contains ys i) (sym (get_or_push ms (length ns ∷ []) [] (c i) place)) (0, omega arith, same)
+          let position : length ms ≡ c i = members.one_each ∙ same ∙ sym (named.beyond i h) in
+          subst (λ ys. Contains ys i) (sym (get_or_push ms (length ns ∷ []) [] (c i) position)) (0, omega arith, same)
 
   pub users_more : (us us2 : List (List ℕ)) → AreUsers ns us → AreUsersAdded (us ++ [] ∷ []) us2 (length ns) (IsPartOf node) → ((i : ℕ) (m : Node) → slice_get ns i ≡ Some m → IsWithin (length ns) m) → AreUsers (ns ++ node ∷ []) us2
   users_more us us2 users added parts = record {

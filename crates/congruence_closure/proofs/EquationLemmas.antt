@@ -64,7 +64,7 @@ module _ (ns : List Node) (es : List Equation) (left right : ℕ) (wl : left < l
         reasons l k (inr h) = subst (IsReasonable ns (es ++ equation left right ∷ []) c) (sym h.1) new
 
         at_end : IsNear c (ws ++ given left right (length es) ∷ []) left right
-        at_end = inr (record { place = length ws; link = given left right (length es); found = push_new ws (given left right (length es)); left = refl; right = refl })
+        at_end = inr (record { position = length ws; link = given left right (length es); found = push_new ws (given left right (length es)); left = refl; right = refl })
 
         met : (k : ℕ) (e : Equation) → (slice_get es k ≡ Some e) ⊎ ((k ≡ length es) × (e ≡ equation left right)) → IsNear c (ws ++ given left right (length es) ∷ []) e.left e.right
         met k e (inl h) = near_more c ws (given left right (length es)) e.left e.right (s.met k e h)

@@ -2,17 +2,11 @@
 use Rattle.std.proofs.Common.{◌≡◌, ◌⊎◌, inl, inr, ℕ, zero, suc, ◌<◌, ◌≤◌, List, [], ◌∷◌, ◌++◌, length, map, Option, Some, None, Result, Ok, Err, IfOk, Bool, ◌↔◌, refl, sym, ap, ◌∙◌, subst, arith, rules}
 use Rattle.std.specs.Prelude.{slice_get}
 use Rattle.fol.specs.FormulaData.{TermData, FormulaData}
-use Rattle.term_pool.specs.declared.node.Leaf.{Leaf}
 use Rattle.term_pool.specs.declared.node.Leaf.TheVariants.{Var, TypeParam}
-use Rattle.term_pool.specs.declared.node.One.{One}
-use Rattle.term_pool.specs.declared.node.One.TheVariants.{Unary}
-use Rattle.term_pool.specs.declared.node.Two.{Two}
 use Rattle.term_pool.specs.declared.node.Two.TheVariants.{Compare}
-use Rattle.term_pool.specs.declared.node.Three.{Three}
-use Rattle.term_pool.specs.declared.node.Three.TheVariants.{Ternary}
 use Rattle.term_pool.specs.declared.node.Node.{Node}
 use Rattle.term_pool.specs.declared.node.Node.TheVariants.{Leaf as LeafNode, One as OneNode, Two as TwoNode, Three as ThreeNode}
-use Rattle.term_pool.specs.Items.{Item, TermItem, FormulaItem, TermSort, sort_of, term_in, formula_in, leaf_item, one_item, two_item, three_item}
+use Rattle.term_pool.specs.Items.{Item, TermItem, FormulaItem, TermSort, sort_of, term_in, formula_in, one_item, two_item, three_item}
 use Rattle.congruence_closure.specs.Nodes.{IsNode, AreSides, IsEquation, IsSaid, AreEquations}
 use Rattle.congruence_closure.specs.Known.{BranchClassesData, IsKnown, IsOuterPart, IsFound, ArePartsFound, class_of, node_in, IsNodeOf, AreKnown, AreExact, formula_at, IsEntry, AreWithin, IsOfEntry, IsOver, StandsInEntry, AreInEntries, AreEntriesOf, TellsJoined, TellsAlike, Keeps, IsWalked, IsPutIn, NoEquation, OneEquation, IsEquated}
 use Rattle.congruence_closure.specs.Congruence.{Congruent}
@@ -36,32 +30,6 @@ use Rattle.congruence_closure.proofs.BranchClassesExactLemmas.{exactly_joined, e
 
 -- ---- equations among formulas
 
-not_leaf : (h : Leaf) (t u : TermData) → formula_in (leaf_item h) ≡ EqFormula t u → ⊥
-not_leaf (Var n) t u e = absurd (cc)
-not_leaf h t u e = absurd (cc)
-
-not_one : (h : One) (x : Item) (t u : TermData) → formula_in (one_item h x) ≡ EqFormula t u → ⊥
-not_one (Unary o) x t u e = absurd (cc)
-not_one h x t u e = absurd (cc)
-
-not_three : (h : Three) (x y z : Item) (t u : TermData) → formula_in (three_item h x y z) ≡ EqFormula t u → ⊥
-not_three (Ternary o) x y z t u e = absurd (cc)
-not_three h x y z t u e = absurd (cc)
-
-only_equality : (h : Two) (x y : Item) (t u : TermData) → formula_in (two_item h x y) ≡ EqFormula t u → h ≡ Compare Eq
-only_equality (Compare o) x y t u e = let same : o ≡ Eq = cc in ap Compare same
-only_equality h x y t u e = absurd (cc)
-
-abbrev pub IsNoEquality : Node → Type 0
-IsNoEquality (TwoNode h a b) = h ≡ Compare Eq → ⊥
-IsNoEquality _ = Unit {0}
-
-pub no_equation : (pool : List Node) (number : ℕ) (n : Node) → IsMade pool number n → IsNoEquality n → (t u : TermData) → formula_at pool number ≡ EqFormula t u → ⊥
-no_equation pool number (LeafNode h) m none t u e = not_leaf h t u (ap formula_in (sym m.item) ∙ e)
-no_equation pool number (OneNode h a) m none t u e = not_one h (item_at pool a) t u (ap formula_in (sym m.item) ∙ e)
-no_equation pool number (TwoNode h a b) m none t u e = none (only_equality h (item_at pool a) (item_at pool b) t u (ap formula_in (sym m.item) ∙ e))
-no_equation pool number (ThreeNode h a b c) m none t u e = not_three h (item_at pool a) (item_at pool b) (item_at pool c) t u (ap formula_in (sym m.item) ∙ e)
-
 as_term : (x : Item) → sort_of x ≡ TermSort → x ≡ TermItem (term_in x)
 as_term (TermItem t) e = refl
 as_term _ e = absurd (cc)
@@ -82,14 +50,14 @@ sides_kept ns ms g e t u s = record { left = node_kept ns ms g e.left [] (TermIt
 
 equations_kept : (ns ms : List Node) (es : List Equation) (Tells : ℕ → FormulaData → Type 0) → Extends ns ms → AreEquations ns es Tells → AreEquations ms es Tells
 equations_kept ns ms es Tells g a = record {
-  given = λ k e f. (let s : IsSaid ns Tells e = a.given k e f in record { one = s.one; other = s.other; sides = sides_kept ns ms g e s.one s.other s.sides; place = s.place; says = s.says });
-  all = λ i t u h. (let q : IsEquation ns es t u = a.all i t u h in record { place = q.place; equation = q.equation; found = q.found; sides = sides_kept ns ms g q.equation t u q.sides });
+  given = λ k e f. (let s : IsSaid ns Tells e = a.given k e f in record { one = s.one; other = s.other; sides = sides_kept ns ms g e s.one s.other s.sides; position = s.position; says = s.says });
+  all = λ i t u h. (let q : IsEquation ns es t u = a.all i t u h in record { position = q.position; equation = q.equation; found = q.found; sides = sides_kept ns ms g q.equation t u q.sides });
 }
 
 -- the same equations under another predicate
 equations_said : (ns : List Node) (es : List Equation) (Tells Says2 : ℕ → FormulaData → Type 0) → ((i : ℕ) (p : FormulaData) → Tells i p → Says2 i p) → ((i : ℕ) (p : FormulaData) → Says2 i p → Tells i p) → AreEquations ns es Tells → AreEquations ns es Says2
 equations_said ns es Tells Says2 to from a = record {
-  given = λ k e f. (let s : IsSaid ns Tells e = a.given k e f in record { one = s.one; other = s.other; sides = s.sides; place = s.place; says = to s.place (EqFormula s.one s.other) s.says });
+  given = λ k e f. (let s : IsSaid ns Tells e = a.given k e f in record { one = s.one; other = s.other; sides = s.sides; position = s.position; says = to s.position (EqFormula s.one s.other) s.says });
   all = λ i t u h. a.all i t u (from i (EqFormula t u) h);
 }
 
@@ -106,7 +74,7 @@ pub over_walked : (pool : List Node) (d d2 : BranchClassesData) (number node : �
 over_walked pool d d2 number node over ee en w k = record {
   nodes = w.grown.nodes;
   known = w.grown.known;
-  entries = λ place i f. kept_known d d2 i w.grown.stays (over.entries place i (subst (λ ks. slice_get ks place ≡ Some i) en f));
+  entries = λ position i f. kept_known d d2 i w.grown.stays (over.entries position i (subst (λ ks. slice_get ks position ≡ Some i) en f));
   equations = subst (λ es. AreEquations d2.classes.nodes es (IsEntry pool d2.entries)) (sym ee) (subst (λ ks. AreEquations d2.classes.nodes d.classes.equations (IsEntry pool ks)) (sym en) (equations_kept d.classes.nodes d2.classes.nodes d.classes.equations (IsEntry pool d.entries) w.grown.extends over.equations));
   numbered = k.grown.more.numbered;
   made = k.grown.all_made;
@@ -114,7 +82,7 @@ over_walked pool d d2 number node over ee en w k = record {
 }
   where
     sides : (e : Equation) → IsOfEntry pool d e → IsOfEntry pool d2 e
-    sides e h = record { place = h.place; number = h.number; found = subst (λ ks. slice_get ks h.place ≡ Some h.number) (sym en) h.found; sides = sides_stay pool d.classes.nodes d2.classes.nodes number d.numbers d2.numbers h.number e over.numbered k.grown.more h.sides }
+    sides e h = record { position = h.position; number = h.number; found = subst (λ ks. slice_get ks h.position ≡ Some h.number) (sym en) h.found; sides = sides_stay pool d.classes.nodes d2.classes.nodes number d.numbers d2.numbers h.number e over.numbered k.grown.more h.sides }
 
 nowhere : {X : Type 0} (xs : List X) → xs ≡ [] → (k : ℕ) (x : X) → slice_get xs k ≡ Some x → ⊥
 nowhere xs none k x e = let never : None ≡ Some x = sym (ap (λ ys. slice_get ys k) none) ∙ e in absurd (cc)
@@ -123,7 +91,7 @@ pub nothing_over : (pool : List Node) (d : BranchClassesData) → d.classes.node
 nothing_over pool d nodes equations numbers known entries = record {
   nodes = record { each = λ i w. absurd (let l = ap length nodes in omega (arith, l, w)) };
   known = nothing_known pool d.classes.nodes [] d.known known;
-  entries = λ place number e. absurd (nowhere d.entries entries place number e);
+  entries = λ position number e. absurd (nowhere d.entries entries position number e);
   equations = record { given = λ k e f. absurd (nowhere d.classes.equations equations k e f); all = λ i t u s. absurd (nowhere d.entries entries i s.number s.found) };
   numbered = record {
     long = ap length numbers ∙ sym (ap length nodes);
@@ -143,8 +111,8 @@ nothing_inside pool d nodes = record { each = λ i w. absurd (let l = ap length 
 
 -- ---- one more entry
 
-entry_more : (pool : List Node) (entries : List ℕ) (number place : ℕ) (p : FormulaData) → IsEntry pool entries place p → IsEntry pool (entries ++ number ∷ []) place p
-entry_more pool entries number place p e = record { number = e.number; found = push_kept entries number place e.number e.found; is = e.is }
+entry_more : (pool : List Node) (entries : List ℕ) (number position : ℕ) (p : FormulaData) → IsEntry pool entries position p → IsEntry pool (entries ++ number ∷ []) position p
+entry_more pool entries number position p e = record { number = e.number; found = push_kept entries number position e.number e.found; is = e.is }
 
 pub put_in : (pool ns : List Node) (es es2 : List Equation) (entries : List ℕ) (number : ℕ) → IsPutIn pool number ns es es2 → AreEquations ns es (IsEntry pool entries) → AreEquations ns es2 (IsEntry pool (entries ++ number ∷ []))
 put_in pool ns es es2 entries number (NoEquation same none) a = subst (λ xs. AreEquations ns xs (IsEntry pool (entries ++ number ∷ []))) (sym same) (record { given = given; all = all })
@@ -152,7 +120,7 @@ put_in pool ns es es2 entries number (NoEquation same none) a = subst (λ xs. Ar
     given : (k : ℕ) (e : Equation) → slice_get es k ≡ Some e → IsSaid ns (IsEntry pool (entries ++ number ∷ [])) e
     given k e f =
         let s : IsSaid ns (IsEntry pool entries) e = a.given k e f in
-        record { one = s.one; other = s.other; sides = s.sides; place = s.place; says = entry_more pool entries number s.place (EqFormula s.one s.other) s.says }
+        record { one = s.one; other = s.other; sides = s.sides; position = s.position; says = entry_more pool entries number s.position (EqFormula s.one s.other) s.says }
 
     all : (i : ℕ) (t u : TermData) → IsEntry pool (entries ++ number ∷ []) i (EqFormula t u) → IsEquation ns es t u
     all i t u h = go (push_cases entries number i h.number h.found)
@@ -168,8 +136,8 @@ put_in pool ns es es2 entries number (OneEquation e t u more is sides) a = subst
         go : (slice_get es k ≡ Some d) ⊎ ((k ≡ length es) × (d ≡ e)) → IsSaid ns (IsEntry pool (entries ++ number ∷ [])) d
         go (inl g) =
             let s : IsSaid ns (IsEntry pool entries) d = a.given k d g in
-            record { one = s.one; other = s.other; sides = s.sides; place = s.place; says = entry_more pool entries number s.place (EqFormula s.one s.other) s.says }
-        go (inr p) = subst (IsSaid ns (IsEntry pool (entries ++ number ∷ []))) (sym p.1) (record { one = t; other = u; sides = sides; place = length entries; says = record { number = number; found = push_new entries number; is = is } })
+            record { one = s.one; other = s.other; sides = s.sides; position = s.position; says = entry_more pool entries number s.position (EqFormula s.one s.other) s.says }
+        go (inr p) = subst (IsSaid ns (IsEntry pool (entries ++ number ∷ []))) (sym p.1) (record { one = t; other = u; sides = sides; position = length entries; says = record { number = number; found = push_new entries number; is = is } })
 
     all : (i : ℕ) (v w : TermData) → IsEntry pool (entries ++ number ∷ []) i (EqFormula v w) → IsEquation ns (es ++ e ∷ []) v w
     all i v w h = go (push_cases entries number i h.number h.found)
@@ -177,18 +145,18 @@ put_in pool ns es es2 entries number (OneEquation e t u more is sides) a = subst
         go : (slice_get entries i ≡ Some h.number) ⊎ ((i ≡ length entries) × (h.number ≡ number)) → IsEquation ns (es ++ e ∷ []) v w
         go (inl f) =
             let q : IsEquation ns es v w = a.all i v w (record { number = h.number; found = f; is = h.is }) in
-            record { place = q.place; equation = q.equation; found = push_kept es e q.place q.equation q.found; sides = q.sides }
+            record { position = q.position; equation = q.equation; found = push_kept es e q.position q.equation q.found; sides = q.sides }
         go (inr p) =
             let same : EqFormula t u ≡ EqFormula v w = sym is ∙ ap (formula_at pool) (sym p.1) ∙ h.is in
             let st : t ≡ v = cc in
             let su : u ≡ w = cc in
-            record { place = length es; equation = e; found = push_new es e; sides = subst (λ x. AreSides ns e x w) st (subst (λ x. AreSides ns e t x) su sides) }
+            record { position = length es; equation = e; found = push_new es e; sides = subst (λ x. AreSides ns e x w) st (subst (λ x. AreSides ns e t x) su sides) }
 
 pub over_entry : (pool : List Node) (d d2 : BranchClassesData) (number : ℕ) → IsOver pool d → d2.entries ≡ d.entries ++ number ∷ [] → IsEquated pool number d.classes d2.classes (node_in d) (node_in d2) → AreKnownFor pool number d.classes.nodes d2.classes.nodes d.numbers d2.numbers (node_in d2) → ArePutIn pool d2.classes.nodes d2.numbers number d.classes.equations d2.classes.equations → IsOver pool d2
 over_entry pool d d2 number over en q k p = record {
   nodes = q.walked.grown.nodes;
   known = q.walked.grown.known;
-  entries = λ place i f. go place i (push_cases d.entries number place i (subst (λ ks. slice_get ks place ≡ Some i) en f));
+  entries = λ position i f. go position i (push_cases d.entries number position i (subst (λ ks. slice_get ks position ≡ Some i) en f));
   equations = subst (λ ks. AreEquations d2.classes.nodes d2.classes.equations (IsEntry pool ks)) (sym en)
       (put_in pool d2.classes.nodes d.classes.equations d2.classes.equations d.entries number q.equations (equations_kept d.classes.nodes d2.classes.nodes d.classes.equations (IsEntry pool d.entries) q.walked.grown.extends over.equations));
   numbered = k.more.numbered;
@@ -196,16 +164,16 @@ over_entry pool d d2 number over en q k p = record {
   sides = λ i e f. sides e (elim (p.each i e f) [ inl h ↦ inl (over.sides i e h) | inr h ↦ inr h ]);
 }
   where
-    later : (place i : ℕ) → slice_get d.entries place ≡ Some i → slice_get d2.entries place ≡ Some i
-    later place i f = subst (λ ks. slice_get ks place ≡ Some i) (sym en) (push_kept d.entries number place i f)
+    later : (position i : ℕ) → slice_get d.entries position ≡ Some i → slice_get d2.entries position ≡ Some i
+    later position i f = subst (λ ks. slice_get ks position ≡ Some i) (sym en) (push_kept d.entries number position i f)
 
     sides : (e : Equation) → IsOfEntry pool d e ⊎ AreSidesOf pool d2.classes.nodes d2.numbers number e → IsOfEntry pool d2 e
-    sides e (inl h) = record { place = h.place; number = h.number; found = later h.place h.number h.found; sides = sides_stay pool d.classes.nodes d2.classes.nodes number d.numbers d2.numbers h.number e over.numbered k.more h.sides }
-    sides e (inr h) = record { place = length d.entries; number = number; found = subst (λ ks. slice_get ks (length d.entries) ≡ Some number) (sym en) (push_new d.entries number); sides = h }
+    sides e (inl h) = record { position = h.position; number = h.number; found = later h.position h.number h.found; sides = sides_stay pool d.classes.nodes d2.classes.nodes number d.numbers d2.numbers h.number e over.numbered k.more h.sides }
+    sides e (inr h) = record { position = length d.entries; number = number; found = subst (λ ks. slice_get ks (length d.entries) ≡ Some number) (sym en) (push_new d.entries number); sides = h }
 
-    go : (place k : ℕ) → (slice_get d.entries place ≡ Some k) ⊎ ((place ≡ length d.entries) × (k ≡ number)) → IsKnown d2 k
-    go place k (inl f) = kept_known d d2 k q.walked.grown.stays (over.entries place k f)
-    go place k (inr p) = subst (IsKnown d2) (sym p.1) (record { node = q.node; found = q.found })
+    go : (position k : ℕ) → (slice_get d.entries position ≡ Some k) ⊎ ((position ≡ length d.entries) × (k ≡ number)) → IsKnown d2 k
+    go position k (inl f) = kept_known d d2 k q.walked.grown.stays (over.entries position k f)
+    go position k (inr p) = subst (IsKnown d2) (sym p.1) (record { node = q.node; found = q.found })
 
 -- the items that occur in entries, after one more entry
 pub still_inside : (pool : List Node) (d d2 : BranchClassesData) (number : ℕ) → IsOver pool d → d2.entries ≡ d.entries ++ number ∷ [] → AreKnownFor pool number d.classes.nodes d2.classes.nodes d.numbers d2.numbers (node_in d2) → AreInEntries pool d → AreInEntries pool d2
@@ -215,8 +183,8 @@ still_inside pool d d2 number over en k inside = record { each = λ i w. go i w 
     go i w (inl v) =
         let s = inside.each i v in
         let same : number_at d2.numbers i ≡ number_at d.numbers i = stays pool d.classes.nodes d2.classes.nodes d.numbers d2.numbers k.more.more k.more.nodes k.more.is over.numbered i v in
-        record { place = s.place; entry = s.entry; found = subst (λ ks. slice_get ks s.place ≡ Some s.entry) (sym en) (push_kept d.entries number s.place s.entry s.found); stands = subst (λ j. StandsIn pool j s.entry) (sym same) s.stands }
-    go i w (inr v) = record { place = length d.entries; entry = number; found = subst (λ ks. slice_get ks (length d.entries) ≡ Some number) (sym en) (push_new d.entries number); stands = k.more.each i v w }
+        record { position = s.position; entry = s.entry; found = subst (λ ks. slice_get ks s.position ≡ Some s.entry) (sym en) (push_kept d.entries number s.position s.entry s.found); stands = subst (λ j. StandsIn pool j s.entry) (sym same) s.stands }
+    go i w (inr v) = record { position = length d.entries; entry = number; found = subst (λ ks. slice_get ks (length d.entries) ≡ Some number) (sym en) (push_new d.entries number); stands = k.more.each i v w }
 
 -- the sides of an equation were walked and joined
 pub equated_by : {E : Type 0} (pool : List Node) (number left right : ℕ) (d0 d1 d2 d3 : ClassesData) (f0 f1 f2 f3 : ℕ → Option ℕ) (node i j : ℕ) (r : Result Numbered E) → IsMade pool number (TwoNode (Compare Eq) left right) → d1.equations ≡ d0.equations → d2.equations ≡ d1.equations → d3.equations ≡ d2.equations → IsWalked pool [] number d0.nodes d1.nodes f0 f1 node → f1 number ≡ Some node → IsWalked pool [] left d1.nodes d2.nodes f1 f2 i → IsWalked pool [] right d2.nodes d3.nodes f2 f3 j → IfOk r (λ new. new.classes.nodes ≡ d3.nodes) → IfOk r (λ new. new.classes.equations ≡ d3.equations ++ record { left = i; right = j } ∷ []) → IfOk r (λ new. IsEquated pool number d0 new.classes f0 f3)
@@ -319,7 +287,7 @@ module _ (pool more : List Node) (g : Extends pool more) where
     all_numbered_more a = record { long = a.long; parts = a.parts; inside = λ i w. extends_more pool more g (number_at numbers i) (a.inside i w); numbered = λ i w. numbered_more i (a.numbered i w) }
 
 pub inside_more : (pool more : List Node) (d : BranchClassesData) → Extends pool more → AreInEntries pool d → AreInEntries more d
-inside_more pool more d g inside = record { each = λ i w. (let s = inside.each i w in record { place = s.place; entry = s.entry; found = s.found; stands = stands_more pool more g s.stands }) }
+inside_more pool more d g inside = record { each = λ i w. (let s = inside.each i w in record { position = s.position; entry = s.entry; found = s.found; stands = stands_more pool more g s.stands }) }
 
 pub still_over : (pool more : List Node) (d : BranchClassesData) → Extends pool more → IsOver pool d → IsOver more d
 still_over pool more d g over = record {
@@ -330,7 +298,7 @@ still_over pool more d g over = record {
   numbered = all_numbered_more pool more g d.classes.nodes d.numbers over.numbered;
   made = record { each = λ number node e. made_for_more pool more g d.classes.nodes d.numbers number node (over.made.each number node e) };
   sides = λ k e f. (let h = over.sides k e f in let s = h.sides in record {
-    place = h.place;
+    position = h.position;
     number = h.number;
     found = h.found;
     sides = record {

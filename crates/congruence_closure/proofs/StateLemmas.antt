@@ -134,10 +134,10 @@ ahead_turn c ws vs us l ahead is same = record {
   where
     go : (i j : ℕ) → IsNear c (us ++ l ∷ []) i j → IsNear c us i j
     go i j (inl e) = inl e
-    go i j (inr w) = at (push_cases us l w.place w.link w.found)
+    go i j (inr w) = at (push_cases us l w.position w.link w.found)
       where
-        at : (slice_get us w.place ≡ Some w.link) ⊎ ((w.place ≡ length us) × (w.link ≡ l)) → IsNear c us i j
-        at (inl h) = inr (record { place = w.place; link = w.link; found = h; left = w.left; right = w.right })
+        at : (slice_get us w.position ≡ Some w.link) ⊎ ((w.position ≡ length us) × (w.link ≡ l)) → IsNear c us i j
+        at (inl h) = inr (record { position = w.position; link = w.link; found = h; left = w.left; right = w.right })
         at (inr h) =
             let left : l.left ≡ i = ap (λ (m : Link). m.left) (sym h.1) ∙ w.left in
             let right : l.right ≡ j = ap (λ (m : Link). m.right) (sym h.1) ∙ w.right in
@@ -158,4 +158,4 @@ ahead_done c ws vs us ahead none over = record { none = over; same = λ i j h. g
 
     go : (i j : ℕ) → IsNear c [] i j → SameClass c i j
     go i j (inl e) = e
-    go i j (inr w) = absurd (nothing w.place w.link w.found)
+    go i j (inr w) = absurd (nothing w.position w.link w.found)

@@ -16,7 +16,7 @@ use Rattle.congruence_closure.proofs.SignedLemmas.{alike_by_signature, not_dead}
 
 pub near_more : (c : ℕ → ℕ) (ws : List Link) (l : Link) (i j : ℕ) → IsNear c ws i j → IsNear c (ws ++ l ∷ []) i j
 near_more c ws l i j (inl e) = inl e
-near_more c ws l i j (inr w) = inr (record { place = w.place; link = w.link; found = push_kept ws l w.place w.link w.found; left = w.left; right = w.right })
+near_more c ws l i j (inr w) = inr (record { position = w.position; link = w.link; found = push_kept ws l w.position w.link w.found; left = w.left; right = w.right })
 
 module _ (ns : List Node) (c : ℕ → ℕ) where
   -- nothing changes

@@ -139,10 +139,10 @@ module _ (ns : List Node) (es : List Equation) (c : ℕ → ℕ) (ls ws : List L
 
   pub near_joined : (i j : ℕ) → IsNear c (ws ++ l ∷ []) i j → IsNear (joined c from to) ws i j
   near_joined i j (inl e) = inl (ap (renamed from to) e)
-  near_joined i j (inr w) = go (push_cases ws l w.place w.link w.found)
+  near_joined i j (inr w) = go (push_cases ws l w.position w.link w.found)
     where
-      go : (slice_get ws w.place ≡ Some w.link) ⊎ ((w.place ≡ length ws) × (w.link ≡ l)) → IsNear (joined c from to) ws i j
-      go (inl h) = inr (record { place = w.place; link = w.link; found = h; left = w.left; right = w.right })
+      go : (slice_get ws w.position ≡ Some w.link) ⊎ ((w.position ≡ length ws) × (w.link ≡ l)) → IsNear (joined c from to) ws i j
+      go (inl h) = inr (record { position = w.position; link = w.link; found = h; left = w.left; right = w.right })
       go (inr h) =
           let left : l.left ≡ i = ap (λ (m : Link). m.left) (sym h.1) ∙ w.left in
           let right : l.right ≡ j = ap (λ (m : Link). m.right) (sym h.1) ∙ w.right in

@@ -62,9 +62,9 @@ abbrev pub formula_at : List Node → ℕ → FormulaData
 formula_at pool number = formula_in (item_at pool number)
 
 -- the entry at this index is this formula
-pub record IsEntry (pool : List Node) (entries : List ℕ) (place : ℕ) (p : FormulaData) : Type 0 where
+pub record IsEntry (pool : List Node) (entries : List ℕ) (position : ℕ) (p : FormulaData) : Type 0 where
   pub number : ℕ
-  pub found : slice_get entries place ≡ Some number
+  pub found : slice_get entries position ≡ Some number
   pub is : formula_at pool number ≡ p
 
 -- the nodes are those of the list
@@ -73,9 +73,9 @@ pub record AreWithin (ns : List Node) (known : ℕ → Option ℕ) : Type 0 wher
 
 -- the equation is an entry
 pub record IsOfEntry (pool : List Node) (d : BranchClassesData) (e : Equation) : Type 0 where
-  pub place : ℕ
+  pub position : ℕ
   pub number : ℕ
-  pub found : slice_get d.entries place ≡ Some number
+  pub found : slice_get d.entries position ≡ Some number
   pub sides : AreSidesOf pool d.classes.nodes d.numbers number e
 
 -- each known node represents its item, the formulas of the entries are known, and the equations are those among them;
@@ -83,7 +83,7 @@ pub record IsOfEntry (pool : List Node) (d : BranchClassesData) (e : Equation) :
 pub record IsOver (pool : List Node) (d : BranchClassesData) : Type 0 where
   pub nodes : AreNodes d.classes.nodes
   pub known : AreKnown pool d.classes.nodes [] (node_in d)
-  pub entries : (place number : ℕ) → slice_get d.entries place ≡ Some number → IsKnown d number
+  pub entries : (position number : ℕ) → slice_get d.entries position ≡ Some number → IsKnown d number
   pub equations : AreEquations d.classes.nodes d.classes.equations (IsEntry pool d.entries)
   pub numbered : AreNumbered pool d.classes.nodes d.numbers
   pub made : AreMadeFor pool d.classes.nodes d.numbers (node_in d)
@@ -91,9 +91,9 @@ pub record IsOver (pool : List Node) (d : BranchClassesData) : Type 0 where
 
 -- the number occurs in an entry
 pub record StandsInEntry (pool : List Node) (entries : List ℕ) (number : ℕ) : Type 0 where
-  pub place : ℕ
+  pub position : ℕ
   pub entry : ℕ
-  pub found : slice_get entries place ≡ Some entry
+  pub found : slice_get entries position ≡ Some entry
   pub stands : StandsIn pool number entry
 
 -- each node was made for an item that occurs in an entry

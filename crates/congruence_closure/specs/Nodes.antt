@@ -53,9 +53,9 @@ pub record AreSides (ns : List Node) (e : Equation) (t u : TermData) : Type 0 wh
 
 -- an equation of the list is that of these terms
 pub record IsEquation (ns : List Node) (es : List Equation) (t u : TermData) : Type 0 where
-  pub place : ℕ
+  pub position : ℕ
   pub equation : Equation
-  pub found : slice_get es place ≡ Some equation
+  pub found : slice_get es position ≡ Some equation
   pub sides : AreSides ns equation t u
 
 -- some formula states that the sides of the equation are equal
@@ -63,8 +63,8 @@ pub record IsSaid (ns : List Node) (Says : ℕ → FormulaData → Type 0) (e : 
   pub one : TermData
   pub other : TermData
   pub sides : AreSides ns e one other
-  pub place : ℕ
-  pub says : Says place (EqFormula one other)
+  pub position : ℕ
+  pub says : Says position (EqFormula one other)
 
 -- the equations are those of the formulas
 pub record AreEquations (ns : List Node) (es : List Equation) (Says : ℕ → FormulaData → Type 0) : Type 0 where

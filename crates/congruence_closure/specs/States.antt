@@ -23,9 +23,9 @@ IsPart p (ThreeNode h a b c) = (p ≡ a) ⊎ ((p ≡ b) ⊎ (p ≡ c))
 
 -- an edge between the numbers is pending
 pub record IsWaiting (ws : List Link) (i j : ℕ) : Type 0 where
-  pub place : ℕ
+  pub position : ℕ
   pub link : Link
-  pub found : slice_get ws place ≡ Some link
+  pub found : slice_get ws position ≡ Some link
   pub left : link.left ≡ i
   pub right : link.right ≡ j
 

@@ -5,29 +5,23 @@ mod leaves;
 mod numbered;
 mod walk;
 
-ghost use Rattle.std.specs.Prelude.{◌≡◌, ◌↔◌, ℕ, ◌<◌, List, [], ◌∷◌, ◌++◌, length, Some, nat_eq, IsTrue, IfOk, MatchOption};
+ghost use Rattle.std.specs.Prelude.{◌≡◌, ◌↔◌, ℕ, ◌<◌, List, [], ◌∷◌, ◌++◌, length, Some, nat_eq, IsTrue, IfOk};
 ghost use Rattle.indexmap.specs.IndexMap.{get};
-ghost use Rattle.fol.specs.FormulaData.{TermData, EqFormula};
-ghost use Rattle.fol.specs.declared.operators.Comparison.TheVariants.{Eq};
-ghost use Rattle.term_pool.specs.Pools.{IsMade};
 ghost use Rattle.term_pool.specs.declared.node.Node.{Node};
-ghost use Rattle.term_pool.specs.declared.node.Two.TheVariants.{Compare};
-ghost use Rattle.term_pool.specs.declared.node.Node.TheVariants.{Two as TwoNode};
 ghost use Rattle.congruence_closure.specs.States.{AreClasses};
 ghost use Rattle.congruence_closure.specs.Nodes.{AreNodes};
 ghost use Rattle.congruence_closure.specs.Numbers.{AreNumbered, AreMadeFor, AreKnownFor, ArePutIn};
-ghost use Rattle.congruence_closure.specs.Known.{IsKnown, node_in, class_of, AreKnown, IsOver, AreInEntries, AreExact, Keeps, IsEquated, TellsJoined, TellsAlike, formula_at};
+ghost use Rattle.congruence_closure.specs.Known.{IsKnown, node_in, class_of, AreKnown, IsOver, AreInEntries, AreExact, Keeps, IsEquated, TellsJoined, TellsAlike};
 
-use crate::branch_classes::leaves::look_up;
 use crate::branch_classes::numbered::{Numbered, join, nothing};
 use crate::branch_classes::walk::node_of;
 use crate::classes::link::Link;
 use base::memory::NoMemory;
-use fol::operators::Comparison;
 use indexmap::IndexMap;
 use std::alloc::Global;
 use std::marker::Model;
-use term_pool::node::{Node, Two};
+use term_pool::node::Node;
+use term_pool::numbers::look_up;
 use term_pool::pool::Pool;
 
 /// The congruence classes of the known terms of a pool under the equations of a branch, and of the known formulas. The
@@ -54,33 +48,6 @@ impl Model for BranchClasses {
     ghost invariant = { λ c. AreWithin c.nodes.classes.nodes (get nat_eq c.known) };
 }
 
-fn is_equality(head: Two) -> bool
-    ensures { IsTrue result ↔ (head ≡ Compare Eq) }
-{
-    match head {
-        Two::Compare(Comparison::Eq) => true,
-        _ => false,
-    }
-}
-
-// The numbers of the sides of an equation; none for another formula.
-fn sides_of(pool: &Pool, number: usize) -> Option<(usize, usize)>
-    requires { number < length pool.now }
-    ensures { MatchOption result ((t u : TermData) → formula_at pool.now number ≡ EqFormula t u → ⊥) (λ p. IsMade pool.now number (TwoNode (Compare Eq) p.0 p.1)) }
-{
-    match pool.node(number) {
-        Some(Node::Two(head, left, right)) => {
-            if is_equality(head) {
-                Some((left, right))
-            } else {
-                None
-            }
-        }
-        Some(_) => None,
-        None => None,
-    }
-}
-
 // Makes an entry known, and joins its sides if it is an equation.
 fn equated(
     alloc: Global,
@@ -100,7 +67,7 @@ fn equated(
 {
     let mut nodes = before;
     node_of(alloc, &mut nodes, known, pool, &[], number)?;
-    match sides_of(pool, number) {
+    match pool.sides(number) {
         Some((left, right)) => {
             let left = node_of(alloc, &mut nodes, known, pool, &[], left)?;
             let right = node_of(alloc, &mut nodes, known, pool, &[], right)?;

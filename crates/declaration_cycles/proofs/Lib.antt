@@ -1,4 +1,4 @@
 pub mod Bounds
-pub mod FirstPlaces
+pub mod FirstSpans
 pub mod MadeGraphs
 pub mod Naming

@@ -3,7 +3,7 @@ use Rattle.std.proofs.Common.{◌≡◌, ℕ, ◌+◌, ◌<◌, inl, inr, List, 
 use Rattle.std.specs.Prelude.{All, Contains, ◌↔◌}
 use Rattle.std.proofs.Math.Seq.{take-suc}
 use Rattle.std.proofs.lemmas.List.Elements.{Contains-push, Contains-push_cases, Contains-append_left}
-use Rattle.base.specs.Circles as graph
+use Rattle.base.specs.GraphReachability as graph
 use Rattle.base.proofs.EdgeLemmas.{edge_kept, edge_new, edge_pushed, no_edge}
 use Rattle.declaration_cycles.specs.declared.edges.Edge.{Edge}
 use Rattle.declaration_cycles.specs.Leading.{Leads, Directly, Over, LeadsBack}
@@ -52,7 +52,7 @@ module _ (numbers : List (List ℕ)) (edges : List Edge) (h : HasEdgesOf numbers
   pub leads_back : (i j : ℕ) → graph.Leads numbers i j → Leads edges i j
   leads_back i j l = leads_along i l.1 l.2
 
-  pub same_back : (numbers_found : List ℕ) → ((i : ℕ) → Contains numbers_found i ↔ graph.IsOnCircle numbers i) → (i : ℕ) → Contains numbers_found i ↔ LeadsBack edges i
+  pub same_back : (numbers_found : List ℕ) → ((i : ℕ) → Contains numbers_found i ↔ graph.IsOnCycle numbers i) → (i : ℕ) → Contains numbers_found i ↔ LeadsBack edges i
   same_back numbers_found f i = (λ c. leads_back i i ((f i).0 c), λ l. (f i).1 (leads_there l))
 
 -- one more of the edges

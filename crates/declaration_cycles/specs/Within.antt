@@ -1,6 +1,6 @@
 -- Graphs that have given edges.
 use Rattle.std.specs.Prelude.{ℕ, ◌<◌, List}
-use Rattle.base.specs.Circles as graph
+use Rattle.base.specs.GraphReachability as graph
 use Rattle.declaration_cycles.specs.declared.edges.Edge.{Edge}
 use Rattle.declaration_cycles.specs.Leading.{IsEdge}
 

@@ -99,8 +99,8 @@ pub(crate) fn push_code<'a>(
 ) -> Result<(), NoMemory>
     ensures { OnOk result (into.new.items ≡ into.old.items ++ homes_in_code body.now.nodes) }
 {
-    for place in 0..body.len() {
-        push_node(alloc, body.node(place), into)?;
+    for index in 0..body.len() {
+        push_node(alloc, body.node(index), into)?;
     }
     Ok(())
 }

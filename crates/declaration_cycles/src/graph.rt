@@ -6,7 +6,7 @@ ghost use Rattle.declaration_cycles.specs.Within.{HasEdgesOf, IsWithin};
 
 use crate::edges::Edge;
 use base::cycles::graph::Graph;
-use base::cycles::on_cycle::all_on_circle;
+use base::cycles::on_cycle::all_on_cycle;
 use base::memory::NoMemory;
 use std::alloc::Global;
 
@@ -29,5 +29,5 @@ pub(crate) fn all_back(alloc: Global, count: usize, edges: &[Edge]) -> Result<Ve
     ensures { IfOk result (λ found. (i : ℕ) → Contains found.items i ↔ LeadsBack edges.now i) }
 {
     let graph = graph_of(alloc, count, edges)?;
-    all_on_circle(alloc, &graph)
+    all_on_cycle(alloc, &graph)
 }

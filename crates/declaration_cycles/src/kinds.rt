@@ -101,8 +101,8 @@ fn push_all_called(
 ) -> Result<(), NoMemory>
     ensures { OnOk result (into.new.items ≡ into.old.items ++ flat_map (λ id. edge from (number same_function program.now.spec_functions id)) (flat_map called_in_node body.now.nodes)) }
 {
-    for place in 0..body.len() {
-        push_called(program, from, body.node(place), into)?;
+    for index in 0..body.len() {
+        push_called(program, from, body.node(index), into)?;
     }
     Ok(())
 }

@@ -144,7 +144,7 @@ pub scope_from : (l : ℕ) (begun : Bool → Bool) (ls : List ℕ) (f : Flow) (n
 scope_from l begun ls f n state w = record { had = w.had; is_begun = w.is_begun; reaches = record { events = w.reaches.events; path = w.reaches.path; has_is = w.reaches.has_is } }
 
 pub record IsHere (begun : Bool → Bool) (m n : ℕ) (state : Bool) : Type 0 where
-  pub place : m ≡ n
+  pub index : m ≡ n
   pub is_begun : begun state ≡ true
 
 stopped_same : (m n : ℕ) → Stopped m ≡ Stopped n → m ≡ n
@@ -155,7 +155,7 @@ at_to l begun m f n state w =
     elim w.reaches.path [
       | inl here ↦
           let same : w.had ≡ state = subst (λ es. has_behind l w.had es ≡ state) here.0 w.reaches.has_is in
-          inl (record { place = sym (stopped_same n m here.1); is_begun = subst (λ s. begun s ≡ true) same w.is_begun })
+          inl (record { index = sym (stopped_same n m here.1); is_begun = subst (λ s. begun s ≡ true) same w.is_begun })
       | inr one ↦ inr (record { had = w.had; is_begun = w.is_begun; reaches = record { events = w.reaches.events; path = one; has_is = w.reaches.has_is } })
     ]
 
@@ -163,7 +163,7 @@ pub at_here : (l : ℕ) (begun : Bool → Bool) (m : ℕ) (f : Flow) (n : ℕ) (
 at_here l begun m f n state h = record {
   had = state;
   is_begun = h.is_begun;
-  reaches = record { events = []; path = inl (refl, ap Stopped (sym h.place)); has_is = refl };
+  reaches = record { events = []; path = inl (refl, ap Stopped (sym h.index)); has_is = refl };
 }
 
 pub at_inside : (l : ℕ) (begun : Bool → Bool) (m : ℕ) (f : Flow) (n : ℕ) (state : Bool) → From l begun f n state → From l begun (At m f) n state

@@ -17,7 +17,7 @@ use Rattle.typing_rules.specs.Events.{Rule}
 use Rattle.typing_rules.specs.LocalRules.{BodyFacts}
 use Rattle.ability_rules.specs.declared.required.entry.JudgedTypes.{JudgedTypes}
 use Rattle.ability_rules.specs.Bodies.{IsJudgedBody}
-use Rattle.ability_rules.specs.Entries.{AreFrom, HasPartsFrom, IsTold, TellsTypes}
+use Rattle.ability_rules.specs.Entries.{AreFrom, HasPartsFrom, IsListed, TellsTypes}
 use Rattle.ability_rules.specs.Locals.{AreLocalAbilities}
 use Rattle.definite_assignment.specs.declared.points.states.LocalStates.{LocalStates}
 use Rattle.definite_assignment.specs.PointsStates.{AreStates}
@@ -35,18 +35,18 @@ parts_from (Tuple ms) = λ k d l. omega arith
 pub from_first : (pool : List PoolType) → AreFrom 0 pool
 from_first pool = record { each = λ n e h at. parts_from e }
 
-pub all_told : (table : JudgedTypes) (count : ℕ) (places : List ℕ) → table.start ≡ 0 → length table.judged.items ≡ count - 0 → All (λ n. n < count) places → All (IsTold table) places
-all_told table count places start long within = λ k d l.
+pub all_known : (table : JudgedTypes) (count : ℕ) (variables : List ℕ) → table.start ≡ 0 → length table.judged.items ≡ count - 0 → All (λ n. n < count) variables → All (IsListed table) variables
+all_known table count variables start long within = λ k d l.
     (let below = within k d l in record { begins = omega (arith, start); ends = omega (arith, start, long, below) })
 
-pub judged_body : (program : Program) (f : Function) (pool : List PoolType) (places : List ℕ) (given : List AbilitySet) (table : JudgedTypes)
-    → given ≡ given_abilities f.type_parameters → IsTyped (function_system program f) (map (type_at (types pool)) places)
-    → TellsTypes program.structs given (types pool) table → All (IsTold table) places → IsJudgedBody program f places table
-judged_body program f pool places given table is typed tells told = record {
+pub judged_body : (program : Program) (f : Function) (pool : List PoolType) (variables : List ℕ) (given : List AbilitySet) (table : JudgedTypes)
+    → given ≡ given_abilities f.type_parameters → IsTyped (function_system program f) (map (type_at (types pool)) variables)
+    → TellsTypes program.structs given (types pool) table → All (IsListed table) variables → IsJudgedBody program f variables table
+judged_body program f pool variables given table is typed tells known = record {
   types = types pool;
   typed = typed;
   tells = subst (λ (sets : List AbilitySet). TellsTypes program.structs sets (types pool) table) is tells;
-  told = told;
+  known = known;
 }
 
 -- ---- these abilities are determined

@@ -257,9 +257,9 @@ part_any l ps (e ∷ es) n state part had g w =
 
 -- What the table has for the nodes from k on, and what is pending before them: from a node before k that is entered in
 -- a state, a path reaches the node n.
-pub data Known (l : ℕ) (told : ℕ → Bool → Bool) (ps : List Piece) (k n : ℕ) (state : Bool) : Type 0 where
-  Told : k ≤ n → told n state ≡ true → Known l told ps k n state
-  Waits : (m : ℕ) (had : Bool) → m < k → told m had ≡ true → Reaches l (piece_at ps m).flow had n state → Known l told ps k n state
+pub data Known (l : ℕ) (known : ℕ → Bool → Bool) (ps : List Piece) (k n : ℕ) (state : Bool) : Type 0 where
+  KnownState : k ≤ n → known n state ≡ true → Known l known ps k n state
+  Waits : (m : ℕ) (had : Bool) → m < k → known m had ≡ true → Reaches l (piece_at ps m).flow had n state → Known l known ps k n state
 
 module _ (l : ℕ) (types : List AbilitySet) (nodes : List CodeNode) (k : ℕ) (node : CodeNode) (stands : slice_get nodes k ≡ Some node) (below : IsBelow k node)
     (old new : ℕ → Bool → Bool) (gains : (n : ℕ) (state : Bool) → new n state ≡ (old n state || given (entries l (pieces types nodes) node (old k)) n state)) where
@@ -285,13 +285,13 @@ module _ (l : ℕ) (types : List AbilitySet) (nodes : List CodeNode) (k : ℕ) (
   from_node n state w = Waits k w.had (omega arith) w.is_begun (subst (λ f. Reaches l f w.had n state) (sym flow_is) w.reaches)
 
   pub one_less : (n : ℕ) (state : Bool) → Known l new all_pieces k n state → Known l old all_pieces (k + 1) n state
-  one_less n state (Told le t) =
+  one_less n state (KnownState le t) =
       elim (or_cases (old n state) (given node_entries n state) (sym (gains n state) ∙ t)) [
         | inl was ↦ elim (cases_lt k n) [
-          | inl more ↦ Told (omega arith) was
+          | inl more ↦ KnownState (omega arith) was
           | inr not_more ↦
               let same : k ≡ n = omega arith in
-              from_node n state (at_here l (old k) k inner n state (record { place = same; is_begun = subst (λ m. old m state ≡ true) (sym same) was }))
+              from_node n state (at_here l (old k) k inner n state (record { index = same; is_begun = subst (λ m. old m state ≡ true) (sym same) was }))
         ]
         | inr is ↦ let low = entries_below l all_pieces k node below (old k) n state is in absurd (omega arith)
       ]
@@ -304,7 +304,7 @@ module _ (l : ℕ) (types : List AbilitySet) (nodes : List CodeNode) (k : ℕ) (
       ]
 
   pub one_more : (n : ℕ) (state : Bool) → Known l old all_pieces (k + 1) n state → Known l new all_pieces k n state
-  one_more n state (Told le t) = Told (omega arith) (stays n state t)
+  one_more n state (KnownState le t) = KnownState (omega arith) (stays n state t)
   one_more n state (Waits m had lt t w) =
       elim (cases_lt m k) [
         | inl less ↦ Waits m had less (stays m had t) w
@@ -316,7 +316,7 @@ module _ (l : ℕ) (types : List AbilitySet) (nodes : List CodeNode) (k : ℕ) (
               reaches = subst (λ f. Reaches l f had n state) flow_is (subst (λ j. Reaches l (piece_at all_pieces j).flow had n state) same w);
             } in
             elim (at_to l (old k) k inner n state own) [
-              | inl here ↦ Told (omega (arith, here.place)) (stays n state (subst (λ j. old j state ≡ true) here.place here.is_begun))
+              | inl here ↦ KnownState (omega (arith, here.index)) (stays n state (subst (λ j. old j state ≡ true) here.index here.is_begun))
               | inr one ↦
                   let part = part_from l all_pieces node_entries n state (node_to l all_pieces n state (locals_of types nodes) (old k) types node one) in
                   Waits part.part part.had (entries_below l all_pieces k node below (old k) part.part part.had part.is_given) (comes_in part.part part.had part.is_given) part.reaches
@@ -335,13 +335,13 @@ same_refl : (b : Bool) → same b b ≡ true
 same_refl true = refl
 same_refl false = refl
 
-module _ (body : BodyFacts) (l : ℕ) (told : ℕ → Bool → Bool)
-    (begins : (n : ℕ) (state : Bool) → told n state ≡ (eqb (n + 1) (length body.nodes) && same (starts_with body l) state)) where
+module _ (body : BodyFacts) (l : ℕ) (known : ℕ → Bool → Bool)
+    (begins : (n : ℕ) (state : Bool) → known n state ≡ (eqb (n + 1) (length body.nodes) && same (starts_with body l) state)) where
   abbrev body_pieces : List Piece
   body_pieces = pieces body.types body.nodes
 
-  pub known_at_end : (n : ℕ) (state : Bool) → Known l told body_pieces (length body.nodes) n state → Comes body l n state
-  known_at_end n state (Told le t) =
+  pub known_at_end : (n : ℕ) (state : Bool) → Known l known body_pieces (length body.nodes) n state → Comes body l n state
+  known_at_end n state (KnownState le t) =
       let both = and_parts (eqb (n + 1) (length body.nodes)) (same (starts_with body l) state) (sym (begins n state) ∙ t) in
       absurd (omega (arith, eqb-true (n + 1) (length body.nodes) both.0))
   known_at_end n state (Waits m had lt t w) =
@@ -354,7 +354,7 @@ module _ (body : BodyFacts) (l : ℕ) (told : ℕ → Bool → Bool)
         has_is = subst (λ b. has_behind l b w.events ≡ state) start w.has_is;
       }
 
-  pub at_end_known : (n : ℕ) (state : Bool) → Comes body l n state → Known l told body_pieces (length body.nodes) n state
+  pub at_end_known : (n : ℕ) (state : Bool) → Comes body l n state → Known l known body_pieces (length body.nodes) n state
   at_end_known n state w =
       elim (cases_lt 0 (length body.nodes)) [
         | inl some ↦
@@ -369,9 +369,9 @@ module _ (body : BodyFacts) (l : ℕ) (told : ℕ → Bool → Bool)
             absurd (cc)
       ]
 
-pub told_all : (l : ℕ) (told : ℕ → Bool → Bool) (ps : List Piece) (n : ℕ) (state : Bool) → Known l told ps 0 n state → told n state ≡ true
-told_all l told ps n state (Told le t) = t
-told_all l told ps n state (Waits m had lt t w) = absurd (omega arith)
+pub known_all : (l : ℕ) (known : ℕ → Bool → Bool) (ps : List Piece) (n : ℕ) (state : Bool) → Known l known ps 0 n state → known n state ≡ true
+known_all l known ps n state (KnownState le t) = t
+known_all l known ps n state (Waits m had lt t w) = absurd (omega arith)
 
 -- ---- nodes
 

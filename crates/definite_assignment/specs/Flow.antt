@@ -30,8 +30,8 @@ pub record FunctionBreaks (program : Program) (rule : Rule) (f : Function) : Typ
 
 -- one of these functions, with this span, breaks the rule
 abbrev pub BreaksAmong : Program → Rule → List (FunctionId × Function) → Span → Type 0
-BreaksAmong program rule functions place =
-    (d : FunctionId × Function) × Contains functions d × (d.1.place ≡ place) × FunctionBreaks program rule d.1
+BreaksAmong program rule functions span =
+    (d : FunctionId × Function) × Contains functions d × (d.1.span ≡ span) × FunctionBreaks program rule d.1
 
 -- a function of the program, with this span, breaks the rule
 abbrev pub BreaksLocals : Program → Rule → Span → Type 0
@@ -40,13 +40,13 @@ BreaksLocals program rule = BreaksAmong program rule program.functions
 -- The fault is the first function that may use a local without a value; where there is none, the first one that may
 -- leave a value behind; and none where there is none of these either.
 abbrev pub FlowSays : Program → Option FlowFault → Type 0
-FlowSays program None = (rule : Rule) (place : Span) → ¬ BreaksLocals program rule place
-FlowSays program (Some (unassigned_at place)) = IsFirst (BreaksLocals program Unassigned) place
-FlowSays program (Some (undropped_at place)) =
-    ((other : Span) → ¬ BreaksLocals program Unassigned other) × IsFirst (BreaksLocals program Undropped) place
+FlowSays program None = (rule : Rule) (span : Span) → ¬ BreaksLocals program rule span
+FlowSays program (Some (unassigned_at span)) = IsFirst (BreaksLocals program Unassigned) span
+FlowSays program (Some (undropped_at span)) =
+    ((other : Span) → ¬ BreaksLocals program Unassigned other) × IsFirst (BreaksLocals program Undropped) span
 
 -- the fault, from the first spans of functions that break the two rules
 abbrev pub fault_of : Option Span → Option Span → Option FlowFault
-fault_of (Some place) undropped = Some (unassigned_at place)
-fault_of None (Some place) = Some (undropped_at place)
+fault_of (Some span) undropped = Some (unassigned_at span)
+fault_of None (Some span) = Some (undropped_at span)
 fault_of None None = None

@@ -7,6 +7,6 @@ pub mod Verdicts
 pub mod Entries
 pub mod Tables
 pub mod PointsStates
-pub mod Told
+pub mod KnownState
 pub mod Flow
 pub mod WholeProgramStates

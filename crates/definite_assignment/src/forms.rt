@@ -11,7 +11,7 @@ ghost use Rattle.definite_assignment.specs.Summaries.{AllStand, Stands};
 use crate::effects::Effects;
 use crate::sets::LocalSet;
 use crate::shown::{
-    aborted, bound, broken, continued, declared, either, moved, overwritten, place_of, quiet,
+    aborted, bit_of, bound, broken, continued, declared, either, moved, overwritten, quiet,
     returned, scope, then, turns, used,
 };
 use crate::summary::{Summary, summary_at};
@@ -63,7 +63,7 @@ fn leaf_binds(base: usize, form: &CodeLeaf) -> LocalSet
     ensures { Means base result (leaf_binds form.now) }
 {
     match form {
-        CodeLeaf::Bind(local) => place_of(base, *local),
+        CodeLeaf::Bind(local) => bit_of(base, *local),
         _ => LocalSet::none(),
     }
 }

@@ -27,8 +27,8 @@ pub fn summaries(
     ensures { IfOk result (λ found. AllStand base found.items (pieces types.now body.now.nodes)) }
 {
     let mut found = Vec::new(alloc);
-    for place in 0..body.len() {
-        let next = node_summary(base, types, &found, body.node(place));
+    for index in 0..body.len() {
+        let next = node_summary(base, types, &found, body.node(index));
         found.push(next)?;
     }
     Ok(found)

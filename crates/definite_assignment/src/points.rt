@@ -70,9 +70,9 @@ pub fn states_from(
 {
     let summaries = summaries(alloc, base, types, body)?;
     let mut table = at_end(alloc, base, parameters, body.len())?;
-    for place in (0..body.len()).rev() {
-        let states = table[place];
-        enter_parts(&mut table, &summaries, body.node(place), states);
+    for index in (0..body.len()).rev() {
+        let states = table[index];
+        enter_parts(&mut table, &summaries, body.node(index), states);
     }
     Ok(table)
 }

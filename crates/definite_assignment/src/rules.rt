@@ -59,9 +59,9 @@ fn undroppable(base: usize, types: &[AbilitySet]) -> LocalSet
     ensures { (i : ℕ) → i < 64 → has result i ≡ (ltb (base + i) (length types.now) && not (drops types.now (base + i))) }
 {
     let mut found = LocalSet::none();
-    for place in 0..64u32 {
-        if lacks_drop(types, base + place as usize) {
-            found = found.union(LocalSet::one(place));
+    for index in 0..64u32 {
+        if lacks_drop(types, base + index as usize) {
+            found = found.union(LocalSet::one(index));
         }
     }
     found

@@ -41,11 +41,11 @@ impl LocalSet {
     }
 
     /// Returns the set of one local.
-    pub fn one(place: u32) -> LocalSet
-        requires { place < 64 }
-        ensures { (i : ℕ) → has result i ≡ eqb place i }
+    pub fn one(index: u32) -> LocalSet
+        requires { index < 64 }
+        ensures { (i : ℕ) → has result i ≡ eqb index i }
     {
-        LocalSet { bits: 1 << place }
+        LocalSet { bits: 1 << index }
     }
 
     /// Returns the set of the first so many locals.

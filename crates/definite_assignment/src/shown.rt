@@ -11,15 +11,15 @@ use crate::effects::{Effects, Step};
 use crate::sets::LocalSet;
 
 /// The set of a local, if it is one of the 64; else the empty set.
-pub fn place_of(base: usize, local: usize) -> LocalSet
+pub fn bit_of(base: usize, local: usize) -> LocalSet
     ensures { (i : ℕ) → i < 64 → has result i ≡ eqb local (base + i) }
 {
     if local < base {
         return LocalSet::none();
     }
-    let place = local - base;
-    if place < 64 {
-        LocalSet::one(place as u32)
+    let index = local - base;
+    if index < 64 {
+        LocalSet::one(index as u32)
     } else {
         LocalSet::none()
     }
@@ -37,7 +37,7 @@ pub fn used(base: usize, local: usize) -> Effects
     ensures { Shows base result (Happens (Used local ∷ [])) }
 {
     let step = Step {
-        needs: place_of(base, local),
+        needs: bit_of(base, local),
         ..Step::none()
     };
     step.effects()
@@ -47,7 +47,7 @@ pub fn used(base: usize, local: usize) -> Effects
 pub fn moved(base: usize, local: usize) -> Effects
     ensures { Shows base result (Happens (Moved local ∷ [])) }
 {
-    let own = place_of(base, local);
+    let own = bit_of(base, local);
     let step = Step {
         loses: own,
         needs: own,
@@ -60,7 +60,7 @@ pub fn moved(base: usize, local: usize) -> Effects
 pub fn overwritten(base: usize, local: usize) -> Effects
     ensures { Shows base result (Happens (Overwritten local ∷ Assigned local ∷ [])) }
 {
-    let own = place_of(base, local);
+    let own = bit_of(base, local);
     let step = Step {
         gains: own,
         leaves: own,

@@ -15,9 +15,9 @@ pub struct Summary {
 }
 
 /// The summary with this number.
-pub fn summary_at(summaries: &[Summary], place: usize) -> &Summary
-    requires { place < length summaries.now }
-    ensures { slice_get summaries.now place ≡ Some result.now }
+pub fn summary_at(summaries: &[Summary], index: usize) -> &Summary
+    requires { index < length summaries.now }
+    ensures { slice_get summaries.now index ≡ Some result.now }
 {
-    &summaries[place]
+    &summaries[index]
 }

@@ -6,10 +6,10 @@ use Rattle.std.specs.FinMap as map
 use Rattle.base.specs.Rules.{tells_place}
 use Rattle.base.specs.declared.rule.Rule.{Rule}
 use Rattle.base.specs.declared.rule.Rule.TheVariants.{BadToken}
-use Rattle.report.specs.Handed.{HandedFiles, HandedOver}
+use Rattle.report.specs.Provided.{ProvidedFiles, AreProvided}
 use Rattle.report.specs.Outside.{Files, HasFaulted, IsLongFile}
 use Rattle.front_end.specs.Numbered.{IsFirst}
-use Rattle.front_end.specs.FileFault.{IsSameStop, without_place}
+use Rattle.front_end.specs.FileFault.{IsSameStop, without_offset}
 use Rattle.front_end.specs.Program.{IsProgramOf, ProgramStopped}
 use Rattle.front_end.specs.declared.fault.FileFault.{FileFault}
 use Rattle.front_end.specs.declared.fault.FileFault.TheVariants.{Breaks, Passes}
@@ -23,11 +23,11 @@ use Rattle.report.specs.declared.status.LimitKind.TheVariants.{Files as files_ki
 use Rattle.report.specs.declared.status.Status.{Status}
 use Rattle.report.specs.declared.status.Status.TheVariants.{AllProved, NotAllProved, Refused, Fault, BadWords, Limit, NoMemory}
 use Rattle.sum_tree.specs.SumModuleData.{SumModuleData}
-use Rattle.driver.proofs.HandedLemmas.{handed_in_part, one_handed}
-use Rattle.driver.specs.Causes.{AreTold, BreaksRule, BreaksRuleOn, Causes, FileCauses, HandedCauses, IsRefused, IsReported, PassesLimit, SomeIsLong, TextCauses, UnlessFree, refused}
+use Rattle.driver.proofs.ProvidedLemmas.{provided_in_part, one_provided}
+use Rattle.driver.specs.Causes.{AreKnown, BreaksRule, BreaksRuleOn, Causes, FileCauses, ProvidedCauses, IsRefused, IsReported, PassesLimit, SomeIsLong, TextCauses, UnlessFree, refused}
 use Rattle.driver.specs.Outcome.{status_of}
 use Rattle.driver.specs.Run.{Ends, IsOutput, IsVerified, RunStopped, report_status}
-use Rattle.driver.specs.Stages.{FetchStopped, HandedBefore, HandedTo, HaveBytes, IsFetched, IsLong, IsProgramStop, NameFiles, ReadStopped, limit_kind, line_in, stop_of}
+use Rattle.driver.specs.Stages.{FetchStopped, ProvidedBefore, ProvidedTo, HaveBytes, IsFetched, IsLong, IsProgramStop, NameFiles, ReadStopped, limit_kind, line_in, stop_of}
 use Rattle.driver.specs.declared.stages.RunStop.{RunStop}
 use Rattle.driver.specs.declared.stages.RunStop.TheVariants.{TooManyFiles, SourceFault, Limit as limit_stop, Refused as refused_stop, NoMemory as memory_stop}
 
@@ -127,7 +127,7 @@ stopped_status files file fault = status_of (stop_of files file fault)
 
 -- it is a refusal or a limit of a file
 status_kind : (files : List (List ℕ)) (file : ℕ) (fault : FileFault) → (kind_of (stopped_status files file fault) ≡ 1) ⊎ (kind_of (stopped_status files file fault) ≡ 4)
-status_kind files file (Breaks rule place marker) = inl refl
+status_kind files file (Breaks rule offset marker) = inl refl
 status_kind files file (Passes limit count) = inr (four limit)
 
 -- it is of no other kind
@@ -146,40 +146,40 @@ other_kinds : (files : List (List ℕ)) (file : ℕ) (fault : FileFault) → IsO
 other_kinds files file fault = one_or_four (kind_of (stopped_status files file fault)) (status_kind files file fault)
 
 -- a fault with its position
-abbrev place_of : FileFault → ℕ
-place_of (Breaks rule place marker) = place
-place_of (Passes limit count) = 0
+abbrev index_of : FileFault → ℕ
+index_of (Breaks rule offset marker) = offset
+index_of (Passes limit count) = 0
 
 -- a fault without its position
 abbrev rule_of : FileFault → Rule
-rule_of (Breaks rule place marker) = rule
+rule_of (Breaks rule offset marker) = rule
 rule_of (Passes limit count) = BadToken
 
 abbrev marker_of : FileFault → Option (List ℕ)
-marker_of (Breaks rule place marker) = marker
+marker_of (Breaks rule offset marker) = marker
 marker_of (Passes limit count) = None
 
 abbrev breaks_one : FileFault → Bool
-breaks_one (Breaks rule place marker) = true
+breaks_one (Breaks rule offset marker) = true
 breaks_one (Passes limit count) = false
 
 -- the same rule broken with the same marker, at some position
-same_rule : (fault : FileFault) (rule : Rule) (place : ℕ) (marker : Option (List ℕ)) → without_place fault ≡ without_place (Breaks rule place marker) → fault ≡ Breaks rule (place_of fault) marker
-same_rule (Breaks other at mark) rule place marker e = ap (λ r. Breaks r at mark) (ap rule_of e) ∙ ap (Breaks rule at) (ap marker_of e)
-same_rule (Passes limit count) rule place marker e = absurd (apart (ap breaks_one e))
+same_rule : (fault : FileFault) (rule : Rule) (offset : ℕ) (marker : Option (List ℕ)) → without_offset fault ≡ without_offset (Breaks rule offset marker) → fault ≡ Breaks rule (index_of fault) marker
+same_rule (Breaks other at mark) rule offset marker e = ap (λ r. Breaks r at mark) (ap rule_of e) ∙ ap (Breaks rule at) (ap marker_of e)
+same_rule (Passes limit count) rule offset marker e = absurd (apart (ap breaks_one e))
   where
     apart : false ≡ true → ⊥
     apart k = absurd (cc)
 
 -- a rule with a position is broken at the same position
-same_place : (fault : FileFault) (rule : Rule) (place : ℕ) (marker : Option (List ℕ)) → tells_place rule ≡ true → without_place fault ≡ without_place (Breaks rule place marker) → fault ≡ Breaks rule place marker
-same_place fault rule place marker told e =
-    let f = same_rule fault rule place marker e in
-    f ∙ ap (λ at. Breaks rule at marker) (ap (λ t. if t then place_of fault else 0) (sym told) ∙ ap place_of (sym (ap without_place f) ∙ e) ∙ ap (λ t. if t then place else 0) told)
+same_offset : (fault : FileFault) (rule : Rule) (offset : ℕ) (marker : Option (List ℕ)) → tells_place rule ≡ true → without_offset fault ≡ without_offset (Breaks rule offset marker) → fault ≡ Breaks rule offset marker
+same_offset fault rule offset marker known e =
+    let f = same_rule fault rule offset marker e in
+    f ∙ ap (λ at. Breaks rule at marker) (ap (λ t. if t then index_of fault else 0) (sym known) ∙ ap index_of (sym (ap without_offset f) ∙ e) ∙ ap (λ t. if t then offset else 0) known)
 
 -- the same limit is exceeded
-same_limit : (fault : FileFault) (limit : FileLimit) (count : ℕ) → without_place fault ≡ Passes limit count → fault ≡ Passes limit count
-same_limit (Breaks rule place marker) limit count e = absurd (apart (ap breaks_one e))
+same_limit : (fault : FileFault) (limit : FileLimit) (count : ℕ) → without_offset fault ≡ Passes limit count → fault ≡ Passes limit count
+same_limit (Breaks rule offset marker) limit count e = absurd (apart (ap breaks_one e))
   where
     apart : true ≡ false → ⊥
     apart k = absurd (cc)
@@ -187,22 +187,22 @@ same_limit (Passes other n) limit count e = e
 
 -- a refusal determines its fault
 record TellsRule (files : List (List ℕ)) (file : ℕ) (fault : FileFault) (rule : Rule) (f line : ℕ) (marker : Option (List ℕ)) : Type 0 where
-  place : ℕ
+  offset : ℕ
   file_is : file ≡ f
-  fault_is : fault ≡ Breaks rule place marker
-  line_is : line ≡ line_in files f place
+  fault_is : fault ≡ Breaks rule offset marker
+  line_is : line ≡ line_in files f offset
 
 tells_rule : (files : List (List ℕ)) (file : ℕ) (fault : FileFault) (rule : Rule) (f line : ℕ) (marker : Option (List ℕ)) → stopped_status files file fault ≡ refused rule f line marker → TellsRule files file fault rule f line marker
-tells_rule files file (Breaks other place mark) rule f line marker e = record {
-  place = place;
+tells_rule files file (Breaks other offset mark) rule f line marker e = record {
+  offset = offset;
   file_is = ap file_of_status e;
-  fault_is = ap (λ r. Breaks r place mark) (ap rule_of_status e) ∙ ap (Breaks rule place) (ap marker_of_status e);
-  line_is = sym (ap line_of_status e) ∙ ap (λ k. line_in files k place) (ap file_of_status e);
+  fault_is = ap (λ r. Breaks r offset mark) (ap rule_of_status e) ∙ ap (Breaks rule offset) (ap marker_of_status e);
+  line_is = sym (ap line_of_status e) ∙ ap (λ k. line_in files k offset) (ap file_of_status e);
 }
 tells_rule files file (Passes limit count) rule f line marker e = absurd (omega (arith, sym (four limit) ∙ ap kind_of e))
 
 tells_limit : (files : List (List ℕ)) (file : ℕ) (fault : FileFault) (limit : FileLimit) (count : ℕ) → stopped_status files file fault ≡ Limit (limit_kind limit) count → fault ≡ Passes limit count
-tells_limit files file (Breaks rule place marker) limit count e = absurd (omega (arith, ap kind_of e ∙ four limit))
+tells_limit files file (Breaks rule offset marker) limit count e = absurd (omega (arith, ap kind_of e ∙ four limit))
 tells_limit files file (Passes other n) limit count e =
     ap (λ l. Passes l n) (sym (limit_is other) ∙ ap limit_of_status e ∙ limit_is limit) ∙ ap (Passes limit) (ap count_of_status e)
 
@@ -221,27 +221,27 @@ module _ (either : (files : List (List ℕ)) (program : List SumModuleData) (fil
     rule_causes rule f marker = (there, back)
       where
         there : IsRefused rule f marker ends → BreaksRule files rule f marker
-        there e = let t = tells_rule files file fault rule f e.0 marker e.1 in (t.place, at f (Breaks rule t.place marker) t.file_is t.fault_is)
+        there e = let t = tells_rule files file fault rule f e.0 marker e.1 in (t.offset, at f (Breaks rule t.offset marker) t.file_is t.fault_is)
 
         back : BreaksRule files rule f marker → IsRefused rule f marker ends
         back b =
             let same = one_stop files file f fault (Breaks rule b.0 marker) stopped b.1 in (
-              line_in files f (place_of fault),
+              line_in files f (index_of fault),
               ap (λ k. stopped_status files k fault) same.file_is ∙ ap (stopped_status files f) (same_rule fault rule b.0 marker same.fault_is),
             )
 
     line_causes : (rule : Rule) → tells_place rule ≡ true → (f line : ℕ) (marker : Option (List ℕ)) → (ends ≡ refused rule f line marker) ↔ BreaksRuleOn files rule f line marker
-    line_causes rule told f line marker = (there, back)
+    line_causes rule known f line marker = (there, back)
       where
         there : ends ≡ refused rule f line marker → BreaksRuleOn files rule f line marker
         there e =
             let t = tells_rule files file fault rule f line marker e in
-            record { place = t.place; stopped = at f (Breaks rule t.place marker) t.file_is t.fault_is; line_is = t.line_is }
+            record { offset = t.offset; stopped = at f (Breaks rule t.offset marker) t.file_is t.fault_is; line_is = t.line_is }
 
         back : BreaksRuleOn files rule f line marker → ends ≡ refused rule f line marker
         back b =
-            let same = one_stop files file f fault (Breaks rule b.place marker) stopped b.stopped in
-            ap (λ k. stopped_status files k fault) same.file_is ∙ ap (stopped_status files f) (same_place fault rule b.place marker told same.fault_is) ∙ ap (λ k. refused rule f k marker) (sym b.line_is)
+            let same = one_stop files file f fault (Breaks rule b.offset marker) stopped b.stopped in
+            ap (λ k. stopped_status files k fault) same.file_is ∙ ap (stopped_status files f) (same_offset fault rule b.offset marker known same.fault_is) ∙ ap (λ k. refused rule f k marker) (sym b.line_is)
 
     limit_causes : (limit : FileLimit) (count : ℕ) → (ends ≡ Limit (limit_kind limit) count) ↔ PassesLimit files limit count
     limit_causes limit count = (there, back)
@@ -267,61 +267,61 @@ module _ (either : (files : List (List ℕ)) (program : List SumModuleData) (fil
       let is_six = six s is in
       record {
         rule = λ rule f m. (λ e. absurd (omega (arith, sym is_six ∙ ap kind_of e.1)), λ b. absurd (either files program f (Breaks rule b.0 m) p b.1));
-        line = λ rule told f l m. (λ e. absurd (omega (arith, sym is_six ∙ ap kind_of e)), λ b. absurd (either files program f (Breaks rule b.place m) p b.stopped));
+        line = λ rule known f l m. (λ e. absurd (omega (arith, sym is_six ∙ ap kind_of e)), λ b. absurd (either files program f (Breaks rule b.offset m) p b.stopped));
         limit = λ limit c. (λ e. absurd (omega (arith, sym is_six ∙ ap kind_of e ∙ four limit)), λ b. absurd (either files program b.0 (Passes limit c) p b.1));
         reported = (λ _. (program, p), λ _. is);
       }
 
   -- ---- the files that the words name
 
-  module _ (told : Files) where
+  module _ (known : Files) where
     -- names have one list of bytes at most
-    one_told : (names files other : List (List ℕ)) → AreTold told names files → HaveBytes (Some told) names other → files ≡ other
-    one_told [] [] [] p q = refl
-    one_told [] [] (y ∷ ys) p q = absurd q
-    one_told [] (x ∷ xs) ys p q = absurd p
-    one_told (n ∷ ns) [] ys p q = absurd p
-    one_told (n ∷ ns) (x ∷ xs) [] p q = absurd q
-    one_told (n ∷ ns) (x ∷ xs) (y ∷ ys) p q = ap (λ z. z ∷ xs) (some_is (sym p.0 ∙ q.0.told)) ∙ ap (λ zs. y ∷ zs) (one_told ns xs ys p.1 q.1)
+    one_known : (names files other : List (List ℕ)) → AreKnown known names files → HaveBytes (Some known) names other → files ≡ other
+    one_known [] [] [] p q = refl
+    one_known [] [] (y ∷ ys) p q = absurd q
+    one_known [] (x ∷ xs) ys p q = absurd p
+    one_known (n ∷ ns) [] ys p q = absurd p
+    one_known (n ∷ ns) (x ∷ xs) [] p q = absurd q
+    one_known (n ∷ ns) (x ∷ xs) (y ∷ ys) p q = ap (λ z. z ∷ xs) (some_is (sym p.0 ∙ q.0.known)) ∙ ap (λ zs. y ∷ zs) (one_known ns xs ys p.1 q.1)
 
     long_or_short : (o : Option (List ℕ)) (bytes : List ℕ) → o ≡ Some bytes → length bytes ≤ 1048576 → IsSomeAnd o (λ b. 1048576 < length b) → ⊥
     long_or_short None bytes e short long = long
     long_or_short (Some b) bytes e short long = omega (arith, ap length (some_is e), short, long)
 
-    none_is_long : (names files : List (List ℕ)) → HaveBytes (Some told) names files → AllByRecursion (λ name. ¬ IsLongFile told name 1048576) names
+    none_is_long : (names files : List (List ℕ)) → HaveBytes (Some known) names files → AllByRecursion (λ name. ¬ IsLongFile known name 1048576) names
     none_is_long [] [] h = tt
     none_is_long [] (x ∷ xs) h = absurd h
     none_is_long (n ∷ ns) [] h = absurd h
-    none_is_long (n ∷ ns) (x ∷ xs) h = (long_or_short (map.get told n) x h.0.told h.0.short, none_is_long ns xs h.1)
+    none_is_long (n ∷ ns) (x ∷ xs) h = (long_or_short (map.get known n) x h.0.known h.0.short, none_is_long ns xs h.1)
 
     -- a status that is no limit of bytes has its causes in the files
-    text_causes : (names files : List (List ℕ)) (s : Status) → HaveBytes (Some told) names files → (kind_of s ≡ 3 → ⊥) → TextCauses files s → FileCauses told names s
+    text_causes : (names files : List (List ℕ)) (s : Status) → HaveBytes (Some known) names files → (kind_of s ≡ 3 → ⊥) → TextCauses files s → FileCauses known names s
     text_causes names files s h other t = record {
       too_long = λ n. (λ e. absurd (other (ap kind_of e)), λ l. absurd (l.1 (none_is_long names files h)));
-      texts = λ more are short. subst (λ fs. TextCauses fs s) (sym (one_told names more files are h)) t;
+      texts = λ more are short. subst (λ fs. TextCauses fs s) (sym (one_known names more files are h)) t;
     }
 
-    long_at : (before : List (List ℕ)) (name : List ℕ) (behind : List (List ℕ)) → IsLongFile told name 1048576 → ¬ AllByRecursion (λ n. ¬ IsLongFile told n 1048576) (before ++ name ∷ behind)
+    long_at : (before : List (List ℕ)) (name : List ℕ) (behind : List (List ℕ)) → IsLongFile known name 1048576 → ¬ AllByRecursion (λ n. ¬ IsLongFile known n 1048576) (before ++ name ∷ behind)
     long_at [] name behind long a = a.0 long
     long_at (b ∷ before) name behind long a = long_at before name behind long a.1
 
-    no_short : (before : List (List ℕ)) (name : List ℕ) (behind files : List (List ℕ)) → IsLongFile told name 1048576 → AreTold told (before ++ name ∷ behind) files → AllByRecursion (λ bytes. length bytes ≤ 1048576) files → ⊥
+    no_short : (before : List (List ℕ)) (name : List ℕ) (behind files : List (List ℕ)) → IsLongFile known name 1048576 → AreKnown known (before ++ name ∷ behind) files → AllByRecursion (λ bytes. length bytes ≤ 1048576) files → ⊥
     no_short [] name behind [] long p a = p
-    no_short [] name behind (x ∷ xs) long p a = long_or_short (map.get told name) x p.0 a.0 long
+    no_short [] name behind (x ∷ xs) long p a = long_or_short (map.get known name) x p.0 a.0 long
     no_short (b ∷ before) name behind [] long p a = p
     no_short (b ∷ before) name behind (x ∷ xs) long p a = no_short before name behind xs long p.1 a.1
 
-    long_causes : (names : List (List ℕ)) (file count : ℕ) → count ≡ 1048577 → IsFirst (IsFetched (Some told)) (IsLong (Some told)) names file → FileCauses told names (Limit Bytes count)
+    long_causes : (names : List (List ℕ)) (file count : ℕ) → count ≡ 1048577 → IsFirst (IsFetched (Some known)) (IsLong (Some known)) names file → FileCauses known names (Limit Bytes count)
     long_causes names file count is first = record {
-      too_long = λ n. (λ e. (sym (ap count_of_status e) ∙ is, subst (λ ns. SomeIsLong told ns) (sym first.parts) (long_at first.before first.item first.behind first.found)), λ l. ap (Limit Bytes) (is ∙ sym l.0));
-      texts = λ files are short. absurd (no_short first.before first.item first.behind files first.found (subst (λ ns. AreTold told ns files) first.parts are) short);
+      too_long = λ n. (λ e. (sym (ap count_of_status e) ∙ is, subst (λ ns. SomeIsLong known ns) (sym first.parts) (long_at first.before first.item first.behind first.found)), λ l. ap (Limit Bytes) (is ∙ sym l.0));
+      texts = λ files are short. absurd (no_short first.before first.item first.behind files first.found (subst (λ ns. AreKnown known ns files) first.parts are) short);
     }
 
-    module _ (names : List (List ℕ)) (before after : HandedFiles) (old new : ℕ) (no_fault : HasFaulted old new → ⊥) where
+    module _ (names : List (List ℕ)) (before after : ProvidedFiles) (old new : ℕ) (no_fault : HasFaulted old new → ⊥) where
       abbrev OfFiles : Status → Type 0
-      OfFiles s = UnlessFree s (FileCauses told names s)
+      OfFiles s = UnlessFree s (FileCauses known names s)
 
-      fetch_causes : (stop : RunStop) → FetchStopped (Some told) names old new stop → OfFiles (status_of stop)
+      fetch_causes : (stop : RunStop) → FetchStopped (Some known) names old new stop → OfFiles (status_of stop)
       fetch_causes (TooManyFiles count) f = absurd f
       fetch_causes (SourceFault file) f = absurd (no_fault f.0)
       fetch_causes (limit_stop file files_kind count) f = absurd f
@@ -332,31 +332,31 @@ module _ (either : (files : List (List ℕ)) (program : List SumModuleData) (fil
       fetch_causes (refused_stop refusal) f = absurd f
       fetch_causes memory_stop f = tt
 
-      file_stop : (files : List (List ℕ)) (stop : RunStop) → HaveBytes (Some told) names files → IsProgramStop files stop → OfFiles (status_of stop)
+      file_stop : (files : List (List ℕ)) (stop : RunStop) → HaveBytes (Some known) names files → IsProgramStop files stop → OfFiles (status_of stop)
       file_stop files stop h p =
           let s = stopped_status files p.file p.fault in
           subst (λ k. OfFiles (status_of k)) (sym p.stop_is)
-          (unless_free s (FileCauses told names s)
+          (unless_free s (FileCauses known names s)
           (text_causes names files s h (other_kinds files p.file p.fault).no_limit_of_bytes (stop_causes files p.file p.fault p.stopped)))
 
-      read_causes : (files : List (List ℕ)) (stop : RunStop) → HaveBytes (Some told) names files → ReadStopped files stop → OfFiles (status_of stop)
+      read_causes : (files : List (List ℕ)) (stop : RunStop) → HaveBytes (Some known) names files → ReadStopped files stop → OfFiles (status_of stop)
       read_causes files (TooManyFiles count) h r = file_stop files (TooManyFiles count) h r
       read_causes files (SourceFault file) h r = file_stop files (SourceFault file) h r
       read_causes files (limit_stop file kind count) h r = file_stop files (limit_stop file kind count) h r
       read_causes files (refused_stop refusal) h r = file_stop files (refused_stop refusal) h r
       read_causes files memory_stop h r = tt
 
-      run_causes : (stop : RunStop) → length names ≤ 64 → RunStopped (Some told) before after names old new stop → OfFiles (status_of stop)
+      run_causes : (stop : RunStop) → length names ≤ 64 → RunStopped (Some known) before after names old new stop → OfFiles (status_of stop)
       run_causes stop few (inl m) = absurd (omega (arith, few, m.many))
       run_causes stop few (inr (inl f)) = fetch_causes stop f.stopped
       run_causes stop few (inr (inr r)) = read_causes r.files stop r.have_bytes r.stopped
 
-      report_causes : (s : Status) (report : ReportData) → IsReported s → IsVerified (Some told) before after names report → OfFiles s
+      report_causes : (s : Status) (report : ReportData) → IsReported s → IsVerified (Some known) before after names report → OfFiles s
       report_causes s report is v =
-          unless_free s (FileCauses told names s)
+          unless_free s (FileCauses known names s)
           (text_causes names v.files s v.have_bytes (λ e. omega (arith, sym e ∙ six s is)) (program_causes v.files v.program s is v.is_program))
 
-      output_files : (s : Status) (text : List ℕ) → NameFiles names → length names ≤ 64 → IsOutput names (Some told) before after old new s text → OfFiles s
+      output_files : (s : Status) (text : List ℕ) → NameFiles names → length names ≤ 64 → IsOutput names (Some known) before after old new s text → OfFiles s
       output_files s text named few (inl u) = absurd (u.refused named)
       output_files s text named few (inr (inl t)) = subst OfFiles (sym t.status_is) (run_causes t.stop few t.stopped)
       output_files s text named few (inr (inr (inl r))) = subst OfFiles (sym r.status_is) (report_causes (report_status r.report) r.report (report_is_reported r.report) r.verified)
@@ -364,52 +364,52 @@ module _ (either : (files : List (List ℕ)) (program : List SumModuleData) (fil
 
   -- ---- the bytes provided
 
-  module _ (names : List (List ℕ)) (before after : HandedFiles) where
-    abbrev OfHanded : Status → Type 0
-    OfHanded s = UnlessFree s (HandedCauses before after names s)
+  module _ (names : List (List ℕ)) (before after : ProvidedFiles) where
+    abbrev OfProvided : Status → Type 0
+    OfProvided s = UnlessFree s (ProvidedCauses before after names s)
 
-    whole_handed : (files : List (List ℕ)) (s : Status) → HandedOver before after names files → TextCauses files s → OfHanded s
-    whole_handed files s h t = unless_free s (HandedCauses before after names s) (λ other o. subst (λ fs. TextCauses fs s) (one_handed before after names files other h o) t)
+    whole_provided : (files : List (List ℕ)) (s : Status) → AreProvided before after names files → TextCauses files s → OfProvided s
+    whole_provided files s h t = unless_free s (ProvidedCauses before after names s) (λ other o. subst (λ fs. TextCauses fs s) (one_provided before after names files other h o) t)
 
-    part_handed : (file : ℕ) (s : Status) → HandedBefore before after names file → OfHanded s
-    part_handed file s b = unless_free s (HandedCauses before after names s) (λ other o. absurd (handed_in_part before after names other file o b))
+    part_provided : (file : ℕ) (s : Status) → ProvidedBefore before after names file → OfProvided s
+    part_provided file s b = unless_free s (ProvidedCauses before after names s) (λ other o. absurd (provided_in_part before after names other file o b))
 
-    file_handed : (files : List (List ℕ)) (stop : RunStop) → HandedOver before after names files → IsProgramStop files stop → OfHanded (status_of stop)
-    file_handed files stop h p =
-        subst (λ k. OfHanded (status_of k)) (sym p.stop_is) (whole_handed files (stopped_status files p.file p.fault) h (stop_causes files p.file p.fault p.stopped))
+    file_provided : (files : List (List ℕ)) (stop : RunStop) → AreProvided before after names files → IsProgramStop files stop → OfProvided (status_of stop)
+    file_provided files stop h p =
+        subst (λ k. OfProvided (status_of k)) (sym p.stop_is) (whole_provided files (stopped_status files p.file p.fault) h (stop_causes files p.file p.fault p.stopped))
 
-    read_handed : (files : List (List ℕ)) (stop : RunStop) → HandedOver before after names files → ReadStopped files stop → OfHanded (status_of stop)
-    read_handed files (TooManyFiles count) h r = file_handed files (TooManyFiles count) h r
-    read_handed files (SourceFault file) h r = file_handed files (SourceFault file) h r
-    read_handed files (limit_stop file kind count) h r = file_handed files (limit_stop file kind count) h r
-    read_handed files (refused_stop refusal) h r = file_handed files (refused_stop refusal) h r
-    read_handed files memory_stop h r = tt
+    read_provided : (files : List (List ℕ)) (stop : RunStop) → AreProvided before after names files → ReadStopped files stop → OfProvided (status_of stop)
+    read_provided files (TooManyFiles count) h r = file_provided files (TooManyFiles count) h r
+    read_provided files (SourceFault file) h r = file_provided files (SourceFault file) h r
+    read_provided files (limit_stop file kind count) h r = file_provided files (limit_stop file kind count) h r
+    read_provided files (refused_stop refusal) h r = file_provided files (refused_stop refusal) h r
+    read_provided files memory_stop h r = tt
 
     module _ (holds : Option Files) (old new : ℕ) where
-      fetch_handed : (stop : RunStop) → FetchStopped holds names old new stop → HandedTo before after names stop → OfHanded (status_of stop)
-      fetch_handed (TooManyFiles count) f h = absurd f
-      fetch_handed (SourceFault file) f h = part_handed file (Fault Source) h
-      fetch_handed (limit_stop file kind count) f h = part_handed file (Limit kind count) h
-      fetch_handed (refused_stop refusal) f h = absurd f
-      fetch_handed memory_stop f h = tt
+      fetch_provided : (stop : RunStop) → FetchStopped holds names old new stop → ProvidedTo before after names stop → OfProvided (status_of stop)
+      fetch_provided (TooManyFiles count) f h = absurd f
+      fetch_provided (SourceFault file) f h = part_provided file (Fault Source) h
+      fetch_provided (limit_stop file kind count) f h = part_provided file (Limit kind count) h
+      fetch_provided (refused_stop refusal) f h = absurd f
+      fetch_provided memory_stop f h = tt
 
-      run_handed : (stop : RunStop) → length names ≤ 64 → RunStopped holds before after names old new stop → OfHanded (status_of stop)
-      run_handed stop few (inl m) = absurd (omega (arith, few, m.many))
-      run_handed stop few (inr (inl f)) = fetch_handed stop f.stopped f.handed
-      run_handed stop few (inr (inr r)) = read_handed r.files stop r.handed r.stopped
+      run_provided : (stop : RunStop) → length names ≤ 64 → RunStopped holds before after names old new stop → OfProvided (status_of stop)
+      run_provided stop few (inl m) = absurd (omega (arith, few, m.many))
+      run_provided stop few (inr (inl f)) = fetch_provided stop f.stopped f.provided
+      run_provided stop few (inr (inr r)) = read_provided r.files stop r.provided r.stopped
 
-      report_handed : (s : Status) (report : ReportData) → IsReported s → IsVerified holds before after names report → OfHanded s
-      report_handed s report is v = whole_handed v.files s v.handed (program_causes v.files v.program s is v.is_program)
+      report_provided : (s : Status) (report : ReportData) → IsReported s → IsVerified holds before after names report → OfProvided s
+      report_provided s report is v = whole_provided v.files s v.provided (program_causes v.files v.program s is v.is_program)
 
-      output_handed : (s : Status) (text : List ℕ) → IsOutput names holds before after old new s text → NameFiles names → length names ≤ 64 → OfHanded s
-      output_handed s text (inl u) named few = absurd (u.refused named)
-      output_handed s text (inr (inl t)) named few = subst OfHanded (sym t.status_is) (run_handed t.stop few t.stopped)
-      output_handed s text (inr (inr (inl r))) named few = subst OfHanded (sym r.status_is) (report_handed (report_status r.report) r.report (report_is_reported r.report) r.verified)
-      output_handed s text (inr (inr (inr w))) named few = subst OfHanded (sym w.status_is) tt
+      output_provided : (s : Status) (text : List ℕ) → IsOutput names holds before after old new s text → NameFiles names → length names ≤ 64 → OfProvided s
+      output_provided s text (inl u) named few = absurd (u.refused named)
+      output_provided s text (inr (inl t)) named few = subst OfProvided (sym t.status_is) (run_provided t.stop few t.stopped)
+      output_provided s text (inr (inr (inl r))) named few = subst OfProvided (sym r.status_is) (report_provided (report_status r.report) r.report (report_is_reported r.report) r.verified)
+      output_provided s text (inr (inr (inr w))) named few = subst OfProvided (sym w.status_is) tt
 
   -- ---- the run
 
-  module _ (words : List (List ℕ)) (holds : Option Files) (before after : HandedFiles) (old new : ℕ) where
+  module _ (words : List (List ℕ)) (holds : Option Files) (before after : ProvidedFiles) (old new : ℕ) where
     -- the kind of a stop: no bad words, and a limit of files if there are too many
     stop_kind : (stop : RunStop) → RunStopped holds before after words old new stop → (kind_of (status_of stop) ≡ 8 → ⊥) × (kind_of (status_of stop) ≡ 12 → 64 < length words)
     stop_kind stop (inl m) = subst (λ k. (kind_of (status_of k) ≡ 8 → ⊥) × (kind_of (status_of k) ≡ 12 → 64 < length words)) (sym m.stop_is) (λ e. omega (arith, e), λ _. m.many)
@@ -453,11 +453,11 @@ module _ (either : (files : List (List ℕ)) (program : List SumModuleData) (fil
     TellsMany s = (count : ℕ) → (s ≡ Limit files_kind count) ↔ (NameFiles words × (count ≡ length words) × (64 < count))
 
     -- if there are not too many files, the status is no limit of files
-    few_told : (s : Status) → length words ≤ 64 → (kind_of s ≡ 12 → ⊥) → UnlessFree s (TellsMany s)
-    few_told s few other = unless_free s (TellsMany s) (λ count. (λ e. absurd (other (ap kind_of e)), λ p. absurd (omega (arith, few, p.1, p.2))))
+    few_known : (s : Status) → length words ≤ 64 → (kind_of s ≡ 12 → ⊥) → UnlessFree s (TellsMany s)
+    few_known s few other = unless_free s (TellsMany s) (λ count. (λ e. absurd (other (ap kind_of e)), λ p. absurd (omega (arith, few, p.1, p.2))))
 
     few_stop : (stop : RunStop) (r : RunStopped holds before after words old new stop) → length words ≤ 64 → UnlessFree (status_of stop) (TellsMany (status_of stop))
-    few_stop stop r few = few_told (status_of stop) few (λ e. omega (arith, few, (stop_kind stop r).1 e))
+    few_stop stop r few = few_known (status_of stop) few (λ e. omega (arith, few, (stop_kind stop r).1 e))
 
     count_of_stop : (stop : RunStop) → NameFiles words → RunStopped holds before after words old new stop → UnlessFree (status_of stop) (TellsMany (status_of stop))
     count_of_stop stop named (inl m) =
@@ -471,7 +471,7 @@ module _ (either : (files : List (List ℕ)) (program : List SumModuleData) (fil
     count_causes s text (inr (inl t)) = subst (λ k. UnlessFree k (TellsMany k)) (sym t.status_is) (count_of_stop t.stop t.named t.stopped)
     count_causes s text (inr (inr (inl r))) =
         subst (λ k. UnlessFree k (TellsMany k)) (sym r.status_is)
-        (few_told (report_status r.report) r.verified.few (λ e. omega (arith, sym e ∙ six (report_status r.report) (report_is_reported r.report))))
+        (few_known (report_status r.report) r.verified.few (λ e. omega (arith, sym e ∙ six (report_status r.report) (report_is_reported r.report))))
     count_causes s text (inr (inr (inr w))) = subst (λ k. UnlessFree k (TellsMany k)) (sym w.status_is) tt
 
     -- ---- faults of the source
@@ -511,27 +511,27 @@ module _ (either : (files : List (List ℕ)) (program : List SumModuleData) (fil
     fault_cause s text (inr (inr (inl r))) e = absurd (omega (arith, sym (six (report_status r.report) (report_is_reported r.report)) ∙ ap kind_of (sym r.status_is ∙ e)))
     fault_cause s text (inr (inr (inr w))) e = absurd (omega (arith, ap kind_of (sym w.status_is ∙ e)))
 
-  told_causes : (words : List (List ℕ)) (holds : Option Files) (before after : HandedFiles) (old new : ℕ) (s : Status) (text : List ℕ) → IsOutput words holds before after old new s text
-      → NameFiles words → length words ≤ 64 → ¬ HasFaulted old new → IfSome holds (λ told. UnlessFree s (FileCauses told words s))
-  told_causes words None before after old new s text o named few no_fault = tt
-  told_causes words (Some told) before after old new s text o named few no_fault = output_files told words before after old new no_fault s text named few o
+  known_causes : (words : List (List ℕ)) (holds : Option Files) (before after : ProvidedFiles) (old new : ℕ) (s : Status) (text : List ℕ) → IsOutput words holds before after old new s text
+      → NameFiles words → length words ≤ 64 → ¬ HasFaulted old new → IfSome holds (λ known. UnlessFree s (FileCauses known words s))
+  known_causes words None before after old new s text o named few no_fault = tt
+  known_causes words (Some known) before after old new s text o named few no_fault = output_files known words before after old new no_fault s text named few o
 
-  output_causes : (words : List (List ℕ)) (holds : Option Files) (before after : HandedFiles) (old new : ℕ) (s : Status) (text : List ℕ) → IsOutput words holds before after old new s text → Causes words holds before after old new s
+  output_causes : (words : List (List ℕ)) (holds : Option Files) (before after : ProvidedFiles) (old new : ℕ) (s : Status) (text : List ℕ) → IsOutput words holds before after old new s text → Causes words holds before after old new s
   output_causes words holds before after old new s text o = record {
     bad_words = words_causes words holds before after old new s text o;
     too_many = count_causes words holds before after old new s text o;
     source_fault = fault_cause words holds before after old new s text o;
-    handed = output_handed words before after holds old new s text o;
-    files = told_causes words holds before after old new s text o;
+    provided = output_provided words before after holds old new s text o;
+    files = known_causes words holds before after old new s text o;
   }
 
-  nothing_told : (holds : Option Files) → IfSome holds (λ told. Unit {0})
-  nothing_told None = tt
-  nothing_told (Some told) = tt
+  nothing_known : (holds : Option Files) → IfSome holds (λ known. Unit {0})
+  nothing_known None = tt
+  nothing_known (Some known) = tt
 
   -- the end of a run determines the cause of its status
-  pub causes_of_ends : (words : List (List ℕ)) (holds : Option Files) (before after : HandedFiles) (old new : ℕ) (taken taken' : Option (List ℕ)) (faults faults' : ℕ) (s : Status) → Ends (IsOutput words holds before after old new) taken taken' faults faults' s → Causes words holds before after old new s
-  causes_of_ends words holds before after old new taken taken' faults faults' (Fault Sink) w = record { bad_words = tt; too_many = tt; source_fault = λ e. absurd (sink_is_no_source e); handed = λ named few. tt; files = λ named few no_fault. nothing_told holds }
+  pub causes_of_ends : (words : List (List ℕ)) (holds : Option Files) (before after : ProvidedFiles) (old new : ℕ) (taken taken' : Option (List ℕ)) (faults faults' : ℕ) (s : Status) → Ends (IsOutput words holds before after old new) taken taken' faults faults' s → Causes words holds before after old new s
+  causes_of_ends words holds before after old new taken taken' faults faults' (Fault Sink) w = record { bad_words = tt; too_many = tt; source_fault = λ e. absurd (sink_is_no_source e); provided = λ named few. tt; files = λ named few no_fault. nothing_known holds }
   causes_of_ends words holds before after old new taken taken' faults faults' (Fault Source) w = output_causes words holds before after old new (Fault Source) w.text w.output
   causes_of_ends words holds before after old new taken taken' faults faults' AllProved w = output_causes words holds before after old new AllProved w.text w.output
   causes_of_ends words holds before after old new taken taken' faults faults' NotAllProved w = output_causes words holds before after old new NotAllProved w.text w.output

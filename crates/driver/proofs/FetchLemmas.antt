@@ -34,15 +34,15 @@ pub err_as : {X : Type 0} (r : Result X RunStop) (stop : RunStop) (P : RunStop �
 err_as (Ok x) stop P e h = tt
 err_as (Err s) stop P e h = subst P (sym e) h
 
-pub stops_at : (holds told : Option Files) (names : List (List ℕ)) (i : ℕ) (name : List ℕ) (files : List (List ℕ)) (counted old new : ℕ) (stop : RunStop) → told ≡ holds → counted ≡ old → i < length names → HaveBytes holds (take i names) files → name ≡ get_or names i name → IsFetchStop told i name counted new stop → FetchStopped holds names old new stop
-stops_at holds told names i name files counted old new stop t f within before at s =
+pub stops_at : (holds known : Option Files) (names : List (List ℕ)) (i : ℕ) (name : List ℕ) (files : List (List ℕ)) (counted old new : ℕ) (stop : RunStop) → known ≡ holds → counted ≡ old → i < length names → HaveBytes holds (take i names) files → name ≡ get_or names i name → IsFetchStop known i name counted new stop → FetchStopped holds names old new stop
+stops_at holds known names i name files counted old new stop t f within before at s =
     fetch_stops holds names i name files old new stop within before
     (subst (λ n. IsFetchStop holds i n old new stop) at
     (subst (λ k. IsFetchStop holds i name k new stop) f
     (subst (λ h. IsFetchStop h i name counted new stop) t s)))
 
-pub bytes_more : (holds told : Option Files) (names : List (List ℕ)) (i : ℕ) (name : List ℕ) (files more : List (List ℕ)) (bytes : List ℕ) → told ≡ holds → i < length names → HaveBytes holds (take i names) files → name ≡ get_or names i name → HasBytes told name bytes → more ≡ files ++ bytes ∷ [] → HaveBytes holds (take (i + 1) names) more
-bytes_more holds told names i name files more bytes t within before at has m =
+pub bytes_more : (holds known : Option Files) (names : List (List ℕ)) (i : ℕ) (name : List ℕ) (files more : List (List ℕ)) (bytes : List ℕ) → known ≡ holds → i < length names → HaveBytes holds (take i names) files → name ≡ get_or names i name → HasBytes known name bytes → more ≡ files ++ bytes ∷ [] → HaveBytes holds (take (i + 1) names) more
+bytes_more holds known names i name files more bytes t within before at has m =
     subst (HaveBytes holds (take (i + 1) names)) (sym m)
     (paired_more (HasBytes holds) names i name files bytes within before
     (subst (λ n. HasBytes holds n bytes) at (subst (λ h. HasBytes h name bytes) t has)))

@@ -6,7 +6,7 @@ pub mod PairLemmas
 pub mod ModuleLemmas
 pub mod CauseLemmas
 pub mod FetchLemmas
-pub mod HandedLemmas
+pub mod ProvidedLemmas
 pub mod Placed
 pub mod ReportLemmas
 pub mod RunLemmas

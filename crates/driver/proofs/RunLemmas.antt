@@ -8,7 +8,7 @@ use Rattle.report.specs.declared.status.Status.TheVariants.{AllProved, NotAllPro
 use Rattle.report.specs.declared.status.Device.TheVariants.{Source, Sink}
 use Rattle.report.specs.declared.outside.writing.SinkFault.{SinkFault}
 use Rattle.driver.specs.Outcome.{status_of}
-use Rattle.report.specs.Handed.{HandedFiles}
+use Rattle.report.specs.Provided.{ProvidedFiles}
 use Rattle.report.specs.Outside.{Files}
 use Rattle.report.specs.ReportData.{ReportData}
 use Rattle.report.specs.ReportText.{is_proved}
@@ -22,7 +22,7 @@ pub writes_as : (P Q : Status → List ℕ → Type 0) (old new : Option (List �
 writes_as P Q old new old_faults new_faults (Ok status) h w = record { text = w.text; output = h status w.text w.output; taken = w.taken }
 writes_as P Q old new old_faults new_faults (Err fault) h w = record { status = w.status; text = w.text; output = h w.status w.text w.output; taken = w.taken; fault = w.fault }
 
-module _ (words : List (List ℕ)) (holds : Option Files) (before after : HandedFiles) (old new : ℕ) where
+module _ (words : List (List ℕ)) (holds : Option Files) (before after : ProvidedFiles) (old new : ℕ) where
   pub usage_output : ¬ NameFiles words → (status : Status) (text : List ℕ) → IsJust BadWords usage_line status text → IsOutput words holds before after old new status text
   usage_output h status text e = inl (record { refused = h; status_is = e.0; text_is = e.1 })
 

@@ -81,11 +81,11 @@ module _ (shapes : List Shape) (b : Branch) (saturated : IsSaturated shapes b) w
   -- the conjuncts of an entry are on the branch
   part_stands : (q : FormulaData) (ps : List FormulaData) → Stands b q → parts_of q ≡ Some ps → All IsShallow ps → (r : FormulaData) → Contains ps r → Likely (Stands b r)
   part_stands q ps stands are shallow r at never =
-      saturated.nothing_due.no_parts stands.place ps (record {
+      saturated.nothing_due.no_parts stands.position ps (record {
         entry = q;
         says = stands.says;
         are_parts = are;
-        news = record { place = at.0; formula = r; found = found_at ps at.0 r at.1 at.2; is_new = record { new = never } };
+        news = record { position = at.0; formula = r; found = found_at ps at.0 r at.1 at.2; is_new = record { new = never } };
         shallow = shallow;
       })
 
@@ -136,7 +136,7 @@ module _ (shapes : List Shape) (b : Branch) (saturated : IsSaturated shapes b) w
     of_term stands = record {
       generation = stands.says.entry.generation;
       holds = record {
-        place = stands.place;
+        position = stands.position;
         entry = stands.says.entry;
         found = stands.says.found;
         inside = subst (IsInFormula t) (sym stands.says.is) (InTyped (IntType U64) t AtItself);
@@ -168,7 +168,7 @@ module _ (shapes : List Shape) (b : Branch) (saturated : IsSaturated shapes b) w
     whole_stands : Stands b typed → Likely (Stands b whole)
     whole_stands stands never =
         range_stands stands (λ here.
-        saturated.nothing_due.no_split here.place (holding ∷ failing ∷ []) (record {
+        saturated.nothing_due.no_split here.position (holding ∷ failing ∷ []) (record {
           entry = ranged;
           says = here.says;
           are_cases = refl;
@@ -191,6 +191,6 @@ pub parameter_stands : (shapes : List Shape) (p : FormulaData) (applications : L
 parameter_stands shapes p applications b parameters reached saturated shallow supposes name k is never =
     let at : Contains parameters name = named_there parameters name k is in
     let all : All (λ c. Says c 0 (NotFormula p)) (b ∷ reached.others) = subst (All (λ c. Says c 0 (NotFormula p))) reached.first (begins p applications) in
-    let denied : Stands b (NotFormula p) = record { place = 0; says = All-head (λ c. Says c 0 (NotFormula p)) b reached.others all } in
+    let denied : Stands b (NotFormula p) = record { position = 0; says = All-head (λ c. Says c 0 (NotFormula p)) b reached.others all } in
     supposed_stands shapes b saturated p (argument_formula parameters name) (supposes.typed name at) shallow denied (λ stands.
     whole_stands shapes b saturated k (subst (λ o. Stands b (IsFormula (IntType U64) (term_at o zero_term name))) is stands) never)

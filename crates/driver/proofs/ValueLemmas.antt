@@ -85,8 +85,8 @@ named (Some n) name e = ap Some (eqb-true n name e)
 
 -- it is in the list, and belongs to the class
 record IsFractionOf (v : OpenValues) (name : ℕ) (f : Fraction) : Type 0 where
-  place : ℕ
-  found : slice_get v.values place ≡ Some f
+  index : ℕ
+  found : slice_get v.values index ≡ Some f
   of_class : slice_get v.classes.items f.unknown ≡ Some name
 
 fraction_found : (v : OpenValues) (name : ℕ) (f : Fraction) → fraction_of v name ≡ Some f → IsFractionOf v name f
@@ -97,7 +97,7 @@ fraction_found v name f e = go (position (is_of v name) v.values) refl e
     go (Some i) is e =
         let at = found_in v.values i f f e in
         let passes = (position-Some (is_of v name) v.values i f is).1 in
-        record { place = i; found = e; of_class = named (slice_get v.classes.items f.unknown) name (subst (λ x. is_of v name x ≡ true) at.1 passes) }
+        record { index = i; found = e; of_class = named (slice_get v.classes.items f.unknown) name (subst (λ x. is_of v name x ≡ true) at.1 passes) }
 
 all_at : (P : Fraction → Type 0) (xs : List Fraction) (i : ℕ) (f : Fraction) → All P xs → slice_get xs i ≡ Some f → P f
 all_at P xs i f all e = (let at = found_in xs i f f e in subst P at.1 (all i f at.0))
@@ -115,16 +115,16 @@ whole_at ns b v k valued likely = record { positive = valued.solution.positive; 
         let number : IsTermNumber ns n = record { within = item.within; sort = ap sort_of item.is } in
         let at : IsTerm b (VarTerm k) = record {
           generation = stands.says.entry.generation;
-          holds = record { place = stands.place; entry = stands.says.entry; found = stands.says.found; inside = subst (IsInFormula (VarTerm k)) (sym stands.says.is) (InTyped NumType (VarTerm k) Itself); same = refl };
+          holds = record { position = stands.position; entry = stands.says.entry; found = stands.says.found; inside = subst (IsInFormula (VarTerm k)) (sym stands.says.is) (InTyped NumType (VarTerm k) Itself); same = refl };
         } in
         let name = slice_index v.names.items n in
         let class : valued.class (VarTerm k) ≡ name = sym (valued.named n number (subst (IsTerm b) (sym term) at) ∙ ap valued.class term) in
         let found = fraction_found v name f e in
-        let here : IsWholeIfNumber b valued.class v.classes.items f = all_at (IsWholeIfNumber b valued.class v.classes.items) v.values found.place f valued.whole found.found in
+        let here : IsWholeIfNumber b valued.class v.classes.items f = all_at (IsWholeIfNumber b valued.class v.classes.items) v.values found.index f valued.whole found.found in
         never (here.whole name found.of_class (record { term = VarTerm k; of_class = class; stands = stands }))))
 
 pub positive_at : (v : OpenValues) (name : ℕ) (f : Fraction) → ArePositive v.values → fraction_of v name ≡ Some f → pos 0 <ℤ f.denominator
-positive_at v name f positive e = (let found = fraction_found v name f e in all_at (λ (g : Fraction). pos 0 <ℤ g.denominator) v.values found.place f positive found.found)
+positive_at v name f positive e = (let found = fraction_found v name f e in all_at (λ (g : Fraction). pos 0 <ℤ g.denominator) v.values found.index f positive found.found)
 
 -- facts about the value of the variable's class
 pub known_whole : (ns : List Node) (v : OpenValues) (k : ℕ) → IsWholeAt ns v k → (n : ℕ) → IsMade ns n (LeafNode (Var k)) → (o : Option Fraction) → o ≡ fraction_of v (slice_index v.names.items n) → IfSome o (λ f. (pos 0 <ℤ f.denominator) × Likely (IsWholeValue f))

@@ -23,7 +23,7 @@ use Rattle.sum_tree.specs.SumModuleData.{SumModuleData}
 use Rattle.sum_read.specs.Sums.{is_absent, joined, literal_sum, number_sum, only_sum, operator_of, sum_of, word_sum}
 use Rattle.sum_read.specs.Functions.{function_of, inputs_of, is_plain, value_of}
 use Rattle.sum_module.specs.declared.member.SumMember.{SumMember}
-use Rattle.sum_module.specs.declared.scope.Place.TheVariants.{Body}
+use Rattle.sum_module.specs.declared.scope.Context.TheVariants.{Body}
 use Rattle.sum_module.specs.Scope.{all_differ, are_parameters, is_closed, knows_sum}
 use Rattle.sum_module.specs.Members.{AreMembers, IsMember}
 use Rattle.sum_module.specs.Joined.{functions_in, functions_of_member, specified}
@@ -55,8 +55,8 @@ number_fits n s e = go (is_absent n.literal.suffix) (nat_lt n.literal.value (2 ^
 
 literal_fits : (l : Literal) (s : SumData) → literal_sum l ≡ Some s → Fits s
 literal_fits (Number n) s e = number_fits n s e
-literal_fits (Truth place value) s e = absurd (none_is_some e)
-literal_fits (Address place address) s e = absurd (none_is_some e)
+literal_fits (Truth offset value) s e = absurd (none_is_some e)
+literal_fits (Address offset address) s e = absurd (none_is_some e)
 
 word_fits : (p : Path) (s : SumData) → word_sum p ≡ Some s → Fits s
 word_fits (name_path i) s e = subst Fits (some_is e) tt
@@ -73,25 +73,25 @@ mutual
   sum_fits : (x : ExpressionData) (s : SumData) → sum_of x ≡ Some s → Fits s
   sum_fits (LiteralExpression literal) s e = literal_fits literal s e
   sum_fits (PathExpression path) s e = word_fits path s e
-  sum_fits (BinaryExpression left operator place right) s e = joined_fits (operator_of operator) (sum_of left) (sum_of right) s (λ a. sum_fits left a) (λ b. sum_fits right b) e
-  sum_fits (TupleExpression place items true) s e = absurd (none_is_some e)
-  sum_fits (TupleExpression place items false) s e = only_fits items s e
-  sum_fits (AssignExpression target place value) s e = absurd (none_is_some e)
-  sum_fits (IfExpression place condition then_branch else_branch) s e = absurd (none_is_some e)
-  sum_fits (WhileExpression place condition body) s e = absurd (none_is_some e)
-  sum_fits (LoopExpression place body) s e = absurd (none_is_some e)
-  sum_fits (ReturnExpression place value) s e = absurd (none_is_some e)
-  sum_fits (AbortExpression place code) s e = absurd (none_is_some e)
-  sum_fits (BreakExpression place) s e = absurd (none_is_some e)
-  sum_fits (ContinueExpression place) s e = absurd (none_is_some e)
-  sum_fits (UnaryExpression operator place operand) s e = absurd (none_is_some e)
-  sum_fits (UseExpression kind place local) s e = absurd (none_is_some e)
+  sum_fits (BinaryExpression left operator offset right) s e = joined_fits (operator_of operator) (sum_of left) (sum_of right) s (λ a. sum_fits left a) (λ b. sum_fits right b) e
+  sum_fits (TupleExpression offset items true) s e = absurd (none_is_some e)
+  sum_fits (TupleExpression offset items false) s e = only_fits items s e
+  sum_fits (AssignExpression target offset value) s e = absurd (none_is_some e)
+  sum_fits (IfExpression offset condition then_branch else_branch) s e = absurd (none_is_some e)
+  sum_fits (WhileExpression offset condition body) s e = absurd (none_is_some e)
+  sum_fits (LoopExpression offset body) s e = absurd (none_is_some e)
+  sum_fits (ReturnExpression offset value) s e = absurd (none_is_some e)
+  sum_fits (AbortExpression offset code) s e = absurd (none_is_some e)
+  sum_fits (BreakExpression offset) s e = absurd (none_is_some e)
+  sum_fits (ContinueExpression offset) s e = absurd (none_is_some e)
+  sum_fits (UnaryExpression operator offset operand) s e = absurd (none_is_some e)
+  sum_fits (UseExpression kind offset local) s e = absurd (none_is_some e)
   sum_fits (FieldExpression base field) s e = absurd (none_is_some e)
   sum_fits (CallExpression function types values last) s e = absurd (none_is_some e)
   sum_fits (PackExpression path types fields last) s e = absurd (none_is_some e)
-  sum_fits (VectorExpression place types items last) s e = absurd (none_is_some e)
-  sum_fits (AssertExpression place condition code) s e = absurd (none_is_some e)
-  sum_fits (CastExpression place value target) s e = absurd (none_is_some e)
+  sum_fits (VectorExpression offset types items last) s e = absurd (none_is_some e)
+  sum_fits (AssertExpression offset condition code) s e = absurd (none_is_some e)
+  sum_fits (CastExpression offset value target) s e = absurd (none_is_some e)
   sum_fits (BlockExpression block) s e = absurd (none_is_some e)
 
   only_fits : (xs : ExpressionsData) (s : SumData) → only_sum xs ≡ Some s → Fits s
@@ -100,16 +100,16 @@ mutual
   only_fits (MoreExpressions one (MoreExpressions two more)) s e = absurd (none_is_some e)
 
 body_fits : (b : BlockData) (s : SumData) → value_of b ≡ Some s → Fits s
-body_fits (BlockOf place None NoItems (SomeExpression x)) s e = sum_fits x s e
-body_fits (BlockOf place None NoItems NoExpression) s e = absurd (none_is_some e)
-body_fits (BlockOf place None (MoreItems one more) value) s e = absurd (none_is_some e)
-body_fits (BlockOf place (Some spec) items value) s e = absurd (none_is_some e)
+body_fits (BlockOf offset None NoItems (SomeExpression x)) s e = sum_fits x s e
+body_fits (BlockOf offset None NoItems NoExpression) s e = absurd (none_is_some e)
+body_fits (BlockOf offset None (MoreItems one more) value) s e = absurd (none_is_some e)
+body_fits (BlockOf offset (Some spec) items value) s e = absurd (none_is_some e)
 
 function_fits : (f : FunctionTree) (g : SumFunctionData) → function_of f ≡ Some g → Fits g.body
 function_fits f g e = go (is_plain f) (inputs_of f.inputs) (value_of f.body) refl e
   where
     go : (b : Bool) (i : Option (List (List ℕ))) (v : Option SumData) → value_of f.body ≡ v
-        → cond b (option_and_then (λ parameters. option_map (λ body. record { name = f.name.text; parameters = parameters; body = body; start = f.place.start }) v) i) None ≡ Some g → Fits g.body
+        → cond b (option_and_then (λ parameters. option_map (λ body. record { name = f.name.text; parameters = parameters; body = body; start = f.span.start }) v) i) None ≡ Some g → Fits g.body
     go false i v is e = absurd (none_is_some e)
     go true None v is e = absurd (none_is_some e)
     go true (Some ps) None is e = absurd (none_is_some e)

@@ -5,7 +5,7 @@ use Rattle.std.specs.List.{AllByRecursion}
 use Rattle.std.specs.FinMap as map
 use Rattle.base.specs.Rules.{tells_place}
 use Rattle.base.specs.declared.rule.Rule.{Rule}
-use Rattle.report.specs.Handed.{HandedFiles, HandedOver}
+use Rattle.report.specs.Provided.{ProvidedFiles, AreProvided}
 use Rattle.report.specs.Outside.{Files, HasFaulted, IsLongFile}
 use Rattle.front_end.specs.Program.{IsProgramOf, ProgramStopped}
 use Rattle.front_end.specs.declared.fault.FileFault.TheVariants.{Breaks, Passes}
@@ -42,13 +42,13 @@ IsReported status = (status ≡ AllProved) ⊎ (status ≡ NotAllProved)
 
 -- the stages stop because this file breaks this rule, which this marker explains
 abbrev pub BreaksRule : List (List ℕ) → Rule → ℕ → Option (List ℕ) → Type 0
-BreaksRule files rule file marker = (place : ℕ) × ProgramStopped files file (Breaks rule place marker)
+BreaksRule files rule file marker = (offset : ℕ) × ProgramStopped files file (Breaks rule offset marker)
 
 -- the same, on this line
 pub record BreaksRuleOn (files : List (List ℕ)) (rule : Rule) (file line : ℕ) (marker : Option (List ℕ)) : Type 0 where
-  pub place : ℕ
-  pub stopped : ProgramStopped files file (Breaks rule place marker)
-  pub line_is : line ≡ line_in files file place
+  pub offset : ℕ
+  pub stopped : ProgramStopped files file (Breaks rule offset marker)
+  pub line_is : line ≡ line_in files file offset
 
 -- the stages stop because a file exceeds this limit, with this count
 abbrev pub PassesLimit : List (List ℕ) → FileLimit → ℕ → Type 0
@@ -70,29 +70,29 @@ pub record TextCauses (files : List (List ℕ)) (status : Status) : Type 0 where
   pub reported : IsReported status ↔ HaveProgram files
 
 -- the files with these names have these bytes
-abbrev pub AreTold : Files → List (List ℕ) → List (List ℕ) → Type 0
-AreTold told names files = Paired (λ name bytes. map.get told name ≡ Some bytes) names files
+abbrev pub AreKnown : Files → List (List ℕ) → List (List ℕ) → Type 0
+AreKnown known names files = Paired (λ name bytes. map.get known name ≡ Some bytes) names files
 
 -- a file with one of these names is too long
 abbrev pub SomeIsLong : Files → List (List ℕ) → Type 0
-SomeIsLong told names = ¬ AllByRecursion (λ name. ¬ IsLongFile told name 1048576) names
+SomeIsLong known names = ¬ AllByRecursion (λ name. ¬ IsLongFile known name 1048576) names
 
 -- Causes for the files with these names. If the source lacks one, this is a fault, which it counts.
-pub record FileCauses (told : Files) (names : List (List ℕ)) (status : Status) : Type 0 where
-  pub too_long : (count : ℕ) → (status ≡ Limit Bytes count) ↔ ((count ≡ 1048577) × SomeIsLong told names)
-  pub texts : (files : List (List ℕ)) → AreTold told names files → AllByRecursion (λ bytes. length bytes ≤ 1048576) files → TextCauses files status
+pub record FileCauses (known : Files) (names : List (List ℕ)) (status : Status) : Type 0 where
+  pub too_long : (count : ℕ) → (status ≡ Limit Bytes count) ↔ ((count ≡ 1048577) × SomeIsLong known names)
+  pub texts : (files : List (List ℕ)) → AreKnown known names files → AllByRecursion (λ bytes. length bytes ≤ 1048576) files → TextCauses files status
 
 -- Causes for the bytes that the source provided, a file for each name. It is a premise that all of them were provided:
 -- if one was too long, or the source failed, fewer were.
-abbrev pub HandedCauses : HandedFiles → HandedFiles → List (List ℕ) → Status → Type 0
-HandedCauses before after names status = (files : List (List ℕ)) → HandedOver before after names files → TextCauses files status
+abbrev pub ProvidedCauses : ProvidedFiles → ProvidedFiles → List (List ℕ) → Status → Type 0
+ProvidedCauses before after names status = (files : List (List ℕ)) → AreProvided before after names files → TextCauses files status
 
 -- Causes for a run; the lists are the files provided before and after, and the numbers are the source's counts of
--- faults. The part `handed` holds for every source; `files` is for a source that makes its files known, and for runs in
+-- faults. The part `provided` holds for every source; `files` is for a source that makes its files known, and for runs in
 -- which it did not fail.
-pub record Causes (words : List (List ℕ)) (holds : Option Files) (before after : HandedFiles) (old new : ℕ) (status : Status) : Type 0 where
+pub record Causes (words : List (List ℕ)) (holds : Option Files) (before after : ProvidedFiles) (old new : ℕ) (status : Status) : Type 0 where
   pub bad_words : UnlessFree status ((status ≡ BadWords) ↔ (¬ NameFiles words))
   pub too_many : UnlessFree status ((count : ℕ) → (status ≡ Limit files_kind count) ↔ (NameFiles words × (count ≡ length words) × (64 < count)))
   pub source_fault : status ≡ Fault Source → HasFaulted old new
-  pub handed : NameFiles words → length words ≤ 64 → UnlessFree status (HandedCauses before after words status)
-  pub files : NameFiles words → length words ≤ 64 → ¬ HasFaulted old new → IfSome holds (λ told. UnlessFree status (FileCauses told words status))
+  pub provided : NameFiles words → length words ≤ 64 → UnlessFree status (ProvidedCauses before after words status)
+  pub files : NameFiles words → length words ≤ 64 → ¬ HasFaulted old new → IfSome holds (λ known. UnlessFree status (FileCauses known words status))

@@ -1,7 +1,7 @@
 -- What a whole run writes, and with which status it ends: the definitions of the main theorem.
 use Rattle.std.specs.Prelude.{◌≡◌, ℕ, ◌<◌, ◌≤◌, ◌⊎◌, if◌then◌else◌, List, length, Option}
 use Rattle.std.specs.List.{list_all}
-use Rattle.report.specs.Handed.{HandedFiles, HandedOver}
+use Rattle.report.specs.Provided.{ProvidedFiles, AreProvided}
 use Rattle.report.specs.Outside.{Files}
 use Rattle.front_end.specs.Program.{IsProgramOf}
 use Rattle.report.specs.ReportData.{ReportData}
@@ -14,7 +14,7 @@ use Rattle.report.specs.declared.status.Status.TheVariants.{AllProved, NotAllPro
 use Rattle.sum_tree.specs.SumModuleData.{SumModuleData}
 use Rattle.driver.specs.Verified.{IsReportOf}
 use Rattle.driver.specs.Outcome.{status_of, stop_line}
-use Rattle.driver.specs.Stages.{FetchStopped, HandedTo, HaveBytes, NameFiles, ReadStopped}
+use Rattle.driver.specs.Stages.{FetchStopped, ProvidedTo, HaveBytes, NameFiles, ReadStopped}
 use Rattle.driver.specs.declared.stages.RunStop.{RunStop}
 use Rattle.driver.specs.declared.stages.RunStop.TheVariants.{TooManyFiles}
 
@@ -26,22 +26,22 @@ pub record IsTooMany (names : List (List ℕ)) (stop : RunStop) : Type 0 where
   pub stop_is : stop ≡ TooManyFiles (length names)
 
 -- The files were fetched, and contain no program.
-pub record StoppedAtProgram (holds : Option Files) (before after : HandedFiles) (names : List (List ℕ)) (stop : RunStop) : Type 0 where
+pub record StoppedAtProgram (holds : Option Files) (before after : ProvidedFiles) (names : List (List ℕ)) (stop : RunStop) : Type 0 where
   pub few : length names ≤ 64
   pub files : List (List ℕ)
   pub have_bytes : HaveBytes holds names files
-  pub handed : HandedOver before after names files
+  pub provided : AreProvided before after names files
   pub stopped : ReadStopped files stop
 
 -- A file was not fetched.
-pub record StoppedAtFetch (holds : Option Files) (before after : HandedFiles) (names : List (List ℕ)) (old new : ℕ) (stop : RunStop) : Type 0 where
+pub record StoppedAtFetch (holds : Option Files) (before after : ProvidedFiles) (names : List (List ℕ)) (old new : ℕ) (stop : RunStop) : Type 0 where
   pub few : length names ≤ 64
   pub stopped : FetchStopped holds names old new stop
-  pub handed : HandedTo before after names stop
+  pub provided : ProvidedTo before after names stop
 
 -- Why a run has no report; the lists are the files provided before and after, and the numbers are the source's counts
 -- of faults.
-abbrev pub RunStopped : Option Files → HandedFiles → HandedFiles → List (List ℕ) → ℕ → ℕ → RunStop → Type 0
+abbrev pub RunStopped : Option Files → ProvidedFiles → ProvidedFiles → List (List ℕ) → ℕ → ℕ → RunStop → Type 0
 RunStopped holds before after names old new stop =
     IsTooMany names stop ⊎ (StoppedAtFetch holds before after names old new stop ⊎ StoppedAtProgram holds before after names stop)
 
@@ -49,11 +49,11 @@ RunStopped holds before after names old new stop =
 
 -- The files contain one program, and the report is that of the program. They are those that the source makes known, if
 -- it does, and in any case those that it provided in this run.
-pub record IsVerified (holds : Option Files) (before after : HandedFiles) (names : List (List ℕ)) (report : ReportData) : Type 0 where
+pub record IsVerified (holds : Option Files) (before after : ProvidedFiles) (names : List (List ℕ)) (report : ReportData) : Type 0 where
   pub few : length names ≤ 64
   pub files : List (List ℕ)
   pub have_bytes : HaveBytes holds names files
-  pub handed : HandedOver before after names files
+  pub provided : AreProvided before after names files
   pub program : List SumModuleData
   pub is_program : IsProgramOf files program
   pub is_report : IsReportOf names files program report
@@ -70,7 +70,7 @@ pub record IsUsage (words : List (List ℕ)) (status : Status) (text : List ℕ)
   pub text_is : text ≡ usage_line
 
 -- the line that states why the run has no report
-pub record IsStopLine (words : List (List ℕ)) (holds : Option Files) (before after : HandedFiles) (old new : ℕ) (status : Status) (text : List ℕ) : Type 0 where
+pub record IsStopLine (words : List (List ℕ)) (holds : Option Files) (before after : ProvidedFiles) (old new : ℕ) (status : Status) (text : List ℕ) : Type 0 where
   pub named : NameFiles words
   pub stop : RunStop
   pub stopped : RunStopped holds before after words old new stop
@@ -78,7 +78,7 @@ pub record IsStopLine (words : List (List ℕ)) (holds : Option Files) (before a
   pub text_is : text ≡ stop_line words stop
 
 -- the whole report
-pub record IsReport (words : List (List ℕ)) (holds : Option Files) (before after : HandedFiles) (status : Status) (text : List ℕ) : Type 0 where
+pub record IsReport (words : List (List ℕ)) (holds : Option Files) (before after : ProvidedFiles) (status : Status) (text : List ℕ) : Type 0 where
   pub named : NameFiles words
   pub report : ReportData
   pub verified : IsVerified holds before after words report
@@ -98,7 +98,7 @@ abbrev pub IsReportText : ReportData → Status → List ℕ → Type 0
 IsReportText report status text = ((status ≡ report_status report) × (text ≡ report_text report)) ⊎ IsWant status text
 
 -- This text belongs to this status.
-abbrev pub IsOutput : List (List ℕ) → Option Files → HandedFiles → HandedFiles → ℕ → ℕ → Status → List ℕ → Type 0
+abbrev pub IsOutput : List (List ℕ) → Option Files → ProvidedFiles → ProvidedFiles → ℕ → ℕ → Status → List ℕ → Type 0
 IsOutput words holds before after old new status text =
     IsUsage words status text ⊎ (IsStopLine words holds before after old new status text ⊎ (IsReport words holds before after status text ⊎ IsWant status text))
 

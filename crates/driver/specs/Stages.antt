@@ -2,7 +2,7 @@
 use Rattle.std.specs.Prelude.{◌≡◌, ℕ, ◌<◌, ◌≤◌, Bool, true, false, not, ◌==◌, List, [], ◌∷◌, length, take, slice_index_or, Option, Some, Result, Err, IfSome}
 use Rattle.std.specs.List.{list_all}
 use Rattle.std.specs.FinMap as map
-use Rattle.report.specs.Handed.{HandedFiles, HandedOver}
+use Rattle.report.specs.Provided.{ProvidedFiles, AreProvided}
 use Rattle.report.specs.Outside.{Files, HasFaulted, IsLongFile}
 use Rattle.report.specs.Lines.{line_of}
 use Rattle.report.specs.declared.status.LimitKind.{LimitKind}
@@ -34,7 +34,7 @@ NameFiles words = name_files words ≡ true
 
 -- The file with this name has these bytes: if the source makes its files known, they are those.
 pub record HasBytes (holds : Option Files) (name : List ℕ) (bytes : List ℕ) : Type 0 where
-  pub told : IfSome holds (λ files. map.get files name ≡ Some bytes)
+  pub known : IfSome holds (λ files. map.get files name ≡ Some bytes)
   pub short : length bytes ≤ 1048576
 
 -- the files with these names have these bytes
@@ -67,22 +67,22 @@ FetchStopped holds names old new NoMemory = Unit {0}
 FetchStopped holds names old new _ = ⊥
 
 -- Exactly the files before this one were provided.
-pub record HandedBefore (before after : HandedFiles) (names : List (List ℕ)) (file : ℕ) : Type 0 where
+pub record ProvidedBefore (before after : ProvidedFiles) (names : List (List ℕ)) (file : ℕ) : Type 0 where
   pub within : file < length names
   pub files : List (List ℕ)
-  pub handed : HandedOver before after (take file names) files
+  pub provided : AreProvided before after (take file names) files
 
 -- The files provided when the fetches stopped at a file.
-abbrev pub HandedTo : HandedFiles → HandedFiles → List (List ℕ) → RunStop → Type 0
-HandedTo before after names (SourceFault file) = HandedBefore before after names file
-HandedTo before after names (Limit file kind count) = HandedBefore before after names file
-HandedTo before after names _ = Unit {0}
+abbrev pub ProvidedTo : ProvidedFiles → ProvidedFiles → List (List ℕ) → RunStop → Type 0
+ProvidedTo before after names (SourceFault file) = ProvidedBefore before after names file
+ProvidedTo before after names (Limit file kind count) = ProvidedBefore before after names file
+ProvidedTo before after names _ = Unit {0}
 
 -- ---- programs
 
 -- the line of a byte offset in the file with this number
 abbrev pub line_in : List (List ℕ) → ℕ → ℕ → ℕ
-line_in files file place = line_of (slice_index_or files file []) place
+line_in files file offset = line_of (slice_index_or files file []) offset
 
 -- the limit of a run for a limit of a file
 abbrev pub limit_kind : FileLimit → LimitKind
@@ -92,7 +92,7 @@ limit_kind of_locals = Locals
 
 -- The reason why a run stops for a fault in a file, whatever the rule or the limit.
 abbrev pub stop_of : List (List ℕ) → ℕ → FileFault → RunStop
-stop_of files file (Breaks rule place marker) = Refused (record { rule = rule; file = file; line = line_in files file place; marker = marker })
+stop_of files file (Breaks rule offset marker) = Refused (record { rule = rule; file = file; line = line_in files file offset; marker = marker })
 stop_of files file (Passes limit count) = Limit file (limit_kind limit) count
 
 -- the files contain no program

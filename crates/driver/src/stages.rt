@@ -2,9 +2,9 @@
 
 ghost use Rattle.std.specs.Prelude.{◌≡◌, ◌≤◌, ℕ, [], ◌∷◌, ◌++◌, length, slice_index_or, IfOk, IfErr, MatchOption};
 ghost use Rattle.std.specs.List.{AllByRecursion};
-ghost use Rattle.report.specs.Handed.{HandedOver};
+ghost use Rattle.report.specs.Provided.{AreProvided};
 ghost use Rattle.front_end.specs.Program.{IsProgramOf};
-ghost use Rattle.driver.specs.Stages.{FetchStopped, HandedTo, HasBytes, HaveBytes, IsFetchStop, NameFiles, ReadStopped, UnlessSourceFault, begins_with_dash, limit_kind, name_files, stop_of};
+ghost use Rattle.driver.specs.Stages.{FetchStopped, ProvidedTo, HasBytes, HaveBytes, IsFetchStop, NameFiles, ReadStopped, UnlessSourceFault, begins_with_dash, limit_kind, name_files, stop_of};
 
 use base::lists::{Bytes, Words};
 use base::memory::NoMemory;
@@ -89,8 +89,8 @@ fn fetch<S: Sources>(
 ) -> Result<Bytes, RunStop>
     ensures same_files { S.holds sources.new ≡ S.holds sources.old }
     ensures bytes { IfOk result (HasBytes (S.holds sources.old) name.now) }
-    ensures handed { IfOk result (λ bytes. S.handed sources.new ≡ S.handed sources.old ++ (name.now, bytes) ∷ []) }
-    ensures handed_none { IfErr result (λ _. S.handed sources.new ≡ S.handed sources.old) }
+    ensures provided { IfOk result (λ bytes. S.provided sources.new ≡ S.provided sources.old ++ (name.now, bytes) ∷ []) }
+    ensures provided_none { IfErr result (λ _. S.provided sources.new ≡ S.provided sources.old) }
     ensures no_fault { UnlessSourceFault result (S.faults sources.new ≡ S.faults sources.old) }
     ensures stopped { IfErr result (IsFetchStop (S.holds sources.old) number name.now (S.faults sources.old) (S.faults sources.new)) }
 {
@@ -113,8 +113,8 @@ pub fn fetch_all<S: Sources>(
     requires { length names.now ≤ FILES_LIMIT }
     ensures same_files { S.holds sources.new ≡ S.holds sources.old }
     ensures bytes { IfOk result (λ files. HaveBytes (S.holds sources.old) names.now files.items) }
-    ensures handed { IfOk result (λ files. HandedOver (S.handed sources.old) (S.handed sources.new) names.now files.items) }
-    ensures handed_before { IfErr result (HandedTo (S.handed sources.old) (S.handed sources.new) names.now) }
+    ensures provided { IfOk result (λ files. AreProvided (S.provided sources.old) (S.provided sources.new) names.now files.items) }
+    ensures provided_before { IfErr result (ProvidedTo (S.provided sources.old) (S.provided sources.new) names.now) }
     ensures no_fault { UnlessSourceFault result (S.faults sources.new ≡ S.faults sources.old) }
     ensures stopped { IfErr result (FetchStopped (S.holds sources.old) names.now (S.faults sources.old) (S.faults sources.new)) }
 {
@@ -154,8 +154,8 @@ fn stop_of(alloc: Global, files: &[Bytes], file: u32, fault: FileFault) -> Resul
     ensures { IfOk result (λ stop. stop ≡ stop_of files.now file fault) }
 {
     match fault {
-        FileFault::Breaks(rule, place, marker) => {
-            let line = LineFeeds::new(alloc, bytes_of(files, file))?.line(place);
+        FileFault::Breaks(rule, offset, marker) => {
+            let line = LineFeeds::new(alloc, bytes_of(files, file))?.line(offset);
             Ok(RunStop::Refused(Refusal {
                 rule,
                 file,

@@ -3,7 +3,7 @@
 ghost use Rattle.std.specs.Prelude.{◌≡◌, ℕ, List, Option, IfOk, IfErr};
 ghost use Rattle.std.specs.List.{list_all};
 ghost use Rattle.driver.specs.Causes.{Causes};
-ghost use Rattle.report.specs.Handed.{HandedFiles};
+ghost use Rattle.report.specs.Provided.{ProvidedFiles};
 ghost use Rattle.report.specs.Outside.{Files};
 ghost use Rattle.report.specs.ReportText.{is_proved};
 ghost use Rattle.report.specs.declared.status.Status.{Status};
@@ -35,8 +35,8 @@ fn report_of<S: Sources, L: Ledger>(
     sources: &mut S,
     steps: &mut Steps<L>,
 ) -> Result<Report, RunStop>
-    ensures verified { IfOk result (IsVerified (S.holds sources.old) (S.handed sources.old) (S.handed sources.new) names.now) }
-    ensures stopped { IfErr result (RunStopped (S.holds sources.old) (S.handed sources.old) (S.handed sources.new) names.now (S.faults sources.old) (S.faults sources.new)) }
+    ensures verified { IfOk result (IsVerified (S.holds sources.old) (S.provided sources.old) (S.provided sources.new) names.now) }
+    ensures stopped { IfErr result (RunStopped (S.holds sources.old) (S.provided sources.old) (S.provided sources.new) names.now (S.faults sources.old) (S.faults sources.new)) }
 {
     if names.len() > FILES_LIMIT {
         return Err(RunStop::TooManyFiles(names.len() as u64));
@@ -84,7 +84,7 @@ fn run<S: Sources, W: Sink, L: Ledger>(
     sink: &mut W,
     steps: &mut Steps<L>,
 ) -> Result<Status, SinkFault>
-    ensures { Writes (IsOutput words.now (S.holds sources.old) (S.handed sources.old) (S.handed sources.new) (S.faults sources.old) (S.faults sources.new)) (W.taken sink.old) (W.taken sink.new) (W.faults sink.old) (W.faults sink.new) result }
+    ensures { Writes (IsOutput words.now (S.holds sources.old) (S.provided sources.old) (S.provided sources.new) (S.faults sources.old) (S.faults sources.new)) (W.taken sink.old) (W.taken sink.new) (W.faults sink.old) (W.faults sink.new) result }
 {
     match file_names(words) {
         Some(names) => match report_of(alloc, names, sources, steps) {
@@ -98,8 +98,8 @@ fn run<S: Sources, W: Sink, L: Ledger>(
 /// A law: the end of a run determines the cause of its status, and the cause the status, since the ends exclude each
 /// other.
 fn causes_of_ends()
-    ensures { (words : List (List ℕ)) (told : Option Files) (handed handed_after : HandedFiles) (counted counted_after : ℕ) (taken taken_after : Option (List ℕ)) (failed failed_after : ℕ) (status : Status)
-        → Ends (IsOutput words told handed handed_after counted counted_after) taken taken_after failed failed_after status → Causes words told handed handed_after counted counted_after status }
+    ensures { (words : List (List ℕ)) (known : Option Files) (provided provided_after : ProvidedFiles) (counted counted_after : ℕ) (taken taken_after : Option (List ℕ)) (failed failed_after : ℕ) (status : Status)
+        → Ends (IsOutput words known provided provided_after counted counted_after) taken taken_after failed failed_after status → Causes words known provided provided_after counted counted_after status }
 {
     one_outcome();
 }
@@ -117,8 +117,8 @@ pub fn movep<S: Sources, W: Sink, L: Ledger>(
     sink: &mut W,
     steps: &mut Steps<L>,
 ) -> Status
-    ensures ends { Ends (IsOutput words.now (S.holds sources.old) (S.handed sources.old) (S.handed sources.new) (S.faults sources.old) (S.faults sources.new)) (W.taken sink.old) (W.taken sink.new) (W.faults sink.old) (W.faults sink.new) result }
-    ensures causes { Causes words.now (S.holds sources.old) (S.handed sources.old) (S.handed sources.new) (S.faults sources.old) (S.faults sources.new) result }
+    ensures ends { Ends (IsOutput words.now (S.holds sources.old) (S.provided sources.old) (S.provided sources.new) (S.faults sources.old) (S.faults sources.new)) (W.taken sink.old) (W.taken sink.new) (W.faults sink.old) (W.faults sink.new) result }
+    ensures causes { Causes words.now (S.holds sources.old) (S.provided sources.old) (S.provided sources.new) (S.faults sources.old) (S.faults sources.new) result }
 {
     causes_of_ends();
     match run(alloc, words, sources, sink, steps) {

@@ -148,7 +148,7 @@ fn check_line(feeds: &LineFeeds, check: Option<u32>) -> Option<u32>
     ensures { (bytes : List ℕ) → feeds.now ≡ line_feeds bytes → result ≡ check_line_of bytes check }
 {
     match check {
-        Some(place) => Some(feeds.line(place)),
+        Some(offset) => Some(feeds.line(offset)),
         None => None,
     }
 }

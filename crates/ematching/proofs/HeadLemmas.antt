@@ -116,12 +116,15 @@ module _ (ns ms : List Node) (grown : Extends ns ms) where
   still h limit w None known = record { none = λ k v has. known.none k v (head_before h k (omega (arith, v, w)) has) }
   still h limit w (Some n) known = record { below = known.below; has = head_then h n known.has; none = λ k u v has. known.none k u v (head_before h k (omega (arith, v, w)) has) }
 
-  pub index_later : (d : HeadIndex) → IsIndexOf ns d → IsIndex ms d
-  index_later d h = record {
-    within = (let a = h.index.within in let l : length ms ≡ length (ns ++ grown.more) = ap length grown.is in omega (arith, a, l, length-append ns grown.more));
-    last = λ g. still g (length d.before.items) h.index.within (last_of d g) (h.index.last g);
-    before = λ n node w found. still (head_of node) n (let a = h.index.within in omega (arith, a, w)) (slice_index_or d.before.items n None) (h.index.before n node w (kept_at ns grown.more n node (let a = h.index.within in omega (arith, a, w)) (subst (λ xs. slice_get xs n ≡ Some node) grown.is found)));
+  pub index_stays : (d : HeadIndex) → IsIndex ns d → IsIndex ms d
+  index_stays d h = record {
+    within = (let a = h.within in let l : length ms ≡ length (ns ++ grown.more) = ap length grown.is in omega (arith, a, l, length-append ns grown.more));
+    last = λ g. still g (length d.before.items) h.within (last_of d g) (h.last g);
+    before = λ n node w found. still (head_of node) n (let a = h.within in omega (arith, a, w)) (slice_index_or d.before.items n None) (h.before n node w (kept_at ns grown.more n node (let a = h.within in omega (arith, a, w)) (subst (λ xs. slice_get xs n ≡ Some node) grown.is found)));
   }
+
+  pub index_later : (d : HeadIndex) → IsIndexOf ns d → IsIndex ms d
+  index_later d h = index_stays d h.index
 
 pub not_same_node : (m n : Node) → n ≢ m → same_node m n ≡ false
 not_same_node m n other = go (same_node m n) refl

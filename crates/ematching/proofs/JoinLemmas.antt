@@ -213,7 +213,7 @@ module _ (ns : List Node) (one : IsOneNumber ns) (b : Branch) (bound : List ℕ)
           for_variable = h.joined.for_variable;
           filled = term_at ns h.candidate ∷ h.joined.filled;
           are_filled = MoreFilled (term_at ns p) (term_at ns h.candidate) ts h.joined.filled h.joined.first h.joined.are_filled;
-          stand = ((candidates.only h.candidate h.among).held, h.joined.stand);
+          stand = ((candidates.only h.candidate h.among).stands, h.joined.stand);
         }
 
         from : IsJoined ns b bound x cs (term_at ns p ∷ ts) v → IsJoinedBy ns b bound x cs p numbers ts v

@@ -30,40 +30,6 @@ those_push P Q xs ys k e same h = record { each = λ n. (λ a. (same n).1 (to n 
     from n (inl p) = among_first n xs (k ∷ []) ((h.each n).1 p)
     from n (inr f) = subst (λ m. IsAmong m (xs ++ k ∷ [])) (sym f) (among_push xs k)
 
--- ---- numbers below a limit
-
-abbrev pub IsBelow : (ℕ → Type 0) → ℕ → ℕ → Type 0
-IsBelow P limit n = P n × (n < limit)
-
-module _ (P : ℕ → Type 0) (k : ℕ) where
-  below_cases : (n : ℕ) → n < k + 1 → (n < k) ⊎ (n ≡ k)
-  below_cases n w = go (cases_eq n k)
-    where
-      go : (n ≡ k) ⊎ (n ≡ k → ⊥) → (n < k) ⊎ (n ≡ k)
-      go (inl e) = inr e
-      go (inr f) = inl (omega (arith, w, f))
-
-  pub below_push : P k → (n : ℕ) → IsBelow P (k + 1) n ↔ (IsBelow P k n ⊎ (n ≡ k))
-  below_push p n = (λ h. to h.0 (below_cases n h.1), λ h. from h)
-    where
-      to : P n → (n < k) ⊎ (n ≡ k) → IsBelow P k n ⊎ (n ≡ k)
-      to q (inl w) = inl (q, w)
-      to q (inr e) = inr e
-
-      from : IsBelow P k n ⊎ (n ≡ k) → IsBelow P (k + 1) n
-      from (inl h) = (h.0, (let w = h.1 in omega (arith, w)))
-      from (inr e) = (subst P (sym e) p, omega (arith, e))
-
-  pub below_skip : (P k → ⊥) → (n : ℕ) → IsBelow P (k + 1) n ↔ IsBelow P k n
-  below_skip none n = (λ h. to h.0 (below_cases n h.1), λ h. (h.0, (let w = h.1 in omega (arith, w))))
-    where
-      to : P n → (n < k) ⊎ (n ≡ k) → IsBelow P k n
-      to q (inl w) = (q, w)
-      to q (inr e) = absurd (none (subst P e q))
-
-pub below_all : (P : ℕ → Type 0) (count limit : ℕ) → limit ≤ count → ((n : ℕ) → P n → n < limit) → (n : ℕ) → P n ↔ IsBelow P count n
-below_all P count limit w within n = (λ p. (p, (let v = within n p in omega (arith, v, w))), λ h. h.0)
-
 -- ---- the first numbers of a list
 
 abbrev pub IsFirst : (ℕ → Type 0) → List ℕ → ℕ → ℕ → Type 0

@@ -7,21 +7,16 @@ use Rattle.fol.specs.declared.operators.Quantifier.TheVariants.{ForAll, Exists}
 use Rattle.fol.specs.FormulaData.{TriggersData, FormulaData, NotFormula, QuantifyFormula}
 use Rattle.term_pool.specs.Items.{FormulaItem, TriggersItem, FormulaSort, sort_of, formula_in}
 use Rattle.term_pool.specs.Pools.{item_at, IsMade}
-use Rattle.term_pool.specs.declared.node.One.TheVariants.{Not as NotHead}
 use Rattle.term_pool.specs.declared.node.Two.TheVariants.{Quantify as QuantifyHead}
 use Rattle.term_pool.specs.declared.node.Node.{Node}
-use Rattle.term_pool.specs.declared.node.Node.TheVariants.{One as OneNode, Two as TwoNode}
+use Rattle.term_pool.specs.declared.node.Node.TheVariants.{Two as TwoNode}
+use Rattle.term_pool.specs.Forms.{IsNoDenial, IsDenialOf}
+use Rattle.term_pool.proofs.FormLemmas.{denial_is}
 use Rattle.term_pool.proofs.ShapeLemmas.{shape_of, a_formula}
-use Rattle.tableau.specs.PoolBranches.{IsFormulaNumber}
 use Rattle.ematching.specs.Numbers.{triggers_at, formula_at}
-use Rattle.ematching.specs.Quantified.{for_all, quantifier_of, denied_of, IsQuantified, IsNotQuantified, IsQuantifier, HasNoQuantifier}
+use Rattle.ematching.specs.Quantified.{for_all, quantifier_of, IsQuantified, IsNotQuantified, IsQuantifier, HasNoQuantifier}
 use Rattle.ematching.specs.declared.quantified.Universal.{Universal}
-use Rattle.ematching.proofs.ApartLemmas.{node_shape, shape_made, two_from, one_from}
-
--- the number of the operand of the negation
-pub record IsDenialOf (ns : List Node) (p : FormulaData) (inner : ℕ) : Type 0 where
-  pub number : IsFormulaNumber ns inner
-  pub is : p ≡ NotFormula (formula_at ns inner)
+use Rattle.ematching.proofs.ApartLemmas.{node_shape, shape_made, two_from}
 
 module _ (ns : List Node) (n : ℕ) (node : Node) (made : IsMade ns n node) where
   inside : n < length ns
@@ -50,18 +45,6 @@ module _ (ns : List Node) (n : ℕ) (node : Node) (made : IsMade ns n node) wher
   quantifier_some ForAll _ it q e = absurd (cc)
   quantifier_some Exists _ it q e = absurd (cc)
 
-  denial_some : (m : Node) → IsMade ns n m → (a : ℕ) → denied_of m ≡ Some a → IsDenialOf ns (formula_at ns n) a
-  denial_some (OneNode NotHead b) it a e =
-      let same : b ≡ a = cc in
-      subst (IsDenialOf ns (formula_at ns n)) same (record {
-        number = record { within = part_within b it.parts.earlier; sort = it.parts.sort };
-        is = ap formula_in it.item;
-      })
-  denial_some _ it a e = absurd (cc)
-
-  pub denial_of : (a : ℕ) → denied_of node ≡ Some a → IsDenialOf ns (formula_at ns n) a
-  denial_of a e = denial_some node made a e
-
   module _ (sort : sort_of (item_at ns n) ≡ FormulaSort) where
     shape_is : (p : FormulaData) → formula_at ns n ≡ p → node_shape ns node ≡ shape_of (FormulaItem p)
     shape_is p e = sym (shape_made ns n node made) ∙ ap shape_of (sym (a_formula (item_at ns n) sort)) ∙ ap (λ q. shape_of (FormulaItem q)) e
@@ -74,38 +57,30 @@ module _ (ns : List Node) (n : ℕ) (node : Node) (made : IsMade ns n node) wher
     quantifier_found o None e = quantifier_none o (sym e)
     quantifier_found o (Some q) e = quantifier_some o node made q (sym e)
 
-    not_denied : denied_of node ≡ None → (p : FormulaData) → formula_at ns n ≡ NotFormula p → ⊥
-    not_denied e p f =
-        let it = one_from ns NotHead (FormulaItem p) node (shape_is (NotFormula p) f) in
-        let both = sym e ∙ ap denied_of (sym it.is) in
-        absurd (cc)
-
-    pub plain_found : denied_of node ≡ None → (found : Option Universal) → MatchOption found (HasNoQuantifier ForAll (formula_at ns n)) (IsQuantifier ns ForAll (formula_at ns n)) → MatchOption found (IsNotQuantified (formula_at ns n)) (IsQuantified ns (formula_at ns n))
-    plain_found e None h = record { none = go }
-      where
-        go : (denied : Bool) (x : ℕ) (ts : TriggersData) (body : FormulaData) → formula_at ns n ≡ for_all denied x ts body → ⊥
-        go false x ts body f = h.none x ts body f
-        go true x ts body f = not_denied e (QuantifyFormula Exists x ts body) f
-    plain_found e (Some q) h = record {
-      triggers = h.triggers;
-      body = h.body;
-      is = h.is ∙ sym (ap (λ d. for_all d q.variable (triggers_at ns q.triggers) (formula_at ns q.body)) h.kind);
-    }
-
-  pub denied_found : (a : ℕ) → denied_of node ≡ Some a → (found : Option Universal) → MatchOption found (HasNoQuantifier Exists (formula_at ns a)) (IsQuantifier ns Exists (formula_at ns a)) → MatchOption found (IsNotQuantified (formula_at ns n)) (IsQuantified ns (formula_at ns n))
-  denied_found a e None h = record { none = go }
+module _ (ns : List Node) (n : ℕ) where
+  pub plain_found : IsNoDenial (formula_at ns n) → (found : Option Universal) → MatchOption found (HasNoQuantifier ForAll (formula_at ns n)) (IsQuantifier ns ForAll (formula_at ns n)) → MatchOption found (IsNotQuantified (formula_at ns n)) (IsQuantified ns (formula_at ns n))
+  plain_found plain None h = record { none = go }
     where
-      it : IsDenialOf ns (formula_at ns n) a
-      it = denial_of a e
-
       go : (denied : Bool) (x : ℕ) (ts : TriggersData) (body : FormulaData) → formula_at ns n ≡ for_all denied x ts body → ⊥
-      go false x ts body f = (let both = sym it.is ∙ f in absurd (cc))
-      go true x ts body f =
-          let both : NotFormula (formula_at ns a) ≡ NotFormula (QuantifyFormula Exists x ts body) = sym it.is ∙ f in
-          let same : formula_at ns a ≡ QuantifyFormula Exists x ts body = cc in
-          h.none x ts body same
-  denied_found a e (Some q) h = record {
+      go false x ts body f = h.none x ts body f
+      go true x ts body f = plain.none (QuantifyFormula Exists x ts body) f
+  plain_found plain (Some q) h = record {
     triggers = h.triggers;
     body = h.body;
-    is = (denial_of a e).is ∙ ap NotFormula h.is ∙ sym (ap (λ d. for_all d q.variable (triggers_at ns q.triggers) (formula_at ns q.body)) h.kind);
+    is = h.is ∙ sym (ap (λ d. for_all d q.variable (triggers_at ns q.triggers) (formula_at ns q.body)) h.kind);
+  }
+
+  pub denied_found : (a : ℕ) → IsDenialOf ns n a → (found : Option Universal) → MatchOption found (HasNoQuantifier Exists (formula_at ns a)) (IsQuantifier ns Exists (formula_at ns a)) → MatchOption found (IsNotQuantified (formula_at ns n)) (IsQuantified ns (formula_at ns n))
+  denied_found a it None h = record { none = go }
+    where
+      go : (denied : Bool) (x : ℕ) (ts : TriggersData) (body : FormulaData) → formula_at ns n ≡ for_all denied x ts body → ⊥
+      go false x ts body f = (let both = sym (denial_is ns n a it) ∙ f in absurd (cc))
+      go true x ts body f =
+          let both : NotFormula (formula_at ns a) ≡ NotFormula (QuantifyFormula Exists x ts body) = sym (denial_is ns n a it) ∙ f in
+          let same : formula_at ns a ≡ QuantifyFormula Exists x ts body = cc in
+          h.none x ts body same
+  denied_found a it (Some q) h = record {
+    triggers = h.triggers;
+    body = h.body;
+    is = denial_is ns n a it ∙ ap NotFormula h.is ∙ sym (ap (λ d. for_all d q.variable (triggers_at ns q.triggers) (formula_at ns q.body)) h.kind);
   }

@@ -26,7 +26,9 @@ use Rattle.term_pool.proofs.PutLemmas.{put_instance}
 use Rattle.ematching.specs.Numbers.{term_at, formula_at}
 use Rattle.ematching.specs.Quantified.{for_all}
 use Rattle.ematching.specs.QuantifierFree.{quantifier_free}
-use Rattle.ematching.specs.Bodies.{said_as, IsInstanceNumber, IsSaidNumber, IsNoDenial, IsDenied, IsInner, HasNoInner, IsSaidAt}
+use Rattle.term_pool.specs.Forms.{IsNoDenial, IsDenialOf}
+use Rattle.term_pool.proofs.FormLemmas.{denial_number, denial_is}
+use Rattle.ematching.specs.Bodies.{said_as, IsInstanceNumber, IsSaidNumber, IsInner, HasNoInner, IsSaidAt}
 use Rattle.ematching.proofs.UniqueLemmas.{clear, one_instance}
 use Rattle.ematching.proofs.DepthLemmas.{same_depth}
 
@@ -107,9 +109,9 @@ pub inner_itself : (ns : List Node) (d : Bool) → d ≡ false → (n : ℕ) →
 inner_itself ns false e n h = record { number = h; is = refl }
 inner_itself ns true e n h = absurd (cc)
 
-pub inner_found : (ns : List Node) (d : Bool) → d ≡ true → (n : ℕ) (found : Option ℕ) → MatchOption found (IsNoDenial (formula_at ns n)) (IsDenied ns n) → MatchOption found (HasNoInner d (formula_at ns n)) (IsInner ns d n)
-inner_found ns true e n None h = record { none = λ q f. subst IsNoDenial f h }
-inner_found ns true e n (Some k) h = record { number = h.number; is = h.is }
+pub inner_found : (ns : List Node) (d : Bool) → d ≡ true → (n : ℕ) (found : Option ℕ) → MatchOption found (IsNoDenial (formula_at ns n)) (IsDenialOf ns n) → MatchOption found (HasNoInner d (formula_at ns n)) (IsInner ns d n)
+inner_found ns true e n None h = record { none = λ q f. h.none q f }
+inner_found ns true e n (Some k) h = let part = denial_number ns n k h in record { number = record { within = part.earlier; sort = part.sort }; is = denial_is ns n k h }
 inner_found ns false e n found h = absurd (cc)
 
 -- ---- entries
@@ -176,12 +178,12 @@ module _ (b : Branch) (p : FormulaData) (t : TermData) where
       go j w (inr f) s = h.each j (omega (arith, w, f)) s
 
   pub has_instance : (i : ℕ) → IsSaidAt b p t i → HasInstance b p t
-  has_instance i h = record { body = h.formula; stands = record { place = i; says = h.says }; is_body = h.is_body }
+  has_instance i h = record { body = h.formula; stands = record { position = i; says = h.says }; is_body = h.is_body }
 
   pub none_at_all : (i : ℕ) → length b ≤ i → NoneSaid b p t i → HasInstance b p t → ⊥
   none_at_all i w h has =
-      let place = slice_get_within b has.stands.place has.stands.says.entry has.stands.says.found in
-      h.each has.stands.place (omega (arith, place, w)) (record { formula = has.body; says = has.stands.says; is_body = has.is_body })
+      let position = slice_get_within b has.stands.position has.stands.says.entry has.stands.says.found in
+      h.each has.stands.position (omega (arith, position, w)) (record { formula = has.body; says = has.stands.says; is_body = has.is_body })
 
 -- the computed instance is on the branch, or none is if the body is quantifier-free
 module _ (ns : List Node) (b : Branch) (d : Bool) (x : ℕ) (ts : TriggersData) (body : FormulaData) (t : TermData) (made : ℕ) (is : IsSaidNumber ns (for_all d x ts body) t made) where

@@ -190,7 +190,7 @@ module _ (ns ms : List Node) (grown : Extends ns ms) (d : BranchData) (over : Is
 
   pub made_due : IsMatched (branch_in ns d) (term_at ns n) (formula_at ns q.formula) → (g : ℕ) → IsNextGeneration (branch_in ns d) q.generation (term_at ns n) g → (depth : ℕ) → depth ≡ counted (item_depth (item_at ms made)) → depth ≤ 2000 → (HasInstance (branch_in ms d) (universal_at ms q.universal) (term_at ms n) → ⊥) → IsInstanceAt ms (branch_in ns d) q.entry (record { entry = q.entry; term = n; formula = made; generation = g })
   made_due matched g next depth e w unsaid = record {
-    place = refl;
+    position = refl;
     instance = record {
       term = term_still ns ms grown n term;
       formula = is.number;
@@ -290,7 +290,7 @@ module _ (ns : List Node) (d : BranchData) (over : IsOver ns d) (i : ℕ) where
 
     pub entry_quantified : (u : Universal) → IsQuantified ns (formula_at ns e.formula) u → (free : Bool) → free ≡ quantifier_free (formula_at ns u.body) → IsQuantifiedAt ns (branch_in ns d) i (record { entry = i; formula = e.formula; generation = e.generation; universal = u; is_free = free })
     entry_quantified u is free f = record {
-      place = refl;
+      position = refl;
       is = record { entry = entry_in ns e; found = found_entry; generation = refl; formula = number_is; says = refl; quantified = is; free = f };
     }
 
@@ -315,14 +315,14 @@ before_all ns d k w h = record {
 pub instance_step : (ns ms : List Node) → Extends ns ms → (d : BranchData) → IsOver ns d → (i : ℕ) (step : InstanceStep) → NoInstanceBefore (branch_in ns d) i → IsInstanceAt ms (branch_in ns d) i step → IsInstanceStep ms (branch_in ms d) step
 instance_step ns ms grown d over i step none h = subst (λ b. IsInstanceStep ms b step) (sym (still_says ns ms grown d over)) (record {
   instance = h.instance;
-  first = subst (NoInstanceBefore (branch_in ns d)) (sym h.place) none;
+  first = subst (NoInstanceBefore (branch_in ns d)) (sym h.position) none;
 })
 
 pub no_instance : (ns ms : List Node) → Extends ns ms → (d : BranchData) → IsOver ns d → NoInstance (branch_in ns d) → NoInstance (branch_in ms d)
 no_instance ns ms grown d over none = subst NoInstance (sym (still_says ns ms grown d over)) none
 
-pub at_place : (ms : List Node) (b : Branch) (i j : ℕ) → i ≡ j → {E : Type 0} (r : Result (Option InstanceStep) E) → IfOk r (λ found. MatchOption found (NoInstanceAt b i) (IsInstanceAt ms b i)) → IfOk r (λ found. MatchOption found (NoInstanceAt b j) (IsInstanceAt ms b j))
-at_place ms b i j e r h = subst (λ k. IfOk r (λ found. MatchOption found (NoInstanceAt b k) (IsInstanceAt ms b k))) e h
+pub at_position : (ms : List Node) (b : Branch) (i j : ℕ) → i ≡ j → {E : Type 0} (r : Result (Option InstanceStep) E) → IfOk r (λ found. MatchOption found (NoInstanceAt b i) (IsInstanceAt ms b i)) → IfOk r (λ found. MatchOption found (NoInstanceAt b j) (IsInstanceAt ms b j))
+at_position ms b i j e r h = subst (λ k. IfOk r (λ found. MatchOption found (NoInstanceAt b k) (IsInstanceAt ms b k))) e h
 
 -- a property that holds for any result
 pub on_ok : {X E P : Type 0} (r : Result X E) → P → OnOk r P

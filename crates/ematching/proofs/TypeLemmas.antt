@@ -243,10 +243,10 @@ pub record HasTypingEntry (ns : List Node) (a t : ℕ) : Type 0 where
 module _ (ns : List Node) (one : IsOneNumber ns) (d : BranchData) (over : IsOver ns d) where
   pub typing_entry : (a t : ℕ) → IsOfSort ns TypeSort a → IsTermNumber ns t → IsGivenType ns (branch_in ns d) a t → HasTypingEntry ns a t
   typing_entry a t ha ht h =
-      let it = stored ns d.entries h.place h.says.entry h.says.found in
-      let formula = over.formulas h.place it.entry it.found in
+      let it = stored ns d.entries h.position h.says.entry h.says.found in
+      let formula = over.formulas h.position it.entry it.found in
       let least = all_least ns d over in
-      let has = value_of d.generations it.entry.formula it.entry.generation (least.entries h.place it.entry it.found) in
+      let has = value_of d.generations it.entry.formula it.entry.generation (least.entries h.position it.entry it.found) in
       let node = least.closed.nodes it.entry.formula has.value has.is in
       let says : formula_at ns it.entry.formula ≡ IsFormula (type_at ns a) (term_at ns t) = ap (λ (e : Entry). e.formula) it.is ∙ h.says.is in
       record { number = it.entry.formula; made = subst (IsMade ns it.entry.formula) (typing_is ns it.entry.formula node.node node.made one formula a t ha ht says) node.made }

@@ -32,15 +32,6 @@ pub record IsSaidNumber (ns : List Node) (p : FormulaData) (t : TermData) (n : �
 
 -- ---- candidates for the instance
 
-abbrev pub IsNoDenial : FormulaData → Type 0
-IsNoDenial (NotFormula p) = ⊥
-IsNoDenial _ = Unit {0}
-
--- the number of the formula whose negation is the one with a number
-pub record IsDenied (ns : List Node) (formula inner : ℕ) : Type 0 where
-  pub number : IsFormulaNumber ns inner
-  pub is : formula_at ns formula ≡ NotFormula (formula_at ns inner)
-
 -- the number of the formula with a number, or of its operand if it must be a negation
 pub record IsInner (ns : List Node) (denied : Bool) (formula inner : ℕ) : Type 0 where
   pub number : IsFormulaNumber ns inner

@@ -40,7 +40,7 @@ pub record IsInstanceOf (ns : List Node) (b : Branch) (step : InstanceStep) : Ty
 
 -- an instance of this entry is due
 pub record IsInstanceAt (ns : List Node) (b : Branch) (i : ℕ) (step : InstanceStep) : Type 0 where
-  pub place : step.entry ≡ i
+  pub position : step.entry ≡ i
   pub instance : IsInstanceOf ns b step
 
 -- an instance of the first entry that has one is due
@@ -73,5 +73,5 @@ pub record IsQuantifiedEntry (ns : List Node) (b : Branch) (q : QuantifiedEntry)
 
 -- the entry with this number is universal
 pub record IsQuantifiedAt (ns : List Node) (b : Branch) (i : ℕ) (q : QuantifiedEntry) : Type 0 where
-  pub place : q.entry ≡ i
+  pub position : q.entry ≡ i
   pub is : IsQuantifiedEntry ns b q

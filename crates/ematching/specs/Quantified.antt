@@ -4,10 +4,9 @@ use Rattle.fol.specs.declared.operators.Quantifier.{Quantifier}
 use Rattle.fol.specs.declared.operators.Quantifier.TheVariants.{ForAll, Exists}
 use Rattle.fol.specs.FormulaData.{TriggersData, FormulaData, NotFormula, QuantifyFormula}
 use Rattle.term_pool.specs.Items.{TriggersSort}
-use Rattle.term_pool.specs.declared.node.One.TheVariants.{Not as NotHead}
 use Rattle.term_pool.specs.declared.node.Two.TheVariants.{Quantify as QuantifyHead}
 use Rattle.term_pool.specs.declared.node.Node.{Node}
-use Rattle.term_pool.specs.declared.node.Node.TheVariants.{One as OneNode, Two as TwoNode}
+use Rattle.term_pool.specs.declared.node.Node.TheVariants.{Two as TwoNode}
 use Rattle.tableau.specs.PoolBranches.{IsFormulaNumber}
 use Rattle.ematching.specs.Numbers.{triggers_at, formula_at, IsOfSort}
 use Rattle.ematching.specs.declared.quantified.Universal.{Universal}
@@ -37,10 +36,6 @@ abbrev pub quantifier_of : Quantifier → Node → Option Universal
 quantifier_of ForAll (TwoNode (QuantifyHead ForAll n) ts p) = Some (record { variable = n; triggers = ts; body = p; is_denied = false })
 quantifier_of Exists (TwoNode (QuantifyHead Exists n) ts p) = Some (record { variable = n; triggers = ts; body = p; is_denied = true })
 quantifier_of o _ = None
-
-abbrev pub denied_of : Node → Option ℕ
-denied_of (OneNode NotHead a) = Some a
-denied_of _ = None
 
 -- the formula begins with the quantifier
 pub record IsQuantifier (ns : List Node) (o : Quantifier) (p : FormulaData) (q : Universal) : Type 0 where

@@ -102,8 +102,8 @@ fn matched_by(
     requires given { IsTermGiven pool.now given }
     ensures { OnOk result (AreAdded pool.now given (IsMatchOf pool.now (branch_in pool.now branch.now) universal) found.old found.new) }
 {
-    let place = free_at(alloc, pool, universal.variable, universal.triggers)?;
-    match place {
+    let position = free_at(alloc, pool, universal.variable, universal.triggers)?;
+    match position {
         Some(_) => triggered(alloc, pool, branch, index, universal, given, found),
         None => typed(alloc, pool, branch, index, universal, given, found),
     }
@@ -199,8 +199,8 @@ fn triggered_by(
     requires given { IsTermGiven pool.now given }
     ensures { OnOk result (AreAdded pool.now given (λ v. IsTriggered (branch_in pool.now branch.now) bound.now variable (term_at pool.now v) (terms_at pool.now trigger)) found.old found.new) }
 {
-    let place = free_at(alloc, pool, variable, trigger)?;
-    let Some(number) = place else {
+    let position = free_at(alloc, pool, variable, trigger)?;
+    let Some(number) = position else {
         return Ok(());
     };
     let wanted = Wanted { variable, number };

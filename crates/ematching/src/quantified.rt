@@ -3,10 +3,10 @@
 ghost use Rattle.std.specs.Prelude.{◌≡◌, MatchOption};
 ghost use Rattle.tableau.specs.PoolBranches.{IsFormulaNumber};
 ghost use Rattle.ematching.specs.Numbers.{formula_at};
-ghost use Rattle.ematching.specs.Quantified.{quantifier_of, denied_of, IsQuantified, IsNotQuantified, IsQuantifier, HasNoQuantifier};
+ghost use Rattle.ematching.specs.Quantified.{quantifier_of, IsQuantified, IsNotQuantified, IsQuantifier, HasNoQuantifier};
 
 use fol::operators::Quantifier;
-use term_pool::node::{Node, One, Two};
+use term_pool::node::{Node, Two};
 use term_pool::pool::Pool;
 
 /// A universal formula, by number: a universal quantification, or a negated existential one.
@@ -48,15 +48,6 @@ fn quantifier_of(quantifier: Quantifier, node: Node) -> Option<Universal>
     }
 }
 
-fn denied_of(node: Node) -> Option<usize>
-    ensures { result ≡ denied_of node }
-{
-    match node {
-        Node::One(One::Not, inner) => Some(inner),
-        _ => None,
-    }
-}
-
 // The outermost quantification of the formula, if it is by this quantifier.
 fn quantifier_at(pool: &Pool, quantifier: Quantifier, formula: usize) -> Option<Universal>
     requires { IsFormulaNumber pool.now formula }
@@ -74,10 +65,7 @@ pub fn quantified(pool: &Pool, formula: usize) -> Option<Universal>
     requires { IsFormulaNumber pool.now formula }
     ensures { MatchOption result (IsNotQuantified (formula_at pool.now formula)) (IsQuantified pool.now (formula_at pool.now formula)) }
 {
-    let Some(node) = pool.node(formula) else {
-        return None;
-    };
-    match denied_of(node) {
+    match pool.denied(formula) {
         Some(inner) => quantifier_at(pool, Quantifier::Exists, inner),
         None => quantifier_at(pool, Quantifier::ForAll, formula),
     }

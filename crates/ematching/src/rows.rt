@@ -1,20 +1,22 @@
 //! The terms of a trigger, each with its candidates: the terms of the branch that it may match.
 
-ghost use Rattle.std.specs.Prelude.{◌≡◌, ◌↔◌, [], IfOk, IsTrue, MatchOption};
+ghost use Rattle.std.specs.Prelude.{◌≡◌, [], IfOk, MatchOption};
 ghost use Rattle.fol.specs.FormulaData.{list_of_terms};
 ghost use Rattle.term_pool.specs.Items.{TermsSort};
 ghost use Rattle.tableau.specs.PoolBranches.{branch_in, IsTermNumber, IsOver};
+ghost use Rattle.tableau.specs.Terms.{IsBranchTerm};
 ghost use Rattle.ematching.specs.Numbers.{terms_at, IsOfSort};
 ghost use Rattle.ematching.specs.Heads.{HasHead, IsIndexOf};
 ghost use Rattle.ematching.specs.Listed.{AreThose};
-ghost use Rattle.ematching.specs.Rows.{is_term_node, IsHeld, AreCandidates, AreRows, IsFirstOf};
+ghost use Rattle.ematching.specs.Rows.{AreCandidates, AreRows, IsFirstOf};
 
 use crate::heads::{HeadIndex, head_of};
 use crate::node::is_bound;
 use base::memory::NoMemory;
 use std::alloc::Global;
+use tableau::aliasing::terms::{is_term, terms};
 use tableau::branch::PoolBranch;
-use term_pool::node::{Leaf, Node, One, Three, Two};
+use term_pool::node::{Node, Two};
 use term_pool::pool::Pool;
 
 /// A term of a trigger, with its candidates.
@@ -22,57 +24,6 @@ use term_pool::pool::Pool;
 pub(crate) struct Row {
     pub(crate) pattern: usize,
     pub(crate) candidates: Vec<usize>,
-}
-
-fn is_term_node(node: Node) -> bool
-    ensures { result ≡ is_term_node node }
-{
-    match node {
-        Node::Leaf(Leaf::Var(_) | Leaf::Constant(_)) => true,
-        Node::One(One::Unary(_), _) => true,
-        Node::Two(Two::Binary(_) | Two::Pack | Two::Field(_), _, _) => true,
-        Node::Three(Three::Ternary(_) | Three::SetField(_) | Three::If, _, _, _) => true,
-        _ => false,
-    }
-}
-
-// Decides whether the number is that of a term.
-fn is_term(pool: &Pool, number: usize) -> bool
-    ensures { IsTrue result ↔ IsTermNumber pool.now number }
-{
-    match pool.node(number) {
-        Some(node) => is_term_node(node),
-        None => false,
-    }
-}
-
-// Decides whether the number is that of a term of the branch.
-fn is_held(pool: &Pool, branch: &PoolBranch, number: usize) -> bool
-    requires { IsOver pool.now branch.now }
-    ensures { IsTrue result ↔ IsHeld pool.now (branch_in pool.now branch.now) number }
-{
-    if !is_term(pool, number) {
-        return false;
-    }
-    match branch.generation(pool, number) {
-        Some(_) => true,
-        None => false,
-    }
-}
-
-// The terms of the branch.
-fn all_held(alloc: Global, pool: &Pool, branch: &PoolBranch) -> Result<Vec<usize>, NoMemory>
-    requires { IsOver pool.now branch.now }
-    ensures { IfOk result (λ numbers. AreThose (IsHeld pool.now (branch_in pool.now branch.now)) numbers.items) }
-{
-    let mut numbers = Vec::new(alloc);
-    for number in 0..pool.len() {
-        if !is_held(pool, branch, number) {
-            continue;
-        }
-        numbers.push(number)?;
-    }
-    Ok(numbers)
 }
 
 // The terms of the branch with this head symbol.
@@ -85,12 +36,12 @@ fn held_with_head(
 ) -> Result<Vec<usize>, NoMemory>
     requires over { IsOver pool.now branch.now }
     requires index { IsIndexOf pool.now index.now }
-    ensures { IfOk result (λ numbers. AreThose (λ n. HasHead pool.now head n × IsHeld pool.now (branch_in pool.now branch.now) n) numbers.items) }
+    ensures { IfOk result (λ numbers. AreThose (λ n. HasHead pool.now head n × IsBranchTerm pool.now (branch_in pool.now branch.now) n) numbers.items) }
 {
     let mut numbers = Vec::new(alloc);
     let all = index.with_head(alloc, head)?;
     for number in &all {
-        if !is_held(pool, branch, *number) {
+        if !is_term(pool, branch, *number) {
             continue;
         }
         numbers.push(*number)?;
@@ -117,7 +68,7 @@ fn candidates(
         return Ok(Vec::new(alloc));
     };
     if is_bound(bound, node) {
-        return all_held(alloc, pool, branch);
+        return terms(alloc, pool, branch);
     }
     held_with_head(alloc, pool, branch, index, head_of(node))
 }

@@ -16,11 +16,11 @@ use Rattle.explanations.specs.declared.frame.Frame.TheVariants.{SecondOfTwo}
 use Rattle.congruence_closure.specs.Numbers.{number_at}
 use Rattle.explanations.specs.Replacing.{itself_item}
 use Rattle.explanations.specs.Graphs.{IsTermNode, IsGraph}
-use Rattle.explanations.specs.Places.{whole, one_at, other_at, CanStand, IsPlaceOf, IsStepTo, IsNextOf, AreFound}
+use Rattle.explanations.specs.Positions.{whole, one_at, other_at, CanStand, IsPositionOf, IsStepTo, IsNextOf, AreFound}
 use Rattle.explanations.specs.Plans.{equation_item, IsPlan, HasTermEnds}
 use Rattle.explanations.specs.declared.derived.replacing.Difference.{Difference}
-use Rattle.explanations.specs.declared.derived.difference.Place.{Place}
-use Rattle.explanations.proofs.PlaceLemmas.{behind, found_none, found_then}
+use Rattle.explanations.specs.declared.derived.difference.Position.{Position}
+use Rattle.explanations.proofs.PositionLemmas.{behind, found_none, found_then}
 
 module _ (pool ns : List Node) (ls : List Link) (numbers : List ℕ) (g : IsGraph pool ns ls numbers) where
   pub term_stands : (i : ℕ) → IsTermNode pool ns numbers i → i < length ns → CanStand pool ns numbers i
@@ -30,8 +30,8 @@ module _ (pool ns : List Node) (ls : List Link) (numbers : List ℕ) (g : IsGrap
   both_low m n h k = omega arith
 
   -- the right side of the equation of the one with itself
-  right_place : (i j : ℕ) → IsTermNode pool ns numbers i → IsTermNode pool ns numbers j → i < length ns → j < length ns → IsPlaceOf pool ns numbers (SecondOfTwo (Compare Eq) (number_at numbers i) ∷ []) i j
-  right_place i j t u w v = record {
+  right_position : (i j : ℕ) → IsTermNode pool ns numbers i → IsTermNode pool ns numbers j → i < length ns → j < length ns → IsPositionOf pool ns numbers (SecondOfTwo (Compare Eq) (number_at numbers i) ∷ []) i j
+  right_position i j t u w v = record {
     one = term_stands i t w;
     other = term_stands j u v;
     leads = (refl, t.term, sym t.term.sort);
@@ -43,29 +43,29 @@ module _ (pool ns : List Node) (ls : List Link) (numbers : List ℕ) (g : IsGrap
   }
 
   module _ (before : ℕ) (link : Link) (left : IsTermNode pool ns numbers link.left) (right : IsTermNode pool ns numbers link.right) (alike : AreAlikeAt ns (Linked (take before ls)) link.left link.right) (k : ℕ) (same : k ≡ number_at numbers link.left) where
-    pub begun_place : (way : List Frame) → way ≡ [] → (p : Place) → IsStepTo way (SecondOfTwo (Compare Eq) k) link.left link.right p → IsPlaceOf pool ns numbers p.way.items p.one p.other
-    begun_place way none p s = behind (IsPlaceOf pool ns numbers) way (SecondOfTwo (Compare Eq) k) link.left link.right p s
-        (subst (λ w. IsPlaceOf pool ns numbers (w ++ SecondOfTwo (Compare Eq) k ∷ []) link.left link.right) (sym none)
-        (subst (λ m. IsPlaceOf pool ns numbers (SecondOfTwo (Compare Eq) m ∷ []) link.left link.right) (sym same)
-        (right_place link.left link.right left right (slice_get_within ns link.left alike.one alike.is_one) (slice_get_within ns link.right alike.other alike.is_other))))
+    pub begun_position : (way : List Frame) → way ≡ [] → (p : Position) → IsStepTo way (SecondOfTwo (Compare Eq) k) link.left link.right p → IsPositionOf pool ns numbers p.way.items p.one p.other
+    begun_position way none p s = behind (IsPositionOf pool ns numbers) way (SecondOfTwo (Compare Eq) k) link.left link.right p s
+        (subst (λ w. IsPositionOf pool ns numbers (w ++ SecondOfTwo (Compare Eq) k ∷ []) link.left link.right) (sym none)
+        (subst (λ m. IsPositionOf pool ns numbers (SecondOfTwo (Compare Eq) m ∷ []) link.left link.right) (sym same)
+        (right_position link.left link.right left right (slice_get_within ns link.left alike.one alike.is_one) (slice_get_within ns link.right alike.other alike.is_other))))
 
-    pub begun_apart : (way : List Frame) (p : Place) → IsStepTo way (SecondOfTwo (Compare Eq) k) link.left link.right p → number_at numbers link.left ≢ number_at numbers link.right → number_at numbers p.one ≢ number_at numbers p.other
+    pub begun_apart : (way : List Frame) (p : Position) → IsStepTo way (SecondOfTwo (Compare Eq) k) link.left link.right p → number_at numbers link.left ≢ number_at numbers link.right → number_at numbers p.one ≢ number_at numbers p.other
     begun_apart way p s differ = behind (λ w i j. number_at numbers i ≢ number_at numbers j) way (SecondOfTwo (Compare Eq) k) link.left link.right p s differ
 
-    pub begun_alike : (way : List Frame) (p : Place) → IsStepTo way (SecondOfTwo (Compare Eq) k) link.left link.right p → AreAlikeAt ns (Linked (take before ls)) p.one p.other
+    pub begun_alike : (way : List Frame) (p : Position) → IsStepTo way (SecondOfTwo (Compare Eq) k) link.left link.right p → AreAlikeAt ns (Linked (take before ls)) p.one p.other
     begun_alike way p s = behind (λ w i j. AreAlikeAt ns (Linked (take before ls)) i j) way (SecondOfTwo (Compare Eq) k) link.left link.right p s alike
 
-    one_begun : (way : List Frame) → way ≡ [] → (p : Place) → IsStepTo way (SecondOfTwo (Compare Eq) k) link.left link.right p → one_at pool numbers p ≡ itself_item pool (number_at numbers link.left)
+    one_begun : (way : List Frame) → way ≡ [] → (p : Position) → IsStepTo way (SecondOfTwo (Compare Eq) k) link.left link.right p → one_at pool numbers p ≡ itself_item pool (number_at numbers link.left)
     one_begun way none p s = behind (λ w i j. whole pool numbers w i ≡ itself_item pool (number_at numbers link.left)) way (SecondOfTwo (Compare Eq) k) link.left link.right p s
         (subst (λ w. whole pool numbers (w ++ SecondOfTwo (Compare Eq) k ∷ []) link.left ≡ itself_item pool (number_at numbers link.left)) (sym none)
         (subst (λ m. whole pool numbers (SecondOfTwo (Compare Eq) m ∷ []) link.left ≡ itself_item pool (number_at numbers link.left)) (sym same) refl))
 
-    other_begun : (way : List Frame) → way ≡ [] → (p : Place) → IsStepTo way (SecondOfTwo (Compare Eq) k) link.left link.right p → other_at pool numbers p ≡ equation_item pool (number_at numbers link.left) (number_at numbers link.right)
+    other_begun : (way : List Frame) → way ≡ [] → (p : Position) → IsStepTo way (SecondOfTwo (Compare Eq) k) link.left link.right p → other_at pool numbers p ≡ equation_item pool (number_at numbers link.left) (number_at numbers link.right)
     other_begun way none p s = behind (λ w i j. whole pool numbers w j ≡ equation_item pool (number_at numbers link.left) (number_at numbers link.right)) way (SecondOfTwo (Compare Eq) k) link.left link.right p s
         (subst (λ w. whole pool numbers (w ++ SecondOfTwo (Compare Eq) k ∷ []) link.right ≡ equation_item pool (number_at numbers link.left) (number_at numbers link.right)) (sym none)
         (subst (λ m. whole pool numbers (SecondOfTwo (Compare Eq) m ∷ []) link.right ≡ equation_item pool (number_at numbers link.left) (number_at numbers link.right)) (sym same) refl))
 
-    pub all_found : (way : List Frame) → way ≡ [] → (p next : Place) (old mid new : List Difference) → IsStepTo way (SecondOfTwo (Compare Eq) k) link.left link.right p → IsNextOf pool ns ls numbers before p old mid next.way.items next.one next.other → AreFound pool ns ls numbers before (one_at pool numbers next) (other_at pool numbers next) mid new → AreFound pool ns ls numbers before (itself_item pool (number_at numbers link.left)) (equation_item pool (number_at numbers link.left) (number_at numbers link.right)) old new
+    pub all_found : (way : List Frame) → way ≡ [] → (p next : Position) (old mid new : List Difference) → IsStepTo way (SecondOfTwo (Compare Eq) k) link.left link.right p → IsNextOf pool ns ls numbers before p old mid next.way.items next.one next.other → AreFound pool ns ls numbers before (one_at pool numbers next) (other_at pool numbers next) mid new → AreFound pool ns ls numbers before (itself_item pool (number_at numbers link.left)) (equation_item pool (number_at numbers link.left) (number_at numbers link.right)) old new
     all_found way none p next old mid new s n f =
         subst (λ x. AreFound pool ns ls numbers before x (equation_item pool (number_at numbers link.left) (number_at numbers link.right)) old new) (one_begun way none p s)
         (subst (λ y. AreFound pool ns ls numbers before (one_at pool numbers p) y old new) (n.same ∙ other_begun way none p s)

@@ -100,8 +100,8 @@ module _ (pool : List Node) (d : BranchClassesData) (over : IsOver pool d) where
   said_by c has e h =
       let s = h.sides in
       let parts = of_number h.number s.left s.right s.made in
-      let is : IsEquation pool c h.place s.left s.right = record { left_term = parts.0; right_term = parts.1; at = record { number = h.number; found = has.each h.place h.number h.found; is = ap formula_in s.made.item } } in
-      record { place = h.place; is = subst (λ i. IsEquation pool c h.place i (number_at d.numbers e.right)) (sym s.left_made.is) (subst (IsEquation pool c h.place s.left) (sym s.right_made.is) is) }
+      let is : IsEquation pool c h.position s.left s.right = record { left_term = parts.0; right_term = parts.1; at = record { number = h.number; found = has.each h.position h.number h.found; is = ap formula_in s.made.item } } in
+      record { position = h.position; is = subst (λ i. IsEquation pool c h.position i (number_at d.numbers e.right)) (sym s.left_made.is) (subst (IsEquation pool c h.position s.left) (sym s.right_made.is) is) }
 
   module _ (classes : AreClasses d.classes.nodes d.classes.equations d.classes.names d.classes.links) where
     pub said : (c : ChainData) → HasEntries c d.entries → AreSaid pool c d.classes.links d.numbers
@@ -122,7 +122,7 @@ module _ (pool : List Node) (d : BranchClassesData) (over : IsOver pool d) where
       parts = over.numbered.parts;
       among = λ k l f. among k l l.why (classes.shown.each k l f);
       fits = λ i w. some_fits d.classes.nodes i (over.nodes.each i w);
-      low = λ i w term. (let s = inside.each i w in stand_low pool (number_at d.numbers i) s.entry term (low.formula s.place s.entry s.found) s.stands (low.low s.place s.entry s.found));
+      low = λ i w term. (let s = inside.each i w in stand_low pool (number_at d.numbers i) s.entry term (low.formula s.position s.entry s.found) s.stands (low.low s.position s.entry s.found));
       equations = d.classes.equations;
       left = left_term;
       right = right_term;
@@ -136,15 +136,15 @@ module _ (pool : List Node) (d : BranchClassesData) (over : IsOver pool d) where
   pub begins : (b : Branch) (c : ChainData) → AreInEntries pool d → AreLow pool d.entries → AreEntriesOf pool d b → HasEntries c d.entries → IsChain pool b c → (i : ℕ) → i < length d.classes.nodes → IsTermNode pool d.classes.nodes d.numbers i → CanBegin b c (term_at pool (number_at d.numbers i))
   begins b c inside low of has chain i w t =
       let s = inside.each i w in
-      let formula : sort_of (item_at pool s.entry) ≡ FormulaSort = low.formula s.place s.entry s.found in
-      let deep : 1 + term_depth (term_at pool (number_at d.numbers i)) ≤ most_deep = stand_low pool (number_at d.numbers i) s.entry t.term.sort formula s.stands (low.low s.place s.entry s.found) in
+      let formula : sort_of (item_at pool s.entry) ≡ FormulaSort = low.formula s.position s.entry s.found in
+      let deep : 1 + term_depth (term_at pool (number_at d.numbers i)) ≤ most_deep = stand_low pool (number_at d.numbers i) s.entry t.term.sort formula s.stands (low.low s.position s.entry s.found) in
       let variables : above_term (term_at pool (number_at d.numbers i)) ≤ above (formula_at pool s.entry) = stand_above pool (number_at d.numbers i) s.entry t.term.sort formula s.stands in
-      let below : above (formula_at pool s.entry) ≤ c.variable = chain.below s.place s.entry (has.each s.place s.entry s.found) in
+      let below : above (formula_at pool s.entry) ≤ c.variable = chain.below s.position s.entry (has.each s.position s.entry s.found) in
       record {
         stands = record {
-          place = s.place;
+          position = s.position;
           formula = formula_at pool s.entry;
-          says = to_branch pool d b of s.place (formula_at pool s.entry) (record { number = s.entry; found = s.found; is = refl });
+          says = to_branch pool d b of s.position (formula_at pool s.entry) (record { number = s.entry; found = s.found; is = refl });
           inside = stand_inside pool (number_at d.numbers i) s.entry t.term.sort formula s.stands;
         };
         shallow = twice_low (term_depth (term_at pool (number_at d.numbers i))) deep;

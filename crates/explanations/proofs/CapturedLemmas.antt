@@ -13,7 +13,7 @@ use Rattle.explanations.specs.Frames.{bound_in, bound_below, bound_after, bound_
 use Rattle.explanations.specs.declared.frame.Frame.{Frame}
 use Rattle.explanations.specs.declared.frame.Frame.TheVariants.{Only, FirstOfTwo, SecondOfTwo, FirstOfThree, SecondOfThree, ThirdOfThree}
 use Rattle.explanations.specs.BoundNodes.{IsCaptured, IsUncaptured, variable_of, variable_below}
-use Rattle.explanations.proofs.PlaceLemmas.{bound_push}
+use Rattle.explanations.proofs.PositionLemmas.{bound_push}
 
 abbrev with_variable : Option ℕ → List ℕ → List ℕ
 with_variable None ks = ks

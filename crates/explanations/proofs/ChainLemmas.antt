@@ -24,7 +24,7 @@ use Rattle.certificates.specs.BranchesBranch.{Branch, formulas}
 use Rattle.certificates.specs.Names.{above_term, above, above_all}
 use Rattle.certificates.specs.ProofTraces.{IsLinkStep, IsLink, AreLinks, after_links}
 use Rattle.explanations.specs.Frames.{filled, IsWay}
-use Rattle.explanations.specs.Chains.{term_at, formula_at, ChainData, IsNotAmong, IsPlaceOf, ArePlaces, Keeps, IsAt, step_in, NamesInPool, IsChain, AreEntries, CanBegin, Equates, CanSwap, CanPutRight}
+use Rattle.explanations.specs.Chains.{term_at, formula_at, ChainData, IsNotAmong, IsPositionOf, ArePositions, Keeps, IsAt, step_in, NamesInPool, IsChain, AreEntries, CanBegin, Equates, CanSwap, CanPutRight}
 use Rattle.explanations.specs.declared.frame.Frame.{Frame}
 use Rattle.explanations.specs.declared.frame.Frame.TheVariants.{SecondOfTwo}
 use Rattle.explanations.specs.declared.chain.ChainStep.{ChainStep}
@@ -65,38 +65,38 @@ map_found f (y ∷ xs) x zero e = let is : y ≡ x = cc in ap (λ z. Some (f z))
 map_found f (y ∷ xs) x (suc i) e = map_found f xs x i e
 
 record IsImage {X Y : Type 0} (f : X → Y) (xs : List X) (y : Y) : Type 0 where
-  place : ℕ
+  position : ℕ
   item : X
-  found : slice_get xs place ≡ Some item
+  found : slice_get xs position ≡ Some item
   is : f item ≡ y
 
 image : {X Y : Type 0} (f : X → Y) (xs : List X) (y : Y) (i : ℕ) → i < length (map f xs) → slice_index_or (map f xs) i y ≡ y → IsImage f xs y
 image f [] y i w e = absurd (omega arith)
-image f (x ∷ xs) y zero w e = record { place = 0; item = x; found = refl; is = e }
-image f (x ∷ xs) y (suc i) w e = let r = image f xs y i (omega arith) e in record { place = suc r.place; item = r.item; found = r.found; is = r.is }
+image f (x ∷ xs) y zero w e = record { position = 0; item = x; found = refl; is = e }
+image f (x ∷ xs) y (suc i) w e = let r = image f xs y i (omega arith) e in record { position = suc r.position; item = r.item; found = r.found; is = r.is }
 
 -- ---- indices
 
-pub places_pushed : (ks : List ℕ) (find more : ℕ → Option ℕ) (k : ℕ) → ((i : ℕ) → more i ≡ cond (nat_eq k i) (Some (length ks)) (find i)) → ArePlaces ks find → ArePlaces (ks ++ k ∷ []) more
-places_pushed ks find more k is h = record { each = λ i. subst (λ o. MatchOption o (IsNotAmong (ks ++ k ∷ []) i) (IsPlaceOf (ks ++ k ∷ []) i)) (sym (is i)) (go i (nat_eq k i) refl (find i) (h.each i)) }
+pub positions_pushed : (ks : List ℕ) (find more : ℕ → Option ℕ) (k : ℕ) → ((i : ℕ) → more i ≡ cond (nat_eq k i) (Some (length ks)) (find i)) → ArePositions ks find → ArePositions (ks ++ k ∷ []) more
+positions_pushed ks find more k is h = record { each = λ i. subst (λ o. MatchOption o (IsNotAmong (ks ++ k ∷ []) i) (IsPositionOf (ks ++ k ∷ []) i)) (sym (is i)) (go i (nat_eq k i) refl (find i) (h.each i)) }
   where
-    go : (i : ℕ) (b : Bool) → nat_eq k i ≡ b → (o : Option ℕ) → MatchOption o (IsNotAmong ks i) (IsPlaceOf ks i) → MatchOption (cond b (Some (length ks)) o) (IsNotAmong (ks ++ k ∷ []) i) (IsPlaceOf (ks ++ k ∷ []) i)
+    go : (i : ℕ) (b : Bool) → nat_eq k i ≡ b → (o : Option ℕ) → MatchOption o (IsNotAmong ks i) (IsPositionOf ks i) → MatchOption (cond b (Some (length ks)) o) (IsNotAmong (ks ++ k ∷ []) i) (IsPositionOf (ks ++ k ∷ []) i)
     go i true t o m = push_new ks k ∙ ap Some (eqb-true k i t)
-    go i false t (Some place) m = push_kept ks k i place m
-    go i false t None m = record { none = λ place e. elim (push_cases ks k i place e) [ inl f ↦ m.none place f | inr f ↦ (let both : true ≡ false = sym (eq-eqb k i f) ∙ t in absurd (cc)) ] }
+    go i false t (Some position) m = push_kept ks k i position m
+    go i false t None m = record { none = λ position e. elim (push_cases ks k i position e) [ inl f ↦ m.none position f | inr f ↦ (let both : true ≡ false = sym (eq-eqb k i f) ∙ t in absurd (cc)) ] }
 
-pub no_places : (find : ℕ → Option ℕ) → ((i : ℕ) → find i ≡ None) → ArePlaces [] find
-no_places find is = record { each = λ i. subst (λ o. MatchOption o (IsNotAmong [] i) (IsPlaceOf [] i)) (sym (is i)) (record { none = λ place e. (let both : None ≡ Some i = e in absurd (cc)) }) }
+pub no_positions : (find : ℕ → Option ℕ) → ((i : ℕ) → find i ≡ None) → ArePositions [] find
+no_positions find is = record { each = λ i. subst (λ o. MatchOption o (IsNotAmong [] i) (IsPositionOf [] i)) (sym (is i)) (record { none = λ position e. (let both : None ≡ Some i = e in absurd (cc)) }) }
 
 pub keeps_itself : (d : ChainData) → Keeps d d
-keeps_itself d = record { kept = λ place k e. e; variable = refl }
+keeps_itself d = record { kept = λ position k e. e; variable = refl }
 
 pub keeps_more : (d e : ChainData) (k : ℕ) → e.formulas ≡ d.formulas ++ k ∷ [] → e.variable ≡ d.variable → Keeps d e
-keeps_more d e k is same = record { kept = λ place n f. subst (λ ks. slice_get ks place ≡ Some n) (sym is) (push_kept d.formulas k n place f); variable = same }
+keeps_more d e k is same = record { kept = λ position n f. subst (λ ks. slice_get ks position ≡ Some n) (sym is) (push_kept d.formulas k n position f); variable = same }
 
 -- the number of the added formula
-pub at_end : (ns : List Node) (d e : ChainData) (k place : ℕ) (p : FormulaData) → e.formulas ≡ d.formulas ++ k ∷ [] → place ≡ length d.formulas → formula_at ns k ≡ p → IsAt ns e place p
-at_end ns d e k place p is there same = record { number = k; found = subst (λ ks. slice_get ks place ≡ Some k) (sym is) (subst (λ i. slice_get (d.formulas ++ k ∷ []) i ≡ Some k) (sym there) (push_new d.formulas k)); is = same }
+pub at_end : (ns : List Node) (d e : ChainData) (k position : ℕ) (p : FormulaData) → e.formulas ≡ d.formulas ++ k ∷ [] → position ≡ length d.formulas → formula_at ns k ≡ p → IsAt ns e position p
+at_end ns d e k position p is there same = record { number = k; found = subst (λ ks. slice_get ks position ≡ Some k) (sym is) (subst (λ i. slice_get (d.formulas ++ k ∷ []) i ≡ Some k) (sym there) (push_new d.formulas k)); is = same }
 
 -- ---- steps, one after another
 
@@ -162,16 +162,16 @@ same_item x y e f g = sym (a_formula x e) ∙ ap FormulaItem g ∙ a_formula y f
 -- the new formula, by its number
 record IsNews (ns : List Node) (d : ChainData) (k : ℕ) : Type 0 where
   one_number : IsOneNumber ns
-  numbers : (place n : ℕ) → slice_get d.formulas place ≡ Some n → HasPart ns (length ns) n FormulaSort
+  numbers : (position n : ℕ) → slice_get d.formulas position ≡ Some n → HasPart ns (length ns) n FormulaSort
   number : HasPart ns (length ns) k FormulaSort
   none : IsNotAmong d.formulas k
 
 not_contained : (ns : List Node) (d : ChainData) (k : ℕ) → IsNews ns d k → Contains (map (formula_at ns) d.formulas) (formula_at ns k) → ⊥
 not_contained ns d k h c =
     let found = image (formula_at ns) d.formulas (formula_at ns k) c.0 c.1 c.2 in
-    let part = h.numbers found.place found.item found.found in
+    let part = h.numbers found.position found.item found.found in
     let same : found.item ≡ k = h.one_number.one found.item k part.earlier h.number.earlier (same_item (item_at ns found.item) (item_at ns k) part.sort h.number.sort found.is) in
-    h.none.none found.place (found.found ∙ ap Some same)
+    h.none.none found.position (found.found ∙ ap Some same)
 
 pub record IsGrown (ns : List Node) (b : Branch) (d e : ChainData) (k : ℕ) (s : ChainStep) : Type 0 where
   pub chain : IsChain ns b d
@@ -232,11 +232,11 @@ itself_grown ns ms x b d e t k one it none fs ss same h c =
 
 -- ---- replacement of equals by equals
 
-at_in : (ns : List Node) (d : ChainData) (place : ℕ) (p : FormulaData) → IsAt ns d place p → slice_get (map (formula_at ns) d.formulas) place ≡ Some p
-at_in ns d place p h = map_found (formula_at ns) d.formulas h.number place h.found ∙ ap Some h.is
+at_in : (ns : List Node) (d : ChainData) (position : ℕ) (p : FormulaData) → IsAt ns d position p → slice_get (map (formula_at ns) d.formulas) position ≡ Some p
+at_in ns d position p h = map_found (formula_at ns) d.formulas h.number position h.found ∙ ap Some h.is
 
-pub at_stays : (ns ms : List Node) → Extends ns ms → (d : ChainData) → ((place k : ℕ) → slice_get d.formulas place ≡ Some k → HasPart ns (length ns) k FormulaSort) → (place : ℕ) (p : FormulaData) → IsAt ns d place p → IsAt ms d place p
-at_stays ns ms x d numbers place p h = record { number = h.number; found = h.found; is = formula_kept ns ms x h.number (numbers place h.number h.found).earlier ∙ h.is }
+pub at_stays : (ns ms : List Node) → Extends ns ms → (d : ChainData) → ((position k : ℕ) → slice_get d.formulas position ≡ Some k → HasPart ns (length ns) k FormulaSort) → (position : ℕ) (p : FormulaData) → IsAt ns d position p → IsAt ms d position p
+at_stays ns ms x d numbers position p h = record { number = h.number; found = h.found; is = formula_kept ns ms x h.number (numbers position h.number h.found).earlier ∙ h.is }
 
 rewriting_by : (x : ℕ) (c p q equation : FormulaData) (t u : TermData) → Equates equation t u → IsReplaced x c t u p q → IsRewriting x c equation p q
 rewriting_by x c p q equation t u (inl e) h = subst (λ f. IsRewriting x c f p q) (sym e) (inl h)

@@ -26,9 +26,9 @@ use Rattle.congruence_closure.specs.Numbers.{number_at}
 use Rattle.explanations.specs.Routes.{equation_at, IsEquation, IsEither, CanPass, end_of, IsRoute, CanGo}
 use Rattle.explanations.specs.Replacing.{CanReplace, after_all, AreInTurn, itself_item, CanReplaceAll, CanBeginAll}
 use Rattle.explanations.specs.Graphs.{IsTermNode, IsGraph}
-use Rattle.explanations.specs.Places.{AreFound, IsDifference}
+use Rattle.explanations.specs.Positions.{AreFound, IsDifference}
 use Rattle.explanations.specs.Plans.{is_needed, IsOn, IsOnAny, CanMark, AreMarked, equation_item, IsPlan, AreNeeded, IsPlanOf}
-use Rattle.explanations.specs.Derivations.{HasEquation, AreSaid, HasPlace, ArePlaced, IsReady, IsNextReady, CanBeginAny, CanBeginNext, IsUnmarked}
+use Rattle.explanations.specs.Derivations.{HasEquation, AreSaid, HasPosition, ArePlaced, IsReady, IsNextReady, CanBeginAny, CanBeginNext, IsUnmarked}
 use Rattle.explanations.specs.declared.derived.replacing.Difference.{Difference}
 use Rattle.explanations.specs.declared.derived.plan.Plan.{Plan}
 use Rattle.explanations.proofs.PlanLemmas.{plan_each, route_ends}
@@ -38,19 +38,19 @@ use Rattle.explanations.proofs.ReplacingLemmas.{replacement_grown, all_grown, tu
 -- ---- a pool that is extended
 
 pub said_grown : (ns ms : List Node) → Extends ns ms → (d e : ChainData) → Keeps d e → (ls : List Link) (numbers : List ℕ) → AreSaid ns d ls numbers → AreSaid ms e ls numbers
-said_grown ns ms x d e k ls numbers s = record { each = λ i q l f w. (let h = s.each i q l f w in record { place = h.place; is = equation_grown ns ms x d e k h.place (number_at numbers l.left) (number_at numbers l.right) h.is }) }
+said_grown ns ms x d e k ls numbers s = record { each = λ i q l f w. (let h = s.each i q l f w in record { position = h.position; is = equation_grown ns ms x d e k h.position (number_at numbers l.left) (number_at numbers l.right) h.is }) }
 
-pub place_grown : (ns ms : List Node) → Extends ns ms → (d e : ChainData) → Keeps d e → (ls : List Link) (numbers : List ℕ) (equations : List (Option ℕ)) (c : ℕ) → HasPlace ns d ls numbers equations c → HasPlace ms e ls numbers equations c
-place_grown ns ms x d e k ls numbers equations c h = record { place = h.place; found = h.found; is = λ l f. equation_grown ns ms x d e k h.place (number_at numbers l.left) (number_at numbers l.right) (h.is l f) }
+pub position_grown : (ns ms : List Node) → Extends ns ms → (d e : ChainData) → Keeps d e → (ls : List Link) (numbers : List ℕ) (equations : List (Option ℕ)) (c : ℕ) → HasPosition ns d ls numbers equations c → HasPosition ms e ls numbers equations c
+position_grown ns ms x d e k ls numbers equations c h = record { position = h.position; found = h.found; is = λ l f. equation_grown ns ms x d e k h.position (number_at numbers l.left) (number_at numbers l.right) (h.is l f) }
 
 equation_kept : (ns ms : List Node) (x : Extends ns ms) (l r : ℕ) → l < length ns → r < length ns → equation_item ms l r ≡ equation_item ns l r
 equation_kept ns ms x l r w v = λ i. two_item (Compare Eq) (item_kept ns ms x l w i) (item_kept ns ms x r v i)
 
 -- ---- routes of edges that have indices
 
-ends_of : (ns : List Node) (d : ChainData) (numbers : List ℕ) (place : ℕ) (l : Link) (near far : ℕ) → AreEnds l near far → IsEquation ns d place (number_at numbers l.left) (number_at numbers l.right) → IsEither ns d place (number_at numbers near) (number_at numbers far)
-ends_of ns d numbers place l near far (inl e) h = inl (subst (λ i. IsEquation ns d place (number_at numbers i) (number_at numbers far)) e.0 (subst (λ j. IsEquation ns d place (number_at numbers l.left) (number_at numbers j)) e.1 h))
-ends_of ns d numbers place l near far (inr e) h = inr (subst (λ i. IsEquation ns d place (number_at numbers i) (number_at numbers near)) e.0 (subst (λ j. IsEquation ns d place (number_at numbers l.left) (number_at numbers j)) e.1 h))
+ends_of : (ns : List Node) (d : ChainData) (numbers : List ℕ) (position : ℕ) (l : Link) (near far : ℕ) → AreEnds l near far → IsEquation ns d position (number_at numbers l.left) (number_at numbers l.right) → IsEither ns d position (number_at numbers near) (number_at numbers far)
+ends_of ns d numbers position l near far (inl e) h = inl (subst (λ i. IsEquation ns d position (number_at numbers i) (number_at numbers far)) e.0 (subst (λ j. IsEquation ns d position (number_at numbers l.left) (number_at numbers j)) e.1 h))
+ends_of ns d numbers position l near far (inr e) h = inr (subst (λ i. IsEquation ns d position (number_at numbers i) (number_at numbers near)) e.0 (subst (λ j. IsEquation ns d position (number_at numbers l.left) (number_at numbers j)) e.1 h))
 
 far_within : (count : ℕ) (l : Link) (near far : ℕ) → AreEnds l near far → (l.left < count) × (l.right < count) → far < count
 far_within count l near far (inl e) w = subst (λ i. i < count) e.1 w.1
@@ -59,9 +59,9 @@ far_within count l near far (inr e) w = subst (λ i. i < count) e.0 w.0
 both_shallow : (m n : ℕ) → 1 + m ≤ most_deep → 1 + n ≤ most_deep → 1 + max m n ≤ most_deep
 both_shallow m n h k = omega arith
 
-far_sort : (ns : List Node) (d : ChainData) (place left right : ℕ) → IsEither ns d place left right → HasPart ns (length ns) right TermSort
-far_sort ns d place left right (inl h) = h.right_term
-far_sort ns d place left right (inr h) = h.left_term
+far_sort : (ns : List Node) (d : ChainData) (position left right : ℕ) → IsEither ns d position left right → HasPart ns (length ns) right TermSort
+far_sort ns d position left right (inl h) = h.right_term
+far_sort ns d position left right (inr h) = h.left_term
 
 module _ (ns ms nodes : List Node) (ls : List Link) (numbers : List ℕ) (g : IsGraph ns nodes ls numbers) (x : Extends ns ms) (d : ChainData) (equations : List (Option ℕ)) where
   -- the depth of a term over the larger pool
@@ -70,16 +70,16 @@ module _ (ns ms nodes : List Node) (ls : List Link) (numbers : List ℕ) (g : Is
       let same : item_at ms (number_at numbers i) ≡ item_at ns (number_at numbers i) = item_kept ns ms x (number_at numbers i) (g.inside i w) in
       subst (λ (y : Item). 1 + term_depth (term_in y) ≤ most_deep) (sym same) (g.low i w (sym (ap sort_of same) ∙ p.sort))
 
-  pass_by : (before from : ℕ) (join : Join) → HasPart ms (length ms) (number_at numbers from) TermSort → from < length nodes → IsPassage ls before join → HasPlace ms d ls numbers equations join.link → CanPass ms d numbers equations (number_at numbers from) join
+  pass_by : (before from : ℕ) (join : Join) → HasPart ms (length ms) (number_at numbers from) TermSort → from < length nodes → IsPassage ls before join → HasPosition ms d ls numbers equations join.link → CanPass ms d numbers equations (number_at numbers from) join
   pass_by before from join p w passage h =
       let far : ℕ = number_at numbers join.far in
-      let either : IsEither ms d h.place (number_at numbers join.near) (number_at numbers join.far) = ends_of ms d numbers h.place passage.link join.near join.far passage.ends (h.is passage.link passage.found) in
+      let either : IsEither ms d h.position (number_at numbers join.near) (number_at numbers join.far) = ends_of ms d numbers h.position passage.link join.near join.far passage.ends (h.is passage.link passage.found) in
       let within : join.far < length nodes = far_within (length nodes) passage.link join.near join.far passage.ends (g.among join.link passage.link passage.found) in
       record {
-        place = h.place;
+        position = h.position;
         found = h.found;
         equation = either;
-        shallow = both_shallow (term_depth (term_at ms (number_at numbers from))) (term_depth (term_at ms (number_at numbers join.far))) (low_kept from w p) (low_kept join.far within (far_sort ms d h.place (number_at numbers join.near) (number_at numbers join.far) either));
+        shallow = both_shallow (term_depth (term_at ms (number_at numbers from))) (term_depth (term_at ms (number_at numbers join.far))) (low_kept from w p) (low_kept join.far within (far_sort ms d h.position (number_at numbers join.near) (number_at numbers join.far) either));
       }
 
   route_of : (before i j : ℕ) (route : List Join) → IsPath ls before i route j → IsRoute i route × (end_of i route ≡ j)
@@ -91,26 +91,26 @@ module _ (ns ms nodes : List Node) (ls : List Link) (numbers : List ℕ) (g : Is
   passes before _ _ _ (Passes first rest i j e p way) zero join f = let same : first ≡ join = cc in subst (IsPassage ls before) same p
   passes before _ _ _ (Passes first rest i j e p way) (suc n) join f = passes before first.far j rest way n join f
 
-  pub go_by : (before from to : ℕ) (route : List Join) → HasPart ns (length ns) (number_at numbers from) TermSort → from < length nodes → IsPath ls before from route to → ((c : ℕ) → IsOn route c → HasPlace ms d ls numbers equations c) → CanGo ms d numbers equations from route
-  go_by before from to route p w path places = record {
+  pub go_by : (before from to : ℕ) (route : List Join) → HasPart ns (length ns) (number_at numbers from) TermSort → from < length nodes → IsPath ls before from route to → ((c : ℕ) → IsOn route c → HasPosition ms d ls numbers equations c) → CanGo ms d numbers equations from route
+  go_by before from to route p w path positions = record {
     begins = part_grown ns ms x (number_at numbers from) TermSort p;
     leads = (route_of before from to route path).0;
-    pass = λ n join f. pass_by before from join (part_grown ns ms x (number_at numbers from) TermSort p) w (passes before from to route path n join f) (places join.link (record { place = n; join = join; found = f; is = refl }));
+    pass = λ n join f. pass_by before from join (part_grown ns ms x (number_at numbers from) TermSort p) w (passes before from to route path n join f) (positions join.link (record { position = n; join = join; found = f; is = refl }));
   }
 
   pub go_ends : (before from to : ℕ) (route : List Join) → IsPath ls before from route to → end_of from route ≡ to
   go_ends before from to route path = (route_of before from to route path).1
 
-  pub replace_by : (k : ℕ) (difference : Difference) → IsDifference ns nodes ls numbers k difference → ((c : ℕ) → IsOn difference.route.items c → HasPlace ms d ls numbers equations c) → CanReplace ms d numbers equations difference
-  replace_by k difference h places = record {
+  pub replace_by : (k : ℕ) (difference : Difference) → IsDifference ns nodes ls numbers k difference → ((c : ℕ) → IsOn difference.route.items c → HasPosition ms d ls numbers equations c) → CanReplace ms d numbers equations difference
+  replace_by k difference h positions = record {
     is = replacement_grown ns ms x numbers difference h.is;
-    route = go_by k difference.from difference.to difference.route.items h.is.from_term h.within h.path places;
+    route = go_by k difference.from difference.to difference.route.items h.is.from_term h.within h.path positions;
     ends = go_ends k difference.from difference.to difference.route.items h.path;
   }
 
   -- the equations that an edge needs are there, so its equation can be derived
-  pub ready : (k : ℕ) (ds : List Difference) (l : Link) → AreSaid ms d ls numbers → (p : IsPlan ns nodes ls numbers k ds) → l ≡ p.link → ((c : ℕ) → IsOnAny ds c → HasPlace ms d ls numbers equations c) → IsReady ms d numbers equations l ds
-  ready k ds l said p same places = subst (λ (o : Link). IsReady ms d numbers equations o ds) (sym same) (record {
+  pub ready : (k : ℕ) (ds : List Difference) (l : Link) → AreSaid ms d ls numbers → (p : IsPlan ns nodes ls numbers k ds) → l ≡ p.link → ((c : ℕ) → IsOnAny ds c → HasPosition ms d ls numbers equations c) → IsReady ms d numbers equations l ds
+  ready k ds l said p same positions = subst (λ (o : Link). IsReady ms d numbers equations o ds) (sym same) (record {
     left = part_grown ns ms x (number_at numbers p.link.left) TermSort p.left.term;
     right = part_grown ns ms x (number_at numbers p.link.right) TermSort p.right.term;
     said = λ q w. said.each k q p.link p.is_link w;
@@ -134,7 +134,7 @@ module _ (ns ms nodes : List Node) (ls : List Link) (numbers : List ℕ) (g : Is
       replaced w = record {
         begins = part_grown ns ms x (number_at numbers p.link.left) TermSort p.left.term;
         in_turn = subst (λ y. AreInTurn ms numbers y ds) (sym itself_kept) (turn_grown ns ms x numbers (itself_item ns (number_at numbers p.link.left)) ds (λ n c f. (each n c f).is) (turns (p.found w)));
-        each = λ n c f. replace_by k c (each n c f) (λ i o. places i (record { place = n; difference = c; found = f; on = o }));
+        each = λ n c f. replace_by k c (each n c f) (λ i o. positions i (record { position = n; difference = c; found = f; on = o }));
       }
 
       ends : p.link.why ≡ Alike → after_all ms numbers (itself_item ms (number_at numbers p.link.left)) ds ≡ equation_item ms (number_at numbers p.link.left) (number_at numbers p.link.right)
@@ -148,8 +148,8 @@ module _ (ns ms nodes : List Node) (ls : List Link) (numbers : List ℕ) (g : Is
 
 -- ---- an equation that the explanation has
 
-pub stands_at : (ns ms : List Node) → Extends ns ms → (d : ChainData) (place left right formula : ℕ) → HasPart ns (length ns) left TermSort → HasPart ns (length ns) right TermSort → IsItem ms formula (equation_item ns left right) → slice_get d.formulas place ≡ Some formula → IsEquation ms d place left right
-stands_at ns ms x d place left right formula p q it f = equation_by ns ms x d place left right p q (record { number = formula; found = f; is = ap formula_in it.is })
+pub stands_at : (ns ms : List Node) → Extends ns ms → (d : ChainData) (position left right formula : ℕ) → HasPart ns (length ns) left TermSort → HasPart ns (length ns) right TermSort → IsItem ms formula (equation_item ns left right) → slice_get d.formulas position ≡ Some formula → IsEquation ms d position left right
+stands_at ns ms x d position left right formula p q it f = equation_by ns ms x d position left right p q (record { number = formula; found = f; is = ap formula_in it.is })
 
 pub not_said : (ns ms : List Node) → Extends ns ms → (d : ChainData) (left right formula : ℕ) → HasEquation ns d left right → IsOneNumber ms → IsItem ms formula (equation_item ns left right) → IsNotAmong d.formulas formula → ⊥
 not_said ns ms x d left right formula h one it none =
@@ -158,26 +158,26 @@ not_said ns ms x d left right formula h one it none =
     let longer_pool = longer x in
     let item : item_at ms at.number ≡ FormulaItem (EqFormula (term_at ns left) (term_at ns right)) = item_kept ns ms x at.number within ∙ only_equation (item_at ns at.number) (term_at ns left) (term_at ns right) at.is in
     let same : at.number ≡ formula = one.one at.number formula (omega (arith, within, longer_pool)) it.within (item ∙ sym it.is) in
-    none.none h.place (at.found ∙ ap Some same)
+    none.none h.position (at.found ∙ ap Some same)
 
 -- ---- in the form of the calls
 
 pub has_read : (ns : List Node) (d : ChainData) (l r k m : ℕ) → l ≡ k → r ≡ m → HasEquation ns d k m → HasEquation ns d l r
 has_read ns d l r k m e f h = subst (λ i. HasEquation ns d i r) (sym e) (subst (HasEquation ns d k) (sym f) h)
 
-pub is_read : (ns : List Node) (d : ChainData) (place l r k m : ℕ) → l ≡ k → r ≡ m → IsEquation ns d place l r → IsEquation ns d place k m
-is_read ns d place l r k m e f h = subst (λ i. IsEquation ns d place i m) e (subst (IsEquation ns d place l) f h)
+pub is_read : (ns : List Node) (d : ChainData) (position l r k m : ℕ) → l ≡ k → r ≡ m → IsEquation ns d position l r → IsEquation ns d position k m
+is_read ns d position l r k m e f h = subst (λ i. IsEquation ns d position i m) e (subst (IsEquation ns d position l) f h)
 
-pub became : (ns ms : List Node) → Extends ns ms → (e : ChainData) (numbers : List ℕ) (place left l r : ℕ) (ds : List Difference) → left ≡ l → HasPart ns (length ns) l TermSort → HasPart ns (length ns) r TermSort → after_all ns numbers (itself_item ns l) ds ≡ equation_item ns l r → IsAt ms e place (formula_in (after_all ns numbers (itself_item ns left) ds)) → IsEquation ms e place l r
-became ns ms x e numbers place left l r ds same p q ends h =
-    equation_by ns ms x e place l r p q (subst (λ y. IsAt ms e place (formula_in y)) (ap (λ i. after_all ns numbers (itself_item ns i) ds) same ∙ ends) h)
+pub became : (ns ms : List Node) → Extends ns ms → (e : ChainData) (numbers : List ℕ) (position left l r : ℕ) (ds : List Difference) → left ≡ l → HasPart ns (length ns) l TermSort → HasPart ns (length ns) r TermSort → after_all ns numbers (itself_item ns l) ds ≡ equation_item ns l r → IsAt ms e position (formula_in (after_all ns numbers (itself_item ns left) ds)) → IsEquation ms e position l r
+became ns ms x e numbers position left l r ds same p q ends h =
+    equation_by ns ms x e position l r p q (subst (λ y. IsAt ms e position (formula_in y)) (ap (λ i. after_all ns numbers (itself_item ns i) ds) same ∙ ends) h)
 
 -- ---- edges, one after another
 
-old_equation : (xs : List (Option ℕ)) (y : Option ℕ) (c place : ℕ) → equation_at xs c ≡ Some place → equation_at (xs ++ y ∷ []) c ≡ Some place
-old_equation [] y c place e = absurd (cc)
-old_equation (x ∷ xs) y zero place e = e
-old_equation (x ∷ xs) y (suc c) place e = old_equation xs y c place e
+old_equation : (xs : List (Option ℕ)) (y : Option ℕ) (c position : ℕ) → equation_at xs c ≡ Some position → equation_at (xs ++ y ∷ []) c ≡ Some position
+old_equation [] y c position e = absurd (cc)
+old_equation (x ∷ xs) y zero position e = e
+old_equation (x ∷ xs) y (suc c) position e = old_equation xs y c position e
 
 new_equation : (xs : List (Option ℕ)) (y : Option ℕ) → equation_at (xs ++ y ∷ []) (length xs) ≡ y
 new_equation [] y = refl
@@ -200,11 +200,11 @@ count_next all rest plan xs ys y n e f h =
     omega (arith, a, b, h)
 
 -- the edges that a plan needs have indices
-pub taken_placed : (pool nodes ms : List Node) (d : ChainData) (ls : List Link) (numbers : List ℕ) (needed : List Bool) (equations : List (Option ℕ)) (plan : Plan) → IsPlanOf pool nodes ls numbers needed (length equations) plan → is_needed needed (length equations) ≡ true → ArePlaced ms d ls numbers needed equations (length equations) → (c : ℕ) → IsOnAny plan.found.items c → HasPlace ms d ls numbers equations c
+pub taken_placed : (pool nodes ms : List Node) (d : ChainData) (ls : List Link) (numbers : List ℕ) (needed : List Bool) (equations : List (Option ℕ)) (plan : Plan) → IsPlanOf pool nodes ls numbers needed (length equations) plan → is_needed needed (length equations) ≡ true → ArePlaced ms d ls numbers needed equations (length equations) → (c : ℕ) → IsOnAny plan.found.items c → HasPosition ms d ls numbers equations c
 taken_placed pool nodes ms d ls numbers needed equations plan p n placed c o = let t = p.taken c n o in placed.each c t.0 t.1
 
-more_placed : (ms ks : List Node) → Extends ms ks → (d e : ChainData) → Keeps d e → (ls : List Link) (numbers : List ℕ) (xs : List (Option ℕ)) (y : Option ℕ) (c : ℕ) → HasPlace ms d ls numbers xs c → HasPlace ks e ls numbers (xs ++ y ∷ []) c
-more_placed ms ks x d e k ls numbers xs y c h = record { place = h.place; found = old_equation xs y c h.place h.found; is = λ l f. equation_grown ms ks x d e k h.place (number_at numbers l.left) (number_at numbers l.right) (h.is l f) }
+more_placed : (ms ks : List Node) → Extends ms ks → (d e : ChainData) → Keeps d e → (ls : List Link) (numbers : List ℕ) (xs : List (Option ℕ)) (y : Option ℕ) (c : ℕ) → HasPosition ms d ls numbers xs c → HasPosition ks e ls numbers (xs ++ y ∷ []) c
+more_placed ms ks x d e k ls numbers xs y c h = record { position = h.position; found = old_equation xs y c h.position h.found; is = λ l f. equation_grown ms ks x d e k h.position (number_at numbers l.left) (number_at numbers l.right) (h.is l f) }
 
 below_or_last : (c n : ℕ) → c < n + 1 → (c < n) ⊎ (c ≡ n)
 below_or_last zero zero h = inr refl
@@ -212,25 +212,25 @@ below_or_last zero (suc n) h = inl (omega arith)
 below_or_last (suc c) zero h = absurd (omega arith)
 below_or_last (suc c) (suc n) h = elim (below_or_last c n (omega arith)) [ inl l ↦ inl (omega arith) | inr e ↦ inr (ap suc e) ]
 
-pub placed_next : (ms ks : List Node) → Extends ms ks → (d e : ChainData) → Keeps d e → (ls : List Link) (numbers : List ℕ) (needed : List Bool) (xs ys : List (Option ℕ)) (place : ℕ) (l m : Link) → ys ≡ xs ++ Some place ∷ [] → slice_get ls (length xs) ≡ Some l → m ≡ l → IsEquation ks e place (number_at numbers m.left) (number_at numbers m.right) → ArePlaced ms d ls numbers needed xs (length xs) → ArePlaced ks e ls numbers needed ys (length ys)
-placed_next ms ks x d e k ls numbers needed xs ys place l m is found same equation placed = record { each = λ c w n. subst (λ zs. HasPlace ks e ls numbers zs c) (sym is) (go c n (below_or_last c (length xs) (subst (λ i. c < i) (ap length is ∙ length_push xs (Some place)) w))) }
+pub placed_next : (ms ks : List Node) → Extends ms ks → (d e : ChainData) → Keeps d e → (ls : List Link) (numbers : List ℕ) (needed : List Bool) (xs ys : List (Option ℕ)) (position : ℕ) (l m : Link) → ys ≡ xs ++ Some position ∷ [] → slice_get ls (length xs) ≡ Some l → m ≡ l → IsEquation ks e position (number_at numbers m.left) (number_at numbers m.right) → ArePlaced ms d ls numbers needed xs (length xs) → ArePlaced ks e ls numbers needed ys (length ys)
+placed_next ms ks x d e k ls numbers needed xs ys position l m is found same equation placed = record { each = λ c w n. subst (λ zs. HasPosition ks e ls numbers zs c) (sym is) (go c n (below_or_last c (length xs) (subst (λ i. c < i) (ap length is ∙ length_push xs (Some position)) w))) }
   where
-    go : (c : ℕ) → is_needed needed c ≡ true → (c < length xs) ⊎ (c ≡ length xs) → HasPlace ks e ls numbers (xs ++ Some place ∷ []) c
-    go c n (inl w) = more_placed ms ks x d e k ls numbers xs (Some place) c (placed.each c w n)
-    go c n (inr h) = subst (HasPlace ks e ls numbers (xs ++ Some place ∷ [])) (sym h) (record {
-      place = place;
-      found = new_equation xs (Some place);
-      is = λ o f. (let both : m ≡ o = same ∙ one_link l o (sym found ∙ f) in subst (λ (i : Link). IsEquation ks e place (number_at numbers i.left) (number_at numbers i.right)) both equation);
+    go : (c : ℕ) → is_needed needed c ≡ true → (c < length xs) ⊎ (c ≡ length xs) → HasPosition ks e ls numbers (xs ++ Some position ∷ []) c
+    go c n (inl w) = more_placed ms ks x d e k ls numbers xs (Some position) c (placed.each c w n)
+    go c n (inr h) = subst (HasPosition ks e ls numbers (xs ++ Some position ∷ [])) (sym h) (record {
+      position = position;
+      found = new_equation xs (Some position);
+      is = λ o f. (let both : m ≡ o = same ∙ one_link l o (sym found ∙ f) in subst (λ (i : Link). IsEquation ks e position (number_at numbers i.left) (number_at numbers i.right)) both equation);
     })
       where
         one_link : (a b : Link) → Some a ≡ Some b → a ≡ b
         one_link a b q = cc
 
 pub placed_none : (ms : List Node) (d : ChainData) (ls : List Link) (numbers : List ℕ) (needed : List Bool) (xs ys : List (Option ℕ)) (b : Bool) → ys ≡ xs ++ None ∷ [] → b ≡ is_needed needed (length xs) → b ≡ false → ArePlaced ms d ls numbers needed xs (length xs) → ArePlaced ms d ls numbers needed ys (length ys)
-placed_none ms d ls numbers needed xs ys b is e f placed = record { each = λ c w n. subst (λ zs. HasPlace ms d ls numbers zs c) (sym is) (go c n (below_or_last c (length xs) (subst (λ i. c < i) (ap length is ∙ length_push xs None) w))) }
+placed_none ms d ls numbers needed xs ys b is e f placed = record { each = λ c w n. subst (λ zs. HasPosition ms d ls numbers zs c) (sym is) (go c n (below_or_last c (length xs) (subst (λ i. c < i) (ap length is ∙ length_push xs None) w))) }
   where
-    go : (c : ℕ) → is_needed needed c ≡ true → (c < length xs) ⊎ (c ≡ length xs) → HasPlace ms d ls numbers (xs ++ None ∷ []) c
-    go c n (inl w) = let h = placed.each c w n in record { place = h.place; found = old_equation xs None c h.place h.found; is = h.is }
+    go : (c : ℕ) → is_needed needed c ≡ true → (c < length xs) ⊎ (c ≡ length xs) → HasPosition ms d ls numbers (xs ++ None ∷ []) c
+    go c n (inl w) = let h = placed.each c w n in record { position = h.position; found = old_equation xs None c h.position h.found; is = h.is }
     go c n (inr h) = absurd (let both : false ≡ true = sym f ∙ e ∙ ap (is_needed needed) (sym h) ∙ n in (cc))
 
 -- the reflexivity axioms that are added
@@ -295,15 +295,15 @@ module _ (ns : List Node) (d : ChainData) (ls : List Link) (numbers : List ℕ) 
 
 -- ---- the route from the one node to the other
 
-pub places_read : (ms : List Node) (d : ChainData) (ls : List Link) (numbers : List ℕ) (needed : List Bool) (xs ys : List (Option ℕ)) (count : ℕ) → ys ≡ xs → ArePlaced ms d ls numbers needed xs count → ArePlaced ms d ls numbers needed ys count
-places_read ms d ls numbers needed xs ys count same placed = subst (λ zs. ArePlaced ms d ls numbers needed zs count) (sym same) placed
+pub positions_read : (ms : List Node) (d : ChainData) (ls : List Link) (numbers : List ℕ) (needed : List Bool) (xs ys : List (Option ℕ)) (count : ℕ) → ys ≡ xs → ArePlaced ms d ls numbers needed xs count → ArePlaced ms d ls numbers needed ys count
+positions_read ms d ls numbers needed xs ys count same placed = subst (λ zs. ArePlaced ms d ls numbers needed zs count) (sym same) placed
 
 pub way_goes : (ns ms nodes : List Node) (ls : List Link) (numbers : List ℕ) (g : IsGraph ns nodes ls numbers) (x : Extends ns ms) (d : ChainData) (equations : List (Option ℕ)) (before from to : ℕ) (route way : List Join) (old first last read : List Bool) → way ≡ route → IsTermNode ns nodes numbers from → from < length nodes → IsPath ls before from route to → AreMarked (IsOn way) old first → ((k : ℕ) → is_needed first k ≡ true → is_needed last k ≡ true) → read ≡ last → ArePlaced ms d ls numbers read equations (length ls) → CanGo ms d numbers equations from way
 way_goes ns ms nodes ls numbers g x d equations before from to route way old first last read same t w path marked stays e placed =
-    subst (CanGo ms d numbers equations from) (sym same) (go_by ns ms nodes ls numbers g x d equations before from to route t.term w path places)
+    subst (CanGo ms d numbers equations from) (sym same) (go_by ns ms nodes ls numbers g x d equations before from to route t.term w path positions)
   where
-    places : (c : ℕ) → IsOn route c → HasPlace ms d ls numbers equations c
-    places c o =
+    positions : (c : ℕ) → IsOn route c → HasPosition ms d ls numbers equations c
+    positions c o =
         let h = route_ends ns nodes ls numbers g before from to route t path c o in
         let on : IsOn way c = subst (λ r. IsOn r c) (sym same) o in
         placed.each c (slice_get_within ls c h.1.link h.1.is_link) (subst (λ bs. is_needed bs c ≡ true) (sym e) (stays c (marked.marked c on)))

@@ -12,9 +12,9 @@ use Rattle.explanations.specs.declared.frame.Frame.{Frame}
 use Rattle.congruence_closure.specs.Numbers.{number_at}
 use Rattle.explanations.specs.Replacing.{after_all, AreInTurn, CanReplaceAt, IsReplacedAt, CanBeginEach}
 use Rattle.explanations.specs.Graphs.{IsGraph}
-use Rattle.explanations.specs.Places.{whole, CanStand, IsPlaceOf, IsDifference, AreFound}
+use Rattle.explanations.specs.Positions.{whole, CanStand, IsPositionOf, IsDifference, AreFound}
 use Rattle.explanations.specs.Plans.{is_needed, IsOnAny, CanMark, AreMarked, HasTermEnds, AreNeeded}
-use Rattle.explanations.specs.Derivations.{HasPlace, ArePlaced, CanBeginAny, IsUnmarked}
+use Rattle.explanations.specs.Derivations.{HasPosition, ArePlaced, CanBeginAny, IsUnmarked}
 use Rattle.explanations.specs.Formulas.{IsFormulaNode, AreInSource}
 use Rattle.explanations.specs.declared.derived.replacing.Difference.{Difference}
 use Rattle.explanations.proofs.GrowthLemmas.{begin_grown}
@@ -25,7 +25,7 @@ use Rattle.explanations.proofs.DeriveLemmas.{replace_by}
 module _ (pool ns : List Node) (ls : List Link) (numbers : List ℕ) (g : IsGraph pool ns ls numbers) (d : ChainData) (source : ℕ) (ds : List Difference) (in_source : AreInSource pool ns ls numbers d source ds) where
   taken_ends : (c : ℕ) → IsOnAny ds c → (c < length ls) × HasTermEnds pool ns ls numbers c
   taken_ends c o =
-      let h = in_source.each o.place o.difference o.found in
+      let h = in_source.each o.position o.difference o.found in
       route_ends pool ns ls numbers g (length ls) o.difference.from o.difference.to o.difference.route.items h.term h.path c o.on
 
   pub taken_marks : (count : ℕ) (needed : List Bool) → count ≡ length ls → IsUnmarked count needed → CanMark (length needed) (IsOnAny ds)
@@ -43,16 +43,16 @@ module _ (pool ns : List Node) (ls : List Link) (numbers : List ℕ) (g : IsGrap
       number = in_source.number;
       found = k.kept source in_source.number in_source.found;
       in_turn = subst (λ y. AreInTurn ms numbers y ds) (sym (item_kept pool ms x in_source.number in_source.inside)) (turn_grown pool ms x numbers (item_at pool in_source.number) ds (λ n c f. (in_source.each n c f).is) in_source.in_turn);
-      each = λ n c f. replace_by pool ms ns ls numbers g x e equations (length ls) c (in_source.each n c f) (λ i o. places i (record { place = n; difference = c; found = f; on = o }));
+      each = λ n c f. replace_by pool ms ns ls numbers g x e equations (length ls) c (in_source.each n c f) (λ i o. positions i (record { position = n; difference = c; found = f; on = o }));
     }
       where
-        places : (c : ℕ) → IsOnAny ds c → HasPlace ms e ls numbers equations c
-        places c o = placed.each c (taken_ends c o).0 (subst (λ bs. is_needed bs c ≡ true) (sym same) (stays c (marked.marked c o)))
+        positions : (c : ℕ) → IsOnAny ds c → HasPosition ms e ls numbers equations c
+        positions c o = placed.each c (taken_ends c o).0 (subst (λ bs. is_needed bs c ≡ true) (sym same) (stays c (marked.marked c o)))
 
-    pub replaced_there : Keeps d e → (ks : List Node) (f : ChainData) (place : ℕ) → IsReplacedAt ms e numbers source ds ks f place → IsReplacedAt pool d numbers source ds ks f place
-    replaced_there k ks f place r = record {
+    pub replaced_there : Keeps d e → (ks : List Node) (f : ChainData) (position : ℕ) → IsReplacedAt ms e numbers source ds ks f position → IsReplacedAt pool d numbers source ds ks f position
+    replaced_there k ks f position r = record {
       at = λ number h. (let same : in_source.number ≡ number = one_number in_source.number number (sym in_source.found ∙ h) in
-          subst (λ y. IsAt ks f place (formula_in y)) (ap (λ y. after_all ms numbers y ds) (item_kept pool ms x number (subst (λ i. i < length pool) same in_source.inside)) ∙ all_grown pool ms x numbers (item_at pool number) ds (λ n c q. (in_source.each n c q).is)) (r.at number (k.kept source number h)));
+          subst (λ y. IsAt ks f position (formula_in y)) (ap (λ y. after_all ms numbers y ds) (item_kept pool ms x number (subst (λ i. i < length pool) same in_source.inside)) ∙ all_grown pool ms x numbers (item_at pool number) ds (λ n c q. (in_source.each n c q).is)) (r.at number (k.kept source number h)));
     }
       where
         one_number : (a b : ℕ) → Some a ≡ Some b → a ≡ b
@@ -67,8 +67,8 @@ module _ (pool ns : List Node) (numbers : List ℕ) where
   stand : (i : ℕ) → IsFormulaNode pool ns numbers i → CanStand pool ns numbers i
   stand i h = record { node = h.within; number = h.formula.earlier; real = record { made = λ n f. absurd (h.no_parameter n f) } }
 
-  pub formula_place : (ls : List Link) → IsGraph pool ns ls numbers → (one other : ℕ) → IsFormulaNode pool ns numbers one → IsFormulaNode pool ns numbers other → (way : List Frame) → way ≡ [] → IsPlaceOf pool ns numbers way one other
-  formula_place ls g one other h k way none = subst (λ w. IsPlaceOf pool ns numbers w one other) (sym none) (record {
+  pub formula_position : (ls : List Link) → IsGraph pool ns ls numbers → (one other : ℕ) → IsFormulaNode pool ns numbers one → IsFormulaNode pool ns numbers other → (way : List Frame) → way ≡ [] → IsPositionOf pool ns numbers way one other
+  formula_position ls g one other h k way none = subst (λ w. IsPositionOf pool ns numbers w one other) (sym none) (record {
     one = stand one h;
     other = stand other k;
     leads = sym h.formula.sort;
@@ -91,8 +91,8 @@ module _ (pool ns : List Node) (numbers : List ℕ) where
       all : read ≡ found.found
       all = same ∙ found.more ∙ ap (λ cs. cs ++ found.found) empty
 
-  pub found_end : (ls : List Link) (d : ChainData) (one other source before : ℕ) (way : List Frame) (old new read : List Difference) (ms : List Node) (e : ChainData) (place : ℕ) → slice_get d.formulas source ≡ Some (number_at numbers one) → way ≡ [] → old ≡ [] → read ≡ new → AreFound pool ns ls numbers before (whole pool numbers way one) (whole pool numbers way other) old new → IsReplacedAt pool d numbers source read ms e place → IsAt ms e place (formula_at pool (number_at numbers other))
-  found_end ls d one other source before way old new read ms e place f none empty same found r =
+  pub found_end : (ls : List Link) (d : ChainData) (one other source before : ℕ) (way : List Frame) (old new read : List Difference) (ms : List Node) (e : ChainData) (position : ℕ) → slice_get d.formulas source ≡ Some (number_at numbers one) → way ≡ [] → old ≡ [] → read ≡ new → AreFound pool ns ls numbers before (whole pool numbers way one) (whole pool numbers way other) old new → IsReplacedAt pool d numbers source read ms e position → IsAt ms e position (formula_at pool (number_at numbers other))
+  found_end ls d one other source before way old new read ms e position f none empty same found r =
       let all : read ≡ found.found = same ∙ found.more ∙ ap (λ cs. cs ++ found.found) empty in
       let ends : after_all pool numbers (item_at pool (number_at numbers one)) read ≡ item_at pool (number_at numbers other) = ap (after_all pool numbers (item_at pool (number_at numbers one))) all ∙ subst (λ w. after_all pool numbers (whole pool numbers w one) found.found ≡ whole pool numbers w other) none found.ends in
-      subst (λ y. IsAt ms e place (formula_in y)) ends (r.at (number_at numbers one) f)
+      subst (λ y. IsAt ms e position (formula_in y)) ends (r.at (number_at numbers one) f)

@@ -31,8 +31,8 @@ term_grown ns ms x k s p = ap term_in (item_kept ns ms x k p.earlier)
 formula_within : (ns : List Node) (k : ℕ) (p : FormulaData) → (p ≡ JoinFormula AnyOf NoFormulas → ⊥) → formula_at ns k ≡ p → k < length ns
 formula_within ns k p some e = elim (less_or k (length ns)) [ inl h ↦ h | inr h ↦ absurd (some (sym e ∙ ap formula_in (item_past ns k h))) ]
 
-pub at_grown : (ns ms : List Node) → Extends ns ms → (d e : ChainData) → Keeps d e → (place : ℕ) (p : FormulaData) → (p ≡ JoinFormula AnyOf NoFormulas → ⊥) → IsAt ns d place p → IsAt ms e place p
-at_grown ns ms x d e k place p some h = record { number = h.number; found = k.kept place h.number h.found; is = ap formula_in (item_kept ns ms x h.number (formula_within ns h.number p some h.is)) ∙ h.is }
+pub at_grown : (ns ms : List Node) → Extends ns ms → (d e : ChainData) → Keeps d e → (position : ℕ) (p : FormulaData) → (p ≡ JoinFormula AnyOf NoFormulas → ⊥) → IsAt ns d position p → IsAt ms e position p
+at_grown ns ms x d e k position p some h = record { number = h.number; found = k.kept position h.number h.found; is = ap formula_in (item_kept ns ms x h.number (formula_within ns h.number p some h.is)) ∙ h.is }
 
 an_equation : (t u : TermData) → EqFormula t u ≡ JoinFormula AnyOf NoFormulas → ⊥
 an_equation t u e = let both : CompareFormula Eq t u ≡ JoinFormula AnyOf NoFormulas = e in absurd (cc)
@@ -41,34 +41,34 @@ pub equation_within : (ns : List Node) (k : ℕ) (t u : TermData) → formula_at
 equation_within ns k t u e = formula_within ns k (EqFormula t u) (an_equation t u) e
 
 -- the equation of terms, over the larger pool
-pub equation_by : (ns ms : List Node) → Extends ns ms → (e : ChainData) (place left right : ℕ) → HasPart ns (length ns) left TermSort → HasPart ns (length ns) right TermSort → IsAt ms e place (EqFormula (term_at ns left) (term_at ns right)) → IsEquation ms e place left right
-equation_by ns ms x e place left right p q h =
+pub equation_by : (ns ms : List Node) → Extends ns ms → (e : ChainData) (position left right : ℕ) → HasPart ns (length ns) left TermSort → HasPart ns (length ns) right TermSort → IsAt ms e position (EqFormula (term_at ns left) (term_at ns right)) → IsEquation ms e position left right
+equation_by ns ms x e position left right p q h =
     let t : term_at ms left ≡ term_at ns left = term_grown ns ms x left TermSort p in
     let u : term_at ms right ≡ term_at ns right = term_grown ns ms x right TermSort q in
     record {
       left_term = part_grown ns ms x left TermSort p;
       right_term = part_grown ns ms x right TermSort q;
-      at = subst (IsAt ms e place) (λ i. EqFormula (sym t i) (sym u i)) h;
+      at = subst (IsAt ms e position) (λ i. EqFormula (sym t i) (sym u i)) h;
     }
 
-pub equation_grown : (ns ms : List Node) → Extends ns ms → (d e : ChainData) → Keeps d e → (place left right : ℕ) → IsEquation ns d place left right → IsEquation ms e place left right
-equation_grown ns ms x d e k place left right h =
-    equation_by ns ms x e place left right h.left_term h.right_term (at_grown ns ms x d e k place (EqFormula (term_at ns left) (term_at ns right)) (an_equation (term_at ns left) (term_at ns right)) h.at)
+pub equation_grown : (ns ms : List Node) → Extends ns ms → (d e : ChainData) → Keeps d e → (position left right : ℕ) → IsEquation ns d position left right → IsEquation ms e position left right
+equation_grown ns ms x d e k position left right h =
+    equation_by ns ms x e position left right h.left_term h.right_term (at_grown ns ms x d e k position (EqFormula (term_at ns left) (term_at ns right)) (an_equation (term_at ns left) (term_at ns right)) h.at)
 
-pub either_grown : (ns ms : List Node) → Extends ns ms → (d e : ChainData) → Keeps d e → (place left right : ℕ) → IsEither ns d place left right → IsEither ms e place left right
-either_grown ns ms x d e k place left right (inl h) = inl (equation_grown ns ms x d e k place left right h)
-either_grown ns ms x d e k place left right (inr h) = inr (equation_grown ns ms x d e k place right left h)
+pub either_grown : (ns ms : List Node) → Extends ns ms → (d e : ChainData) → Keeps d e → (position left right : ℕ) → IsEither ns d position left right → IsEither ms e position left right
+either_grown ns ms x d e k position left right (inl h) = inl (equation_grown ns ms x d e k position left right h)
+either_grown ns ms x d e k position left right (inr h) = inr (equation_grown ns ms x d e k position right left h)
 
-pub near_term : (ns : List Node) (d : ChainData) (place left right : ℕ) → IsEither ns d place left right → HasPart ns (length ns) left TermSort
-near_term ns d place left right (inl h) = h.left_term
-near_term ns d place left right (inr h) = h.right_term
+pub near_term : (ns : List Node) (d : ChainData) (position left right : ℕ) → IsEither ns d position left right → HasPart ns (length ns) left TermSort
+near_term ns d position left right (inl h) = h.left_term
+near_term ns d position left right (inr h) = h.right_term
 
-pub far_term : (ns : List Node) (d : ChainData) (place left right : ℕ) → IsEither ns d place left right → HasPart ns (length ns) right TermSort
-far_term ns d place left right (inl h) = h.right_term
-far_term ns d place left right (inr h) = h.left_term
+pub far_term : (ns : List Node) (d : ChainData) (position left right : ℕ) → IsEither ns d position left right → HasPart ns (length ns) right TermSort
+far_term ns d position left right (inl h) = h.right_term
+far_term ns d position left right (inr h) = h.left_term
 
 pub keeps_then : (c d e : ChainData) → Keeps c d → Keeps d e → Keeps c e
-keeps_then c d e k l = record { kept = λ place n f. l.kept place n (k.kept place n f); variable = l.variable ∙ k.variable }
+keeps_then c d e k l = record { kept = λ position n f. l.kept position n (k.kept position n f); variable = l.variable ∙ k.variable }
 
 pub begin_kept : (b : Branch) (d e : ChainData) (t : TermData) → Keeps d e → CanBegin b d t → CanBegin b e t
 begin_kept b d e t k c = record { stands = c.stands; shallow = c.shallow; below = subst (λ v. above_term t ≤ v) (sym k.variable) c.below }
@@ -81,11 +81,11 @@ pass_grown ns ms x d e k numbers equations left join p c =
     let near : ℕ = number_at numbers join.near in
     let far : ℕ = number_at numbers join.far in
     let t : term_at ms left ≡ term_at ns left = term_grown ns ms x left TermSort p in
-    let u : term_at ms (number_at numbers join.far) ≡ term_at ns (number_at numbers join.far) = term_grown ns ms x (number_at numbers join.far) TermSort (far_term ns d c.place near far c.equation) in
+    let u : term_at ms (number_at numbers join.far) ≡ term_at ns (number_at numbers join.far) = term_grown ns ms x (number_at numbers join.far) TermSort (far_term ns d c.position near far c.equation) in
     record {
-      place = c.place;
+      position = c.position;
       found = c.found;
-      equation = either_grown ns ms x d e k c.place near far c.equation;
+      equation = either_grown ns ms x d e k c.position near far c.equation;
       shallow = subst IsShallow (λ i. EqFormula (sym t i) (sym u i)) c.shallow;
     }
 

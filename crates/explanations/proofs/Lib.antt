@@ -9,7 +9,7 @@ pub mod ReplacingLemmas
 pub mod LinkedLemmas
 pub mod BoundLemmas
 pub mod FittingLemmas
-pub mod PlaceLemmas
+pub mod PositionLemmas
 pub mod CapturedLemmas
 pub mod TurnLemmas
 pub mod PlanLemmas

@@ -3,10 +3,10 @@
 use Rattle.std.proofs.Common.{◌≡◌, ◌⊎◌, inl, inr, ℕ, zero, suc, ◌<◌, ◌≤◌, Bool, true, false, List, [], ◌∷◌, length, take, Option, Some, None, refl, sym, ap, ◌∙◌, subst, arith}
 use Rattle.std.specs.Prelude.{slice_get}
 use Rattle.std.proofs.lemmas.Option.{slice_get_within}
-use Rattle.term_pool.specs.Items.{Item, TermSort, FormulaSort, TypeSort, sort_of, leaf_item, one_item, two_item, three_item}
-use Rattle.term_pool.specs.Pools.{nth, item_at, item_of, items, HasPart, IsMade}
+use Rattle.term_pool.specs.Items.{FormulaSort, TypeSort, sort_of}
+use Rattle.term_pool.specs.Pools.{item_at, IsMade}
 use Rattle.term_pool.specs.declared.node.Leaf.{Leaf}
-use Rattle.term_pool.specs.declared.node.Leaf.TheVariants.{Var, Constant, TypeParam}
+use Rattle.term_pool.specs.declared.node.Leaf.TheVariants.{Var, TypeParam}
 use Rattle.term_pool.specs.declared.node.One.{One}
 use Rattle.term_pool.specs.declared.node.One.TheVariants.{Unary, Not}
 use Rattle.term_pool.specs.declared.node.Two.{Two}
@@ -15,13 +15,15 @@ use Rattle.term_pool.specs.declared.node.Three.{Three}
 use Rattle.term_pool.specs.declared.node.Three.TheVariants.{Ternary, SetField, If}
 use Rattle.term_pool.specs.declared.node.Node.{Node}
 use Rattle.term_pool.specs.declared.node.Node.TheVariants.{Leaf as LeafNode, One as OneNode, Two as TwoNode, Three as ThreeNode}
+use Rattle.term_pool.specs.Forms.{is_term_node}
+use Rattle.term_pool.proofs.FormLemmas.{made_term, term_made}
 use Rattle.congruence_closure.specs.Links.{Linked, ByLink, Itself, Turned, Chained, AreAlike, AreAlikeAt, IsReason}
 use Rattle.congruence_closure.specs.States.{IsPart}
 use Rattle.congruence_closure.specs.declared.classes.link.Link.{Link}
 use Rattle.congruence_closure.specs.declared.classes.link.Why.{Why}
 use Rattle.congruence_closure.specs.declared.classes.link.Why.TheVariants.{Given, Alike}
 use Rattle.congruence_closure.specs.Numbers.{number_at, renumbered, IsReal, IsNumbered, ByParts, Bound, Parameter}
-use Rattle.explanations.specs.Graphs.{IsTermNode, IsGraph, is_term_node}
+use Rattle.explanations.specs.Graphs.{IsTermNode, IsGraph}
 
 -- ---- edges of a longer list
 
@@ -142,68 +144,6 @@ kind_renumbered numbers (LeafNode h) = refl
 kind_renumbered numbers (OneNode h a) = any_one h (number_at numbers a) a
 kind_renumbered numbers (TwoNode h a b) = any_two h (number_at numbers a) (number_at numbers b) a b
 kind_renumbered numbers (ThreeNode h a b c) = any_three h (number_at numbers a) (number_at numbers b) (number_at numbers c) a b c
-
--- the node of a term is one by its head symbol
-term_leaf : (h : Leaf) → sort_of (leaf_item h) ≡ TermSort → is_term_node (LeafNode h) ≡ true
-term_leaf (Var n) e = refl
-term_leaf (Constant c) e = refl
-term_leaf _ e = absurd (cc)
-
-term_one : (h : One) (x : Item) (a : ℕ) → sort_of (one_item h x) ≡ TermSort → is_term_node (OneNode h a) ≡ true
-term_one (Unary o) x a e = refl
-term_one _ x a e = absurd (cc)
-
-term_two : (h : Two) (x y : Item) (a b : ℕ) → sort_of (two_item h x y) ≡ TermSort → is_term_node (TwoNode h a b) ≡ true
-term_two (Binary o) x y a b e = refl
-term_two Pack x y a b e = refl
-term_two (Field k) x y a b e = refl
-term_two _ x y a b e = absurd (cc)
-
-term_three : (h : Three) (x y z : Item) (a b c : ℕ) → sort_of (three_item h x y z) ≡ TermSort → is_term_node (ThreeNode h a b c) ≡ true
-term_three (Ternary o) x y z a b c e = refl
-term_three (SetField k) x y z a b c e = refl
-term_three If x y z a b c e = refl
-term_three _ x y z a b c e = absurd (cc)
-
-term_of : (xs : List Item) (n : Node) → sort_of (item_of xs n) ≡ TermSort → is_term_node n ≡ true
-term_of xs (LeafNode h) e = term_leaf h e
-term_of xs (OneNode h a) e = term_one h (nth xs a) a e
-term_of xs (TwoNode h a b) e = term_two h (nth xs a) (nth xs b) a b e
-term_of xs (ThreeNode h a b c) e = term_three h (nth xs a) (nth xs b) (nth xs c) a b c e
-
--- and a node with such a head symbol is that of a term
-leaf_term : (h : Leaf) → is_term_node (LeafNode h) ≡ true → sort_of (leaf_item h) ≡ TermSort
-leaf_term (Var n) e = refl
-leaf_term (Constant c) e = refl
-leaf_term _ e = absurd (cc)
-
-one_term : (h : One) (x : Item) (a : ℕ) → is_term_node (OneNode h a) ≡ true → sort_of (one_item h x) ≡ TermSort
-one_term (Unary o) x a e = refl
-one_term _ x a e = absurd (cc)
-
-two_term : (h : Two) (x y : Item) (a b : ℕ) → is_term_node (TwoNode h a b) ≡ true → sort_of (two_item h x y) ≡ TermSort
-two_term (Binary o) x y a b e = refl
-two_term Pack x y a b e = refl
-two_term (Field k) x y a b e = refl
-two_term _ x y a b e = absurd (cc)
-
-three_term : (h : Three) (x y z : Item) (a b c : ℕ) → is_term_node (ThreeNode h a b c) ≡ true → sort_of (three_item h x y z) ≡ TermSort
-three_term (Ternary o) x y z a b c e = refl
-three_term (SetField k) x y z a b c e = refl
-three_term If x y z a b c e = refl
-three_term _ x y z a b c e = absurd (cc)
-
-of_term : (xs : List Item) (n : Node) → is_term_node n ≡ true → sort_of (item_of xs n) ≡ TermSort
-of_term xs (LeafNode h) e = leaf_term h e
-of_term xs (OneNode h a) e = one_term h (nth xs a) a e
-of_term xs (TwoNode h a b) e = two_term h (nth xs a) (nth xs b) a b e
-of_term xs (ThreeNode h a b c) e = three_term h (nth xs a) (nth xs b) (nth xs c) a b c e
-
-pub made_term : (pool : List Node) (k : ℕ) (n : Node) → IsMade pool k n → sort_of (item_at pool k) ≡ TermSort → is_term_node n ≡ true
-made_term pool k n m e = term_of (items pool) n (sym (ap sort_of m.item) ∙ e)
-
-pub term_made : (pool : List Node) (k : ℕ) (n : Node) → IsMade pool k n → is_term_node n ≡ true → HasPart pool (length pool) k TermSort
-term_made pool k n m e = record { earlier = slice_get_within pool k n m.found; sort = ap sort_of m.item ∙ of_term (items pool) n e }
 
 -- ---- connected nodes
 

@@ -15,7 +15,7 @@ use Rattle.congruence_closure.specs.Histories.{AreEnds}
 use Rattle.congruence_closure.specs.declared.proof_forest.Join.{Join}
 use Rattle.congruence_closure.specs.Paths.{IsPassage, IsPath, Stays, Passes}
 use Rattle.explanations.specs.Graphs.{IsTermNode, IsGraph}
-use Rattle.explanations.specs.Places.{IsDifference}
+use Rattle.explanations.specs.Positions.{IsDifference}
 use Rattle.explanations.specs.declared.derived.plan.Plan.{Plan}
 use Rattle.explanations.proofs.LinkedLemmas.{term_linked}
 use Rattle.explanations.proofs.ChainLemmas.{push_kept, push_new}
@@ -35,18 +35,18 @@ none_taken [] i x e = absurd (cc)
 none_taken (y ∷ ys) i x e = absurd (cc)
 
 on_push : (route : List Join) (join : Join) (k : ℕ) → IsOn (route ++ join ∷ []) k → IsOn route k ⊎ IsThis join.link k
-on_push route join k o = elim (push_cases route join o.join o.place o.found) [ inl f ↦ inl (record { place = o.place; join = o.join; found = f; is = o.is }) | inr e ↦ inr (ap (λ (j : Join). j.link) e ∙ o.is) ]
+on_push route join k o = elim (push_cases route join o.join o.position o.found) [ inl f ↦ inl (record { position = o.position; join = o.join; found = f; is = o.is }) | inr e ↦ inr (ap (λ (j : Join). j.link) e ∙ o.is) ]
 
 on_pushed : (route : List Join) (join : Join) (k : ℕ) → IsOn route k ⊎ IsThis join.link k → IsOn (route ++ join ∷ []) k
-on_pushed route join k (inl o) = record { place = o.place; join = o.join; found = push_kept route join o.join o.place o.found; is = o.is }
-on_pushed route join k (inr e) = record { place = length route; join = join; found = push_new route join; is = e }
+on_pushed route join k (inl o) = record { position = o.position; join = o.join; found = push_kept route join o.join o.position o.found; is = o.is }
+on_pushed route join k (inr e) = record { position = length route; join = join; found = push_new route join; is = e }
 
 any_push : (ds : List Difference) (d : Difference) (k : ℕ) → IsOnAny (ds ++ d ∷ []) k → IsOnAny ds k ⊎ IsOn d.route.items k
-any_push ds d k o = elim (push_cases ds d o.difference o.place o.found) [ inl f ↦ inl (record { place = o.place; difference = o.difference; found = f; on = o.on }) | inr e ↦ inr (subst (λ (c : Difference). IsOn c.route.items k) (sym e) o.on) ]
+any_push ds d k o = elim (push_cases ds d o.difference o.position o.found) [ inl f ↦ inl (record { position = o.position; difference = o.difference; found = f; on = o.on }) | inr e ↦ inr (subst (λ (c : Difference). IsOn c.route.items k) (sym e) o.on) ]
 
 any_pushed : (ds : List Difference) (d : Difference) (k : ℕ) → IsOnAny ds k ⊎ IsOn d.route.items k → IsOnAny (ds ++ d ∷ []) k
-any_pushed ds d k (inl o) = record { place = o.place; difference = o.difference; found = push_kept ds d o.difference o.place o.found; on = o.on }
-any_pushed ds d k (inr o) = record { place = length ds; difference = d; found = push_new ds d; on = o }
+any_pushed ds d k (inl o) = record { position = o.position; difference = o.difference; found = push_kept ds d o.difference o.position o.found; on = o.on }
+any_pushed ds d k (inr o) = record { position = length ds; difference = d; found = push_new ds d; on = o }
 
 -- ---- marks
 
@@ -76,7 +76,7 @@ this_marked xs ys link w e long = record {
     other k d = ap (λ zs. get_or zs k false) e ∙ get_or-set_other xs link k true false d
 
 pub route_begun : (route : List Join) (xs : List Bool) → AreMarked (IsOn (take zero route)) xs xs
-route_begun route xs = marks_none (IsOn (take zero route)) xs (λ k o. none_taken route o.place o.join o.found)
+route_begun route xs = marks_none (IsOn (take zero route)) xs (λ k o. none_taken route o.position o.join o.found)
 
 pub route_next : (route : List Join) (n : ℕ) (d : Join) (old cur new : List Bool) → n < length route → AreMarked (IsOn (take n route)) old cur → AreMarked (IsThis (get_or route n d).link) cur new → AreMarked (IsOn (take (n + 1) route)) old new
 route_next route n d old cur new w a b =
@@ -85,10 +85,10 @@ route_next route n d old cur new w a b =
     (marks_then (IsOn (take n route)) (IsThis (get_or route n d).link) (IsOn (take n route ++ get_or route n d ∷ [])) old cur new (on_pushed (take n route) (get_or route n d)) (on_push (take n route) (get_or route n d)) a b)
 
 pub route_link : (route : List Join) (n count more : ℕ) (d : Join) → n < length route → more ≡ count → CanMark count (IsOn route) → (get_or route n d).link < more
-route_link route n count more d w same can = subst (λ c. (get_or route n d).link < c) (sym same) (can.each (get_or route n d).link (record { place = n; join = get_or route n d; found = slice_get-get_or route n d w; is = refl }))
+route_link route n count more d w same can = subst (λ c. (get_or route n d).link < c) (sym same) (can.each (get_or route n d).link (record { position = n; join = get_or route n d; found = slice_get-get_or route n d w; is = refl }))
 
 pub all_begun : (ds : List Difference) (xs : List Bool) → AreMarked (IsOnAny (take zero ds)) xs xs
-all_begun ds xs = marks_none (IsOnAny (take zero ds)) xs (λ k o. none_taken ds o.place o.difference o.found)
+all_begun ds xs = marks_none (IsOnAny (take zero ds)) xs (λ k o. none_taken ds o.position o.difference o.found)
 
 pub all_next : (ds : List Difference) (n : ℕ) (d e : Difference) (route : List Join) (old cur new : List Bool) → n < length ds → d ≡ get_or ds n e → route ≡ d.route.items → AreMarked (IsOnAny (take n ds)) old cur → AreMarked (IsOn route) cur new → AreMarked (IsOnAny (take (n + 1) ds)) old new
 all_next ds n d e route old cur new w is r a b =
@@ -97,7 +97,7 @@ all_next ds n d e route old cur new w is r a b =
 
 pub all_links : (ds : List Difference) (n count more : ℕ) (d e : Difference) (route : List Join) → n < length ds → d ≡ get_or ds n e → route ≡ d.route.items → more ≡ count → CanMark count (IsOnAny ds) → CanMark more (IsOn route)
 all_links ds n count more d e route w is r same can = record {
-  each = λ k o. subst (λ c. k < c) (sym same) (can.each k (record { place = n; difference = d; found = slice_get-get_or ds n e w ∙ ap Some (sym is); on = subst (λ x. IsOn x k) r o }));
+  each = λ k o. subst (λ c. k < c) (sym same) (can.each k (record { position = n; difference = d; found = slice_get-get_or ds n e w ∙ ap Some (sym is); on = subst (λ x. IsOn x k) r o }));
 }
 
 -- ---- needed edges
@@ -155,7 +155,7 @@ module _ (pool ns : List Node) (ls : List Link) (numbers : List ℕ) (g : IsGrap
   -- a route from a term has edges before its number, and their ends are terms
   pub route_ends : (before from to : ℕ) (route : List Join) → IsTermNode pool ns numbers from → IsPath ls before from route to → (c : ℕ) → IsOn route c → (c < before) × HasTermEnds pool ns ls numbers c
   route_ends before from to route t path c o =
-      let q : IsPassed ls before from o.join = path_passed ls before from to route path o.place o.join o.found in
+      let q : IsPassed ls before from o.join = path_passed ls before from to route path o.position o.join o.found in
       (subst (λ i. i < before) o.is q.passage.early, subst (HasTermEnds pool ns ls numbers) o.is (passed_ends before from o.join t q))
 
   pub plan_each : (k : ℕ) (ds : List Difference) → IsPlan pool ns ls numbers k ds → (n : ℕ) (d : Difference) → slice_get ds n ≡ Some d → IsDifference pool ns ls numbers k d
@@ -167,7 +167,7 @@ module _ (pool ns : List Node) (ls : List Link) (numbers : List ℕ) (g : IsGrap
 
   plan_ends : (k : ℕ) (ds : List Difference) → IsPlan pool ns ls numbers k ds → (c : ℕ) → IsOnAny ds c → (c < k) × HasTermEnds pool ns ls numbers c
   plan_ends k ds p c o =
-      let d = plan_each k ds p o.place o.difference o.found in
+      let d = plan_each k ds p o.position o.difference o.found in
       route_ends k o.difference.from o.difference.to o.difference.route.items d.term d.path c o.on
 
   pub can_mark : (k : ℕ) (needed : List Bool) (ds : List Difference) → AreNeeded pool ns ls numbers needed → IsPlan pool ns ls numbers k ds → CanMark (length needed) (IsOnAny ds)

@@ -123,16 +123,16 @@ not_missing ns way w x e is = go way w.leads is
     go (ThirdOfThree h a b ∷ fs) l i = let both : OneShape (Join AnyOf) (FormulasItem NoFormulas) ≡ ThreeShape h (item_at ns a) (item_at ns b) (filled ns fs x) = sym (ap shape_of i) ∙ three_shape h (item_at ns a) (item_at ns b) (filled ns fs x) l.1.0.sort l.1.1.sort (filled_sorted ns (third_of_three h) TermSort fs l.2 x e) in absurd (cc)
 
 -- a formula in which a term occurs keeps its index
-filled_stands : (ns ms : List Node) → Extends ns ms → (d e : ChainData) → Keeps d e → (way : List Frame) → IsWay ns way TermSort → (k : ℕ) → HasPart ns (length ns) k TermSort → (place : ℕ) → IsAt ns d place (formula_in (filled ns way (item_at ns k))) → IsAt ms e place (formula_in (filled ns way (item_at ns k)))
-filled_stands ns ms x d e k way w n p place h =
-    at_grown ns ms x d e k place (formula_in (filled ns way (item_at ns n))) (λ is. not_missing ns way w (item_at ns n) p.sort (sym (a_formula (filled ns way (item_at ns n)) (filled_sorted ns FormulaSort TermSort way w.leads (item_at ns n) p.sort)) ∙ ap FormulaItem is)) h
+filled_stands : (ns ms : List Node) → Extends ns ms → (d e : ChainData) → Keeps d e → (way : List Frame) → IsWay ns way TermSort → (k : ℕ) → HasPart ns (length ns) k TermSort → (position : ℕ) → IsAt ns d position (formula_in (filled ns way (item_at ns k))) → IsAt ms e position (formula_in (filled ns way (item_at ns k)))
+filled_stands ns ms x d e k way w n p position h =
+    at_grown ns ms x d e k position (formula_in (filled ns way (item_at ns n))) (λ is. not_missing ns way w (item_at ns n) p.sort (sym (a_formula (filled ns way (item_at ns n)) (filled_sorted ns FormulaSort TermSort way w.leads (item_at ns n) p.sort)) ∙ ap FormulaItem is)) h
 
-pub before_stands : (ns ms : List Node) → Extends ns ms → (d e : ChainData) → Keeps d e → (numbers : List ℕ) (difference : Difference) → IsReplacement ns numbers difference → (place : ℕ) → IsAt ns d place (formula_in (before_it ns numbers difference)) → IsAt ms e place (formula_in (before_it ms numbers difference))
-before_stands ns ms x d e k numbers difference is place h =
-    subst (λ y. IsAt ms e place (formula_in y)) (sym (before_grown ns ms x numbers difference is)) (filled_stands ns ms x d e k difference.way.items is.leads (number_at numbers difference.from) is.from_term place h)
+pub before_stands : (ns ms : List Node) → Extends ns ms → (d e : ChainData) → Keeps d e → (numbers : List ℕ) (difference : Difference) → IsReplacement ns numbers difference → (position : ℕ) → IsAt ns d position (formula_in (before_it ns numbers difference)) → IsAt ms e position (formula_in (before_it ms numbers difference))
+before_stands ns ms x d e k numbers difference is position h =
+    subst (λ y. IsAt ms e position (formula_in y)) (sym (before_grown ns ms x numbers difference is)) (filled_stands ns ms x d e k difference.way.items is.leads (number_at numbers difference.from) is.from_term position h)
 
-pub after_stands : (ns ms : List Node) → Extends ns ms → (d e : ChainData) → Keeps d e → (numbers : List ℕ) (difference : Difference) → IsReplacement ns numbers difference → (place : ℕ) → IsAt ns d place (formula_in (after_it ns numbers difference)) → IsAt ms e place (formula_in (after_it ns numbers difference))
-after_stands ns ms x d e k numbers difference is place h = filled_stands ns ms x d e k difference.way.items is.leads (number_at numbers difference.to) is.to_term place h
+pub after_stands : (ns ms : List Node) → Extends ns ms → (d e : ChainData) → Keeps d e → (numbers : List ℕ) (difference : Difference) → IsReplacement ns numbers difference → (position : ℕ) → IsAt ns d position (formula_in (after_it ns numbers difference)) → IsAt ms e position (formula_in (after_it ns numbers difference))
+after_stands ns ms x d e k numbers difference is position h = filled_stands ns ms x d e k difference.way.items is.leads (number_at numbers difference.to) is.to_term position h
 
 -- ---- conditions of a replacement
 
@@ -184,17 +184,17 @@ can_swap ns d numbers difference equation source is either h = record {
 
 -- ---- in the form of the calls
 
-pub found_at : (ns ms : List Node) (x : Extends ns ms) (d e : ChainData) (numbers : List ℕ) (y : Item) (ds : List Difference) → AreInTurn ns numbers y ds → (n : ℕ) (difference : Difference) → IsReplacement ns numbers difference → slice_get ds n ≡ Some difference → (place : ℕ) → IsAt ms e place (formula_in (after_all ns numbers y (take n ds))) → IsAt ms e place (formula_in (before_it ms numbers difference))
-found_at ns ms x d e numbers y ds t n difference is f place h =
-    subst (λ z. IsAt ms e place (formula_in z)) (found_next ns numbers y ds t n difference f ∙ sym (before_grown ns ms x numbers difference is)) h
+pub found_at : (ns ms : List Node) (x : Extends ns ms) (d e : ChainData) (numbers : List ℕ) (y : Item) (ds : List Difference) → AreInTurn ns numbers y ds → (n : ℕ) (difference : Difference) → IsReplacement ns numbers difference → slice_get ds n ≡ Some difference → (position : ℕ) → IsAt ms e position (formula_in (after_all ns numbers y (take n ds))) → IsAt ms e position (formula_in (before_it ms numbers difference))
+found_at ns ms x d e numbers y ds t n difference is f position h =
+    subst (λ z. IsAt ms e position (formula_in z)) (found_next ns numbers y ds t n difference f ∙ sym (before_grown ns ms x numbers difference is)) h
 
-pub left_at : (ns ms ks : List Node) (x : Extends ns ms) (e : ChainData) (numbers : List ℕ) (y : Item) (ds : List Difference) (n m : ℕ) (difference : Difference) → IsReplacement ns numbers difference → slice_get ds n ≡ Some difference → m ≡ suc n → (place : ℕ) → IsAt ks e place (formula_in (after_it ms numbers difference)) → IsAt ks e place (formula_in (after_all ns numbers y (take m ds)))
-left_at ns ms ks x e numbers y ds n m difference is f s place h =
-    subst (λ z. IsAt ks e place (formula_in z)) (after_grown ns ms x numbers difference is ∙ sym (left_next ns numbers y ds n difference f) ∙ ap (λ k. after_all ns numbers y (take k ds)) (sym s)) h
+pub left_at : (ns ms ks : List Node) (x : Extends ns ms) (e : ChainData) (numbers : List ℕ) (y : Item) (ds : List Difference) (n m : ℕ) (difference : Difference) → IsReplacement ns numbers difference → slice_get ds n ≡ Some difference → m ≡ suc n → (position : ℕ) → IsAt ks e position (formula_in (after_it ms numbers difference)) → IsAt ks e position (formula_in (after_all ns numbers y (take m ds)))
+left_at ns ms ks x e numbers y ds n m difference is f s position h =
+    subst (λ z. IsAt ks e position (formula_in z)) (after_grown ns ms x numbers difference is ∙ sym (left_next ns numbers y ds n difference f) ∙ ap (λ k. after_all ns numbers y (take k ds)) (sym s)) h
 
 -- the equation of the ends of the route is that of the two terms
-pub ends_either : (ns : List Node) (d : ChainData) (numbers : List ℕ) (place from to end : ℕ) → end ≡ to → IsEither ns d place (number_at numbers from) (number_at numbers end) → IsEither ns d place (number_at numbers from) (number_at numbers to)
-ends_either ns d numbers place from to end e h = subst (λ k. IsEither ns d place (number_at numbers from) (number_at numbers k)) e h
+pub ends_either : (ns : List Node) (d : ChainData) (numbers : List ℕ) (position from to end : ℕ) → end ≡ to → IsEither ns d position (number_at numbers from) (number_at numbers end) → IsEither ns d position (number_at numbers from) (number_at numbers to)
+ends_either ns d numbers position from to end e h = subst (λ k. IsEither ns d position (number_at numbers from) (number_at numbers k)) e h
 
 -- in the form in which the numbers and the context were read
 pub swap_read : (ns : List Node) (d : ChainData) (numbers : List ℕ) (difference : Difference) (equation source from to : ℕ) (way : List Frame) → way ≡ difference.way.items → from ≡ number_at numbers difference.from → to ≡ number_at numbers difference.to → CanSwap ns d difference.way.items (record { equation = equation; from = number_at numbers difference.from; to = number_at numbers difference.to }) source → CanSwap ns d way (record { equation = equation; from = from; to = to }) source
@@ -203,9 +203,9 @@ swap_read ns d numbers difference equation source from to way w f t h =
     (subst (λ i. CanSwap ns d difference.way.items (record { equation = equation; from = i; to = to }) source) (sym f)
     (subst (λ i. CanSwap ns d difference.way.items (record { equation = equation; from = number_at numbers difference.from; to = i }) source) (sym t) h))
 
-pub replaced_at : {E : Type 0} (ns ms ks : List Node) (x : Extends ns ms) (e : ChainData) (numbers : List ℕ) (difference : Difference) (to : ℕ) (way : List Frame) → IsReplacement ns numbers difference → way ≡ difference.way.items → to ≡ number_at numbers difference.to → (r : Result ℕ E) → IfOk r (λ place. IsAt ks e place (formula_in (filled ms way (item_at ms to)))) → IfOk r (λ place. IsAt ks e place (formula_in (after_it ns numbers difference)))
+pub replaced_at : {E : Type 0} (ns ms ks : List Node) (x : Extends ns ms) (e : ChainData) (numbers : List ℕ) (difference : Difference) (to : ℕ) (way : List Frame) → IsReplacement ns numbers difference → way ≡ difference.way.items → to ≡ number_at numbers difference.to → (r : Result ℕ E) → IfOk r (λ position. IsAt ks e position (formula_in (filled ms way (item_at ms to)))) → IfOk r (λ position. IsAt ks e position (formula_in (after_it ns numbers difference)))
 replaced_at ns ms ks x e numbers difference to way is w t r h =
-    if_ok r (λ place g. subst (λ y. IsAt ks e place (formula_in y)) ((λ i. filled ms (w i) (item_at ms (t i))) ∙ after_grown ns ms x numbers difference is) g) h
+    if_ok r (λ position g. subst (λ y. IsAt ks e position (formula_in y)) ((λ i. filled ms (w i) (item_at ms (t i))) ∙ after_grown ns ms x numbers difference is) g) h
 
 -- ---- all of them over a larger pool
 
@@ -248,14 +248,14 @@ module _ (ns ms : List Node) (x : Extends ns ms) (d e : ChainData) (numbers : Li
     each = λ n difference f. replace_grown ns ms x d e k numbers equations difference (can.each n difference f);
   }
 
-  became_in : (ks : List Node) (f : ChainData) (place : ℕ) → IsReplacedAt ms e numbers source ds ks f place → IsAt ks f place (formula_in (after_all ns numbers (itself_item ns left) ds))
-  became_in ks f place r = subst (λ y. IsAt ks f place (formula_in y)) (ap (λ y. after_all ms numbers y ds) is_itself ∙ all_grown ns ms x numbers (itself_item ns left) ds each) (r.at h.number h.found)
+  became_in : (ks : List Node) (f : ChainData) (position : ℕ) → IsReplacedAt ms e numbers source ds ks f position → IsAt ks f position (formula_in (after_all ns numbers (itself_item ns left) ds))
+  became_in ks f position r = subst (λ y. IsAt ks f position (formula_in y)) (ap (λ y. after_all ms numbers y ds) is_itself ∙ all_grown ns ms x numbers (itself_item ns left) ds each) (r.at h.number h.found)
 
 pub itself_replaced : (ns ms : List Node) (x : Extends ns ms) (d e : ChainData) → Keeps d e → (numbers : List ℕ) (equations : List (Option ℕ)) (left source : ℕ) (ds : List Difference) → IsAt ms e source (EqFormula (term_at ns left) (term_at ns left)) → CanReplaceAll ns d numbers equations left ds → CanReplaceAt ms e numbers equations source ds
 itself_replaced ns ms x d e k numbers equations left source ds h can = replaced_in ns ms x d e numbers equations left source ds h can k
 
-pub itself_became : (ns ms : List Node) (x : Extends ns ms) (d e : ChainData) (numbers : List ℕ) (equations : List (Option ℕ)) (left source : ℕ) (ds : List Difference) → IsAt ms e source (EqFormula (term_at ns left) (term_at ns left)) → CanReplaceAll ns d numbers equations left ds → (ks : List Node) (f : ChainData) (place : ℕ) → IsReplacedAt ms e numbers source ds ks f place → IsAt ks f place (formula_in (after_all ns numbers (itself_item ns left) ds))
-itself_became ns ms x d e numbers equations left source ds h can ks f place r = became_in ns ms x d e numbers equations left source ds h can ks f place r
+pub itself_became : (ns ms : List Node) (x : Extends ns ms) (d e : ChainData) (numbers : List ℕ) (equations : List (Option ℕ)) (left source : ℕ) (ds : List Difference) → IsAt ms e source (EqFormula (term_at ns left) (term_at ns left)) → CanReplaceAll ns d numbers equations left ds → (ks : List Node) (f : ChainData) (position : ℕ) → IsReplacedAt ms e numbers source ds ks f position → IsAt ks f position (formula_in (after_all ns numbers (itself_item ns left) ds))
+itself_became ns ms x d e numbers equations left source ds h can ks f position r = became_in ns ms x d e numbers equations left source ds h can ks f position r
 
 pub begun_each : (ns ms : List Node) → Extends ns ms → (b : Branch) (d e : ChainData) → Keeps d e → (numbers : List ℕ) (equations : List (Option ℕ)) (left : ℕ) (ds : List Difference) → CanReplaceAll ns d numbers equations left ds → CanBeginAll ns b d numbers left ds → CanBeginEach ms b e numbers ds
 begun_each ns ms x b d e k numbers equations left ds can begin = record { each = λ n difference f. begin_grown ns ms x b d e k (number_at numbers difference.from) TermSort (can.each n difference f).is.from_term (begin.each n difference f) }

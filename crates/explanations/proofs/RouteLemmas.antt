@@ -35,25 +35,25 @@ pub can_put : (ns : List Node) (d : ChainData) (left source equation from to : �
 can_put ns d left source equation from to s (inl h) shallow = record { equation = EqFormula (term_at ns from) (term_at ns to); is_equation = h.at; equates = inl refl; is_source = s.at; shallow = shallow }
 can_put ns d left source equation from to s (inr h) shallow = record { equation = EqFormula (term_at ns to) (term_at ns from); is_equation = h.at; equates = inr refl; is_source = s.at; shallow = shallow }
 
-same_place : (r : Option ℕ) (place equation : ℕ) → r ≡ Some place → r ≡ Some equation → place ≡ equation
-same_place r place equation e f = let both : Some place ≡ Some equation = sym e ∙ f in (cc)
+same_position : (r : Option ℕ) (position equation : ℕ) → r ≡ Some position → r ≡ Some equation → position ≡ equation
+same_position r position equation e f = let both : Some position ≡ Some equation = sym e ∙ f in (cc)
 
 -- the equation of the passed edge
 pub passed : (ns : List Node) (d : ChainData) (numbers : List ℕ) (equations : List (Option ℕ)) (left : ℕ) (join : Join) → (c : CanPass ns d numbers equations left join) → (r : Option ℕ) (equation : ℕ) → r ≡ equation_at equations join.link → r ≡ Some equation → IsEither ns d equation (number_at numbers join.near) (number_at numbers join.far)
 passed ns d numbers equations left join c r equation e f =
-    subst (λ place. IsEither ns d place (number_at numbers join.near) (number_at numbers join.far)) (same_place r c.place equation (e ∙ c.found) f) c.equation
+    subst (λ position. IsEither ns d position (number_at numbers join.near) (number_at numbers join.far)) (same_position r c.position equation (e ∙ c.found) f) c.equation
 
 pub no_equation : (ns : List Node) (d : ChainData) (numbers : List ℕ) (equations : List (Option ℕ)) (left : ℕ) (join : Join) → CanPass ns d numbers equations left join → (r : Option ℕ) → r ≡ equation_at equations join.link → r ≡ None → ⊥
-no_equation ns d numbers equations left join c r e f = let both : None ≡ Some c.place = sym f ∙ e ∙ c.found in absurd (cc)
+no_equation ns d numbers equations left join c r e f = let both : None ≡ Some c.position = sym f ∙ e ∙ c.found in absurd (cc)
 
 -- a route of one edge
-pub single_either : (ns : List Node) (d : ChainData) (numbers : List ℕ) (equations : List (Option ℕ)) (from : ℕ) (route : List Join) (place : ℕ) → CanGo ns d numbers equations from route → IsSingle equations route place → IsEither ns d place (number_at numbers from) (number_at numbers (end_of from route))
-single_either ns d numbers equations from route place g s =
+pub single_either : (ns : List Node) (d : ChainData) (numbers : List ℕ) (equations : List (Option ℕ)) (from : ℕ) (route : List Join) (position : ℕ) → CanGo ns d numbers equations from route → IsSingle equations route position → IsEither ns d position (number_at numbers from) (number_at numbers (end_of from route))
+single_either ns d numbers equations from route position g s =
     let go : CanGo ns d numbers equations from (s.join ∷ []) = subst (CanGo ns d numbers equations from) s.is g in
     let can : CanPass ns d numbers equations (number_at numbers from) s.join = go.pass 0 s.join refl in
-    let at : IsEither ns d place (number_at numbers s.join.near) (number_at numbers s.join.far) = passed ns d numbers equations (number_at numbers from) s.join can (equation_at equations s.join.link) place refl s.found in
-    let begun : IsEither ns d place (number_at numbers from) (number_at numbers s.join.far) = subst (λ i. IsEither ns d place (number_at numbers i) (number_at numbers s.join.far)) (sym go.leads.0) at in
-    subst (λ r. IsEither ns d place (number_at numbers from) (number_at numbers (end_of from r))) (sym s.is) begun
+    let at : IsEither ns d position (number_at numbers s.join.near) (number_at numbers s.join.far) = passed ns d numbers equations (number_at numbers from) s.join can (equation_at equations s.join.link) position refl s.found in
+    let begun : IsEither ns d position (number_at numbers from) (number_at numbers s.join.far) = subst (λ i. IsEither ns d position (number_at numbers i) (number_at numbers s.join.far)) (sym go.leads.0) at in
+    subst (λ r. IsEither ns d position (number_at numbers from) (number_at numbers (end_of from r))) (sym s.is) begun
 
 -- ---- in the form of the calls
 
@@ -63,20 +63,20 @@ at_index xs n d x w e = slice_get-get_or xs n d w ∙ ap Some (sym e)
 pub term_of : (ns : List Node) (left k : ℕ) → left ≡ k → HasPart ns (length ns) k TermSort → HasPart ns (length ns) left TermSort
 term_of ns left k e p = subst (λ i. HasPart ns (length ns) i TermSort) (sym e) p
 
-pub put_at : {E : Type 0} (ns ms : List Node) → Extends ns ms → (e : ChainData) (left to far : ℕ) → to ≡ far → HasPart ns (length ns) left TermSort → HasPart ns (length ns) far TermSort → (r : Result ℕ E) → IfOk r (λ place. IsAt ms e place (EqFormula (term_at ns left) (term_at ns to))) → IfOk r (λ place. IsEquation ms e place left far)
-put_at ns ms x e left to far same p q r h = if_ok r (λ place g. equation_by ns ms x e place left far p q (subst (λ i. IsAt ms e place (EqFormula (term_at ns left) (term_at ns i))) same g)) h
+pub put_at : {E : Type 0} (ns ms : List Node) → Extends ns ms → (e : ChainData) (left to far : ℕ) → to ≡ far → HasPart ns (length ns) left TermSort → HasPart ns (length ns) far TermSort → (r : Result ℕ E) → IfOk r (λ position. IsAt ms e position (EqFormula (term_at ns left) (term_at ns to))) → IfOk r (λ position. IsEquation ms e position left far)
+put_at ns ms x e left to far same p q r h = if_ok r (λ position g. equation_by ns ms x e position left far p q (subst (λ i. IsAt ms e position (EqFormula (term_at ns left) (term_at ns i))) same g)) h
 
-pub begun_at : (ns ms : List Node) → Extends ns ms → (e : ChainData) (numbers : List ℕ) (place left from : ℕ) (route : List Join) → left ≡ number_at numbers from → HasPart ns (length ns) (number_at numbers from) TermSort → IsAt ms e place (EqFormula (term_at ns left) (term_at ns left)) → IsEquation ms e place left (number_at numbers (end_of from (take zero route)))
-begun_at ns ms x e numbers place left from route same p h =
+pub begun_at : (ns ms : List Node) → Extends ns ms → (e : ChainData) (numbers : List ℕ) (position left from : ℕ) (route : List Join) → left ≡ number_at numbers from → HasPart ns (length ns) (number_at numbers from) TermSort → IsAt ms e position (EqFormula (term_at ns left) (term_at ns left)) → IsEquation ms e position left (number_at numbers (end_of from (take zero route)))
+begun_at ns ms x e numbers position left from route same p h =
     let q : HasPart ns (length ns) left TermSort = term_of ns left (number_at numbers from) same p in
-    subst (IsEquation ms e place left) (same ∙ ap (number_at numbers) (sym (end_nowhere from route))) (equation_by ns ms x e place left left q q h)
+    subst (IsEquation ms e position left) (same ∙ ap (number_at numbers) (sym (end_nowhere from route))) (equation_by ns ms x e position left left q q h)
 
 -- the source of the next edge, and its result
-pub source_at : (ns : List Node) (d : ChainData) (numbers : List ℕ) (place left from : ℕ) (route : List Join) → IsRoute from route → (n : ℕ) (join : Join) → slice_get route n ≡ Some join → IsEquation ns d place left (number_at numbers (end_of from (take n route))) → IsEquation ns d place left (number_at numbers join.near)
-source_at ns d numbers place left from route r n join f h = subst (λ i. IsEquation ns d place left (number_at numbers i)) (route_near from route r n join f) h
+pub source_at : (ns : List Node) (d : ChainData) (numbers : List ℕ) (position left from : ℕ) (route : List Join) → IsRoute from route → (n : ℕ) (join : Join) → slice_get route n ≡ Some join → IsEquation ns d position left (number_at numbers (end_of from (take n route))) → IsEquation ns d position left (number_at numbers join.near)
+source_at ns d numbers position left from route r n join f h = subst (λ i. IsEquation ns d position left (number_at numbers i)) (route_near from route r n join f) h
 
-pub passed_at : (ns : List Node) (d : ChainData) (numbers : List ℕ) (place left from : ℕ) (route : List Join) (n m : ℕ) (join : Join) → slice_get route n ≡ Some join → m ≡ suc n → IsEquation ns d place left (number_at numbers join.far) → IsEquation ns d place left (number_at numbers (end_of from (take m route)))
-passed_at ns d numbers place left from route n m join f s h = subst (λ i. IsEquation ns d place left (number_at numbers i)) (sym (route_far from route n join f) ∙ ap (λ k. end_of from (take k route)) (sym s)) h
+pub passed_at : (ns : List Node) (d : ChainData) (numbers : List ℕ) (position left from : ℕ) (route : List Join) (n m : ℕ) (join : Join) → slice_get route n ≡ Some join → m ≡ suc n → IsEquation ns d position left (number_at numbers join.far) → IsEquation ns d position left (number_at numbers (end_of from (take m route)))
+passed_at ns d numbers position left from route n m join f s h = subst (λ i. IsEquation ns d position left (number_at numbers i)) (sym (route_far from route n join f) ∙ ap (λ k. end_of from (take k route)) (sym s)) h
 
 pub pass_at : (ns ms : List Node) → Extends ns ms → (d e : ChainData) → Keeps d e → (numbers : List ℕ) (equations : List (Option ℕ)) (left from : ℕ) (route : List Join) → left ≡ number_at numbers from → CanGo ns d numbers equations from route → (n : ℕ) (join : Join) → slice_get route n ≡ Some join → CanPass ms e numbers equations left join
 pass_at ns ms x d e k numbers equations left from route same g n join f =

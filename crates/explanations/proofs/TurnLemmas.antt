@@ -26,17 +26,20 @@ use Rattle.congruence_closure.specs.Numbers.{number_at, renumbered, IsReal, IsNu
 use Rattle.congruence_closure.proofs.TreeLemmas.{clash}
 use Rattle.congruence_closure.proofs.AlikeLemmas.{all_from}
 use Rattle.explanations.specs.BoundNodes.{HasBound, FitsUnder, IsCaptured, IsUncaptured, IsLoose, IsTied}
-use Rattle.explanations.specs.Graphs.{IsTermNode, IsGraph, is_term_node}
-use Rattle.explanations.specs.Places.{one_at, other_at, CanStand, IsPlace, AreFound, IsPushed, AreOne, AreTwo, AreThree, arity, HasOne, HasTwo, HasThree}
-use Rattle.explanations.specs.declared.derived.difference.Place.{Place}
+use Rattle.explanations.specs.Graphs.{IsTermNode, IsGraph}
+use Rattle.explanations.specs.Positions.{one_at, other_at, CanStand, IsPosition, AreFound, IsPushed, AreOne, AreTwo, AreThree, arity, HasOne, HasTwo, HasThree}
+use Rattle.explanations.specs.declared.derived.difference.Position.{Position}
 use Rattle.explanations.specs.declared.derived.replacing.Difference.{Difference}
 use Rattle.explanations.proofs.BoundLemmas.{fits_only, fits_two, fits_three, leaf_made, bound_of_free, free_of_bound, bound_linked, open_linked}
-use Rattle.explanations.proofs.PlaceLemmas.{term_found}
-use Rattle.explanations.proofs.LinkedLemmas.{same_node, true_false, made_term, term_made, IsPlain, IsOneOrAlike, parameter_linked, no_denied_parameter, term_or_plain, plain_linked}
+use Rattle.explanations.proofs.PositionLemmas.{term_found}
+use Rattle.explanations.proofs.LinkedLemmas.{same_node, IsPlain, IsOneOrAlike, parameter_linked, no_denied_parameter, term_or_plain, plain_linked}
 
-pub term_test : (pool : List Node) (k : ℕ) (n : Node) (b : Bool) → IsMade pool k n → b ≡ is_term_node n → MatchBool b (sort_of (item_at pool k) ≡ TermSort) (sort_of (item_at pool k) ≢ TermSort)
-term_test pool k n true m e = (term_made pool k n m (sym e)).sort
-term_test pool k n false m e = λ s. true_false (is_term_node n) (made_term pool k n m s) (sym e)
+pub tied_answer : (bound : List ℕ) (x : Item) → sort_of x ≢ TermSort → IsTied bound x
+tied_answer bound x e = inl e
+
+pub loose_answer : (bound : List ℕ) (x : Item) (b : Bool) → sort_of x ≡ TermSort → MatchBool b (IsUncaptured bound x) (IsCaptured bound x) → MatchBool b (IsLoose bound x) (IsTied bound x)
+loose_answer bound x true e h = record { term = e; uncaptured = h }
+loose_answer bound x false e h = inr h
 
 pub when_true : (A B : Type 0) (b : Bool) → b ≡ true → MatchBool b A B → A
 when_true A B true e m = m
@@ -66,7 +69,7 @@ module _ (pool ns : List Node) (ls : List Link) (numbers : List ℕ) (g : IsGrap
       go (Bound a k e param made) = absurd (let few : 2 ≤ arity (OneNode Not a) = subst (λ m. 2 ≤ arity m) (sym (same_node (slice_get ns i) (slice_get ns i) (OneNode Not a) n refl e f)) many in omega arith)
       go (Parameter k e) = absurd (let few : 2 ≤ arity (LeafNode (TypeParam k)) = subst (λ m. 2 ≤ arity m) (sym (same_node (slice_get ns i) (slice_get ns i) (LeafNode (TypeParam k)) n refl e f)) many in omega arith)
 
-  module _ (before : ℕ) (p : Place) (one_number : IsOneNumber pool) (at : IsPlace pool ns numbers p) (differ : number_at numbers p.one ≢ number_at numbers p.other) (alike : AreAlikeAt ns (Linked (take before ls)) p.one p.other) where
+  module _ (before : ℕ) (p : Position) (one_number : IsOneNumber pool) (at : IsPosition pool ns numbers p) (differ : number_at numbers p.one ≢ number_at numbers p.other) (alike : AreAlikeAt ns (Linked (take before ls)) p.one p.other) where
     are_alike : (n m : Node) → slice_get ns p.one ≡ Some n → slice_get ns p.other ≡ Some m → AreAlike (Linked (take before ls)) n m
     are_alike n m f h =
         subst (λ x. AreAlike (Linked (take before ls)) x m) (same_node (slice_get ns p.one) (slice_get ns p.one) alike.one n refl alike.is_one f)
@@ -223,12 +226,12 @@ module _ (pool ns : List Node) (ls : List Link) (numbers : List ℕ) (g : IsGrap
     pub pair_unlike : (d n m : Node) → n ≡ get_or ns p.one d → m ≡ get_or ns p.other d → (arity n ≡ arity m → arity n ≡ 0) → ⊥
     pair_unlike d n m e f u = not_unlike n m (read_node p.one d n n at.one.node e refl) (read_node p.other d m m at.other.node f refl) u
 
-  plainly : (before : ℕ) (p : Place) → number_at numbers p.one ≢ number_at numbers p.other → IsOneOrAlike ns ls before p.one p.other → AreAlikeAt ns (Linked (take before ls)) p.one p.other
+  plainly : (before : ℕ) (p : Position) → number_at numbers p.one ≢ number_at numbers p.other → IsOneOrAlike ns ls before p.one p.other → AreAlikeAt ns (Linked (take before ls)) p.one p.other
   plainly before p differ (inl e) = absurd (differ (ap (number_at numbers) e))
   plainly before p differ (inr r) = r
 
   -- if the nodes are no terms, they are congruent
-  alike_at : (before : ℕ) (p : Place) → IsPlace pool ns numbers p → Linked (take before ls) p.one p.other → number_at numbers p.one ≢ number_at numbers p.other → sort_of (item_at pool (number_at numbers p.one)) ≢ TermSort → AreAlikeAt ns (Linked (take before ls)) p.one p.other
+  alike_at : (before : ℕ) (p : Position) → IsPosition pool ns numbers p → Linked (take before ls) p.one p.other → number_at numbers p.one ≢ number_at numbers p.other → sort_of (item_at pool (number_at numbers p.one)) ≢ TermSort → AreAlikeAt ns (Linked (take before ls)) p.one p.other
   alike_at before p at linked differ none = go (term_or_plain pool ns ls numbers g p.one at.one.node)
     where
       go : IsTermNode pool ns numbers p.one ⊎ IsPlain ns p.one → AreAlikeAt ns (Linked (take before ls)) p.one p.other
@@ -236,13 +239,13 @@ module _ (pool ns : List Node) (ls : List Link) (numbers : List ℕ) (g : IsGrap
       go (inr q) = plainly before p differ ((plain_linked pool ns ls numbers g before p.one p.other linked).0 q).1
 
   -- the same if a variable is free that the context binds
-  captured_alike : (before : ℕ) (p : Place) → IsPlace pool ns numbers p → Linked (take before ls) p.one p.other → number_at numbers p.one ≢ number_at numbers p.other → IsCaptured (bound_on p.way.items) (item_at pool (number_at numbers p.one)) → AreAlikeAt ns (Linked (take before ls)) p.one p.other
+  captured_alike : (before : ℕ) (p : Position) → IsPosition pool ns numbers p → Linked (take before ls) p.one p.other → number_at numbers p.one ≢ number_at numbers p.other → IsCaptured (bound_on p.way.items) (item_at pool (number_at numbers p.one)) → AreAlikeAt ns (Linked (take before ls)) p.one p.other
   captured_alike before p at linked differ c =
       let has : HasBound ns c.variable p.one = bound_of_free pool ns ls numbers g c.variable (bound_on p.way.items) p.one at.one_fits c.bound_there at.one.node at.one.real c.free in
       plainly before p differ (open_linked pool ns ls numbers g before c.variable p.one p.other linked has)
 
   -- in the form in which the number and the context were read
-  pub tied_alike : (before : ℕ) (p : Place) (way : List Frame) (k : ℕ) → IsPlace pool ns numbers p → Linked (take before ls) p.one p.other → number_at numbers p.one ≢ number_at numbers p.other → way ≡ p.way.items → k ≡ number_at numbers p.one → IsTied (bound_on way) (item_at pool k) → AreAlikeAt ns (Linked (take before ls)) p.one p.other
+  pub tied_alike : (before : ℕ) (p : Position) (way : List Frame) (k : ℕ) → IsPosition pool ns numbers p → Linked (take before ls) p.one p.other → number_at numbers p.one ≢ number_at numbers p.other → way ≡ p.way.items → k ≡ number_at numbers p.one → IsTied (bound_on way) (item_at pool k) → AreAlikeAt ns (Linked (take before ls)) p.one p.other
   tied_alike before p way k at linked differ w e tied = go (subst (λ v. IsTied (bound_on v) (item_at pool (number_at numbers p.one))) w (subst (λ i. IsTied (bound_on way) (item_at pool i)) e tied))
     where
       go : IsTied (bound_on p.way.items) (item_at pool (number_at numbers p.one)) → AreAlikeAt ns (Linked (take before ls)) p.one p.other
@@ -255,7 +258,7 @@ module _ (pool ns : List Node) (ls : List Link) (numbers : List ℕ) (g : IsGrap
   free_term bound x e u = all_from (λ n. free_in_term n (term_in x) ≡ false) bound (λ n m. ap (free_in_item n) (a_term x e) ∙ u.each n m)
 
   -- the same for the nodes connected with it
-  other_uncaptured : (before : ℕ) (p : Place) → IsPlace pool ns numbers p → Linked (take before ls) p.one p.other → IsUncaptured (bound_on p.way.items) (item_at pool (number_at numbers p.one)) → IsUncaptured (bound_on p.way.items) (item_at pool (number_at numbers p.other))
+  other_uncaptured : (before : ℕ) (p : Position) → IsPosition pool ns numbers p → Linked (take before ls) p.one p.other → IsUncaptured (bound_on p.way.items) (item_at pool (number_at numbers p.one)) → IsUncaptured (bound_on p.way.items) (item_at pool (number_at numbers p.other))
   other_uncaptured before p at linked u = record { each = λ n m. go n m (free_in_item n (item_at pool (number_at numbers p.other))) refl }
     where
       go : (n : ℕ) → among n (bound_on p.way.items) ≡ true → (b : Bool) → free_in_item n (item_at pool (number_at numbers p.other)) ≡ b → free_in_item n (item_at pool (number_at numbers p.other)) ≡ false
@@ -265,7 +268,7 @@ module _ (pool ns : List Node) (ls : List Link) (numbers : List ℕ) (g : IsGrap
           let here : HasBound ns n p.one = (bound_linked pool ns ls numbers g before n p.one p.other linked).1 there in
           clash (free_of_bound pool ns ls numbers g n p.one here at.one.node) (u.each n m)
 
-  pub loose_found : (before : ℕ) (p : Place) (way : List Frame) (k : ℕ) (old new : List Difference) → IsPlace pool ns numbers p → Linked (take before ls) p.one p.other → way ≡ p.way.items → k ≡ number_at numbers p.one → IsLoose (bound_on way) (item_at pool k) → IsPushed ls before p old new → AreFound pool ns ls numbers before (one_at pool numbers p) (other_at pool numbers p) old new
+  pub loose_found : (before : ℕ) (p : Position) (way : List Frame) (k : ℕ) (old new : List Difference) → IsPosition pool ns numbers p → Linked (take before ls) p.one p.other → way ≡ p.way.items → k ≡ number_at numbers p.one → IsLoose (bound_on way) (item_at pool k) → IsPushed ls before p old new → AreFound pool ns ls numbers before (one_at pool numbers p) (other_at pool numbers p) old new
   loose_found before p way k old new at linked w e loose pushed =
       let here : IsLoose (bound_on p.way.items) (item_at pool (number_at numbers p.one)) = subst (λ v. IsLoose (bound_on v) (item_at pool (number_at numbers p.one))) w (subst (λ i. IsLoose (bound_on way) (item_at pool i)) e loose) in
       let there : IsUncaptured (bound_on p.way.items) (item_at pool (number_at numbers p.other)) = other_uncaptured before p at linked here.uncaptured in

@@ -13,9 +13,9 @@ IsLow p = IsShallow p ⊎ ((q : FormulaData) × (p ≡ NotFormula q) × IsShallo
 
 -- these are numbers of such formulas
 pub record AreLow (pool : List Node) (entries : List ℕ) : Type 0 where
-  pub formula : (place number : ℕ) → slice_get entries place ≡ Some number → sort_of (item_at pool number) ≡ FormulaSort
-  pub low : (place number : ℕ) → slice_get entries place ≡ Some number → IsLow (formula_at pool number)
+  pub formula : (position number : ℕ) → slice_get entries position ≡ Some number → sort_of (item_at pool number) ≡ FormulaSort
+  pub low : (position number : ℕ) → slice_get entries position ≡ Some number → IsLow (formula_at pool number)
 
 -- the explanation begins with the entries
 pub record HasEntries (d : ChainData) (entries : List ℕ) : Type 0 where
-  pub each : (place number : ℕ) → slice_get entries place ≡ Some number → slice_get d.formulas place ≡ Some number
+  pub each : (position number : ℕ) → slice_get entries position ≡ Some number → slice_get d.formulas position ≡ Some number

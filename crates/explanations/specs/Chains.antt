@@ -33,35 +33,35 @@ formula_at ns k = formula_in (item_at ns k)
 -- patterns
 pub record ChainData : Type 0 where
   pub formulas : List ℕ
-  pub places : List (ℕ × ℕ)
+  pub positions : List (ℕ × ℕ)
   pub steps : List ChainStep
   pub variable : ℕ
 
 pub record IsNotAmong (ks : List ℕ) (k : ℕ) : Type 0 where
-  pub none : (place : ℕ) → slice_get ks place ≡ Some k → ⊥
+  pub none : (position : ℕ) → slice_get ks position ≡ Some k → ⊥
 
-abbrev pub IsPlaceOf : List ℕ → ℕ → ℕ → Type 0
-IsPlaceOf ks k place = slice_get ks place ≡ Some k
+abbrev pub IsPositionOf : List ℕ → ℕ → ℕ → Type 0
+IsPositionOf ks k position = slice_get ks position ≡ Some k
 
-abbrev pub place_in : ChainData → ℕ → Option ℕ
-place_in d k = lookup (nat_eq k) d.places
+abbrev pub position_in : ChainData → ℕ → Option ℕ
+position_in d k = lookup (nat_eq k) d.positions
 
 -- the index of each formula is known
-pub record ArePlaces (ks : List ℕ) (find : ℕ → Option ℕ) : Type 0 where
-  pub each : (k : ℕ) → MatchOption (find k) (IsNotAmong ks k) (IsPlaceOf ks k)
+pub record ArePositions (ks : List ℕ) (find : ℕ → Option ℕ) : Type 0 where
+  pub each : (k : ℕ) → MatchOption (find k) (IsNotAmong ks k) (IsPositionOf ks k)
 
-abbrev pub HasPlaces : ChainData → Type 0
-HasPlaces d = ArePlaces d.formulas (place_in d)
+abbrev pub HasPositions : ChainData → Type 0
+HasPositions d = ArePositions d.formulas (position_in d)
 
 -- the formulas keep their indices
 pub record Keeps (d e : ChainData) : Type 0 where
-  pub kept : (place k : ℕ) → slice_get d.formulas place ≡ Some k → slice_get e.formulas place ≡ Some k
+  pub kept : (position k : ℕ) → slice_get d.formulas position ≡ Some k → slice_get e.formulas position ≡ Some k
   pub variable : e.variable ≡ d.variable
 
 -- the formula is at this index
-pub record IsAt (ns : List Node) (d : ChainData) (place : ℕ) (p : FormulaData) : Type 0 where
+pub record IsAt (ns : List Node) (d : ChainData) (position : ℕ) (p : FormulaData) : Type 0 where
   pub number : ℕ
-  pub found : slice_get d.formulas place ≡ Some number
+  pub found : slice_get d.formulas position ≡ Some number
   pub is : formula_at ns number ≡ p
 
 -- ---- valid explanations
@@ -78,15 +78,15 @@ NamesInPool ns (Rewritten r) = (r.pattern < length ns) × (r.formula < length ns
 -- each step is an explanation step that adds a new formula, and the formulas are those of the branch and those that
 -- the steps add; all variables are below that of the patterns
 pub record IsChain (ns : List Node) (b : Branch) (d : ChainData) : Type 0 where
-  pub numbers : (place k : ℕ) → slice_get d.formulas place ≡ Some k → HasPart ns (length ns) k FormulaSort
-  pub below : (place k : ℕ) → slice_get d.formulas place ≡ Some k → above (formula_at ns k) ≤ d.variable
+  pub numbers : (position k : ℕ) → slice_get d.formulas position ≡ Some k → HasPart ns (length ns) k FormulaSort
+  pub below : (position k : ℕ) → slice_get d.formulas position ≡ Some k → above (formula_at ns k) ≤ d.variable
   pub named : (i : ℕ) (s : ChainStep) → slice_get d.steps i ≡ Some s → NamesInPool ns s
   pub stand : map (formula_at ns) d.formulas ≡ after_links (formulas b) (map (step_in ns) d.steps)
   pub links : (shapes : List Shape) → AreLinks shapes b (formulas b) (map (step_in ns) d.steps)
 
 -- these are the numbers of the formulas of the branch
 pub record AreEntries (ns : List Node) (ks : List ℕ) (b : Branch) : Type 0 where
-  pub numbers : (place k : ℕ) → slice_get ks place ≡ Some k → HasPart ns (length ns) k FormulaSort
+  pub numbers : (position k : ℕ) → slice_get ks position ≡ Some k → HasPart ns (length ns) k FormulaSort
   pub are : map (formula_at ns) ks ≡ formulas b
 
 -- ---- steps that may be added

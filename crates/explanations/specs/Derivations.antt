@@ -16,18 +16,18 @@ use Rattle.explanations.specs.declared.derived.replacing.Difference.{Difference}
 
 -- the explanation has the equation of the terms with these numbers
 pub record HasEquation (ns : List Node) (d : ChainData) (left right : ℕ) : Type 0 where
-  pub place : ℕ
-  pub is : IsEquation ns d place left right
+  pub position : ℕ
+  pub is : IsEquation ns d position left right
 
 -- it has the equation of each edge that an equation justifies
 pub record AreSaid (ns : List Node) (d : ChainData) (ls : List Link) (numbers : List ℕ) : Type 0 where
   pub each : (k q : ℕ) (l : Link) → slice_get ls k ≡ Some l → l.why ≡ Given q → HasEquation ns d (number_at numbers l.left) (number_at numbers l.right)
 
 -- the equation of an edge has an index
-pub record HasPlace (ns : List Node) (d : ChainData) (ls : List Link) (numbers : List ℕ) (equations : List (Option ℕ)) (k : ℕ) : Type 0 where
-  pub place : ℕ
-  pub found : equation_at equations k ≡ Some place
-  pub is : (l : Link) → slice_get ls k ≡ Some l → IsEquation ns d place (number_at numbers l.left) (number_at numbers l.right)
+pub record HasPosition (ns : List Node) (d : ChainData) (ls : List Link) (numbers : List ℕ) (equations : List (Option ℕ)) (k : ℕ) : Type 0 where
+  pub position : ℕ
+  pub found : equation_at equations k ≡ Some position
+  pub is : (l : Link) → slice_get ls k ≡ Some l → IsEquation ns d position (number_at numbers l.left) (number_at numbers l.right)
 
 -- the reflexivity axiom of each term of a node may be added
 pub record CanBeginAny (ns nodes : List Node) (b : Branch) (d : ChainData) (numbers : List ℕ) : Type 0 where
@@ -43,7 +43,7 @@ pub record IsReady (ns : List Node) (d : ChainData) (numbers : List ℕ) (equati
 
 -- the equation of each needed edge among the first ones has an index
 pub record ArePlaced (ns : List Node) (d : ChainData) (ls : List Link) (numbers : List ℕ) (needed : List Bool) (equations : List (Option ℕ)) (count : ℕ) : Type 0 where
-  pub each : (c : ℕ) → c < count → is_needed needed c ≡ true → HasPlace ns d ls numbers equations c
+  pub each : (c : ℕ) → c < count → is_needed needed c ≡ true → HasPosition ns d ls numbers equations c
 
 -- the next edge is ready, if it is needed
 pub record IsLinkReady (ns : List Node) (d : ChainData) (ls : List Link) (numbers : List ℕ) (equations : List (Option ℕ)) (found : List Difference) : Type 0 where

@@ -11,7 +11,7 @@ use Rattle.congruence_closure.specs.declared.classes.link.Link.{Link}
 use Rattle.explanations.specs.Chains.{ChainData}
 use Rattle.congruence_closure.specs.Numbers.{number_at}
 use Rattle.explanations.specs.Replacing.{AreInTurn}
-use Rattle.explanations.specs.Places.{IsDifference}
+use Rattle.explanations.specs.Positions.{IsDifference}
 use Rattle.explanations.specs.declared.derived.replacing.Difference.{Difference}
 
 -- the node is a formula, no deeper than a step may add

@@ -1,15 +1,12 @@
 -- Nodes of classes with the edges of the proof forest between them, and the number of each node in a pool.
-use Rattle.std.specs.Prelude.{◌≡◌, ℕ, ◌+◌, ◌<◌, ◌≤◌, Bool, true, false, List, [], length, slice_get, Some}
+use Rattle.std.specs.Prelude.{◌≡◌, ℕ, ◌+◌, ◌<◌, ◌≤◌, List, [], length, slice_get, Some}
 use Rattle.fol.specs.Depth.{term_depth}
 use Rattle.certificates.specs.Closes.{most_deep}
 use Rattle.term_pool.specs.Items.{TermSort, sort_of}
 use Rattle.term_pool.specs.Pools.{item_at, HasPart}
-use Rattle.term_pool.specs.declared.node.Leaf.TheVariants.{Var, Constant, TypeParam}
-use Rattle.term_pool.specs.declared.node.One.TheVariants.{Unary}
-use Rattle.term_pool.specs.declared.node.Two.TheVariants.{Binary, Pack, Field}
-use Rattle.term_pool.specs.declared.node.Three.TheVariants.{Ternary, SetField, If}
+use Rattle.term_pool.specs.declared.node.Leaf.TheVariants.{TypeParam}
 use Rattle.term_pool.specs.declared.node.Node.{Node}
-use Rattle.term_pool.specs.declared.node.Node.TheVariants.{Leaf as LeafNode, One as OneNode, Two as TwoNode, Three as ThreeNode}
+use Rattle.term_pool.specs.declared.node.Node.TheVariants.{Leaf as LeafNode}
 use Rattle.congruence_closure.specs.Congruence.{IsWithin}
 use Rattle.congruence_closure.specs.Links.{AreShown}
 use Rattle.congruence_closure.specs.declared.classes.link.Equation.{Equation}
@@ -40,16 +37,3 @@ pub record IsGraph (pool ns : List Node) (ls : List Link) (numbers : List ℕ) :
   pub left_closed : (k : ℕ) (e : Equation) → slice_get equations k ≡ Some e → IsClosed ns e.left
   pub right_closed : (k : ℕ) (e : Equation) → slice_get equations k ≡ Some e → IsClosed ns e.right
   pub shown : AreShown ns equations ls
-
--- whether the node is that of a term, unless it is a bound variable
-abbrev pub is_term_node : Node → Bool
-is_term_node (LeafNode (Var n)) = true
-is_term_node (LeafNode (Constant c)) = true
-is_term_node (OneNode (Unary o) a) = true
-is_term_node (TwoNode (Binary o) a b) = true
-is_term_node (TwoNode Pack a b) = true
-is_term_node (TwoNode (Field k) a b) = true
-is_term_node (ThreeNode (Ternary o) a b c) = true
-is_term_node (ThreeNode (SetField k) a b c) = true
-is_term_node (ThreeNode If a b c) = true
-is_term_node _ = false

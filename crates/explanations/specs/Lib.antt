@@ -4,7 +4,7 @@ pub mod Routes
 pub mod Replacing
 pub mod BoundNodes
 pub mod Graphs
-pub mod Places
+pub mod Positions
 pub mod Plans
 pub mod Derivations
 pub mod BranchGraphs

@@ -11,7 +11,7 @@ use Rattle.congruence_closure.specs.declared.proof_forest.Join.{Join}
 use Rattle.congruence_closure.specs.Numbers.{number_at}
 use Rattle.explanations.specs.Replacing.{itself_item}
 use Rattle.explanations.specs.Graphs.{IsTermNode}
-use Rattle.explanations.specs.Places.{AreFound}
+use Rattle.explanations.specs.Positions.{AreFound}
 use Rattle.explanations.specs.declared.derived.plan.Plan.{Plan}
 use Rattle.explanations.specs.declared.derived.replacing.Difference.{Difference}
 
@@ -22,16 +22,16 @@ is_needed needed link = slice_index_or needed link false
 
 -- the edge is one of the route
 pub record IsOn (route : List Join) (link : ℕ) : Type 0 where
-  pub place : ℕ
+  pub position : ℕ
   pub join : Join
-  pub found : slice_get route place ≡ Some join
+  pub found : slice_get route position ≡ Some join
   pub is : join.link ≡ link
 
 -- it is one of some difference's route
 pub record IsOnAny (ds : List Difference) (link : ℕ) : Type 0 where
-  pub place : ℕ
+  pub position : ℕ
   pub difference : Difference
-  pub found : slice_get ds place ≡ Some difference
+  pub found : slice_get ds position ≡ Some difference
   pub on : IsOn difference.route.items link
 
 abbrev pub IsThis : ℕ → ℕ → Type 0

@@ -56,8 +56,8 @@ pub record CanReplaceAt (ns : List Node) (d : ChainData) (numbers : List ℕ) (e
   pub each : (n : ℕ) (difference : Difference) → slice_get ds n ≡ Some difference → CanReplace ns d numbers equations difference
 
 -- the source formula after all replacements is at the index
-pub record IsReplacedAt (ns : List Node) (d : ChainData) (numbers : List ℕ) (source : ℕ) (ds : List Difference) (ms : List Node) (e : ChainData) (place : ℕ) : Type 0 where
-  pub at : (number : ℕ) → slice_get d.formulas source ≡ Some number → IsAt ms e place (formula_in (after_all ns numbers (item_at ns number) ds))
+pub record IsReplacedAt (ns : List Node) (d : ChainData) (numbers : List ℕ) (source : ℕ) (ds : List Difference) (ms : List Node) (e : ChainData) (position : ℕ) : Type 0 where
+  pub at : (number : ℕ) → slice_get d.formulas source ≡ Some number → IsAt ms e position (formula_in (after_all ns numbers (item_at ns number) ds))
 
 -- the reflexivity axiom of each replaced term may be added
 pub record CanBeginEach (ns : List Node) (b : Branch) (d : ChainData) (numbers : List ℕ) (ds : List Difference) : Type 0 where

@@ -15,21 +15,21 @@ abbrev pub equation_at : List (Option ℕ) → ℕ → Option ℕ
 equation_at equations link = slice_index_or equations link None
 
 -- the formula at this index is the equation of the terms with these numbers
-pub record IsEquation (ns : List Node) (d : ChainData) (place left right : ℕ) : Type 0 where
+pub record IsEquation (ns : List Node) (d : ChainData) (position left right : ℕ) : Type 0 where
   pub left_term : HasPart ns (length ns) left TermSort
   pub right_term : HasPart ns (length ns) right TermSort
-  pub at : IsAt ns d place (EqFormula (term_at ns left) (term_at ns right))
+  pub at : IsAt ns d position (EqFormula (term_at ns left) (term_at ns right))
 
 -- it is the equation in either order
 abbrev pub IsEither : List Node → ChainData → ℕ → ℕ → ℕ → Type 0
-IsEither ns d place left right = IsEquation ns d place left right ⊎ IsEquation ns d place right left
+IsEither ns d position left right = IsEquation ns d position left right ⊎ IsEquation ns d position right left
 
 -- the equation of the ends of the edge has an index, and the depth of that of the left term with its far end is within
 -- the limit
 pub record CanPass (ns : List Node) (d : ChainData) (numbers : List ℕ) (equations : List (Option ℕ)) (left : ℕ) (join : Join) : Type 0 where
-  pub place : ℕ
-  pub found : equation_at equations join.link ≡ Some place
-  pub equation : IsEither ns d place (number_at numbers join.near) (number_at numbers join.far)
+  pub position : ℕ
+  pub found : equation_at equations join.link ≡ Some position
+  pub equation : IsEither ns d position (number_at numbers join.near) (number_at numbers join.far)
   pub shallow : IsShallow (EqFormula (term_at ns left) (term_at ns (number_at numbers join.far)))
 
 -- the end of the edges
@@ -49,7 +49,7 @@ pub record CanGo (ns : List Node) (d : ChainData) (numbers : List ℕ) (equation
   pub pass : (n : ℕ) (join : Join) → slice_get route n ≡ Some join → CanPass ns d numbers equations (number_at numbers from) join
 
 -- the route is one edge, whose equation has this index
-pub record IsSingle (equations : List (Option ℕ)) (route : List Join) (place : ℕ) : Type 0 where
+pub record IsSingle (equations : List (Option ℕ)) (route : List Join) (position : ℕ) : Type 0 where
   pub join : Join
   pub is : route ≡ join ∷ []
-  pub found : equation_at equations join.link ≡ Some place
+  pub found : equation_at equations join.link ≡ Some position

@@ -1,6 +1,6 @@
 //! An explanation under construction: a chain of steps.
 
-ghost use Rattle.std.specs.Prelude.{◌≡◌, ℕ, ◌<◌, ◌≤◌, List, [], ◌∷◌, ◌++◌, Some, cond, length, nat_eq, slice_get, OnOk, IfOk, MatchOption};
+ghost use Rattle.std.specs.Prelude.{◌≡◌, ◌<◌, ◌≤◌, List, [], ◌∷◌, ◌++◌, Some, length, nat_eq, slice_get, OnOk, IfOk, MatchOption};
 ghost use Rattle.indexmap.specs.IndexMap.{get};
 ghost use Rattle.fol.specs.FormulaData.{EqFormula};
 ghost use Rattle.term_pool.specs.Items.{TermSort, formula_in};
@@ -9,7 +9,7 @@ ghost use Rattle.term_pool.specs.declared.node.Node.{Node};
 ghost use Rattle.certificates.specs.BranchesBranch.{Branch, formulas};
 ghost use Rattle.certificates.specs.Names.{above_all};
 ghost use Rattle.explanations.specs.Frames.{filled, IsWay};
-ghost use Rattle.explanations.specs.Chains.{term_at, IsNotAmong, IsPlaceOf, ArePlaces, HasPlaces, Keeps, IsAt, IsChain, AreEntries, CanBegin, CanSwap, CanPutRight};
+ghost use Rattle.explanations.specs.Chains.{term_at, IsNotAmong, IsPositionOf, ArePositions, HasPositions, Keeps, IsAt, IsChain, AreEntries, CanBegin, CanSwap, CanPutRight};
 
 use crate::frame::{Frame, fill};
 use base::memory::NoMemory;
@@ -18,6 +18,7 @@ use indexmap::IndexMap;
 use std::alloc::Global;
 use std::marker::Model;
 use term_pool::node::{Leaf, Node, Two};
+use term_pool::numbers::{look_up, note};
 use term_pool::pool::Pool;
 
 /// The replacement of equals by equals in a formula of an explanation.
@@ -58,7 +59,7 @@ pub struct Chain {
     // The numbers of the formulas.
     formulas: Vec<usize>,
     // The index of each formula.
-    places: IndexMap<usize, usize>,
+    positions: IndexMap<usize, usize>,
     steps: Vec<ChainStep>,
     // The variable of the patterns.
     variable: u32,
@@ -69,42 +70,24 @@ impl Model for Chain {
 
     ghost Value = { ChainData };
 
-    ghost view = { λ c. record { formulas = c.formulas.items; places = c.places.entries; steps = c.steps.items; variable = c.variable } };
-}
-
-// The index of a formula; none if it is not in the explanation.
-fn look_up(places: &IndexMap<usize, usize>, formula: usize) -> Option<usize>
-    ensures { result ≡ get nat_eq places.now formula }
-{
-    match places.get(&formula) {
-        Some(place) => Some(*place),
-        None => None,
-    }
-}
-
-// Records the index of a formula.
-fn note(places: &mut IndexMap<usize, usize>, formula: usize, place: usize) -> Result<(), NoMemory>
-    ensures { OnOk result ((i : ℕ) → get nat_eq places.new i ≡ cond (nat_eq formula i) (Some place) (get nat_eq places.old i)) }
-{
-    places.insert(formula, place)?;
-    Ok(())
+    ghost view = { λ c. record { formulas = c.formulas.items; positions = c.positions.entries; steps = c.steps.items; variable = c.variable } };
 }
 
 // Adds a formula at the end, and returns its index.
 fn stand(
     formulas: &mut Vec<usize>,
-    places: &mut IndexMap<usize, usize>,
+    positions: &mut IndexMap<usize, usize>,
     formula: usize,
 ) -> Result<usize, NoMemory>
-    requires { ArePlaces formulas.old.items (get nat_eq places.old) }
-    ensures places { OnOk result (ArePlaces formulas.new.items (get nat_eq places.new)) }
+    requires { ArePositions formulas.old.items (get nat_eq positions.old) }
+    ensures positions { OnOk result (ArePositions formulas.new.items (get nat_eq positions.new)) }
     ensures formulas { OnOk result (formulas.new.items ≡ formulas.old.items ++ formula ∷ []) }
-    ensures place { IfOk result (λ place. place ≡ length formulas.old.items) }
+    ensures position { IfOk result (λ position. position ≡ length formulas.old.items) }
 {
-    let place = formulas.len();
-    note(places, formula, place)?;
+    let position = formulas.len();
+    note(positions, formula, position)?;
     formulas.push(formula)?;
-    Ok(place)
+    Ok(position)
 }
 
 impl Chain {
@@ -113,17 +96,17 @@ impl Chain {
     pub fn of(alloc: Global, entries: &[usize], variable: u32) -> Result<Chain, NoMemory>
         ensures formulas { IfOk result (λ chain. chain.formulas ≡ entries.now) }
         ensures variable { IfOk result (λ chain. chain.variable ≡ variable) }
-        ensures places { IfOk result HasPlaces }
+        ensures positions { IfOk result HasPositions }
         ensures chain { IfOk result (λ chain. (ns : List Node) (b : Branch) → AreEntries ns entries.now b → above_all (formulas b) ≤ variable → IsChain ns b chain) }
     {
         let mut formulas = Vec::new(alloc);
-        let mut places = IndexMap::new(alloc);
+        let mut positions = IndexMap::new(alloc);
         for formula in entries {
-            stand(&mut formulas, &mut places, *formula)?;
+            stand(&mut formulas, &mut positions, *formula)?;
         }
         Ok(Chain {
             formulas,
-            places,
+            positions,
             steps: Vec::new(alloc),
             variable,
         })
@@ -137,10 +120,10 @@ impl Chain {
     }
 
     /// The number of the formula at this index. None past the end.
-    pub fn formula(&self, place: usize) -> Option<usize>
-        ensures { result ≡ slice_get self.now.formulas place }
+    pub fn formula(&self, position: usize) -> Option<usize>
+        ensures { result ≡ slice_get self.now.formulas position }
     {
-        match self.formulas.get(place) {
+        match self.formulas.get(position) {
             Some(formula) => Some(*formula),
             None => None,
         }
@@ -154,44 +137,44 @@ impl Chain {
     }
 
     /// An index of the formula with this number; none if the explanation does not have it.
-    pub fn place(&self, formula: usize) -> Option<usize>
-        requires { HasPlaces self.now }
-        ensures { MatchOption result (IsNotAmong self.now.formulas formula) (IsPlaceOf self.now.formulas formula) }
+    pub fn position(&self, formula: usize) -> Option<usize>
+        requires { HasPositions self.now }
+        ensures { MatchOption result (IsNotAmong self.now.formulas formula) (IsPositionOf self.now.formulas formula) }
     {
-        look_up(&self.places, formula)
+        look_up(&self.positions, formula)
     }
 
     // Adds a step and its formula at the end, and returns the index of the formula.
     fn add(&mut self, step: ChainStep, formula: usize) -> Result<usize, NoMemory>
-        requires places { HasPlaces self.old }
-        ensures places { OnOk result (HasPlaces self.new) }
+        requires positions { HasPositions self.old }
+        ensures positions { OnOk result (HasPositions self.new) }
         ensures formulas { OnOk result (self.new.formulas ≡ self.old.formulas ++ formula ∷ []) }
         ensures steps { OnOk result (self.new.steps ≡ self.old.steps ++ step ∷ []) }
         ensures variable { OnOk result (self.new.variable ≡ self.old.variable) }
-        ensures place { IfOk result (λ place. place ≡ length self.old.formulas) }
+        ensures position { IfOk result (λ position. position ≡ length self.old.formulas) }
     {
-        let place = stand(&mut self.formulas, &mut self.places, formula)?;
+        let position = stand(&mut self.formulas, &mut self.positions, formula)?;
         self.steps.push(step)?;
-        Ok(place)
+        Ok(position)
     }
 
     /// Returns an index of the equation of a term with itself, which is added if it is missing.
     pub fn itself(&mut self, pool: &mut Pool, term: usize) -> Result<usize, NoMemory>
         requires term { HasPart pool.old (length pool.old) term TermSort }
-        requires places { HasPlaces self.old }
+        requires positions { HasPositions self.old }
         ensures extends { Extends pool.old pool.new }
-        ensures places { OnOk result (HasPlaces self.new) }
+        ensures positions { OnOk result (HasPositions self.new) }
         ensures keeps { OnOk result (Keeps self.old self.new) }
-        ensures at { IfOk result (λ place. IsAt pool.new self.new place (EqFormula (term_at pool.old term) (term_at pool.old term))) }
+        ensures at { IfOk result (λ position. IsAt pool.new self.new position (EqFormula (term_at pool.old term) (term_at pool.old term))) }
         ensures chain { OnOk result ((b : Branch) → IsChain pool.old b self.old → CanBegin b self.old (term_at pool.old term) → IsChain pool.new b self.new) }
     {
         let formula = pool.insert(Node::Two(Two::Compare(Comparison::Eq), term, term))?;
-        match self.place(formula) {
-            Some(place) => Ok(place),
+        match self.position(formula) {
+            Some(position) => Ok(position),
             None => {
                 pool.one_number();
-                let place = self.add(ChainStep::Itself(formula), formula)?;
-                Ok(place)
+                let position = self.add(ChainStep::Itself(formula), formula)?;
+                Ok(position)
             }
         }
     }
@@ -209,16 +192,16 @@ impl Chain {
         requires from { HasPart pool.old (length pool.old) swap.from TermSort }
         requires to { HasPart pool.old (length pool.old) swap.to TermSort }
         requires swap { CanSwap pool.old self.old way.now swap source }
-        requires places { HasPlaces self.old }
+        requires positions { HasPositions self.old }
         ensures extends { Extends pool.old pool.new }
-        ensures places { OnOk result (HasPlaces self.new) }
+        ensures positions { OnOk result (HasPositions self.new) }
         ensures keeps { OnOk result (Keeps self.old self.new) }
-        ensures at { IfOk result (λ place. IsAt pool.new self.new place (formula_in (filled pool.old way.now (item_at pool.old swap.to)))) }
+        ensures at { IfOk result (λ position. IsAt pool.new self.new position (formula_in (filled pool.old way.now (item_at pool.old swap.to)))) }
         ensures chain { OnOk result ((b : Branch) → IsChain pool.old b self.old → IsChain pool.new b self.new) }
     {
         let formula = fill(pool, way, swap.to)?;
-        match self.place(formula) {
-            Some(place) => Ok(place),
+        match self.position(formula) {
+            Some(position) => Ok(position),
             None => {
                 let variable = pool.insert(Node::Leaf(Leaf::Var(self.variable)))?;
                 let pattern = fill(pool, way, variable)?;
@@ -230,8 +213,8 @@ impl Chain {
                     pattern,
                     formula,
                 };
-                let place = self.add(ChainStep::Rewritten(rewriting), formula)?;
-                Ok(place)
+                let position = self.add(ChainStep::Rewritten(rewriting), formula)?;
+                Ok(position)
             }
         }
     }
@@ -249,11 +232,11 @@ impl Chain {
         requires from { HasPart pool.old (length pool.old) swap.from TermSort }
         requires to { HasPart pool.old (length pool.old) swap.to TermSort }
         requires right { CanPutRight pool.old self.old left swap source }
-        requires places { HasPlaces self.old }
+        requires positions { HasPositions self.old }
         ensures extends { Extends pool.old pool.new }
-        ensures places { OnOk result (HasPlaces self.new) }
+        ensures positions { OnOk result (HasPositions self.new) }
         ensures keeps { OnOk result (Keeps self.old self.new) }
-        ensures at { IfOk result (λ place. IsAt pool.new self.new place (EqFormula (term_at pool.old left) (term_at pool.old swap.to))) }
+        ensures at { IfOk result (λ position. IsAt pool.new self.new position (EqFormula (term_at pool.old left) (term_at pool.old swap.to))) }
         ensures chain { OnOk result ((b : Branch) → IsChain pool.old b self.old → IsChain pool.new b self.new) }
     {
         let right = [Frame::SecondOfTwo(Two::Compare(Comparison::Eq), left)];

@@ -18,11 +18,11 @@ use Rattle.syntax_tree.specs.SpecExpressionData.{SpecExpressionData, SpecBinary,
 use Rattle.syntax_tree.specs.SpecExpressionSpelling.{spec_spelling, spec_spellings, bind_spelling, bind_spellings, triggers_spelling}
 use Rattle.syntax_tree.specs.ProperSpecExpressions.{level, AreSomeBinds, IsProperSpec, IsProperBind, AreProperBinds, IsProperTrigger, AreProperTriggers}
 use Rattle.parser_base.specs.Beginnings.{Begins}
-use Rattle.parser_base.specs.TokenReading.{Read, is_sign, is_keyword, after_sign, after_word, word_place_at, identifier_at}
+use Rattle.parser_base.specs.TokenReading.{Read, is_sign, is_keyword, after_sign, after_word, word_span_at, identifier_at}
 use Rattle.parser_base.specs.ListReading.{some_items_at}
 use Rattle.parser_base.proofs.Steps.{bind_some, map_some, map_or_none, map_or_some, cond_false}
 use Rattle.parser_base.proofs.BeginLemmas.{Begins-split, Begins-first, Begins-same, length-Begins}
-use Rattle.parser_base.proofs.TokenLemmas.{after_sign-complete, after_sign-other, after_word-complete, word_place_at-complete, identifier_at-complete}
+use Rattle.parser_base.proofs.TokenLemmas.{after_sign-complete, after_sign-other, after_word-complete, word_span_at-complete, identifier_at-complete}
 use Rattle.parser_base.proofs.ListLemmas.{some_items_at-complete, items_at-complete}
 use Rattle.parser_base.specs.TypeReading.{type_at}
 use Rattle.parser_base.proofs.TypeLemmas.{TypeEnds, ReadsBackTypes, type_at-complete}
@@ -88,9 +88,9 @@ bind_no_end : (x : BindData) (ts rest : List Token) → Begins (bind_spelling x)
 bind_no_end (TypedBind name t) ts rest b p = binds_end-other (identifier name) (sign Colon ∷ type_spelling t) ts rest refl refl b
 bind_no_end (RangeBind name range) ts rest b p = binds_end-other (identifier name) (word (codes "in") None ∷ spec_spelling range) ts rest refl refl b
 
-quantifier_length : (quantifier : Quantifier) (place : Span) → 0 < length (quantifier_spelling quantifier place)
-quantifier_length ForAll place = omega arith
-quantifier_length Exists place = omega arith
+quantifier_length : (quantifier : Quantifier) (span : Span) → 0 < length (quantifier_spelling quantifier span)
+quantifier_length ForAll span = omega arith
+quantifier_length Exists span = omega arith
 
 -- the word of a quantifier before a bind
 binds_open : (binds : BindsData) (ls : List Lexeme) (ts rest : List Token) → AreProperBinds binds → AreSomeBinds binds → Begins (comma_list (bind_spellings binds) false ++ ls) ts rest → opens_bind ts ≡ true
@@ -188,11 +188,11 @@ module _ (bound : ℕ) (types : List Token → Read SourceTypeData) (types_compl
       ∙ triggers_at-complete more n (before ++ TriggerOf items last ∷ []) s.mid rest (omega (arith, shorter, h)) (omega (arith, shorter, k)) s.back p.1 e
       ∙ ap (λ xs. Some (xs, rest)) (append_assoc before (TriggerOf items last ∷ []) (list_of_triggers more))
 
-  quantified_at-complete : (packs : Bool) (quantifier : Quantifier) (place : Span) (binds : BindsData) (kept : TriggersData) (body : SpecExpressionData) (ts rest : List Token) → length ts ≤ bound
-      → Begins (comma_list (bind_spellings binds) false ++ (triggers_spelling kept ++ sign Colon ∷ spec_spelling body)) ts rest → IsProperSpec (SpecQuantified quantifier place binds kept body) → Allowed packs body → SpecEnds packs rest
-      → quantified_at types inner packs quantifier place ts ≡ Some (SpecQuantified quantifier place binds kept body, rest)
+  quantified_at-complete : (packs : Bool) (quantifier : Quantifier) (span : Span) (binds : BindsData) (kept : TriggersData) (body : SpecExpressionData) (ts rest : List Token) → length ts ≤ bound
+      → Begins (comma_list (bind_spellings binds) false ++ (triggers_spelling kept ++ sign Colon ∷ spec_spelling body)) ts rest → IsProperSpec (SpecQuantified quantifier span binds kept body) → Allowed packs body → SpecEnds packs rest
+      → quantified_at types inner packs quantifier span ts ≡ Some (SpecQuantified quantifier span binds kept body, rest)
   unfolding quantified_at
-  quantified_at-complete packs quantifier place binds kept body ts rest h b p a d =
+  quantified_at-complete packs quantifier span binds kept body ts rest h b p a d =
       let s = Begins-split (comma_list (bind_spellings binds) false) (triggers_spelling kept ++ sign Colon ∷ spec_spelling body) ts rest b in
       let t = Begins-split (triggers_spelling kept) (sign Colon ∷ spec_spelling body) s.mid rest s.back in
       let c = Begins-first (sign Colon) (spec_spelling body) t.mid rest t.back in
@@ -201,9 +201,9 @@ module _ (bound : ℕ) (types : List Token → Read SourceTypeData) (types_compl
       ∙ bind_some (whole_repeat_at has_trigger (trigger_at (inner true 0)) [] s.mid) _ (list_of_triggers kept, t.mid)
       (triggers_at-complete kept (suc (length s.mid)) [] s.mid t.mid behind_binds (omega arith) t.front p.2 (has_trigger-other (sign Colon) (spec_spelling body) t.mid rest refl t.back))
       ∙ bind_some (after_sign Colon t.mid) _ c.mid (after_sign-complete Colon t.mid c.mid c.front)
-      ∙ map_some (inner packs 0 c.mid) (λ body. (SpecQuantified quantifier place (binds_of (list_of_binds binds)) (triggers_of (list_of_triggers kept)) body.0, body.1)) (body, rest)
+      ∙ map_some (inner packs 0 c.mid) (λ body. (SpecQuantified quantifier span (binds_of (list_of_binds binds)) (triggers_of (list_of_triggers kept)) body.0, body.1)) (body, rest)
       (complete.loose packs body c.mid rest (omega (arith, behind_binds, length-Begins (triggers_spelling kept) s.mid t.mid t.front, length-Begins (sign Colon ∷ []) t.mid c.mid c.front)) c.back p.3 a d)
-      ∙ ap (λ xs. Some (SpecQuantified quantifier place xs (triggers_of (list_of_triggers kept)) body, rest)) (listed_binds binds) ∙ ap (λ xs. Some (SpecQuantified quantifier place binds xs body, rest)) (listed_triggers kept)
+      ∙ ap (λ xs. Some (SpecQuantified quantifier span xs (triggers_of (list_of_triggers kept)) body, rest)) (listed_binds binds) ∙ ap (λ xs. Some (SpecQuantified quantifier span binds xs body, rest)) (listed_triggers kept)
 
   -- ---- `if`
 
@@ -217,10 +217,10 @@ module _ (bound : ℕ) (types : List Token → Read SourceTypeData) (types_compl
       (item e o.mid i.mid (omega (arith, h, length-Begins (sign LeftParenthesis ∷ []) ts o.mid o.front)) i.front p (sign_ends true RightParenthesis (refl, refl, λ h. refl, refl, refl, refl, refl) [] i.mid rest i.back))
       ∙ map_some (after_sign RightParenthesis i.mid) (λ rest. (e, rest)) rest (after_sign-complete RightParenthesis i.mid rest i.back)
 
-  if_at-complete : (packs : Bool) (place : Span) (condition chosen other : SpecExpressionData) (ts rest : List Token) → length ts ≤ bound → Begins (behind_if condition chosen other) ts rest
-      → IsProperSpec (SpecIf place condition chosen other) → Allowed packs chosen → Allowed packs other → SpecEnds packs rest → if_at inner packs place ts ≡ Some (SpecIf place condition chosen other, rest)
+  if_at-complete : (packs : Bool) (span : Span) (condition chosen other : SpecExpressionData) (ts rest : List Token) → length ts ≤ bound → Begins (behind_if condition chosen other) ts rest
+      → IsProperSpec (SpecIf span condition chosen other) → Allowed packs chosen → Allowed packs other → SpecEnds packs rest → if_at inner packs span ts ≡ Some (SpecIf span condition chosen other, rest)
   unfolding if_at
-  if_at-complete packs place condition chosen other ts rest h b p a c d =
+  if_at-complete packs span condition chosen other ts rest h b p a c d =
       let s = Begins-split (sign LeftParenthesis ∷ (spec_spelling condition ++ sign RightParenthesis ∷ [])) (spec_spelling chosen ++ word (codes "else") None ∷ spec_spelling other) ts rest
       (Begins-same _ _ ts rest (sym (if_grouped (spec_spelling condition) (spec_spelling chosen) (spec_spelling other))) b) in
       let t = Begins-split (spec_spelling chosen) (word (codes "else") None ∷ spec_spelling other) s.mid rest s.back in
@@ -230,46 +230,46 @@ module _ (bound : ℕ) (types : List Token → Read SourceTypeData) (types_compl
       ∙ bind_some (inner packs 0 s.mid) _ (chosen, t.mid)
       (complete.loose packs chosen s.mid t.mid behind_condition t.front p.1 a (word_ends packs (codes "else") None (spec_spelling other) t.mid rest t.back (else_opens_no_bind (spec_spelling other) t.mid rest t.back)))
       ∙ bind_some (after_word (codes "else") t.mid) _ w.mid (after_word-complete (codes "else") t.mid w.mid w.front)
-      ∙ map_some (inner packs 0 w.mid) (λ other. (SpecIf place condition chosen other.0, other.1)) (other, rest)
+      ∙ map_some (inner packs 0 w.mid) (λ other. (SpecIf span condition chosen other.0, other.1)) (other, rest)
       (complete.loose packs other w.mid rest (omega (arith, behind_condition, length-Begins (spec_spelling chosen) s.mid t.mid t.front, length-Begins (word (codes "else") None ∷ []) t.mid w.mid w.front)) w.back p.2 c d)
 
   -- ---- all forms
 
-  allowed_chosen : (packs : Bool) (place : Span) (c t e : SpecExpressionData) → Allowed packs (SpecIf place c t e) → Allowed packs t × Allowed packs e
-  allowed_chosen true place c t e a = (tt, tt)
-  allowed_chosen false place c t e a = a
+  allowed_chosen : (packs : Bool) (span : Span) (c t e : SpecExpressionData) → Allowed packs (SpecIf span c t e) → Allowed packs t × Allowed packs e
+  allowed_chosen true span c t e a = (tt, tt)
+  allowed_chosen false span c t e a = a
 
   operated : (packs : Bool) (e : SpecExpressionData) (ts rest : List Token) → length ts ≤ suc bound → Begins (spec_spelling e) ts rest → IsProperSpec e → Allowed packs e → 1 ≤ level e → SpecEnds packs rest → loose_at types inner packs ts ≡ Some (e, rest)
   unfolding loose_at
   operated packs e ts rest h b p a l d =
       let n = not_loose e ts rest b p l d.no_bind in
-      map_or_none (quantifier_at ts) _ _ n.no_quantifier ∙ map_or_none (word_place_at (codes "if") ts) _ _ n.no_if
+      map_or_none (quantifier_at ts) _ _ n.no_quantifier ∙ map_or_none (word_span_at (codes "if") ts) _ _ n.no_if
       ∙ operated_at-complete bound types types_complete inner complete packs 0 e ts rest h b p a l (omega arith) (ends_follow packs 0 e rest d)
 
   loose_at-complete : (packs : Bool) (e : SpecExpressionData) (ts rest : List Token) → length ts ≤ suc bound → Begins (spec_spelling e) ts rest → IsProperSpec e → Allowed packs e → SpecEnds packs rest → loose_at types inner packs ts ≡ Some (e, rest)
   unfolding loose_at
-  loose_at-complete packs (SpecQuantified quantifier place binds kept body) ts rest h b p a d =
+  loose_at-complete packs (SpecQuantified quantifier span binds kept body) ts rest h b p a d =
       let behind = triggers_spelling kept ++ sign Colon ∷ spec_spelling body in
-      let q = Begins-split (quantifier_spelling quantifier place) (comma_list (bind_spellings binds) false ++ behind) ts rest
-      (Begins-same _ _ ts rest (three_behind (quantifier_spelling quantifier place) (comma_list (bind_spellings binds) false) (triggers_spelling kept) (sign Colon ∷ spec_spelling body)) b) in
-      map_or_some (quantifier_at ts) (λ q. quantified_at types inner packs q.0.0 q.0.1 q.1) _ ((quantifier, place), q.mid) (quantifier_at-complete quantifier place ts q.mid q.front (binds_open binds behind q.mid rest p.0 p.1 q.back))
-      ∙ quantified_at-complete packs quantifier place binds kept body q.mid rest (omega (arith, h, length-Begins (quantifier_spelling quantifier place) ts q.mid q.front, quantifier_length quantifier place)) q.back p
-      (allowed_base packs (SpecQuantified quantifier place binds kept body) body (λ h. h) a) d
-  loose_at-complete packs (SpecIf place condition chosen other) ts rest h b p a d =
-      let w = Begins-first (word (codes "if") (Some place)) (behind_if condition chosen other) ts rest b in
-      let c = allowed_chosen packs place condition chosen other a in
-      map_or_none (quantifier_at ts) (λ q. quantified_at types inner packs q.0.0 q.0.1 q.1) _ (quantifier_at-other (word (codes "if") (Some place)) (behind_if condition chosen other) ts rest refl refl b)
-      ∙ map_or_some (word_place_at (codes "if") ts) (λ p. if_at inner packs p.0 p.1) _ (place, w.mid) (word_place_at-complete (codes "if") place ts w.mid w.front)
-      ∙ if_at-complete packs place condition chosen other w.mid rest (omega (arith, h, length-Begins (word (codes "if") (Some place) ∷ []) ts w.mid w.front)) w.back p c.0 c.1 d
-  loose_at-complete packs (SpecBinary left operator place right) ts rest h b p a d = operated packs (SpecBinary left operator place right) ts rest h b p a (level_is_some operator).0 d
-  loose_at-complete packs (SpecNot place negated) ts rest h b p a d = operated packs (SpecNot place negated) ts rest h b p a (omega arith) d
+      let q = Begins-split (quantifier_spelling quantifier span) (comma_list (bind_spellings binds) false ++ behind) ts rest
+      (Begins-same _ _ ts rest (three_behind (quantifier_spelling quantifier span) (comma_list (bind_spellings binds) false) (triggers_spelling kept) (sign Colon ∷ spec_spelling body)) b) in
+      map_or_some (quantifier_at ts) (λ q. quantified_at types inner packs q.0.0 q.0.1 q.1) _ ((quantifier, span), q.mid) (quantifier_at-complete quantifier span ts q.mid q.front (binds_open binds behind q.mid rest p.0 p.1 q.back))
+      ∙ quantified_at-complete packs quantifier span binds kept body q.mid rest (omega (arith, h, length-Begins (quantifier_spelling quantifier span) ts q.mid q.front, quantifier_length quantifier span)) q.back p
+      (allowed_base packs (SpecQuantified quantifier span binds kept body) body (λ h. h) a) d
+  loose_at-complete packs (SpecIf span condition chosen other) ts rest h b p a d =
+      let w = Begins-first (word (codes "if") (Some span)) (behind_if condition chosen other) ts rest b in
+      let c = allowed_chosen packs span condition chosen other a in
+      map_or_none (quantifier_at ts) (λ q. quantified_at types inner packs q.0.0 q.0.1 q.1) _ (quantifier_at-other (word (codes "if") (Some span)) (behind_if condition chosen other) ts rest refl refl b)
+      ∙ map_or_some (word_span_at (codes "if") ts) (λ p. if_at inner packs p.0 p.1) _ (span, w.mid) (word_span_at-complete (codes "if") span ts w.mid w.front)
+      ∙ if_at-complete packs span condition chosen other w.mid rest (omega (arith, h, length-Begins (word (codes "if") (Some span) ∷ []) ts w.mid w.front)) w.back p c.0 c.1 d
+  loose_at-complete packs (SpecBinary left operator span right) ts rest h b p a d = operated packs (SpecBinary left operator span right) ts rest h b p a (level_is_some operator).0 d
+  loose_at-complete packs (SpecNot span negated) ts rest h b p a d = operated packs (SpecNot span negated) ts rest h b p a (omega arith) d
   loose_at-complete packs (SpecField base field) ts rest h b p a d = operated packs (SpecField base field) ts rest h b p a (omega arith) d
   loose_at-complete packs (SpecIndex base index) ts rest h b p a d = operated packs (SpecIndex base index) ts rest h b p a (omega arith) d
   loose_at-complete packs (SpecLiteral literal) ts rest h b p a d = operated packs (SpecLiteral literal) ts rest h b p a (omega arith) d
   loose_at-complete packs (SpecPath path) ts rest h b p a d = operated packs (SpecPath path) ts rest h b p a (omega arith) d
   loose_at-complete packs (SpecCall function type_arguments values last) ts rest h b p a d = operated packs (SpecCall function type_arguments values last) ts rest h b p a (omega arith) d
   loose_at-complete packs (SpecPack path type_arguments fields last) ts rest h b p a d = operated packs (SpecPack path type_arguments fields last) ts rest h b p a (omega arith) d
-  loose_at-complete packs (SpecParenthesized place inside) ts rest h b p a d = operated packs (SpecParenthesized place inside) ts rest h b p a (omega arith) d
+  loose_at-complete packs (SpecParenthesized span inside) ts rest h b p a d = operated packs (SpecParenthesized span inside) ts rest h b p a (omega arith) d
 
   tight_form : (packs : Bool) (minimum : ℕ) (e : SpecExpressionData) (ts rest : List Token) → length ts ≤ suc bound → Begins (spec_spelling e) ts rest → IsProperSpec e → Allowed packs e → 1 ≤ minimum → minimum ≤ level e → Follows packs minimum e rest
       → spec_form types inner packs minimum ts ≡ Some (e, rest)

@@ -17,12 +17,12 @@ use Rattle.syntax_tree.specs.SpecExpressionData.{SpecExpressionData, SpecQuantif
 use Rattle.syntax_tree.specs.SpecExpressionSpelling.{spec_spelling, spec_spellings, bind_spelling, bind_spellings, trigger_spelling, triggers_spelling}
 use Rattle.syntax_tree.specs.ProperSpecExpressions.{level, right_level, IsProperSpec, IsProperBind, AreProperBinds, AreSomeBinds, AreProperTriggers}
 use Rattle.parser_base.specs.Beginnings.{Begins}
-use Rattle.parser_base.specs.TokenReading.{Read, after_sign, sign_place_at, after_word, word_place_at, identifier_at}
+use Rattle.parser_base.specs.TokenReading.{Read, after_sign, sign_span_at, after_word, word_span_at, identifier_at}
 use Rattle.parser_base.specs.ListReading.{Items, some_items_at}
 use Rattle.parser_base.specs.ChainReading.{next_operator}
 use Rattle.parser_base.proofs.Steps.{step, last, either, either_read, if_some, if_not}
 use Rattle.parser_base.proofs.BeginLemmas.{Begins-append, Begins-same}
-use Rattle.parser_base.proofs.TokenLemmas.{after_sign-sound, sign_place_at-sound, after_word-sound, word_place_at-sound, identifier_at-sound}
+use Rattle.parser_base.proofs.TokenLemmas.{after_sign-sound, sign_span_at-sound, after_word-sound, word_span_at-sound, identifier_at-sound}
 use Rattle.parser_base.proofs.ListLemmas.{items_at-sound, some_items_at-sound}
 use Rattle.parser_base.proofs.ChainLemmas.{Joined, chain_at-sound}
 use Rattle.parser_base.specs.TypeReading.{type_at}
@@ -68,9 +68,9 @@ if_spelled condition chosen other ts us vs ws rest a b c d =
     (Begins-append (spec_spelling chosen) (word (codes "else") None ∷ spec_spelling other) us vs rest b
     (Begins-append (word (codes "else") None ∷ []) (spec_spelling other) vs ws rest c d)))
 
-allowed_both : (packs : Bool) (place : Span) (c t e : SpecExpressionData) → Allowed packs t → Allowed packs e → Allowed packs (SpecIf place c t e)
-allowed_both true place c t e a b = tt
-allowed_both false place c t e a b = (a, b)
+allowed_both : (packs : Bool) (span : Span) (c t e : SpecExpressionData) → Allowed packs t → Allowed packs e → Allowed packs (SpecIf span c t e)
+allowed_both true span c t e a b = tt
+allowed_both false span c t e a b = (a, b)
 
 module _ (types : List Token → Read SourceTypeData) (types_sound : ReadsTypes types) (inner : Bool → ℕ → Reader) (sound : SoundReader inner) where
   item_sound : ReadsSpecs (inner true 0)
@@ -81,12 +81,12 @@ module _ (types : List Token → Read SourceTypeData) (types_sound : ReadsTypes 
   operand_at-sound : (packs : Bool) (ts : List Token) (r : SpecExpressionData × List Token) → operand_at types inner packs ts ≡ Some r → Found packs unary_level ts r
   unfolding operand_at
   operand_at-sound packs ts r e =
-      elim (either (sign_place_at Exclaim ts) _ _ r e) [
+      elim (either (sign_span_at Exclaim ts) _ _ r e) [
         | inl s ↦
             let x = last (inner packs unary_level s.value.1) (λ e. (SpecNot s.value.0 e.0, e.1)) r s.then in
             let read = sound packs unary_level s.value.1 x.value (omega arith) x.first in
             subst (Found packs unary_level ts) x.then (record {
-              spelled = Begins-append (sign_at s.value.0 Exclaim ∷ []) (spec_spelling x.value.0) ts s.value.1 x.value.1 (sign_place_at-sound Exclaim ts s.value s.first) read.spelled;
+              spelled = Begins-append (sign_at s.value.0 Exclaim ∷ []) (spec_spelling x.value.0) ts s.value.1 x.value.1 (sign_span_at-sound Exclaim ts s.value s.first) read.spelled;
               is_proper = (read.is_proper, (read.above (omega arith)).0);
               allows = allowed_base packs x.value.0 (SpecNot s.value.0 x.value.0) (λ h. h) read.allows;
               high = omega arith;
@@ -179,10 +179,10 @@ module _ (types : List Token → Read SourceTypeData) (types_sound : ReadsTypes 
         proper_trigger_behind before one p.1 (proper_specs l.value.0.0 s.0.all_proper, some_specs l.value.0.0 s.1),
       )
 
-  quantified_at-sound : (packs : Bool) (quantifier : Quantifier) (place : Span) (whole ts : List Token) (r : SpecExpressionData × List Token) → Begins (quantifier_spelling quantifier place) whole ts
-      → quantified_at types inner packs quantifier place ts ≡ Some r → ReadSpec packs 0 whole r
+  quantified_at-sound : (packs : Bool) (quantifier : Quantifier) (span : Span) (whole ts : List Token) (r : SpecExpressionData × List Token) → Begins (quantifier_spelling quantifier span) whole ts
+      → quantified_at types inner packs quantifier span ts ≡ Some r → ReadSpec packs 0 whole r
   unfolding quantified_at
-  quantified_at-sound packs quantifier place whole ts r front e =
+  quantified_at-sound packs quantifier span whole ts r front e =
       let b = step (binds_at types (inner false 0) ts) _ r e in
       let t = step (whole_repeat_at has_trigger (trigger_at (inner true 0)) [] b.value.1) _ r b.then in
       let c = step (after_sign Colon t.value.1) _ r t.then in
@@ -192,13 +192,13 @@ module _ (types : List Token → Read SourceTypeData) (types_sound : ReadsTypes 
       let body = sound packs 0 c.value x.value (omega arith) x.first in
       subst (ReadSpec packs 0 whole) x.then (record {
         spelled = Begins-same _ _ whole x.value.1
-            (sym (three_behind (quantifier_spelling quantifier place) (comma_list (bind_spellings (binds_of b.value.0)) false) (triggers_spelling (triggers_of t.value.0)) (sign Colon ∷ spec_spelling x.value.0)))
-            (Begins-append (quantifier_spelling quantifier place) _ whole ts x.value.1 front
+            (sym (three_behind (quantifier_spelling quantifier span) (comma_list (bind_spellings (binds_of b.value.0)) false) (triggers_spelling (triggers_of t.value.0)) (sign Colon ∷ spec_spelling x.value.0)))
+            (Begins-append (quantifier_spelling quantifier span) _ whole ts x.value.1 front
             (Begins-append (comma_list (bind_spellings (binds_of b.value.0)) false) _ ts b.value.1 x.value.1 binds.spelled
             (Begins-append (triggers_spelling (triggers_of t.value.0)) _ b.value.1 t.value.1 x.value.1 triggers.0
             (Begins-append (sign Colon ∷ []) (spec_spelling x.value.0) t.value.1 c.value x.value.1 (after_sign-sound Colon t.value.1 c.value c.first) body.spelled))));
         is_proper = (binds.all_proper, binds.some, triggers.1, body.is_proper);
-        allows = allowed_base packs x.value.0 (SpecQuantified quantifier place (binds_of b.value.0) (triggers_of t.value.0) x.value.0) (λ h. h) body.allows;
+        allows = allowed_base packs x.value.0 (SpecQuantified quantifier span (binds_of b.value.0) (triggers_of t.value.0) x.value.0) (λ h. h) body.allows;
         above = λ h. absurd (omega (arith, h));
       })
 
@@ -217,9 +217,9 @@ module _ (types : List Token → Read SourceTypeData) (types_sound : ReadsTypes 
         read.1,
       )
 
-  if_at-sound : (packs : Bool) (place : Span) (whole ts : List Token) (r : SpecExpressionData × List Token) → Begins (word (codes "if") (Some place) ∷ []) whole ts → if_at inner packs place ts ≡ Some r → ReadSpec packs 0 whole r
+  if_at-sound : (packs : Bool) (span : Span) (whole ts : List Token) (r : SpecExpressionData × List Token) → Begins (word (codes "if") (Some span) ∷ []) whole ts → if_at inner packs span ts ≡ Some r → ReadSpec packs 0 whole r
   unfolding if_at
-  if_at-sound packs place whole ts r front e =
+  if_at-sound packs span whole ts r front e =
       let c = step (condition_at (inner true 0) ts) _ r e in
       let t = step (inner packs 0 c.value.1) _ r c.then in
       let w = step (after_word (codes "else") t.value.1) _ r t.then in
@@ -228,10 +228,10 @@ module _ (types : List Token → Read SourceTypeData) (types_sound : ReadsTypes 
       let chosen = sound packs 0 c.value.1 t.value (omega arith) t.first in
       let other = sound packs 0 w.value x.value (omega arith) x.first in
       subst (ReadSpec packs 0 whole) x.then (record {
-        spelled = Begins-append (word (codes "if") (Some place) ∷ []) (behind_if c.value.0 t.value.0 x.value.0) whole ts x.value.1 front
+        spelled = Begins-append (word (codes "if") (Some span) ∷ []) (behind_if c.value.0 t.value.0 x.value.0) whole ts x.value.1 front
             (if_spelled c.value.0 t.value.0 x.value.0 ts c.value.1 t.value.1 w.value x.value.1 condition.0 chosen.spelled (after_word-sound (codes "else") t.value.1 w.value w.first) other.spelled);
         is_proper = (condition.1, chosen.is_proper, other.is_proper);
-        allows = allowed_both packs place c.value.0 t.value.0 x.value.0 chosen.allows other.allows;
+        allows = allowed_both packs span c.value.0 t.value.0 x.value.0 chosen.allows other.allows;
         above = λ h. absurd (omega (arith, h));
       })
 
@@ -242,8 +242,8 @@ module _ (types : List Token → Read SourceTypeData) (types_sound : ReadsTypes 
   loose_at-sound packs ts r e =
       elim (either (quantifier_at ts) _ _ r e) [
         | inl s ↦ quantified_at-sound packs s.value.0.0 s.value.0.1 ts s.value.1 r (quantifier_at-sound ts s.value s.first) s.then
-        | inr n ↦ elim (either (word_place_at (codes "if") ts) _ _ r n.1) [
-          | inl s ↦ if_at-sound packs s.value.0 ts s.value.1 r (word_place_at-sound (codes "if") ts s.value s.first) s.then
+        | inr n ↦ elim (either (word_span_at (codes "if") ts) _ _ r n.1) [
+          | inl s ↦ if_at-sound packs s.value.0 ts s.value.1 r (word_span_at-sound (codes "if") ts s.value s.first) s.then
           | inr m ↦ operated_at-sound packs 0 ts r (omega arith) m.1
         ]
       ]

@@ -40,8 +40,8 @@ allowed_right false l o r a = a.1
 abbrev pub Proper : Bool → SpecExpressionData → Type 0
 Proper packs e = IsProperSpec e × Allowed packs e
 
-pub operator_length : (o : SpecOperator) (place : Span) (after_path : Bool) → 0 < length (spec_operator_spelling o place after_path)
-operator_length o place after_path = subst (λ ls. 0 < length ls) (sym (operator_spelled o place after_path)) (omega arith)
+pub operator_length : (o : SpecOperator) (span : Span) (after_path : Bool) → 0 < length (spec_operator_spelling o span after_path)
+operator_length o span after_path = subst (λ ls. 0 < length ls) (sym (operator_spelled o span after_path)) (omega arith)
 
 -- no spec expression begins with a glued `>`
 abbrev pub Opens : List Token → Type 0

@@ -29,11 +29,11 @@ use Rattle.syntax_tree.specs.ExpressionData.{ExpressionData, BinaryExpression, A
 use Rattle.syntax_tree.specs.ExpressionSpelling.{expression_spellings, field_value_spellings, expression_spelling, ends_in_path, annotation_spelling, maybe_expression_spelling, items_spelling, item_spelling, initial_spelling}
 use Rattle.syntax_tree.specs.ProperExpressions.{Role, elsewhere, operator_level, right_level, level, unary_level, term_level, takes_else, MayHoldSpec, IsProperAs, IsProperExpression, IsProperMaybe, IsProperItem, AreProperItems}
 use Rattle.parser_base.specs.Beginnings.{Begins}
-use Rattle.parser_base.specs.TokenReading.{is_sign, is_word, is_keyword, after_sign, after_word, sign_place_at, word_place_at}
+use Rattle.parser_base.specs.TokenReading.{is_sign, is_word, is_keyword, after_sign, after_word, sign_span_at, word_span_at}
 use Rattle.parser_base.specs.ChainReading.{next_operator}
 use Rattle.parser_base.proofs.Steps.{map_or_none, true_or_false}
 use Rattle.parser_base.proofs.TokenLemmas.{after_sign-other}
-use Rattle.parser_base.proofs.FirstLemmas.{First, First-append, First-weaker, sign_place_at-first, after_word-first, word_place_at-first}
+use Rattle.parser_base.proofs.FirstLemmas.{First, First-append, First-weaker, sign_span_at-first, after_word-first, word_span_at-first}
 use Rattle.parser_base.proofs.ChainLemmas.{Spine, operand, joined, first_of, Behind, next_above, next_same}
 use Rattle.parser_base.specs.declared.leaf.Control.{Control}
 use Rattle.parser_base.specs.declared.leaf.Control.TheVariants.{If, While, Loop, Return, Abort, Break, Continue}
@@ -97,7 +97,7 @@ apart_first [] f = absurd f
 apart_first (l ∷ ls) f = inl f
 
 pub apart_no_spec : (ls : List Lexeme) (ts rest : List Token) → Apart ls → Begins ls ts rest → spec_opening_at ts ≡ None
-unfolding spec_opening_at sign_place_at
+unfolding spec_opening_at sign_span_at
 apart_no_spec [] ts rest a b = absurd a
 apart_no_spec (l ∷ ls) [] rest a b = absurd b
 apart_no_spec (l ∷ ls) (t ∷ ts) rest (inl a) b = spec_opening_at-other l ls (t ∷ ts) rest a b
@@ -109,7 +109,7 @@ apart_no_spec (l ∷ ls) (t ∷ ts) rest (inr f) b = go (is_sign LeftBrace t.kin
 
 pub item_first : (i : ItemData) → IsProperItem i → First (λ k. is_word (codes "spec") k ≡ false) (item_spelling i)
 item_first (ExpressionItem e) p = First-append (λ k. is_word (codes "spec") k ≡ false) (expression_spelling e) (sign Semicolon ∷ []) (no_word_first (codes "spec") spec_begins_none elsewhere e p)
-item_first (LetItem place pattern annotation value) p = refl
+item_first (LetItem span pattern annotation value) p = refl
 
 pub inside_first : (items : ItemsData) (value : MaybeExpressionData) → AreProperItems items → IsProperMaybe value → First (λ k. is_word (codes "spec") k ≡ false) (items_spelling items ++ (maybe_expression_spelling value ++ sign RightBrace ∷ []))
 inside_first NoItems NoExpression p q = refl
@@ -126,22 +126,22 @@ pub path_apart : (path : Path) → IsProperPath path → First (λ k. is_sign Le
 path_apart path p = path_first (λ k. is_sign LeftBrace k ≡ false) path (λ literal. refl) (λ w n. refl) p
 
 pub expression_apart : (e : ExpressionData) → IsProperExpression e → Apart (expression_spelling e)
-expression_apart (BinaryExpression l o place r) p = Apart-append (expression_spelling l ++ operator_spelling o place (ends_in_path l)) (expression_spelling r) (Apart-append (expression_spelling l) (operator_spelling o place (ends_in_path l)) (expression_apart l p.0))
-expression_apart (AssignExpression target place value) p = Apart-append (expression_spelling target) (sign_at place Equal ∷ expression_spelling value) (expression_apart target p.0)
+expression_apart (BinaryExpression l o span r) p = Apart-append (expression_spelling l ++ operator_spelling o span (ends_in_path l)) (expression_spelling r) (Apart-append (expression_spelling l) (operator_spelling o span (ends_in_path l)) (expression_apart l p.0))
+expression_apart (AssignExpression target span value) p = Apart-append (expression_spelling target) (sign_at span Equal ∷ expression_spelling value) (expression_apart target p.0)
 expression_apart (FieldExpression base field) p = Apart-append (expression_spelling base) (sign Period ∷ identifier field ∷ []) (expression_apart base p.0)
-expression_apart (BlockExpression (BlockOf place None items value)) p =
-    subst Apart (sym (block_spelled (sign_at place LeftBrace) (items_spelling items) (maybe_expression_spelling value) (sign RightBrace ∷ []))) (inr (inside_first items value p.1 p.2))
-expression_apart (BlockExpression (BlockOf place (Some spec) items value)) p = absurd p.0
-expression_apart (UnaryExpression Not place e) p = inl refl
-expression_apart (UnaryExpression Dereference place e) p = inl refl
-expression_apart (UnaryExpression Borrow place e) p = inl refl
-expression_apart (UnaryExpression BorrowMutable place e) p = inl refl
-expression_apart (UseExpression Move place local) p = inl refl
-expression_apart (UseExpression Copy place local) p = inl refl
+expression_apart (BlockExpression (BlockOf span None items value)) p =
+    subst Apart (sym (block_spelled (sign_at span LeftBrace) (items_spelling items) (maybe_expression_spelling value) (sign RightBrace ∷ []))) (inr (inside_first items value p.1 p.2))
+expression_apart (BlockExpression (BlockOf span (Some spec) items value)) p = absurd p.0
+expression_apart (UnaryExpression Not span e) p = inl refl
+expression_apart (UnaryExpression Dereference span e) p = inl refl
+expression_apart (UnaryExpression Borrow span e) p = inl refl
+expression_apart (UnaryExpression BorrowMutable span e) p = inl refl
+expression_apart (UseExpression Move span local) p = inl refl
+expression_apart (UseExpression Copy span local) p = inl refl
 expression_apart (LiteralExpression (number_literal n)) p = inl refl
-expression_apart (LiteralExpression (truth_literal place true)) p = inl refl
-expression_apart (LiteralExpression (truth_literal place false)) p = inl refl
-expression_apart (LiteralExpression (address_literal place a)) p = inl refl
+expression_apart (LiteralExpression (truth_literal span true)) p = inl refl
+expression_apart (LiteralExpression (truth_literal span false)) p = inl refl
+expression_apart (LiteralExpression (address_literal span a)) p = inl refl
 expression_apart (PathExpression path) p = apart_first (path_spelling path) (path_apart path p)
 expression_apart (CallExpression path given values last) p =
     Apart-append ((path_spelling path ++ maybe_arguments_spelling (Some true) given) ++ sign LeftParenthesis ∷ comma_list (expression_spellings values) last) (sign RightParenthesis ∷ [])
@@ -172,7 +172,7 @@ listed_items (MoreItems x xs) = ap (MoreItems x) (listed_items xs)
 
 pub item_some : (i : ItemData) → 0 < length (item_spelling i)
 item_some (ExpressionItem e) = omega (arith, length-append (expression_spelling e) (sign Semicolon ∷ []))
-item_some (LetItem place pattern a v) = omega (arith, length-append ((word (codes "let") (Some place) ∷ pattern_spelling pattern ++ annotation_spelling a) ++ initial_spelling v) (sign Semicolon ∷ []))
+item_some (LetItem span pattern a v) = omega (arith, length-append ((word (codes "let") (Some span) ∷ pattern_spelling pattern ++ annotation_spelling a) ++ initial_spelling v) (sign Semicolon ∷ []))
 
 -- what follows the pattern of a `let`, and its type
 pub behind_annotation : (s : Sign) (v : MaybeExpressionData) (ts rest : List Token) → is_sign s (Punctuation Equal) ≡ false → is_sign s (Punctuation Semicolon) ≡ false → Begins (initial_spelling v ++ sign Semicolon ∷ []) ts rest → after_sign s ts ≡ None
@@ -187,13 +187,13 @@ behind_pattern s (Some t) v ts rest c e g b = after_sign-other s (sign Colon) (t
 -- ---- kinds of expressions
 
 abbrev pub IsControl : ExpressionData → Type 0
-IsControl (IfExpression place x y z) = Unit {0}
-IsControl (WhileExpression place x y) = Unit {0}
-IsControl (LoopExpression place x) = Unit {0}
-IsControl (ReturnExpression place x) = Unit {0}
-IsControl (AbortExpression place x) = Unit {0}
-IsControl (BreakExpression place) = Unit {0}
-IsControl (ContinueExpression place) = Unit {0}
+IsControl (IfExpression span x y z) = Unit {0}
+IsControl (WhileExpression span x y) = Unit {0}
+IsControl (LoopExpression span x) = Unit {0}
+IsControl (ReturnExpression span x) = Unit {0}
+IsControl (AbortExpression span x) = Unit {0}
+IsControl (BreakExpression span) = Unit {0}
+IsControl (ContinueExpression span) = Unit {0}
 IsControl _ = ⊥
 
 abbrev pub IsPlainTerm : ExpressionData → Type 0
@@ -201,10 +201,10 @@ IsPlainTerm (LiteralExpression l) = Unit {0}
 IsPlainTerm (PathExpression path) = Unit {0}
 IsPlainTerm (CallExpression path given values last) = Unit {0}
 IsPlainTerm (PackExpression path given fields last) = Unit {0}
-IsPlainTerm (VectorExpression place given items last) = Unit {0}
-IsPlainTerm (AssertExpression place x y) = Unit {0}
-IsPlainTerm (TupleExpression place items last) = Unit {0}
-IsPlainTerm (CastExpression place x t) = Unit {0}
+IsPlainTerm (VectorExpression span given items last) = Unit {0}
+IsPlainTerm (AssertExpression span x y) = Unit {0}
+IsPlainTerm (TupleExpression span items last) = Unit {0}
+IsPlainTerm (CastExpression span x t) = Unit {0}
 IsPlainTerm (BlockExpression b) = Unit {0}
 IsPlainTerm _ = ⊥
 
@@ -222,41 +222,41 @@ ends_at_period e ts rest b = record {
   vector = λ h. after_sign-other Less (sign Period) [] ts rest refl b;
 }
 
-pub term_no_place : (s : Sign) → begins_term (Punctuation s) ≡ false → (e : ExpressionData) (ts rest : List Token) → Begins (expression_spelling e) ts rest → IsProperExpression e → term_level ≤ level e → sign_place_at s ts ≡ None
-term_no_place s h e ts rest b p k = sign_place_at-first s (expression_spelling e) ts rest (First-weaker BeginsTerm (λ k. is_sign s k ≡ false) (term_no_sign s h) (expression_spelling e) (term_first e k p)) b
+pub term_no_span : (s : Sign) → begins_term (Punctuation s) ≡ false → (e : ExpressionData) (ts rest : List Token) → Begins (expression_spelling e) ts rest → IsProperExpression e → term_level ≤ level e → sign_span_at s ts ≡ None
+term_no_span s h e ts rest b p k = sign_span_at-first s (expression_spelling e) ts rest (First-weaker BeginsTerm (λ k. is_sign s k ≡ false) (term_no_sign s h) (expression_spelling e) (term_first e k p)) b
 
-pub unary_some : (o : UnaryOperator) (place : Span) → 0 < length (unary_spelling o place)
-unary_some Not place = omega arith
-unary_some Dereference place = omega arith
-unary_some Borrow place = omega arith
-unary_some BorrowMutable place = omega arith
+pub unary_some : (o : UnaryOperator) (span : Span) → 0 < length (unary_spelling o span)
+unary_some Not span = omega arith
+unary_some Dereference span = omega arith
+unary_some Borrow span = omega arith
+unary_some BorrowMutable span = omega arith
 
-pub use_no_prefix : (u : UseKind) (place : Span) (ts rest : List Token) → Begins (use_spelling u place) ts rest → prefix_at ts ≡ None
-use_no_prefix Move place ts rest b = prefix_at-other (word (codes "move") (Some place)) [] ts rest refl refl refl b
-use_no_prefix Copy place ts rest b = prefix_at-other (word (codes "copy") (Some place)) [] ts rest refl refl refl b
+pub use_no_prefix : (u : UseKind) (span : Span) (ts rest : List Token) → Begins (use_spelling u span) ts rest → prefix_at ts ≡ None
+use_no_prefix Move span ts rest b = prefix_at-other (word (codes "move") (Some span)) [] ts rest refl refl refl b
+use_no_prefix Copy span ts rest b = prefix_at-other (word (codes "copy") (Some span)) [] ts rest refl refl refl b
 
-pub prefix_none : (ts : List Token) → sign_place_at Exclaim ts ≡ None → sign_place_at Star ts ≡ None → sign_place_at Ampersand ts ≡ None → prefix_at ts ≡ None
+pub prefix_none : (ts : List Token) → sign_span_at Exclaim ts ≡ None → sign_span_at Star ts ≡ None → sign_span_at Ampersand ts ≡ None → prefix_at ts ≡ None
 unfolding prefix_at
-prefix_none ts a b c = map_or_none (sign_place_at Exclaim ts) _ _ a ∙ map_or_none (sign_place_at Star ts) _ _ b ∙ ap (option_and_then (λ p. borrow_behind p.0 p.1)) c
+prefix_none ts a b c = map_or_none (sign_span_at Exclaim ts) _ _ a ∙ map_or_none (sign_span_at Star ts) _ _ b ∙ ap (option_and_then (λ p. borrow_behind p.0 p.1)) c
 
-pub use_none : (ts : List Token) → word_place_at (codes "move") ts ≡ None → word_place_at (codes "copy") ts ≡ None → use_at ts ≡ None
+pub use_none : (ts : List Token) → word_span_at (codes "move") ts ≡ None → word_span_at (codes "copy") ts ≡ None → use_at ts ≡ None
 unfolding use_at
-use_none ts a b = map_or_none (word_place_at (codes "move") ts) _ _ a ∙ ap (option_map (λ p. ((Copy, p.0), p.1))) b
+use_none ts a b = map_or_none (word_span_at (codes "move") ts) _ _ a ∙ ap (option_map (λ p. ((Copy, p.0), p.1))) b
 
-pub ends_at_equal : (e : ExpressionData) (place : Span) (ts rest : List Token) → Begins (sign_at place Equal ∷ []) ts rest → OperandEnds e ts
-ends_at_equal e place ts rest b = record {
+pub ends_at_equal : (e : ExpressionData) (span : Span) (ts rest : List Token) → Begins (sign_at span Equal ∷ []) ts rest → OperandEnds e ts
+ends_at_equal e span ts rest b = record {
   term = record {
     quiet = record {
-      colons = after_sign-other ColonColon (sign_at place Equal) [] ts rest refl b;
-      parenthesis = after_sign-other LeftParenthesis (sign_at place Equal) [] ts rest refl b;
-      brace = after_sign-other LeftBrace (sign_at place Equal) [] ts rest refl b;
-      bracket = after_sign-other LeftBracket (sign_at place Equal) [] ts rest refl b;
-      exclaim = after_sign-other Exclaim (sign_at place Equal) [] ts rest refl b;
+      colons = after_sign-other ColonColon (sign_at span Equal) [] ts rest refl b;
+      parenthesis = after_sign-other LeftParenthesis (sign_at span Equal) [] ts rest refl b;
+      brace = after_sign-other LeftBrace (sign_at span Equal) [] ts rest refl b;
+      bracket = after_sign-other LeftBracket (sign_at span Equal) [] ts rest refl b;
+      exclaim = after_sign-other Exclaim (sign_at span Equal) [] ts rest refl b;
     };
-    glue = λ h. after_glued-other Less (sign_at place Equal) [] ts rest refl b;
-    vector = λ h. after_sign-other Less (sign_at place Equal) [] ts rest refl b;
+    glue = λ h. after_glued-other Less (sign_at span Equal) [] ts rest refl b;
+    vector = λ h. after_sign-other Less (sign_at span Equal) [] ts rest refl b;
   };
-  period = after_sign-other Period (sign_at place Equal) [] ts rest refl b;
+  period = after_sign-other Period (sign_at span Equal) [] ts rest refl b;
 }
 
 -- ---- operands are not control forms
@@ -286,44 +286,44 @@ control_at-first [] ts rest f b = absurd f
 control_at-first (l ∷ ls) ts rest f b = control_at-other l ls ts rest f b
 
 pub operand_first : (e : ExpressionData) → unary_level ≤ level e → IsProperExpression e → First NoControl (expression_spelling e)
-operand_first (UnaryExpression Not place x) h p = refl
-operand_first (UnaryExpression Dereference place x) h p = refl
-operand_first (UnaryExpression Borrow place x) h p = refl
-operand_first (UnaryExpression BorrowMutable place x) h p = refl
-operand_first (UseExpression Move place local) h p = refl
-operand_first (UseExpression Copy place local) h p = refl
-operand_first (BinaryExpression l o place r) h p = absurd (omega (arith, h, level_small o))
-operand_first (AssignExpression target place value) h p = absurd (omega (arith, h))
-operand_first (IfExpression place x y z) h p = absurd (omega (arith, h))
-operand_first (WhileExpression place x y) h p = absurd (omega (arith, h))
-operand_first (LoopExpression place x) h p = absurd (omega (arith, h))
-operand_first (ReturnExpression place x) h p = absurd (omega (arith, h))
-operand_first (AbortExpression place x) h p = absurd (omega (arith, h))
-operand_first (BreakExpression place) h p = absurd (omega (arith, h))
-operand_first (ContinueExpression place) h p = absurd (omega (arith, h))
+operand_first (UnaryExpression Not span x) h p = refl
+operand_first (UnaryExpression Dereference span x) h p = refl
+operand_first (UnaryExpression Borrow span x) h p = refl
+operand_first (UnaryExpression BorrowMutable span x) h p = refl
+operand_first (UseExpression Move span local) h p = refl
+operand_first (UseExpression Copy span local) h p = refl
+operand_first (BinaryExpression l o span r) h p = absurd (omega (arith, h, level_small o))
+operand_first (AssignExpression target span value) h p = absurd (omega (arith, h))
+operand_first (IfExpression span x y z) h p = absurd (omega (arith, h))
+operand_first (WhileExpression span x y) h p = absurd (omega (arith, h))
+operand_first (LoopExpression span x) h p = absurd (omega (arith, h))
+operand_first (ReturnExpression span x) h p = absurd (omega (arith, h))
+operand_first (AbortExpression span x) h p = absurd (omega (arith, h))
+operand_first (BreakExpression span) h p = absurd (omega (arith, h))
+operand_first (ContinueExpression span) h p = absurd (omega (arith, h))
 operand_first (FieldExpression base field) h p = First-weaker BeginsTerm NoControl term_no_control (expression_spelling (FieldExpression base field)) (term_first (FieldExpression base field) (omega arith) p)
 operand_first (LiteralExpression l) h p = First-weaker BeginsTerm NoControl term_no_control (expression_spelling (LiteralExpression l)) (term_first (LiteralExpression l) (omega arith) p)
 operand_first (PathExpression path) h p = First-weaker BeginsTerm NoControl term_no_control (expression_spelling (PathExpression path)) (term_first (PathExpression path) (omega arith) p)
 operand_first (CallExpression path given values last) h p = First-weaker BeginsTerm NoControl term_no_control (expression_spelling (CallExpression path given values last)) (term_first (CallExpression path given values last) (omega arith) p)
 operand_first (PackExpression path given fields last) h p = First-weaker BeginsTerm NoControl term_no_control (expression_spelling (PackExpression path given fields last)) (term_first (PackExpression path given fields last) (omega arith) p)
-operand_first (VectorExpression place given items last) h p = First-weaker BeginsTerm NoControl term_no_control (expression_spelling (VectorExpression place given items last)) (term_first (VectorExpression place given items last) (omega arith) p)
-operand_first (AssertExpression place x y) h p = First-weaker BeginsTerm NoControl term_no_control (expression_spelling (AssertExpression place x y)) (term_first (AssertExpression place x y) (omega arith) p)
-operand_first (TupleExpression place items last) h p = First-weaker BeginsTerm NoControl term_no_control (expression_spelling (TupleExpression place items last)) (term_first (TupleExpression place items last) (omega arith) p)
-operand_first (CastExpression place x t) h p = First-weaker BeginsTerm NoControl term_no_control (expression_spelling (CastExpression place x t)) (term_first (CastExpression place x t) (omega arith) p)
+operand_first (VectorExpression span given items last) h p = First-weaker BeginsTerm NoControl term_no_control (expression_spelling (VectorExpression span given items last)) (term_first (VectorExpression span given items last) (omega arith) p)
+operand_first (AssertExpression span x y) h p = First-weaker BeginsTerm NoControl term_no_control (expression_spelling (AssertExpression span x y)) (term_first (AssertExpression span x y) (omega arith) p)
+operand_first (TupleExpression span items last) h p = First-weaker BeginsTerm NoControl term_no_control (expression_spelling (TupleExpression span items last)) (term_first (TupleExpression span items last) (omega arith) p)
+operand_first (CastExpression span x t) h p = First-weaker BeginsTerm NoControl term_no_control (expression_spelling (CastExpression span x t)) (term_first (CastExpression span x t) (omega arith) p)
 operand_first (BlockExpression x) h p = First-weaker BeginsTerm NoControl term_no_control (expression_spelling (BlockExpression x)) (term_first (BlockExpression x) (omega arith) p)
 
 -- ---- the two kinds of bodies of a loop
 
 pub record SpecBlock (e : ExpressionData) : Type 0 where
-  pub place : Span
+  pub span : Span
   pub spec : KeptSpec
   pub items : ItemsData
   pub value : MaybeExpressionData
-  pub is : e ≡ BlockExpression (BlockOf place (Some spec) items value)
+  pub is : e ≡ BlockExpression (BlockOf span (Some spec) items value)
 
 pub kind_of_body : (role : Role) (e : ExpressionData) → IsProperAs role e → IsProperExpression e ⊎ SpecBlock e
-kind_of_body role (BlockExpression (BlockOf place None items value)) p = inl p
-kind_of_body role (BlockExpression (BlockOf place (Some spec) items value)) p = inr (record { place = place; spec = spec; items = items; value = value; is = refl })
+kind_of_body role (BlockExpression (BlockOf span None items value)) p = inl p
+kind_of_body role (BlockExpression (BlockOf span (Some spec) items value)) p = inr (record { span = span; spec = spec; items = items; value = value; is = refl })
 kind_of_body role _ p = inl p
 
 pub held_spec : (valued : Bool) (spec : KeptSpec) (v : MaybeExpressionData) → MayHoldSpec (role_of valued) (Some spec) v → IsLoopSpec spec × ((valued && cond (is_some (option_of v)) false true) ≡ false)
@@ -338,27 +338,27 @@ pub record Decomposed (e : ExpressionData) : Type 0 where
   pub high : unary_level ≤ level (first_of joints expression_rules spine)
 
 pub decompose : (e : ExpressionData) → IsProperExpression e → 1 ≤ level e → Decomposed e
-decompose (BinaryExpression l o place r) p h =
-    let d = decompose l p.0 (omega (arith, p.2, level_some o)) in record { spine = joined l d.spine (o, place) r; high = d.high }
-decompose (AssignExpression target place value) p h = absurd (omega (arith, h))
-decompose (IfExpression place x y z) p h = absurd (omega (arith, h))
-decompose (WhileExpression place x y) p h = absurd (omega (arith, h))
-decompose (LoopExpression place x) p h = absurd (omega (arith, h))
-decompose (ReturnExpression place x) p h = absurd (omega (arith, h))
-decompose (AbortExpression place x) p h = absurd (omega (arith, h))
-decompose (BreakExpression place) p h = absurd (omega (arith, h))
-decompose (ContinueExpression place) p h = absurd (omega (arith, h))
-decompose (UnaryExpression o place x) p h = record { spine = operand (UnaryExpression o place x); high = omega arith }
-decompose (UseExpression k place local) p h = record { spine = operand (UseExpression k place local); high = omega arith }
+decompose (BinaryExpression l o span r) p h =
+    let d = decompose l p.0 (omega (arith, p.2, level_some o)) in record { spine = joined l d.spine (o, span) r; high = d.high }
+decompose (AssignExpression target span value) p h = absurd (omega (arith, h))
+decompose (IfExpression span x y z) p h = absurd (omega (arith, h))
+decompose (WhileExpression span x y) p h = absurd (omega (arith, h))
+decompose (LoopExpression span x) p h = absurd (omega (arith, h))
+decompose (ReturnExpression span x) p h = absurd (omega (arith, h))
+decompose (AbortExpression span x) p h = absurd (omega (arith, h))
+decompose (BreakExpression span) p h = absurd (omega (arith, h))
+decompose (ContinueExpression span) p h = absurd (omega (arith, h))
+decompose (UnaryExpression o span x) p h = record { spine = operand (UnaryExpression o span x); high = omega arith }
+decompose (UseExpression k span local) p h = record { spine = operand (UseExpression k span local); high = omega arith }
 decompose (FieldExpression base field) p h = record { spine = operand (FieldExpression base field); high = omega arith }
 decompose (LiteralExpression l) p h = record { spine = operand (LiteralExpression l); high = omega arith }
 decompose (PathExpression path) p h = record { spine = operand (PathExpression path); high = omega arith }
 decompose (CallExpression path given values last) p h = record { spine = operand (CallExpression path given values last); high = omega arith }
 decompose (PackExpression path given fields last) p h = record { spine = operand (PackExpression path given fields last); high = omega arith }
-decompose (VectorExpression place given items last) p h = record { spine = operand (VectorExpression place given items last); high = omega arith }
-decompose (AssertExpression place x y) p h = record { spine = operand (AssertExpression place x y); high = omega arith }
-decompose (TupleExpression place items last) p h = record { spine = operand (TupleExpression place items last); high = omega arith }
-decompose (CastExpression place x t) p h = record { spine = operand (CastExpression place x t); high = omega arith }
+decompose (VectorExpression span given items last) p h = record { spine = operand (VectorExpression span given items last); high = omega arith }
+decompose (AssertExpression span x y) p h = record { spine = operand (AssertExpression span x y); high = omega arith }
+decompose (TupleExpression span items last) p h = record { spine = operand (TupleExpression span items last); high = omega arith }
+decompose (CastExpression span x t) p h = record { spine = operand (CastExpression span x t); high = omega arith }
 decompose (BlockExpression b) p h = record { spine = operand (BlockExpression b); high = omega arith }
 
 -- an operand ends where the whole ends, or before an operator

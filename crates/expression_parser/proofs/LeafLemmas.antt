@@ -29,10 +29,10 @@ use Rattle.syntax_tree.specs.declared.spec_expression.operator.Quantifier.{Quant
 use Rattle.syntax_tree.specs.declared.spec_expression.operator.Quantifier.TheVariants.{ForAll, Exists}
 use Rattle.syntax_tree.specs.SpecOperatorSpelling.{quantifier_spelling}
 use Rattle.parser_base.specs.Beginnings.{Begins}
-use Rattle.parser_base.specs.TokenReading.{Read, is_word, is_keyword, after_sign, after_word, word_place_at, identifier_at, name_of, begins_capital}
+use Rattle.parser_base.specs.TokenReading.{Read, is_word, is_keyword, after_sign, after_word, word_span_at, identifier_at, name_of, begins_capital}
 use Rattle.parser_base.proofs.Steps.{step, last, some_one, either, if_some, if_not, if_read, bind_some, map_some, map_or_none, map_or_some, cond_true, cond_false}
 use Rattle.parser_base.proofs.BeginLemmas.{Begins-append, Begins-first}
-use Rattle.parser_base.proofs.TokenLemmas.{after_sign-sound, after_sign-complete, after_sign-other, after_word-complete, word_place_at-sound, word_place_at-complete, word_place_at-other, identifier_at-complete, identifier_at-other, begins_capital-sound, begins_capital-complete}
+use Rattle.parser_base.proofs.TokenLemmas.{after_sign-sound, after_sign-complete, after_sign-other, after_word-complete, word_span_at-sound, word_span_at-complete, word_span_at-other, identifier_at-complete, identifier_at-other, begins_capital-sound, begins_capital-complete}
 use Rattle.parser_base.specs.PathReading.{address_at}
 use Rattle.parser_base.specs.LeafReading.{number_at, plain_literal_at}
 use Rattle.parser_base.proofs.PathLemmas.{path_opens, opens_no_word, address_at-sound, address_at-complete}
@@ -55,8 +55,8 @@ unfolding is_keyword
 if_is_keyword = refl
 
 -- a keyword does not begin a path
-pub path_no_place : (w : List ℕ) (p : Path) (ls : List Lexeme) (ts rest : List Token) → is_keyword w ≡ true → Begins (path_spelling p ++ ls) ts rest → IsProperPath p → word_place_at w ts ≡ None
-path_no_place w p ls ts rest k b q = let o = path_opens p ls ts rest b q in word_place_at-other w o.lexeme o.others ts rest (opens_no_word w o.lexeme.kind k o.opens) o.begins
+pub path_no_span : (w : List ℕ) (p : Path) (ls : List Lexeme) (ts rest : List Token) → is_keyword w ≡ true → Begins (path_spelling p ++ ls) ts rest → IsProperPath p → word_span_at w ts ≡ None
+path_no_span w p ls ts rest k b q = let o = path_opens p ls ts rest b q in word_span_at-other w o.lexeme o.others ts rest (opens_no_word w o.lexeme.kind k o.opens) o.begins
 
 path_no_number : (p : Path) (ls : List Lexeme) (ts rest : List Token) → Begins (path_spelling p ++ ls) ts rest → number_at ts ≡ None
 path_no_number (name_path i) ls ts rest b = number_at-other (identifier i) ls ts rest refl b
@@ -73,16 +73,16 @@ path_no_literal p ls ts rest b q =
     let o = path_opens p ls ts rest b q in
     plain_none o.lexeme o.others ts rest (path_no_number p ls ts rest b) (opens_no_word (codes "true") o.lexeme.kind true_is_keyword o.opens) (opens_no_word (codes "false") o.lexeme.kind false_is_keyword o.opens) o.begins
 
-pub address_literal_at-sound : (place : Span) (whole ts : List Token) (r : Literal × List Token) → Begins (sign_at place AtSign ∷ []) whole ts → address_literal_at place ts ≡ Some r → Begins (literal_spelling r.0) whole r.1 × IsProperLiteral r.0
+pub address_literal_at-sound : (span : Span) (whole ts : List Token) (r : Literal × List Token) → Begins (sign_at span AtSign ∷ []) whole ts → address_literal_at span ts ≡ Some r → Begins (literal_spelling r.0) whole r.1 × IsProperLiteral r.0
 unfolding address_literal_at
-address_literal_at-sound place whole ts r b e =
-    let a = last (address_at ts) (λ a. (address_literal place a.0, a.1)) r e in
+address_literal_at-sound span whole ts r b e =
+    let a = last (address_at ts) (λ a. (address_literal span a.0, a.1)) r e in
     let s = address_at-sound ts a.value a.first in
-    subst (λ q. Begins (literal_spelling q.0) whole q.1 × IsProperLiteral q.0) a.then (Begins-append (sign_at place AtSign ∷ []) (address_spelling a.value.0) whole ts a.value.1 b s.0, s.1)
+    subst (λ q. Begins (literal_spelling q.0) whole q.1 × IsProperLiteral q.0) a.then (Begins-append (sign_at span AtSign ∷ []) (address_spelling a.value.0) whole ts a.value.1 b s.0, s.1)
 
-pub address_literal_at-complete : (place : Span) (a : Address) (ts rest : List Token) → Begins (address_spelling a) ts rest → IsProperAddress a → address_literal_at place ts ≡ Some (address_literal place a, rest)
+pub address_literal_at-complete : (span : Span) (a : Address) (ts rest : List Token) → Begins (address_spelling a) ts rest → IsProperAddress a → address_literal_at span ts ≡ Some (address_literal span a, rest)
 unfolding address_literal_at
-address_literal_at-complete place a ts rest b p = map_some (address_at ts) (λ a. (address_literal place a.0, a.1)) (a, rest) (address_at-complete a ts rest b p)
+address_literal_at-complete span a ts rest b p = map_some (address_at ts) (λ a. (address_literal span a.0, a.1)) (a, rest) (address_at-complete a ts rest b p)
 
 -- ---- the words of quantifiers
 
@@ -110,11 +110,11 @@ opens_bind-ranged i ls ts rest n b =
 quantifier_word_at-sound : (ts : List Token) (r : (Quantifier × Span) × List Token) → quantifier_word_at ts ≡ Some r → Begins (quantifier_spelling r.0.0 r.0.1) ts r.1
 unfolding quantifier_word_at
 quantifier_word_at-sound ts r e =
-    elim (either (word_place_at (codes "forall") ts) (λ p. Some ((ForAll, p.0), p.1)) _ r e) [
-      | inl s ↦ subst (λ q. Begins (quantifier_spelling q.0.0 q.0.1) ts q.1) (some_one ((ForAll, s.value.0), s.value.1) r s.then) (word_place_at-sound (codes "forall") ts s.value s.first)
+    elim (either (word_span_at (codes "forall") ts) (λ p. Some ((ForAll, p.0), p.1)) _ r e) [
+      | inl s ↦ subst (λ q. Begins (quantifier_spelling q.0.0 q.0.1) ts q.1) (some_one ((ForAll, s.value.0), s.value.1) r s.then) (word_span_at-sound (codes "forall") ts s.value s.first)
       | inr n ↦
-          let s = last (word_place_at (codes "exists") ts) (λ p. ((Exists, p.0), p.1)) r n.1 in
-          subst (λ q. Begins (quantifier_spelling q.0.0 q.0.1) ts q.1) s.then (word_place_at-sound (codes "exists") ts s.value s.first)
+          let s = last (word_span_at (codes "exists") ts) (λ p. ((Exists, p.0), p.1)) r n.1 in
+          subst (λ q. Begins (quantifier_spelling q.0.0 q.0.1) ts q.1) s.then (word_span_at-sound (codes "exists") ts s.value s.first)
     ]
 
 pub quantifier_at-sound : (ts : List Token) (r : (Quantifier × Span) × List Token) → quantifier_at ts ≡ Some r → Begins (quantifier_spelling r.0.0 r.0.1) ts r.1
@@ -124,32 +124,32 @@ quantifier_at-sound ts r e =
     let c = if_some (opens_bind s.value.1) (s.value.0, s.value.1) r s.then in
     subst (λ q. Begins (quantifier_spelling q.0.0 q.0.1) ts q.1) c.1 (quantifier_word_at-sound ts s.value s.first)
 
-quantifier_word_at-complete : (q : Quantifier) (place : Span) (ts us : List Token) → Begins (quantifier_spelling q place) ts us → quantifier_word_at ts ≡ Some ((q, place), us)
+quantifier_word_at-complete : (q : Quantifier) (span : Span) (ts us : List Token) → Begins (quantifier_spelling q span) ts us → quantifier_word_at ts ≡ Some ((q, span), us)
 unfolding quantifier_word_at
-quantifier_word_at-complete ForAll place ts us b = map_or_some (word_place_at (codes "forall") ts) _ _ (place, us) (word_place_at-complete (codes "forall") place ts us b)
-quantifier_word_at-complete Exists place ts us b =
-    map_or_none (word_place_at (codes "forall") ts) _ _ (word_place_at-other (codes "forall") (word (codes "exists") (Some place)) [] ts us refl b)
-    ∙ map_some (word_place_at (codes "exists") ts) (λ p. ((Exists, p.0), p.1)) (place, us) (word_place_at-complete (codes "exists") place ts us b)
+quantifier_word_at-complete ForAll span ts us b = map_or_some (word_span_at (codes "forall") ts) _ _ (span, us) (word_span_at-complete (codes "forall") span ts us b)
+quantifier_word_at-complete Exists span ts us b =
+    map_or_none (word_span_at (codes "forall") ts) _ _ (word_span_at-other (codes "forall") (word (codes "exists") (Some span)) [] ts us refl b)
+    ∙ map_some (word_span_at (codes "exists") ts) (λ p. ((Exists, p.0), p.1)) (span, us) (word_span_at-complete (codes "exists") span ts us b)
 
-pub quantifier_at-complete : (q : Quantifier) (place : Span) (ts us : List Token) → Begins (quantifier_spelling q place) ts us → opens_bind us ≡ true → quantifier_at ts ≡ Some ((q, place), us)
+pub quantifier_at-complete : (q : Quantifier) (span : Span) (ts us : List Token) → Begins (quantifier_spelling q span) ts us → opens_bind us ≡ true → quantifier_at ts ≡ Some ((q, span), us)
 unfolding quantifier_at
-quantifier_at-complete q place ts us b e =
-    bind_some (quantifier_word_at ts) _ ((q, place), us) (quantifier_word_at-complete q place ts us b) ∙ cond_true (opens_bind us) (Some ((q, place), us)) None e
+quantifier_at-complete q span ts us b e =
+    bind_some (quantifier_word_at ts) _ ((q, span), us) (quantifier_word_at-complete q span ts us b) ∙ cond_true (opens_bind us) (Some ((q, span), us)) None e
 
 -- the result, if the word here is known
 abbrev with_words : Bool → Bool → Span → List Token → Read (Quantifier × Span)
-with_words is_forall is_exists place ts =
+with_words is_forall is_exists span ts =
     option_and_then (λ (q : (Quantifier × Span) × List Token). cond (opens_bind q.1) (Some (q.0, q.1)) None)
-    (option_map_or (λ (p : Span × List Token). Some ((ForAll, p.0), p.1)) (cond is_forall (Some (place, ts)) None) (option_map (λ (p : Span × List Token). ((Exists, p.0), p.1)) (cond is_exists (Some (place, ts)) None)))
+    (option_map_or (λ (p : Span × List Token). Some ((ForAll, p.0), p.1)) (cond is_forall (Some (span, ts)) None) (option_map (λ (p : Span × List Token). ((Exists, p.0), p.1)) (cond is_exists (Some (span, ts)) None)))
 
-with_words-none : (is_forall is_exists : Bool) (place : Span) (ts : List Token) → opens_bind ts ≡ false → with_words is_forall is_exists place ts ≡ None
-with_words-none true is_exists place ts e = cond_false (opens_bind ts) (Some ((ForAll, place), ts)) None e
-with_words-none false true place ts e = cond_false (opens_bind ts) (Some ((Exists, place), ts)) None e
-with_words-none false false place ts e = refl
+with_words-none : (is_forall is_exists : Bool) (span : Span) (ts : List Token) → opens_bind ts ≡ false → with_words is_forall is_exists span ts ≡ None
+with_words-none true is_exists span ts e = cond_false (opens_bind ts) (Some ((ForAll, span), ts)) None e
+with_words-none false true span ts e = cond_false (opens_bind ts) (Some ((Exists, span), ts)) None e
+with_words-none false false span ts e = refl
 
 -- where no bind follows, there is no word of a quantifier
 pub quantifier_at-behind : (l : Lexeme) (ts rest : List Token) → Begins (l ∷ []) ts rest → opens_bind rest ≡ false → quantifier_at ts ≡ None
-unfolding quantifier_at quantifier_word_at word_place_at
+unfolding quantifier_at quantifier_word_at word_span_at
 quantifier_at-behind l [] rest b e = absurd b
 quantifier_at-behind l (t ∷ ts) rest b e = with_words-none (is_word (codes "forall") t.kind) (is_word (codes "exists") t.kind) t.span ts (ap opens_bind b.1 ∙ e)
 
@@ -157,8 +157,8 @@ pub quantifier_at-other : (l : Lexeme) (ls : List Lexeme) (ts rest : List Token)
 unfolding quantifier_at quantifier_word_at
 quantifier_at-other l ls ts rest a c b =
     ap (option_and_then (λ q. cond (opens_bind q.1) (Some (q.0, q.1)) None))
-    (map_or_none (word_place_at (codes "forall") ts) (λ p. Some ((ForAll, p.0), p.1)) _ (word_place_at-other (codes "forall") l ls ts rest a b)
-    ∙ ap (option_map (λ p. ((Exists, p.0), p.1))) (word_place_at-other (codes "exists") l ls ts rest c b))
+    (map_or_none (word_span_at (codes "forall") ts) (λ p. Some ((ForAll, p.0), p.1)) _ (word_span_at-other (codes "forall") l ls ts rest a b)
+    ∙ ap (option_map (λ p. ((Exists, p.0), p.1))) (word_span_at-other (codes "exists") l ls ts rest c b))
 
 -- ---- packs
 

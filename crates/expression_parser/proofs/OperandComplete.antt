@@ -15,11 +15,11 @@ use Rattle.syntax_tree.specs.SpecOperatorSpelling.{spec_operator_spelling}
 use Rattle.syntax_tree.specs.SpecExpressionSpelling.{ends_in_path, spec_spelling}
 use Rattle.syntax_tree.specs.ProperSpecExpressions.{level, spec_operator_level, right_level, IsProperSpec}
 use Rattle.parser_base.specs.Beginnings.{Begins}
-use Rattle.parser_base.specs.TokenReading.{Read, after_sign, sign_place_at}
+use Rattle.parser_base.specs.TokenReading.{Read, after_sign, sign_span_at}
 use Rattle.parser_base.specs.ChainReading.{next_operator, whole_chain_at}
 use Rattle.parser_base.proofs.Steps.{bind_some, map_some, map_or_none, map_or_some, cond_false}
 use Rattle.parser_base.proofs.BeginLemmas.{Begins-first, Begins-same, length-Begins}
-use Rattle.parser_base.proofs.TokenLemmas.{sign_place_at-complete, sign_place_at-none}
+use Rattle.parser_base.proofs.TokenLemmas.{sign_span_at-complete, sign_span_at-none}
 use Rattle.parser_base.proofs.ChainLemmas.{Spine, operand as spine_end, joined as spine_joined, Behind, first_of, Fits, walk, chain-complete}
 use Rattle.parser_base.proofs.TypeLemmas.{ReadsBackTypes}
 use Rattle.expression_parser.specs.RepeatReading.{repeat_at, whole_repeat_at}
@@ -87,18 +87,18 @@ same_end : (packs : Bool) (e f : SpecExpressionData) (rest : List Token) → end
 same_end packs e f rest same d = record { no_colons = d.no_colons; no_call = d.no_call; no_pack = d.no_pack; no_arguments = λ h. d.no_arguments (same ∙ h) }
 
 -- an operator is here
-operator_ends : (packs : Bool) (e : SpecExpressionData) (o : SpecOperator) (place : Span) (ts rest : List Token) → Begins (spec_operator_spelling o place (ends_in_path e)) ts rest → TermEnds packs e ts × (has_postfix ts ≡ false)
+operator_ends : (packs : Bool) (e : SpecExpressionData) (o : SpecOperator) (span : Span) (ts rest : List Token) → Begins (spec_operator_spelling o span (ends_in_path e)) ts rest → TermEnds packs e ts × (has_postfix ts ≡ false)
 unfolding has_postfix
-operator_ends packs e o place ts rest b =
-    let whole = Begins-same _ _ ts rest (sym (append-nil (spec_operator_spelling o place (ends_in_path e)))) b in (
+operator_ends packs e o span ts rest b =
+    let whole = Begins-same _ _ ts rest (sym (append-nil (spec_operator_spelling o span (ends_in_path e)))) b in (
       record {
-        no_colons = operator_no_sign ColonColon refl o place (ends_in_path e) [] ts rest whole;
-        no_call = operator_no_sign LeftParenthesis refl o place (ends_in_path e) [] ts rest whole;
-        no_pack = λ h. operator_no_sign LeftBrace refl o place (ends_in_path e) [] ts rest whole;
-        no_arguments = λ h. operator_not_glued o place [] ts rest (subst (λ after_path. Begins (spec_operator_spelling o place after_path ++ []) ts rest) h whole);
+        no_colons = operator_no_sign ColonColon refl o span (ends_in_path e) [] ts rest whole;
+        no_call = operator_no_sign LeftParenthesis refl o span (ends_in_path e) [] ts rest whole;
+        no_pack = λ h. operator_no_sign LeftBrace refl o span (ends_in_path e) [] ts rest whole;
+        no_arguments = λ h. operator_not_glued o span [] ts rest (subst (λ after_path. Begins (spec_operator_spelling o span after_path ++ []) ts rest) h whole);
       },
-      ap (λ o. is_some {T = List Token} o || is_some (after_sign LeftBracket ts)) (operator_no_sign Period refl o place (ends_in_path e) [] ts rest whole)
-          ∙ ap (λ o. is_some {T = List Token} o) (operator_no_sign LeftBracket refl o place (ends_in_path e) [] ts rest whole),
+      ap (λ o. is_some {T = List Token} o || is_some (after_sign LeftBracket ts)) (operator_no_sign Period refl o span (ends_in_path e) [] ts rest whole)
+          ∙ ap (λ o. is_some {T = List Token} o) (operator_no_sign LeftBracket refl o span (ends_in_path e) [] ts rest whole),
     )
 
 -- readers that read each proper spec expression: of any level, and operands with operators
@@ -116,7 +116,7 @@ module _ (bound : ℕ) (types : List Token → Read SourceTypeData) (types_compl
   unfolding operand_at
   term_operand packs e ts rest h b p a l d n =
       let w = postfix_walk bound types types_complete (inner true 0) item_complete packs e ts rest h b p a l d in
-      map_or_none (sign_place_at Exclaim ts) _ _ (sign_place_at-none Exclaim ts (term_no_exclaim e [] ts rest (spec_alone e ts rest b) p l))
+      map_or_none (sign_span_at Exclaim ts) _ _ (sign_span_at-none Exclaim ts (term_no_exclaim e [] ts rest (spec_alone e ts rest b) p l))
       ∙ bind_some (term_at types (inner true 0) packs ts) (λ base. whole_repeat_at has_postfix (postfix_at (inner true 0)) base.0 base.1) (w.first, w.us) w.read
       ∙ ended (suc (length w.us)) w.first w.us (w.goes (suc (length w.us)) (omega arith))
     where
@@ -130,22 +130,22 @@ module _ (bound : ℕ) (types : List Token → Read SourceTypeData) (types_compl
   operand_at-complete : (packs : Bool) (e : SpecExpressionData) (ts rest : List Token) → length ts ≤ suc bound → Begins (spec_spelling e) ts rest → IsProperSpec e → Allowed packs e → unary_level ≤ level e → TermEnds packs e rest → has_postfix rest ≡ false
       → operand_at types inner packs ts ≡ Some (e, rest)
   unfolding operand_at
-  operand_at-complete packs (SpecBinary left operator place right) ts rest h b p a l d n = absurd (omega (arith, l, (level_is_some operator).1))
-  operand_at-complete packs (SpecQuantified quantifier place binds _ body) ts rest h b p a l d n = absurd (omega (arith, l))
-  operand_at-complete packs (SpecIf place condition then_branch else_branch) ts rest h b p a l d n = absurd (omega (arith, l))
-  operand_at-complete packs (SpecNot place negated) ts rest h b p a l d n =
-      let s = Begins-first (sign_at place Exclaim) (spec_spelling negated) ts rest b in
-      map_or_some (sign_place_at Exclaim ts) (λ p. option_map (λ e. (SpecNot p.0 e.0, e.1)) (inner packs unary_level p.1)) _ (place, s.mid) (sign_place_at-complete Exclaim place ts s.mid s.front)
-      ∙ map_some (inner packs unary_level s.mid) (λ e. (SpecNot place e.0, e.1)) (negated, rest)
-      (complete.tight packs unary_level negated s.mid rest (omega (arith, h, length-Begins (sign_at place Exclaim ∷ []) ts s.mid s.front)) s.back p.0 (allowed_base packs (SpecNot place negated) negated (λ h. h) a) (omega arith) p.1
-      (record { ends = same_end packs (SpecNot place negated) negated rest refl d; no_postfix = n; no_operator = next_unary negated rest }))
+  operand_at-complete packs (SpecBinary left operator span right) ts rest h b p a l d n = absurd (omega (arith, l, (level_is_some operator).1))
+  operand_at-complete packs (SpecQuantified quantifier span binds _ body) ts rest h b p a l d n = absurd (omega (arith, l))
+  operand_at-complete packs (SpecIf span condition then_branch else_branch) ts rest h b p a l d n = absurd (omega (arith, l))
+  operand_at-complete packs (SpecNot span negated) ts rest h b p a l d n =
+      let s = Begins-first (sign_at span Exclaim) (spec_spelling negated) ts rest b in
+      map_or_some (sign_span_at Exclaim ts) (λ p. option_map (λ e. (SpecNot p.0 e.0, e.1)) (inner packs unary_level p.1)) _ (span, s.mid) (sign_span_at-complete Exclaim span ts s.mid s.front)
+      ∙ map_some (inner packs unary_level s.mid) (λ e. (SpecNot span e.0, e.1)) (negated, rest)
+      (complete.tight packs unary_level negated s.mid rest (omega (arith, h, length-Begins (sign_at span Exclaim ∷ []) ts s.mid s.front)) s.back p.0 (allowed_base packs (SpecNot span negated) negated (λ h. h) a) (omega arith) p.1
+      (record { ends = same_end packs (SpecNot span negated) negated rest refl d; no_postfix = n; no_operator = next_unary negated rest }))
   operand_at-complete packs (SpecField base field) ts rest h b p a l d n = term_operand packs (SpecField base field) ts rest h b p a (omega arith) d n
   operand_at-complete packs (SpecIndex base index) ts rest h b p a l d n = term_operand packs (SpecIndex base index) ts rest h b p a (omega arith) d n
   operand_at-complete packs (SpecLiteral literal) ts rest h b p a l d n = term_operand packs (SpecLiteral literal) ts rest h b p a (omega arith) d n
   operand_at-complete packs (SpecPath path) ts rest h b p a l d n = term_operand packs (SpecPath path) ts rest h b p a (omega arith) d n
   operand_at-complete packs (SpecCall function given values last) ts rest h b p a l d n = term_operand packs (SpecCall function given values last) ts rest h b p a (omega arith) d n
   operand_at-complete packs (SpecPack path given fields last) ts rest h b p a l d n = term_operand packs (SpecPack path given fields last) ts rest h b p a (omega arith) d n
-  operand_at-complete packs (SpecParenthesized place inside) ts rest h b p a l d n = term_operand packs (SpecParenthesized place inside) ts rest h b p a (omega arith) d n
+  operand_at-complete packs (SpecParenthesized span inside) ts rest h b p a l d n = term_operand packs (SpecParenthesized span inside) ts rest h b p a (omega arith) d n
 
   -- ---- operators
 
@@ -153,30 +153,30 @@ module _ (bound : ℕ) (types : List Token → Read SourceTypeData) (types_compl
   SpineOf packs e = Spine spec_joints (spec_rules packs) e
 
   abbrev spine : (packs : Bool) (e : SpecExpressionData) → SpineOf packs e
-  spine packs (SpecBinary left operator place right) = spine_joined left (spine packs left) (operator, place) right
-  spine packs (SpecQuantified quantifier place binds firing body) = spine_end (SpecQuantified quantifier place binds firing body)
-  spine packs (SpecIf place condition then_branch else_branch) = spine_end (SpecIf place condition then_branch else_branch)
-  spine packs (SpecNot place negated) = spine_end (SpecNot place negated)
+  spine packs (SpecBinary left operator span right) = spine_joined left (spine packs left) (operator, span) right
+  spine packs (SpecQuantified quantifier span binds firing body) = spine_end (SpecQuantified quantifier span binds firing body)
+  spine packs (SpecIf span condition then_branch else_branch) = spine_end (SpecIf span condition then_branch else_branch)
+  spine packs (SpecNot span negated) = spine_end (SpecNot span negated)
   spine packs (SpecField base field) = spine_end (SpecField base field)
   spine packs (SpecIndex base index) = spine_end (SpecIndex base index)
   spine packs (SpecLiteral literal) = spine_end (SpecLiteral literal)
   spine packs (SpecPath path) = spine_end (SpecPath path)
   spine packs (SpecCall function given values last) = spine_end (SpecCall function given values last)
   spine packs (SpecPack path given fields last) = spine_end (SpecPack path given fields last)
-  spine packs (SpecParenthesized place inside) = spine_end (SpecParenthesized place inside)
+  spine packs (SpecParenthesized span inside) = spine_end (SpecParenthesized span inside)
 
   spine_starts_high : (packs : Bool) (e : SpecExpressionData) → IsProperSpec e → 1 ≤ level e → unary_level ≤ level (first_of spec_joints (spec_rules packs) (spine packs e))
-  spine_starts_high packs (SpecBinary left operator place right) p h = spine_starts_high packs left p.0 (omega (arith, (level_is_some operator).0, own_left operator, p.2))
-  spine_starts_high packs (SpecQuantified quantifier place binds _ body) p h = absurd (omega (arith, h))
-  spine_starts_high packs (SpecIf place condition then_branch else_branch) p h = absurd (omega (arith, h))
-  spine_starts_high packs (SpecNot place negated) p h = omega arith
+  spine_starts_high packs (SpecBinary left operator span right) p h = spine_starts_high packs left p.0 (omega (arith, (level_is_some operator).0, own_left operator, p.2))
+  spine_starts_high packs (SpecQuantified quantifier span binds _ body) p h = absurd (omega (arith, h))
+  spine_starts_high packs (SpecIf span condition then_branch else_branch) p h = absurd (omega (arith, h))
+  spine_starts_high packs (SpecNot span negated) p h = omega arith
   spine_starts_high packs (SpecField base field) p h = omega arith
   spine_starts_high packs (SpecIndex base index) p h = omega arith
   spine_starts_high packs (SpecLiteral literal) p h = omega arith
   spine_starts_high packs (SpecPath path) p h = omega arith
   spine_starts_high packs (SpecCall function given values last) p h = omega arith
   spine_starts_high packs (SpecPack path given fields last) p h = omega arith
-  spine_starts_high packs (SpecParenthesized place inside) p h = omega arith
+  spine_starts_high packs (SpecParenthesized span inside) p h = omega arith
 
   -- no token after the first operand belongs to it
   behind_first : (packs : Bool) (minimum : ℕ) (e : SpecExpressionData) (s : SpineOf packs e) (us rest : List Token) → Behind spec_joints (spec_rules packs) s us rest → Follows packs minimum e rest

@@ -24,12 +24,12 @@ module _ (types : List Token → Read SourceTypeData) (inner : Bool → ℕ → 
   operated_starts ts first rest k e h =
       bind_some (operand_at types inner packs ts) (λ first. whole_chain_at spec_joints (inner packs) minimum first.0 first.1) (first, rest) e ∙ ap (λ j. chain_at spec_joints (inner packs) minimum j first rest) (sym h)
 
-  pub operated_is_stuck : (all : Read SpecExpressionData) (k n : ℕ) (left : SpecExpressionData) (ts us : List Token) (o : SpecOperator) (place : Span) (m : ℕ) → all ≡ chain_at spec_joints (inner packs) minimum k left ts → k ≡ suc n
-      → next_operator spec_joints minimum left ts ≡ Some ((o, place), us) → m ≡ right_level o → inner packs m us ≡ None → all ≡ None
-  operated_is_stuck all k n left ts us o place m before e h l i =
-      chain_is_stuck spec_joints (inner packs) minimum all k n m left ts us (o, place) before e h l i
+  pub operated_is_stuck : (all : Read SpecExpressionData) (k n : ℕ) (left : SpecExpressionData) (ts us : List Token) (o : SpecOperator) (span : Span) (m : ℕ) → all ≡ chain_at spec_joints (inner packs) minimum k left ts → k ≡ suc n
+      → next_operator spec_joints minimum left ts ≡ Some ((o, span), us) → m ≡ right_level o → inner packs m us ≡ None → all ≡ None
+  operated_is_stuck all k n left ts us o span m before e h l i =
+      chain_is_stuck spec_joints (inner packs) minimum all k n m left ts us (o, span) before e h l i
 
-  pub operated_goes_on : (all : Read SpecExpressionData) (k n : ℕ) (left : SpecExpressionData) (ts us rest : List Token) (o : SpecOperator) (place : Span) (m : ℕ) (right whole : SpecExpressionData) → all ≡ chain_at spec_joints (inner packs) minimum k left ts → k ≡ suc n
-      → next_operator spec_joints minimum left ts ≡ Some ((o, place), us) → m ≡ right_level o → inner packs m us ≡ Some (right, rest) → whole ≡ SpecBinary left o place right → all ≡ chain_at spec_joints (inner packs) minimum n whole rest
-  operated_goes_on all k n left ts us rest o place m right whole before e h l i w =
-      chain_goes_on spec_joints (inner packs) minimum all k n m left ts us rest (o, place) right whole before e h l i w
+  pub operated_goes_on : (all : Read SpecExpressionData) (k n : ℕ) (left : SpecExpressionData) (ts us rest : List Token) (o : SpecOperator) (span : Span) (m : ℕ) (right whole : SpecExpressionData) → all ≡ chain_at spec_joints (inner packs) minimum k left ts → k ≡ suc n
+      → next_operator spec_joints minimum left ts ≡ Some ((o, span), us) → m ≡ right_level o → inner packs m us ≡ Some (right, rest) → whole ≡ SpecBinary left o span right → all ≡ chain_at spec_joints (inner packs) minimum n whole rest
+  operated_goes_on all k n left ts us rest o span m right whole before e h l i w =
+      chain_goes_on spec_joints (inner packs) minimum all k n m left ts us rest (o, span) right whole before e h l i w

@@ -85,35 +85,35 @@ kind_operator-sound (ByteString text) o e = absurd (cc)
 -- ---- the first token of an operator
 
 abbrev pub first_lexeme : SpecOperator → Span → Bool → Lexeme
-first_lexeme o place after_path = lexeme (Punctuation (first_sign o)) (Some place) (cond (opens_arguments o) (apart_from_path after_path) None)
+first_lexeme o span after_path = lexeme (Punctuation (first_sign o)) (Some span) (cond (opens_arguments o) (apart_from_path after_path) None)
 
 -- what follows the first token
 abbrev pub later_lexemes : SpecOperator → List Lexeme
 later_lexemes (Common ShiftRight) = glued greater_sign ∷ []
 later_lexemes _ = []
 
-pub operator_spelled : (o : SpecOperator) (place : Span) (after_path : Bool) → spec_operator_spelling o place after_path ≡ first_lexeme o place after_path ∷ later_lexemes o
-operator_spelled Equivalent place after_path = refl
-operator_spelled Implies place after_path = refl
-operator_spelled Range place after_path = refl
-operator_spelled (Common Or) place after_path = refl
-operator_spelled (Common And) place after_path = refl
-operator_spelled (Common Equal) place after_path = refl
-operator_spelled (Common NotEqual) place after_path = refl
-operator_spelled (Common Less) place after_path = refl
-operator_spelled (Common LessEqual) place after_path = refl
-operator_spelled (Common Greater) place after_path = refl
-operator_spelled (Common GreaterEqual) place after_path = refl
-operator_spelled (Common BitOr) place after_path = refl
-operator_spelled (Common BitXor) place after_path = refl
-operator_spelled (Common BitAnd) place after_path = refl
-operator_spelled (Common ShiftLeft) place after_path = refl
-operator_spelled (Common Add) place after_path = refl
-operator_spelled (Common Subtract) place after_path = refl
-operator_spelled (Common Multiply) place after_path = refl
-operator_spelled (Common Divide) place after_path = refl
-operator_spelled (Common Remainder) place after_path = refl
-operator_spelled (Common ShiftRight) place after_path = refl
+pub operator_spelled : (o : SpecOperator) (span : Span) (after_path : Bool) → spec_operator_spelling o span after_path ≡ first_lexeme o span after_path ∷ later_lexemes o
+operator_spelled Equivalent span after_path = refl
+operator_spelled Implies span after_path = refl
+operator_spelled Range span after_path = refl
+operator_spelled (Common Or) span after_path = refl
+operator_spelled (Common And) span after_path = refl
+operator_spelled (Common Equal) span after_path = refl
+operator_spelled (Common NotEqual) span after_path = refl
+operator_spelled (Common Less) span after_path = refl
+operator_spelled (Common LessEqual) span after_path = refl
+operator_spelled (Common Greater) span after_path = refl
+operator_spelled (Common GreaterEqual) span after_path = refl
+operator_spelled (Common BitOr) span after_path = refl
+operator_spelled (Common BitXor) span after_path = refl
+operator_spelled (Common BitAnd) span after_path = refl
+operator_spelled (Common ShiftLeft) span after_path = refl
+operator_spelled (Common Add) span after_path = refl
+operator_spelled (Common Subtract) span after_path = refl
+operator_spelled (Common Multiply) span after_path = refl
+operator_spelled (Common Divide) span after_path = refl
+operator_spelled (Common Remainder) span after_path = refl
+operator_spelled (Common ShiftRight) span after_path = refl
 
 apart_or_other : (after_path glued opens : Bool) → (after_path && (glued && opens)) ≡ false → Says (cond opens (apart_from_path after_path) None) glued
 apart_or_other true true true e = absurd (cc)
@@ -127,38 +127,38 @@ other_or_apart true glued true s = ap (λ g. g && true) s
 other_or_apart true true false s = refl
 other_or_apart true false false s = refl
 
-lengthened-sound : (o : SpecOperator) (place : Span) (after_path : Bool) (whole ts : List Token) → is_shift_right o ≡ false → Begins (first_lexeme o place after_path ∷ []) whole ts
-    → Begins (spec_operator_spelling (lengthened o place ts).0.0 (lengthened o place ts).0.1 after_path) whole (lengthened o place ts).1
-lengthened-sound Equivalent place after_path whole ts n b = b
-lengthened-sound Implies place after_path whole ts n b = b
-lengthened-sound Range place after_path whole ts n b = b
-lengthened-sound (Common Or) place after_path whole ts n b = b
-lengthened-sound (Common And) place after_path whole ts n b = b
-lengthened-sound (Common Equal) place after_path whole ts n b = b
-lengthened-sound (Common NotEqual) place after_path whole ts n b = b
-lengthened-sound (Common Less) place after_path whole ts n b = b
-lengthened-sound (Common LessEqual) place after_path whole ts n b = b
-lengthened-sound (Common Greater) place after_path whole ts n b = go (after_glued greater_sign ts) refl
+lengthened-sound : (o : SpecOperator) (span : Span) (after_path : Bool) (whole ts : List Token) → is_shift_right o ≡ false → Begins (first_lexeme o span after_path ∷ []) whole ts
+    → Begins (spec_operator_spelling (lengthened o span ts).0.0 (lengthened o span ts).0.1 after_path) whole (lengthened o span ts).1
+lengthened-sound Equivalent span after_path whole ts n b = b
+lengthened-sound Implies span after_path whole ts n b = b
+lengthened-sound Range span after_path whole ts n b = b
+lengthened-sound (Common Or) span after_path whole ts n b = b
+lengthened-sound (Common And) span after_path whole ts n b = b
+lengthened-sound (Common Equal) span after_path whole ts n b = b
+lengthened-sound (Common NotEqual) span after_path whole ts n b = b
+lengthened-sound (Common Less) span after_path whole ts n b = b
+lengthened-sound (Common LessEqual) span after_path whole ts n b = b
+lengthened-sound (Common Greater) span after_path whole ts n b = go (after_glued greater_sign ts) refl
   where
     Spelled : (SpecOperator × Span) × List Token → Type 0
     Spelled q = Begins (spec_operator_spelling q.0.0 q.0.1 after_path) whole q.1
 
-    go : (found : Option (List Token)) → after_glued greater_sign ts ≡ found → Spelled (lengthened (Common Greater) place ts)
-    go None e = subst Spelled (sym (map_or_none (after_glued greater_sign ts) (λ rest. ((Common ShiftRight, place), rest)) ((Common Greater, place), ts) e)) b
+    go : (found : Option (List Token)) → after_glued greater_sign ts ≡ found → Spelled (lengthened (Common Greater) span ts)
+    go None e = subst Spelled (sym (map_or_none (after_glued greater_sign ts) (λ rest. ((Common ShiftRight, span), rest)) ((Common Greater, span), ts) e)) b
     go (Some rest) e =
-        subst Spelled (sym (map_or_some (after_glued greater_sign ts) (λ rest. ((Common ShiftRight, place), rest)) ((Common Greater, place), ts) rest e))
-        (Begins-append (sign_at place greater_sign ∷ []) (glued greater_sign ∷ []) whole ts rest b (after_glued-sound greater_sign ts rest e))
-lengthened-sound (Common GreaterEqual) place after_path whole ts n b = b
-lengthened-sound (Common BitOr) place after_path whole ts n b = b
-lengthened-sound (Common BitXor) place after_path whole ts n b = b
-lengthened-sound (Common BitAnd) place after_path whole ts n b = b
-lengthened-sound (Common ShiftLeft) place after_path whole ts n b = b
-lengthened-sound (Common Add) place after_path whole ts n b = b
-lengthened-sound (Common Subtract) place after_path whole ts n b = b
-lengthened-sound (Common Multiply) place after_path whole ts n b = b
-lengthened-sound (Common Divide) place after_path whole ts n b = b
-lengthened-sound (Common Remainder) place after_path whole ts n b = b
-lengthened-sound (Common ShiftRight) place after_path whole ts n b = absurd (cc)
+        subst Spelled (sym (map_or_some (after_glued greater_sign ts) (λ rest. ((Common ShiftRight, span), rest)) ((Common Greater, span), ts) rest e))
+        (Begins-append (sign_at span greater_sign ∷ []) (glued greater_sign ∷ []) whole ts rest b (after_glued-sound greater_sign ts rest e))
+lengthened-sound (Common GreaterEqual) span after_path whole ts n b = b
+lengthened-sound (Common BitOr) span after_path whole ts n b = b
+lengthened-sound (Common BitXor) span after_path whole ts n b = b
+lengthened-sound (Common BitAnd) span after_path whole ts n b = b
+lengthened-sound (Common ShiftLeft) span after_path whole ts n b = b
+lengthened-sound (Common Add) span after_path whole ts n b = b
+lengthened-sound (Common Subtract) span after_path whole ts n b = b
+lengthened-sound (Common Multiply) span after_path whole ts n b = b
+lengthened-sound (Common Divide) span after_path whole ts n b = b
+lengthened-sound (Common Remainder) span after_path whole ts n b = b
+lengthened-sound (Common ShiftRight) span after_path whole ts n b = absurd (cc)
 
 pub spec_operator_at-sound : (after_path : Bool) (ts : List Token) (q : (SpecOperator × Span) × List Token) → spec_operator_at after_path ts ≡ Some q → Begins (spec_operator_spelling q.0.0 q.0.1 after_path) ts q.1
 unfolding spec_operator_at
@@ -171,49 +171,49 @@ spec_operator_at-sound after_path (t ∷ ts) q e =
     (lengthened-sound s.value t.span after_path (t ∷ ts) ts k.1 (record { kind = k.0; placed = refl; glued = apart_or_other after_path t.glued (opens_arguments s.value) c.0 }, refl))
 
 -- an operator of one token
-single : (o : SpecOperator) (place : Span) (after_path : Bool) (ts us : List Token) → kind_operator (Punctuation (first_sign o)) ≡ Some o → lengthened o place us ≡ ((o, place), us)
-    → Begins (first_lexeme o place after_path ∷ []) ts us → spec_operator_at after_path ts ≡ Some ((o, place), us)
+single : (o : SpecOperator) (span : Span) (after_path : Bool) (ts us : List Token) → kind_operator (Punctuation (first_sign o)) ≡ Some o → lengthened o span us ≡ ((o, span), us)
+    → Begins (first_lexeme o span after_path ∷ []) ts us → spec_operator_at after_path ts ≡ Some ((o, span), us)
 unfolding spec_operator_at
-single o place after_path [] us k l b = absurd b
-single o place after_path (t ∷ ts) us k l b =
+single o span after_path [] us k l b = absurd b
+single o span after_path (t ∷ ts) us k l b =
     bind_some (kind_operator t.kind) (λ o. cond (after_path && (t.glued && opens_arguments o)) None (Some (lengthened o t.span ts))) o (ap kind_operator b.0.kind ∙ k)
     ∙ cond_false (after_path && (t.glued && opens_arguments o)) None (Some (lengthened o t.span ts)) (other_or_apart after_path t.glued (opens_arguments o) b.0.glued)
-    ∙ ap (λ p. Some (lengthened o p ts)) b.0.placed ∙ ap (λ vs. Some (lengthened o place vs)) b.1 ∙ ap Some l
+    ∙ ap (λ p. Some (lengthened o p ts)) b.0.placed ∙ ap (λ vs. Some (lengthened o span vs)) b.1 ∙ ap Some l
 
-shift_right : (place : Span) (after_path : Bool) (ts us : List Token) → Begins (sign_at place greater_sign ∷ glued greater_sign ∷ []) ts us → spec_operator_at after_path ts ≡ Some ((Common ShiftRight, place), us)
+shift_right : (span : Span) (after_path : Bool) (ts us : List Token) → Begins (sign_at span greater_sign ∷ glued greater_sign ∷ []) ts us → spec_operator_at after_path ts ≡ Some ((Common ShiftRight, span), us)
 unfolding spec_operator_at
-shift_right place after_path [] us b = absurd b
-shift_right place after_path (t ∷ ts) us b =
+shift_right span after_path [] us b = absurd b
+shift_right span after_path (t ∷ ts) us b =
     bind_some (kind_operator t.kind) (λ o. cond (after_path && (t.glued && opens_arguments o)) None (Some (lengthened o t.span ts))) (Common Greater) (ap kind_operator b.0.kind)
     ∙ cond_false (after_path && (t.glued && false)) None (Some (lengthened (Common Greater) t.span ts)) (other_or_apart after_path t.glued false tt)
     ∙ ap (λ p. Some (lengthened (Common Greater) p ts)) b.0.placed
-    ∙ ap Some (map_or_some (after_glued greater_sign ts) (λ rest. ((Common ShiftRight, place), rest)) ((Common Greater, place), ts) us (after_glued-complete greater_sign ts us b.1))
+    ∙ ap Some (map_or_some (after_glued greater_sign ts) (λ rest. ((Common ShiftRight, span), rest)) ((Common Greater, span), ts) us (after_glued-complete greater_sign ts us b.1))
 
 -- a `>` without a glued `>` after it is a comparison
-pub spec_operator_at-complete : (o : SpecOperator) (place : Span) (after_path : Bool) (ts us : List Token) → Begins (spec_operator_spelling o place after_path) ts us → after_glued greater_sign us ≡ None
-    → spec_operator_at after_path ts ≡ Some ((o, place), us)
-spec_operator_at-complete Equivalent place after_path ts us b h = single Equivalent place after_path ts us refl refl b
-spec_operator_at-complete Implies place after_path ts us b h = single Implies place after_path ts us refl refl b
-spec_operator_at-complete Range place after_path ts us b h = single Range place after_path ts us refl refl b
-spec_operator_at-complete (Common Or) place after_path ts us b h = single (Common Or) place after_path ts us refl refl b
-spec_operator_at-complete (Common And) place after_path ts us b h = single (Common And) place after_path ts us refl refl b
-spec_operator_at-complete (Common Equal) place after_path ts us b h = single (Common Equal) place after_path ts us refl refl b
-spec_operator_at-complete (Common NotEqual) place after_path ts us b h = single (Common NotEqual) place after_path ts us refl refl b
-spec_operator_at-complete (Common Less) place after_path ts us b h = single (Common Less) place after_path ts us refl refl b
-spec_operator_at-complete (Common LessEqual) place after_path ts us b h = single (Common LessEqual) place after_path ts us refl refl b
-spec_operator_at-complete (Common Greater) place after_path ts us b h =
-    single (Common Greater) place after_path ts us refl (map_or_none (after_glued greater_sign us) (λ rest. ((Common ShiftRight, place), rest)) ((Common Greater, place), us) h) b
-spec_operator_at-complete (Common GreaterEqual) place after_path ts us b h = single (Common GreaterEqual) place after_path ts us refl refl b
-spec_operator_at-complete (Common BitOr) place after_path ts us b h = single (Common BitOr) place after_path ts us refl refl b
-spec_operator_at-complete (Common BitXor) place after_path ts us b h = single (Common BitXor) place after_path ts us refl refl b
-spec_operator_at-complete (Common BitAnd) place after_path ts us b h = single (Common BitAnd) place after_path ts us refl refl b
-spec_operator_at-complete (Common ShiftLeft) place after_path ts us b h = single (Common ShiftLeft) place after_path ts us refl refl b
-spec_operator_at-complete (Common Add) place after_path ts us b h = single (Common Add) place after_path ts us refl refl b
-spec_operator_at-complete (Common Subtract) place after_path ts us b h = single (Common Subtract) place after_path ts us refl refl b
-spec_operator_at-complete (Common Multiply) place after_path ts us b h = single (Common Multiply) place after_path ts us refl refl b
-spec_operator_at-complete (Common Divide) place after_path ts us b h = single (Common Divide) place after_path ts us refl refl b
-spec_operator_at-complete (Common Remainder) place after_path ts us b h = single (Common Remainder) place after_path ts us refl refl b
-spec_operator_at-complete (Common ShiftRight) place after_path ts us b h = shift_right place after_path ts us b
+pub spec_operator_at-complete : (o : SpecOperator) (span : Span) (after_path : Bool) (ts us : List Token) → Begins (spec_operator_spelling o span after_path) ts us → after_glued greater_sign us ≡ None
+    → spec_operator_at after_path ts ≡ Some ((o, span), us)
+spec_operator_at-complete Equivalent span after_path ts us b h = single Equivalent span after_path ts us refl refl b
+spec_operator_at-complete Implies span after_path ts us b h = single Implies span after_path ts us refl refl b
+spec_operator_at-complete Range span after_path ts us b h = single Range span after_path ts us refl refl b
+spec_operator_at-complete (Common Or) span after_path ts us b h = single (Common Or) span after_path ts us refl refl b
+spec_operator_at-complete (Common And) span after_path ts us b h = single (Common And) span after_path ts us refl refl b
+spec_operator_at-complete (Common Equal) span after_path ts us b h = single (Common Equal) span after_path ts us refl refl b
+spec_operator_at-complete (Common NotEqual) span after_path ts us b h = single (Common NotEqual) span after_path ts us refl refl b
+spec_operator_at-complete (Common Less) span after_path ts us b h = single (Common Less) span after_path ts us refl refl b
+spec_operator_at-complete (Common LessEqual) span after_path ts us b h = single (Common LessEqual) span after_path ts us refl refl b
+spec_operator_at-complete (Common Greater) span after_path ts us b h =
+    single (Common Greater) span after_path ts us refl (map_or_none (after_glued greater_sign us) (λ rest. ((Common ShiftRight, span), rest)) ((Common Greater, span), us) h) b
+spec_operator_at-complete (Common GreaterEqual) span after_path ts us b h = single (Common GreaterEqual) span after_path ts us refl refl b
+spec_operator_at-complete (Common BitOr) span after_path ts us b h = single (Common BitOr) span after_path ts us refl refl b
+spec_operator_at-complete (Common BitXor) span after_path ts us b h = single (Common BitXor) span after_path ts us refl refl b
+spec_operator_at-complete (Common BitAnd) span after_path ts us b h = single (Common BitAnd) span after_path ts us refl refl b
+spec_operator_at-complete (Common ShiftLeft) span after_path ts us b h = single (Common ShiftLeft) span after_path ts us refl refl b
+spec_operator_at-complete (Common Add) span after_path ts us b h = single (Common Add) span after_path ts us refl refl b
+spec_operator_at-complete (Common Subtract) span after_path ts us b h = single (Common Subtract) span after_path ts us refl refl b
+spec_operator_at-complete (Common Multiply) span after_path ts us b h = single (Common Multiply) span after_path ts us refl refl b
+spec_operator_at-complete (Common Divide) span after_path ts us b h = single (Common Divide) span after_path ts us refl refl b
+spec_operator_at-complete (Common Remainder) span after_path ts us b h = single (Common Remainder) span after_path ts us refl refl b
+spec_operator_at-complete (Common ShiftRight) span after_path ts us b h = shift_right span after_path ts us b
 
 abbrev with_found : Bool → Token → List Token → Option SpecOperator → Read (SpecOperator × Span)
 with_found after_path t ts found = option_and_then (λ o. cond (after_path && (t.glued && opens_arguments o)) None (Some (lengthened o t.span ts))) found
@@ -261,40 +261,40 @@ first_sign_some (Common Divide) e = cc
 first_sign_some (Common Remainder) e = cc
 
 -- the tokens of an operator, and what follows them
-pub operator_first : (o : SpecOperator) (place : Span) (after_path : Bool) (ls : List Lexeme) (ts rest : List Token) → Begins (spec_operator_spelling o place after_path ++ ls) ts rest → Begins (first_lexeme o place after_path ∷ (later_lexemes o ++ ls)) ts rest
-operator_first o place after_path ls ts rest b = Begins-same _ _ ts rest (ap (λ l. l ++ ls) (operator_spelled o place after_path)) b
+pub operator_first : (o : SpecOperator) (span : Span) (after_path : Bool) (ls : List Lexeme) (ts rest : List Token) → Begins (spec_operator_spelling o span after_path ++ ls) ts rest → Begins (first_lexeme o span after_path ∷ (later_lexemes o ++ ls)) ts rest
+operator_first o span after_path ls ts rest b = Begins-same _ _ ts rest (ap (λ l. l ++ ls) (operator_spelled o span after_path)) b
 
-pub operator_no_sign : (s : Sign) → kind_operator (Punctuation s) ≡ None → (o : SpecOperator) (place : Span) (after_path : Bool) (ls : List Lexeme) (ts rest : List Token) → Begins (spec_operator_spelling o place after_path ++ ls) ts rest → after_sign s ts ≡ None
-operator_no_sign s e o place after_path ls ts rest b =
-    after_sign-other s (first_lexeme o place after_path) (later_lexemes o ++ ls) ts rest (go (is_sign s (Punctuation (first_sign o))) refl) (operator_first o place after_path ls ts rest b)
+pub operator_no_sign : (s : Sign) → kind_operator (Punctuation s) ≡ None → (o : SpecOperator) (span : Span) (after_path : Bool) (ls : List Lexeme) (ts rest : List Token) → Begins (spec_operator_spelling o span after_path ++ ls) ts rest → after_sign s ts ≡ None
+operator_no_sign s e o span after_path ls ts rest b =
+    after_sign-other s (first_lexeme o span after_path) (later_lexemes o ++ ls) ts rest (go (is_sign s (Punctuation (first_sign o))) refl) (operator_first o span after_path ls ts rest b)
   where
     go : (c : Bool) → is_sign s (Punctuation (first_sign o)) ≡ c → is_sign s (Punctuation (first_sign o)) ≡ false
     go true is = absurd (first_sign_some o (ap kind_operator (is_sign-sound s (Punctuation (first_sign o)) is) ∙ e))
     go false is = is
 
 -- after a path no operator begins with a glued `<`
-pub operator_not_glued : (o : SpecOperator) (place : Span) (ls : List Lexeme) (ts rest : List Token) → Begins (spec_operator_spelling o place true ++ ls) ts rest → after_glued less_sign ts ≡ None
-operator_not_glued Equivalent place ls ts rest b = after_glued-other less_sign (first_lexeme Equivalent place true) (later_lexemes Equivalent ++ ls) ts rest refl b
-operator_not_glued Implies place ls ts rest b = after_glued-other less_sign (first_lexeme Implies place true) (later_lexemes Implies ++ ls) ts rest refl b
-operator_not_glued Range place ls ts rest b = after_glued-other less_sign (first_lexeme Range place true) (later_lexemes Range ++ ls) ts rest refl b
-operator_not_glued (Common Or) place ls ts rest b = after_glued-other less_sign (first_lexeme (Common Or) place true) (later_lexemes (Common Or) ++ ls) ts rest refl b
-operator_not_glued (Common And) place ls ts rest b = after_glued-other less_sign (first_lexeme (Common And) place true) (later_lexemes (Common And) ++ ls) ts rest refl b
-operator_not_glued (Common Equal) place ls ts rest b = after_glued-other less_sign (first_lexeme (Common Equal) place true) (later_lexemes (Common Equal) ++ ls) ts rest refl b
-operator_not_glued (Common NotEqual) place ls ts rest b = after_glued-other less_sign (first_lexeme (Common NotEqual) place true) (later_lexemes (Common NotEqual) ++ ls) ts rest refl b
-operator_not_glued (Common Less) place ls ts rest b = after_glued-apart less_sign (lexeme (Punctuation less_sign) (Some place) (Some false)) ls ts rest refl b
-operator_not_glued (Common LessEqual) place ls ts rest b = after_glued-other less_sign (first_lexeme (Common LessEqual) place true) (later_lexemes (Common LessEqual) ++ ls) ts rest refl b
-operator_not_glued (Common Greater) place ls ts rest b = after_glued-other less_sign (first_lexeme (Common Greater) place true) (later_lexemes (Common Greater) ++ ls) ts rest refl b
-operator_not_glued (Common GreaterEqual) place ls ts rest b = after_glued-other less_sign (first_lexeme (Common GreaterEqual) place true) (later_lexemes (Common GreaterEqual) ++ ls) ts rest refl b
-operator_not_glued (Common BitOr) place ls ts rest b = after_glued-other less_sign (first_lexeme (Common BitOr) place true) (later_lexemes (Common BitOr) ++ ls) ts rest refl b
-operator_not_glued (Common BitXor) place ls ts rest b = after_glued-other less_sign (first_lexeme (Common BitXor) place true) (later_lexemes (Common BitXor) ++ ls) ts rest refl b
-operator_not_glued (Common BitAnd) place ls ts rest b = after_glued-other less_sign (first_lexeme (Common BitAnd) place true) (later_lexemes (Common BitAnd) ++ ls) ts rest refl b
-operator_not_glued (Common ShiftLeft) place ls ts rest b = after_glued-other less_sign (first_lexeme (Common ShiftLeft) place true) (later_lexemes (Common ShiftLeft) ++ ls) ts rest refl b
-operator_not_glued (Common ShiftRight) place ls ts rest b = after_glued-other less_sign (first_lexeme (Common ShiftRight) place true) (later_lexemes (Common ShiftRight) ++ ls) ts rest refl b
-operator_not_glued (Common Add) place ls ts rest b = after_glued-other less_sign (first_lexeme (Common Add) place true) (later_lexemes (Common Add) ++ ls) ts rest refl b
-operator_not_glued (Common Subtract) place ls ts rest b = after_glued-other less_sign (first_lexeme (Common Subtract) place true) (later_lexemes (Common Subtract) ++ ls) ts rest refl b
-operator_not_glued (Common Multiply) place ls ts rest b = after_glued-other less_sign (first_lexeme (Common Multiply) place true) (later_lexemes (Common Multiply) ++ ls) ts rest refl b
-operator_not_glued (Common Divide) place ls ts rest b = after_glued-other less_sign (first_lexeme (Common Divide) place true) (later_lexemes (Common Divide) ++ ls) ts rest refl b
-operator_not_glued (Common Remainder) place ls ts rest b = after_glued-other less_sign (first_lexeme (Common Remainder) place true) (later_lexemes (Common Remainder) ++ ls) ts rest refl b
+pub operator_not_glued : (o : SpecOperator) (span : Span) (ls : List Lexeme) (ts rest : List Token) → Begins (spec_operator_spelling o span true ++ ls) ts rest → after_glued less_sign ts ≡ None
+operator_not_glued Equivalent span ls ts rest b = after_glued-other less_sign (first_lexeme Equivalent span true) (later_lexemes Equivalent ++ ls) ts rest refl b
+operator_not_glued Implies span ls ts rest b = after_glued-other less_sign (first_lexeme Implies span true) (later_lexemes Implies ++ ls) ts rest refl b
+operator_not_glued Range span ls ts rest b = after_glued-other less_sign (first_lexeme Range span true) (later_lexemes Range ++ ls) ts rest refl b
+operator_not_glued (Common Or) span ls ts rest b = after_glued-other less_sign (first_lexeme (Common Or) span true) (later_lexemes (Common Or) ++ ls) ts rest refl b
+operator_not_glued (Common And) span ls ts rest b = after_glued-other less_sign (first_lexeme (Common And) span true) (later_lexemes (Common And) ++ ls) ts rest refl b
+operator_not_glued (Common Equal) span ls ts rest b = after_glued-other less_sign (first_lexeme (Common Equal) span true) (later_lexemes (Common Equal) ++ ls) ts rest refl b
+operator_not_glued (Common NotEqual) span ls ts rest b = after_glued-other less_sign (first_lexeme (Common NotEqual) span true) (later_lexemes (Common NotEqual) ++ ls) ts rest refl b
+operator_not_glued (Common Less) span ls ts rest b = after_glued-apart less_sign (lexeme (Punctuation less_sign) (Some span) (Some false)) ls ts rest refl b
+operator_not_glued (Common LessEqual) span ls ts rest b = after_glued-other less_sign (first_lexeme (Common LessEqual) span true) (later_lexemes (Common LessEqual) ++ ls) ts rest refl b
+operator_not_glued (Common Greater) span ls ts rest b = after_glued-other less_sign (first_lexeme (Common Greater) span true) (later_lexemes (Common Greater) ++ ls) ts rest refl b
+operator_not_glued (Common GreaterEqual) span ls ts rest b = after_glued-other less_sign (first_lexeme (Common GreaterEqual) span true) (later_lexemes (Common GreaterEqual) ++ ls) ts rest refl b
+operator_not_glued (Common BitOr) span ls ts rest b = after_glued-other less_sign (first_lexeme (Common BitOr) span true) (later_lexemes (Common BitOr) ++ ls) ts rest refl b
+operator_not_glued (Common BitXor) span ls ts rest b = after_glued-other less_sign (first_lexeme (Common BitXor) span true) (later_lexemes (Common BitXor) ++ ls) ts rest refl b
+operator_not_glued (Common BitAnd) span ls ts rest b = after_glued-other less_sign (first_lexeme (Common BitAnd) span true) (later_lexemes (Common BitAnd) ++ ls) ts rest refl b
+operator_not_glued (Common ShiftLeft) span ls ts rest b = after_glued-other less_sign (first_lexeme (Common ShiftLeft) span true) (later_lexemes (Common ShiftLeft) ++ ls) ts rest refl b
+operator_not_glued (Common ShiftRight) span ls ts rest b = after_glued-other less_sign (first_lexeme (Common ShiftRight) span true) (later_lexemes (Common ShiftRight) ++ ls) ts rest refl b
+operator_not_glued (Common Add) span ls ts rest b = after_glued-other less_sign (first_lexeme (Common Add) span true) (later_lexemes (Common Add) ++ ls) ts rest refl b
+operator_not_glued (Common Subtract) span ls ts rest b = after_glued-other less_sign (first_lexeme (Common Subtract) span true) (later_lexemes (Common Subtract) ++ ls) ts rest refl b
+operator_not_glued (Common Multiply) span ls ts rest b = after_glued-other less_sign (first_lexeme (Common Multiply) span true) (later_lexemes (Common Multiply) ++ ls) ts rest refl b
+operator_not_glued (Common Divide) span ls ts rest b = after_glued-other less_sign (first_lexeme (Common Divide) span true) (later_lexemes (Common Divide) ++ ls) ts rest refl b
+operator_not_glued (Common Remainder) span ls ts rest b = after_glued-other less_sign (first_lexeme (Common Remainder) span true) (later_lexemes (Common Remainder) ++ ls) ts rest refl b
 
 -- ---- levels
 

@@ -26,14 +26,14 @@ use Rattle.syntax_tree.specs.SpecOperatorSpelling.{spec_operator_spelling}
 use Rattle.syntax_tree.specs.SpecExpressionSpelling.{ends_in_path, spec_spelling, spec_spellings, spec_field_spellings}
 use Rattle.syntax_tree.specs.ProperSpecExpressions.{level, IsProperSpec}
 use Rattle.parser_base.specs.Beginnings.{Begins}
-use Rattle.parser_base.specs.TokenReading.{is_sign, is_word, name_of, after_sign, word_place_at}
+use Rattle.parser_base.specs.TokenReading.{is_sign, is_word, name_of, after_sign, word_span_at}
 use Rattle.parser_base.proofs.BeginLemmas.{Begins-split, Begins-first, Begins-same}
-use Rattle.parser_base.proofs.TokenLemmas.{after_sign-other, word_place_at-other}
+use Rattle.parser_base.proofs.TokenLemmas.{after_sign-other, word_span_at-other}
 use Rattle.parser_base.proofs.TypeLemmas.{inside_spelling}
 use Rattle.parser_base.proofs.PathLemmas.{OpensPath, Opened, path_opens}
 use Rattle.expression_parser.specs.LeafReading.{opens_bind, quantifier_at}
 use Rattle.expression_parser.proofs.OperatorLemmas.{first_lexeme, later_lexemes, operator_first, level_is_some, own_left}
-use Rattle.expression_parser.proofs.LeafLemmas.{if_is_keyword, path_no_place, opens_bind-other, quantifier_at-behind, quantifier_at-other}
+use Rattle.expression_parser.proofs.LeafLemmas.{if_is_keyword, path_no_span, opens_bind-other, quantifier_at-behind, quantifier_at-other}
 
 -- ---- spellings, regrouped
 
@@ -70,18 +70,18 @@ opened_by_path p ls ts rest q b = let o = path_opens p ls ts rest b q in record 
 
 opened_by_literal : (l : Literal) (ls : List Lexeme) (ts rest : List Token) → Begins (literal_spelling l ++ ls) ts rest → Opened OpensSpec ts rest
 opened_by_literal (number_literal n) ls ts rest b = opened (numeral n) ls ts rest tt b
-opened_by_literal (Truth place true) ls ts rest b = opened (word (codes "true") (Some place)) ls ts rest tt b
-opened_by_literal (Truth place false) ls ts rest b = opened (word (codes "false") (Some place)) ls ts rest tt b
-opened_by_literal (address_literal place address) ls ts rest b = opened (sign_at place AtSign) (address_spelling address ++ ls) ts rest (inr (inl refl)) b
+opened_by_literal (Truth span true) ls ts rest b = opened (word (codes "true") (Some span)) ls ts rest tt b
+opened_by_literal (Truth span false) ls ts rest b = opened (word (codes "false") (Some span)) ls ts rest tt b
+opened_by_literal (address_literal span address) ls ts rest b = opened (sign_at span AtSign) (address_spelling address ++ ls) ts rest (inr (inl refl)) b
 
 pub spec_opens : (e : SpecExpressionData) (ls : List Lexeme) (ts rest : List Token) → Begins (spec_spelling e ++ ls) ts rest → IsProperSpec e → Opened OpensSpec ts rest
-spec_opens (SpecBinary left operator place right) ls ts rest b p =
-    spec_opens left (spec_operator_spelling operator place (ends_in_path left) ++ (spec_spelling right ++ ls)) ts rest
-    (Begins-same _ _ ts rest (three_behind (spec_spelling left) (spec_operator_spelling operator place (ends_in_path left)) (spec_spelling right) ls) b) p.0
-spec_opens (SpecQuantified ForAll place binds _ body) ls ts rest b p = opened (word (codes "forall") (Some place)) _ ts rest tt b
-spec_opens (SpecQuantified Exists place binds _ body) ls ts rest b p = opened (word (codes "exists") (Some place)) _ ts rest tt b
-spec_opens (SpecIf place condition then_branch else_branch) ls ts rest b p = opened (word (codes "if") (Some place)) (sign LeftParenthesis ∷ (((spec_spelling condition ++ sign RightParenthesis ∷ spec_spelling then_branch) ++ word (codes "else") None ∷ spec_spelling else_branch) ++ ls)) ts rest tt b
-spec_opens (SpecNot place operand) ls ts rest b p = opened (sign_at place Exclaim) (spec_spelling operand ++ ls) ts rest (inr (inr refl)) b
+spec_opens (SpecBinary left operator span right) ls ts rest b p =
+    spec_opens left (spec_operator_spelling operator span (ends_in_path left) ++ (spec_spelling right ++ ls)) ts rest
+    (Begins-same _ _ ts rest (three_behind (spec_spelling left) (spec_operator_spelling operator span (ends_in_path left)) (spec_spelling right) ls) b) p.0
+spec_opens (SpecQuantified ForAll span binds _ body) ls ts rest b p = opened (word (codes "forall") (Some span)) _ ts rest tt b
+spec_opens (SpecQuantified Exists span binds _ body) ls ts rest b p = opened (word (codes "exists") (Some span)) _ ts rest tt b
+spec_opens (SpecIf span condition then_branch else_branch) ls ts rest b p = opened (word (codes "if") (Some span)) (sign LeftParenthesis ∷ (((spec_spelling condition ++ sign RightParenthesis ∷ spec_spelling then_branch) ++ word (codes "else") None ∷ spec_spelling else_branch) ++ ls)) ts rest tt b
+spec_opens (SpecNot span operand) ls ts rest b p = opened (sign_at span Exclaim) (spec_spelling operand ++ ls) ts rest (inr (inr refl)) b
 spec_opens (SpecField base field) ls ts rest b p =
     spec_opens base (sign Period ∷ identifier field ∷ ls) ts rest (Begins-same _ _ ts rest (append_assoc (spec_spelling base) (sign Period ∷ identifier field ∷ []) ls) b) p.0
 spec_opens (SpecIndex base index) ls ts rest b p =
@@ -95,7 +95,7 @@ spec_opens (SpecCall function arguments values last) ls ts rest b p =
 spec_opens (SpecPack path arguments fields last) ls ts rest b p =
     opened_by_path path _ ts rest p.0
     (Begins-same _ _ ts rest (applied_behind (path_spelling path) (maybe_arguments_spelling (Some true) arguments) (comma_list (spec_field_spellings fields) last) (sign RightBrace ∷ []) ls (sign LeftBrace)) b)
-spec_opens (SpecParenthesized place inner) ls ts rest b p = opened (sign_at place LeftParenthesis) ((spec_spelling inner ++ sign RightParenthesis ∷ []) ++ ls) ts rest (inl refl) b
+spec_opens (SpecParenthesized span inner) ls ts rest b p = opened (sign_at span LeftParenthesis) ((spec_spelling inner ++ sign RightParenthesis ∷ []) ++ ls) ts rest (inl refl) b
 
 -- a sign that no spec expression begins with
 abbrev pub NeverOpens : Sign → Type 0
@@ -124,10 +124,10 @@ nothing_spells e rest b p = (spec_opens e [] [] rest (spec_alone e [] rest b) p)
 
 pub record NotLoose (ts : List Token) : Type 0 where
   pub no_quantifier : quantifier_at ts ≡ None
-  pub no_if : word_place_at (codes "if") ts ≡ None
+  pub no_if : word_span_at (codes "if") ts ≡ None
 
 not_loose_token : (l : Lexeme) (ls : List Lexeme) (ts rest : List Token) → is_word (codes "forall") l.kind ≡ false → is_word (codes "exists") l.kind ≡ false → is_word (codes "if") l.kind ≡ false → Begins (l ∷ ls) ts rest → NotLoose ts
-not_loose_token l ls ts rest a c d b = record { no_quantifier = quantifier_at-other l ls ts rest a c b; no_if = word_place_at-other (codes "if") l ls ts rest d b }
+not_loose_token l ls ts rest a c d b = record { no_quantifier = quantifier_at-other l ls ts rest a c b; no_if = word_span_at-other (codes "if") l ls ts rest d b }
 
 -- a word before a sign
 word_before_sign : (l m : Lexeme) (ls : List Lexeme) (ts rest : List Token) → name_of m.kind ≡ None → Begins (l ∷ m ∷ ls) ts rest → quantifier_at ts ≡ None
@@ -145,7 +145,7 @@ path_no_quantifier (full_path m n) ts mid b e = from_address m.address m.name n 
 path_not_loose : (p : Path) (ts mid : List Token) → Begins (path_spelling p) ts mid → IsProperPath p → opens_bind mid ≡ false → NotLoose ts
 path_not_loose p ts mid b q e = record {
   no_quantifier = path_no_quantifier p ts mid b e;
-  no_if = path_no_place (codes "if") p [] ts mid if_is_keyword (Begins-same _ _ ts mid (sym (append-nil (path_spelling p))) b) q;
+  no_if = path_no_span (codes "if") p [] ts mid if_is_keyword (Begins-same _ _ ts mid (sym (append-nil (path_spelling p))) b) q;
 }
 
 -- type arguments or a bracket follow a path, and no name
@@ -162,19 +162,19 @@ applied_not_loose p a l inside close ts rest e b q =
 
 literal_not_loose : (l : Literal) (ts rest : List Token) → Begins (literal_spelling l) ts rest → NotLoose ts
 literal_not_loose (number_literal n) ts rest b = not_loose_token (numeral n) [] ts rest refl refl refl b
-literal_not_loose (Truth place true) ts rest b = not_loose_token (word (codes "true") (Some place)) [] ts rest refl refl refl b
-literal_not_loose (Truth place false) ts rest b = not_loose_token (word (codes "false") (Some place)) [] ts rest refl refl refl b
-literal_not_loose (address_literal place address) ts rest b = not_loose_token (sign_at place AtSign) (address_spelling address) ts rest refl refl refl b
+literal_not_loose (Truth span true) ts rest b = not_loose_token (word (codes "true") (Some span)) [] ts rest refl refl refl b
+literal_not_loose (Truth span false) ts rest b = not_loose_token (word (codes "false") (Some span)) [] ts rest refl refl refl b
+literal_not_loose (address_literal span address) ts rest b = not_loose_token (sign_at span AtSign) (address_spelling address) ts rest refl refl refl b
 
 pub not_loose : (e : SpecExpressionData) (ts rest : List Token) → Begins (spec_spelling e) ts rest → IsProperSpec e → 1 ≤ level e → opens_bind rest ≡ false → NotLoose ts
-not_loose (SpecBinary left operator place right) ts rest b p h n =
-    let between = spec_operator_spelling operator place (ends_in_path left) in
+not_loose (SpecBinary left operator span right) ts rest b p h n =
+    let between = spec_operator_spelling operator span (ends_in_path left) in
     let s = Begins-split (spec_spelling left) (between ++ spec_spelling right) ts rest (Begins-same _ _ ts rest (append_assoc (spec_spelling left) between (spec_spelling right)) b) in
     not_loose left ts s.mid s.front p.0 (omega (arith, (level_is_some operator).0, own_left operator, p.2))
-    (opens_bind-other (first_lexeme operator place (ends_in_path left)) (later_lexemes operator ++ spec_spelling right) s.mid rest refl (operator_first operator place (ends_in_path left) (spec_spelling right) s.mid rest s.back))
-not_loose (SpecQuantified quantifier place binds _ body) ts rest b p h n = absurd (omega (arith, h))
-not_loose (SpecIf place condition then_branch else_branch) ts rest b p h n = absurd (omega (arith, h))
-not_loose (SpecNot place operand) ts rest b p h n = not_loose_token (sign_at place Exclaim) (spec_spelling operand) ts rest refl refl refl b
+    (opens_bind-other (first_lexeme operator span (ends_in_path left)) (later_lexemes operator ++ spec_spelling right) s.mid rest refl (operator_first operator span (ends_in_path left) (spec_spelling right) s.mid rest s.back))
+not_loose (SpecQuantified quantifier span binds _ body) ts rest b p h n = absurd (omega (arith, h))
+not_loose (SpecIf span condition then_branch else_branch) ts rest b p h n = absurd (omega (arith, h))
+not_loose (SpecNot span operand) ts rest b p h n = not_loose_token (sign_at span Exclaim) (spec_spelling operand) ts rest refl refl refl b
 not_loose (SpecField base field) ts rest b p h n =
     let s = Begins-split (spec_spelling base) (sign Period ∷ identifier field ∷ []) ts rest b in
     not_loose base ts s.mid s.front p.0 (omega (arith, p.1)) (opens_bind-other (sign Period) (identifier field ∷ []) s.mid rest refl s.back)
@@ -188,4 +188,4 @@ not_loose (SpecCall function arguments values last) ts rest b p h n =
     applied_not_loose function arguments (sign LeftParenthesis) (comma_list (spec_spellings values) last) (sign RightParenthesis ∷ []) ts rest refl b p.0
 not_loose (SpecPack path arguments fields last) ts rest b p h n =
     applied_not_loose path arguments (sign LeftBrace) (comma_list (spec_field_spellings fields) last) (sign RightBrace ∷ []) ts rest refl b p.0
-not_loose (SpecParenthesized place inner) ts rest b p h n = not_loose_token (sign_at place LeftParenthesis) (spec_spelling inner ++ sign RightParenthesis ∷ []) ts rest refl refl refl b
+not_loose (SpecParenthesized span inner) ts rest b p h n = not_loose_token (sign_at span LeftParenthesis) (spec_spelling inner ++ sign RightParenthesis ∷ []) ts rest refl refl refl b

@@ -27,12 +27,12 @@ use Rattle.syntax_tree.specs.ExpressionData.{ExpressionData, AssignExpression, I
 use Rattle.syntax_tree.specs.ExpressionSpelling.{expression_spelling, expression_spellings, field_value_spelling, field_value_spellings, annotation_spelling, maybe_expression_spelling, items_spelling, item_spelling, initial_spelling}
 use Rattle.syntax_tree.specs.ProperExpressions.{takes_else, left_level, right_level, MayHoldSpec, Role, elsewhere, condition_of_while, body_of_loop, level, unary_level, term_level, IsProperAs, IsProperExpression, IsProperMaybe, IsProperItem, AreProperItems, IsProperFieldValue, AreProperExpressions, AreProperFieldValues, AreSomeExpressions, AreSomeValues, IsProperAnnotation, MayHaveArguments}
 use Rattle.parser_base.specs.Beginnings.{Begins}
-use Rattle.parser_base.specs.TokenReading.{Read, after_sign, sign_place_at, after_word, word_place_at, identifier_at, begins_capital}
+use Rattle.parser_base.specs.TokenReading.{Read, after_sign, sign_span_at, after_word, word_span_at, identifier_at, begins_capital}
 use Rattle.parser_base.specs.ListReading.{Items, comma_list_at}
 use Rattle.parser_base.specs.ChainReading.{whole_chain_at}
 use Rattle.parser_base.proofs.Steps.{step, last, some_one, either, either_read, if_not, if_read, true_or_false}
 use Rattle.parser_base.proofs.BeginLemmas.{Begins-append, Begins-split, Begins-same}
-use Rattle.parser_base.proofs.TokenLemmas.{after_sign-sound, sign_place_at-sound, after_word-sound, word_place_at-sound, identifier_at-sound, begins_capital-sound}
+use Rattle.parser_base.proofs.TokenLemmas.{after_sign-sound, sign_span_at-sound, after_word-sound, word_span_at-sound, identifier_at-sound, begins_capital-sound}
 use Rattle.parser_base.proofs.ListLemmas.{Filled, comma_list_at-sound}
 use Rattle.parser_base.proofs.ChainLemmas.{Joined, chain_at-sound}
 use Rattle.parser_base.specs.PathReading.{path_at, address_at, is_single}
@@ -48,11 +48,11 @@ use Rattle.parser_base.specs.declared.leaf.BehindFirst.{BehindFirst}
 use Rattle.parser_base.specs.declared.leaf.BehindFirst.TheVariants.{Close, As, Comma}
 use Rattle.expression_parser.specs.declared.block.BlockStep.{BlockStep}
 use Rattle.expression_parser.specs.declared.block.BlockStep.TheVariants.{End, One}
-use Rattle.parser_base.specs.LeafReading.{plain_literal_at, vector_place_at, assert_place_at, prefix_at, use_at, control_at, may_begin, spec_opening_at, path_form_at, glued_arguments_at, has_arguments, behind_first_at, spec_statement_at, annotation_at, cast_target_at, after_glued}
+use Rattle.parser_base.specs.LeafReading.{plain_literal_at, vector_span_at, assert_span_at, prefix_at, use_at, control_at, may_begin, spec_opening_at, path_form_at, glued_arguments_at, has_arguments, behind_first_at, spec_statement_at, annotation_at, cast_target_at, after_glued}
 use Rattle.parser_base.specs.OperatorReading.{joints}
 use Rattle.parser_base.specs.ParenthesesReading.{several}
 use Rattle.expression_parser.specs.ExpressionReading.{Readers, any, readers, field_value_at, path_form, path_term_at, vector_at, assert_at, behind_first, parenthesized_at, initial_at, let_at, step_behind, step_at, Contents, contents_behind, contents_at, whole_contents_at, block_at, spec_body_at, body_at, else_at, if_at, while_at, return_at, control_form, term_at, fields_at, operand_at, behind_operand, any_form, expression_form, expression_at}
-use Rattle.parser_base.proofs.LeafLemmas.{plain_literal_at-sound, vector_place_at-sound, assert_place_at-sound, after_glued-sound, prefix_at-sound, use_at-sound, control_word, control_at-sound, spec_opening_at-sound, spec_statement_at-sound}
+use Rattle.parser_base.proofs.LeafLemmas.{plain_literal_at-sound, vector_span_at-sound, assert_span_at-sound, after_glued-sound, prefix_at-sound, use_at-sound, control_word, control_at-sound, spec_opening_at-sound, spec_statement_at-sound}
 use Rattle.parser_base.proofs.OpenLemmas.{high_no_else}
 use Rattle.parser_base.proofs.OperatorLemmas.{level_small}
 use Rattle.parser_base.proofs.Operators.{expression_rules}
@@ -133,8 +133,8 @@ role_of false = body_of_loop
 
 -- what is proper elsewhere is proper in each role
 pub as_role : (role : Role) (e : ExpressionData) → IsProperExpression e → IsProperAs role e
-as_role role (BlockExpression (BlockOf place None items value)) p = p
-as_role role (BlockExpression (BlockOf place (Some spec) items value)) p = absurd p.0
+as_role role (BlockExpression (BlockOf span None items value)) p = p
+as_role role (BlockExpression (BlockOf span (Some spec) items value)) p = absurd p.0
 as_role role _ p = p
 
 module _ (inner : Readers) (types_sound : ReadsTypes inner.types) (patterns_sound : ReadsPatterns inner.patterns) (sound : ReadsExpressions inner.expressions) where
@@ -258,9 +258,9 @@ module _ (inner : Readers) (types_sound : ReadsTypes inner.types) (patterns_soun
           subst (Good elsewhere term_level ts) (some_one (PathExpression path, ws) r e)
           (record { spelled = subst (λ rest. Begins (path_spelling path) ts rest) (no_arguments a o.1 (Some true) us vs c ∙ o.0) b; is_proper = p; high = omega arith })
 
-  vector-sound : (place : Span) (whole ts : List Token) (r : ExpressionData × List Token) → Begins (word (codes "vector") (Some place) ∷ []) whole ts → vector_at inner place ts ≡ Some r → Good elsewhere term_level whole r
+  vector-sound : (span : Span) (whole ts : List Token) (r : ExpressionData × List Token) → Begins (word (codes "vector") (Some span) ∷ []) whole ts → vector_at inner span ts ≡ Some r → Good elsewhere term_level whole r
   unfolding vector_at
-  vector-sound place whole ts r front e =
+  vector-sound span whole ts r front e =
       let a = step (maybe_arguments_at inner.types ts) _ r e in
       let o = step (after_sign LeftBracket a.value.1) _ r a.then in
       let l = last (comma_list_at (after_sign RightBracket) (any inner) o.value) _ r o.then in
@@ -268,16 +268,16 @@ module _ (inner : Readers) (types_sound : ReadsTypes inner.types) (patterns_soun
       let s = list-sound RightBracket o.value l.value l.first in
       let inside = comma_list (expression_spellings (expressions_of l.value.0.0)) l.value.0.1 in
       subst (Good elsewhere term_level whole) l.then (record {
-        spelled = Begins-same _ _ whole l.value.1 (sym (regroup (word (codes "vector") (Some place) ∷ []) (maybe_arguments_spelling None a.value.0) inside (sign RightBracket ∷ []) (sign LeftBracket)))
-            (Begins-append (word (codes "vector") (Some place) ∷ []) _ whole ts l.value.1 front (Begins-append (maybe_arguments_spelling None a.value.0) _ ts a.value.1 l.value.1 arguments.0
+        spelled = Begins-same _ _ whole l.value.1 (sym (regroup (word (codes "vector") (Some span) ∷ []) (maybe_arguments_spelling None a.value.0) inside (sign RightBracket ∷ []) (sign LeftBracket)))
+            (Begins-append (word (codes "vector") (Some span) ∷ []) _ whole ts l.value.1 front (Begins-append (maybe_arguments_spelling None a.value.0) _ ts a.value.1 l.value.1 arguments.0
             (Begins-append (sign LeftBracket ∷ []) (inside ++ sign RightBracket ∷ []) a.value.1 o.value l.value.1 (after_sign-sound LeftBracket a.value.1 o.value o.first) s.0)));
         is_proper = (arguments.1, s.1, s.2);
         high = omega arith;
       })
 
-  assert-sound : (place : Span) (whole ts : List Token) (r : ExpressionData × List Token) → Begins (word (codes "assert") (Some place) ∷ sign Exclaim ∷ []) whole ts → assert_at inner place ts ≡ Some r → Good elsewhere term_level whole r
+  assert-sound : (span : Span) (whole ts : List Token) (r : ExpressionData × List Token) → Begins (word (codes "assert") (Some span) ∷ sign Exclaim ∷ []) whole ts → assert_at inner span ts ≡ Some r → Good elsewhere term_level whole r
   unfolding assert_at
-  assert-sound place whole ts r front e =
+  assert-sound span whole ts r front e =
       let o = step (after_sign LeftParenthesis ts) _ r e in
       let c = step (any inner o.value) _ r o.then in
       let m = step (after_sign comma_sign c.value.1) _ r c.then in
@@ -288,8 +288,8 @@ module _ (inner : Readers) (types_sound : ReadsTypes inner.types) (patterns_soun
       let behind_code = expression_spelling d.value.0 ++ sign RightParenthesis ∷ [] in
       let behind_condition = sign comma_sign ∷ behind_code in
       subst (Good elsewhere term_level whole) l.then (record {
-        spelled = Begins-same _ _ whole l.value (sym (assert_spelled (word (codes "assert") (Some place)) (expression_spelling c.value.0) (expression_spelling d.value.0)))
-            (Begins-append (word (codes "assert") (Some place) ∷ sign Exclaim ∷ []) (sign LeftParenthesis ∷ (expression_spelling c.value.0 ++ behind_condition)) whole ts l.value front
+        spelled = Begins-same _ _ whole l.value (sym (assert_spelled (word (codes "assert") (Some span)) (expression_spelling c.value.0) (expression_spelling d.value.0)))
+            (Begins-append (word (codes "assert") (Some span) ∷ sign Exclaim ∷ []) (sign LeftParenthesis ∷ (expression_spelling c.value.0 ++ behind_condition)) whole ts l.value front
             (Begins-append (sign LeftParenthesis ∷ []) (expression_spelling c.value.0 ++ behind_condition) ts o.value l.value (after_sign-sound LeftParenthesis ts o.value o.first)
             (Begins-append (expression_spelling c.value.0) behind_condition o.value c.value.1 l.value condition.0
             (Begins-append (sign comma_sign ∷ []) behind_code c.value.1 m.value l.value (after_sign-sound comma_sign c.value.1 m.value m.first)
@@ -327,25 +327,25 @@ module _ (inner : Readers) (types_sound : ReadsTypes inner.types) (patterns_soun
         ]
       ]
 
-  several-sound : (place : Span) (whole ts : List Token) (r : ExpressionData × List Token) → Begins (sign_at place LeftParenthesis ∷ []) whole ts → (first : ExpressionData) (xs : List ExpressionData) (last : Bool) (us vs rest : List Token) → Begins (expression_spelling first) ts us → IsProperExpression first → Begins (sign comma_sign ∷ []) us vs
-      → Begins (comma_list (expression_spellings (expressions_of xs)) last ++ sign RightParenthesis ∷ []) vs rest → AreProperExpressions (expressions_of xs) → several place first (xs, last) rest ≡ Some r → Good elsewhere term_level whole r
-  several-sound place whole ts r front first [] last us vs rest b p c d q e = absurd (cc)
-  several-sound place whole ts r front first (x ∷ xs) last us vs rest b p c d q e =
-      subst (Good elsewhere term_level whole) (some_one (TupleExpression place (MoreExpressions first (expressions_of (x ∷ xs))) last, rest) r e) (record {
-        spelled = Begins-append (sign_at place LeftParenthesis ∷ []) (comma_list (expression_spellings (expressions_of (first ∷ x ∷ xs))) last ++ sign RightParenthesis ∷ []) whole ts rest front
+  several-sound : (span : Span) (whole ts : List Token) (r : ExpressionData × List Token) → Begins (sign_at span LeftParenthesis ∷ []) whole ts → (first : ExpressionData) (xs : List ExpressionData) (last : Bool) (us vs rest : List Token) → Begins (expression_spelling first) ts us → IsProperExpression first → Begins (sign comma_sign ∷ []) us vs
+      → Begins (comma_list (expression_spellings (expressions_of xs)) last ++ sign RightParenthesis ∷ []) vs rest → AreProperExpressions (expressions_of xs) → several span first (xs, last) rest ≡ Some r → Good elsewhere term_level whole r
+  several-sound span whole ts r front first [] last us vs rest b p c d q e = absurd (cc)
+  several-sound span whole ts r front first (x ∷ xs) last us vs rest b p c d q e =
+      subst (Good elsewhere term_level whole) (some_one (TupleExpression span (MoreExpressions first (expressions_of (x ∷ xs))) last, rest) r e) (record {
+        spelled = Begins-append (sign_at span LeftParenthesis ∷ []) (comma_list (expression_spellings (expressions_of (first ∷ x ∷ xs))) last ++ sign RightParenthesis ∷ []) whole ts rest front
             (Begins-same _ _ ts rest (sym (several_spelled (expression_spelling first) (expression_spelling x) (expression_spellings (expressions_of xs)) last))
             (Begins-append (expression_spelling first) _ ts us rest b (Begins-append (sign comma_sign ∷ []) _ us vs rest c d)));
         is_proper = ((p, q), λ h. tt);
         high = omega arith;
       })
 
-  parenthesized-sound : (place : Span) (whole ts : List Token) (r : ExpressionData × List Token) → Begins (sign_at place LeftParenthesis ∷ []) whole ts → parenthesized_at inner place ts ≡ Some r → Good elsewhere term_level whole r
+  parenthesized-sound : (span : Span) (whole ts : List Token) (r : ExpressionData × List Token) → Begins (sign_at span LeftParenthesis ∷ []) whole ts → parenthesized_at inner span ts ≡ Some r → Good elsewhere term_level whole r
   unfolding parenthesized_at
-  parenthesized-sound place whole ts r front e =
+  parenthesized-sound span whole ts r front e =
       elim (either (after_sign RightParenthesis ts) _ _ r e) [
         | inl s ↦
-            subst (Good elsewhere term_level whole) (some_one (TupleExpression place NoExpressions false, s.value) r s.then) (record {
-              spelled = Begins-append (sign_at place LeftParenthesis ∷ []) (sign RightParenthesis ∷ []) whole ts s.value front (after_sign-sound RightParenthesis ts s.value s.first);
+            subst (Good elsewhere term_level whole) (some_one (TupleExpression span NoExpressions false, s.value) r s.then) (record {
+              spelled = Begins-append (sign_at span LeftParenthesis ∷ []) (sign RightParenthesis ∷ []) whole ts s.value front (after_sign-sound RightParenthesis ts s.value s.first);
               is_proper = (tt, λ h. absurd (cc));
               high = omega arith;
             })
@@ -356,10 +356,10 @@ module _ (inner : Readers) (types_sound : ReadsTypes inner.types) (patterns_soun
             by_form f.value.0 g.value.0 f.value.1 g.value.1 first.0 first.1 (behind_first_at-sound f.value.1 g.value g.first) g.then
       ]
     where
-      by_form : (first : ExpressionData) (form : BehindFirst) (us vs : List Token) → Begins (expression_spelling first) ts us → IsProperExpression first → Behind form us vs → behind_first inner place first form vs ≡ Some r → Good elsewhere term_level whole r
+      by_form : (first : ExpressionData) (form : BehindFirst) (us vs : List Token) → Begins (expression_spelling first) ts us → IsProperExpression first → Behind form us vs → behind_first inner span first form vs ≡ Some r → Good elsewhere term_level whole r
       by_form first Close us vs b p c e =
-          subst (Good elsewhere term_level whole) (some_one (TupleExpression place (MoreExpressions first NoExpressions) false, vs) r e) (record {
-            spelled = Begins-append (sign_at place LeftParenthesis ∷ []) ((((expression_spelling first ++ []) ++ []) ++ sign RightParenthesis ∷ [])) whole ts vs front
+          subst (Good elsewhere term_level whole) (some_one (TupleExpression span (MoreExpressions first NoExpressions) false, vs) r e) (record {
+            spelled = Begins-append (sign_at span LeftParenthesis ∷ []) ((((expression_spelling first ++ []) ++ []) ++ sign RightParenthesis ∷ [])) whole ts vs front
                 (Begins-same (expression_spelling first ++ sign RightParenthesis ∷ []) _ ts vs (ap (λ l. l ++ sign RightParenthesis ∷ []) (sym (append-nil (expression_spelling first ++ []) ∙ append-nil (expression_spelling first))))
                 (Begins-append (expression_spelling first) (sign RightParenthesis ∷ []) ts us vs b c));
             is_proper = ((p, tt), λ h. absurd (cc));
@@ -369,15 +369,15 @@ module _ (inner : Readers) (types_sound : ReadsTypes inner.types) (patterns_soun
           let t = last (cast_target_at inner.types vs) _ r e in
           let read = cast_target-sound vs t.value t.first in
           subst (Good elsewhere term_level whole) t.then (record {
-            spelled = Begins-same _ _ whole t.value.1 (sym (cast_spelled (sign_at place LeftParenthesis) (expression_spelling first) (type_spelling t.value.0)))
-                (Begins-append (sign_at place LeftParenthesis ∷ []) _ whole ts t.value.1 front (Begins-append (expression_spelling first) _ ts us t.value.1 b (Begins-append (word (codes "as") None ∷ []) _ us vs t.value.1 c read.0)));
+            spelled = Begins-same _ _ whole t.value.1 (sym (cast_spelled (sign_at span LeftParenthesis) (expression_spelling first) (type_spelling t.value.0)))
+                (Begins-append (sign_at span LeftParenthesis ∷ []) _ whole ts t.value.1 front (Begins-append (expression_spelling first) _ ts us t.value.1 b (Begins-append (word (codes "as") None ∷ []) _ us vs t.value.1 c read.0)));
             is_proper = (p, read.1);
             high = omega arith;
           })
       by_form first Comma us vs b p c e =
           let l = step (comma_list_at (after_sign RightParenthesis) (any inner) vs) _ r e in
           let s = list-sound RightParenthesis vs l.value l.first in
-          several-sound place whole ts r front first l.value.0.0 l.value.0.1 us vs l.value.1 b p c s.0 s.1 l.then
+          several-sound span whole ts r front first l.value.0.0 l.value.0.1 us vs l.value.1 b p c s.0 s.1 l.then
 
   -- ---- blocks
 
@@ -404,9 +404,9 @@ module _ (inner : Readers) (types_sound : ReadsTypes inner.types) (patterns_soun
         | inr n ↦ subst (λ q. Begins (initial_spelling (maybe_expression_of q.0)) ts q.1 × IsProperMaybe (maybe_expression_of q.0)) (some_one (None, ts) r n.1) (refl, tt)
       ]
 
-  let-sound : (place : Span) (whole ts : List Token) (r : ItemData × List Token) → Begins (word (codes "let") (Some place) ∷ []) whole ts → let_at inner place ts ≡ Some r → Begins (item_spelling r.0) whole r.1 × IsProperItem r.0
+  let-sound : (span : Span) (whole ts : List Token) (r : ItemData × List Token) → Begins (word (codes "let") (Some span) ∷ []) whole ts → let_at inner span ts ≡ Some r → Begins (item_spelling r.0) whole r.1 × IsProperItem r.0
   unfolding let_at
-  let-sound place whole ts r front e =
+  let-sound span whole ts r front e =
       let p = step (inner.patterns ts) _ r e in
       let a = step (annotation_at inner.types p.value.1) _ r p.then in
       let v = step (initial_at inner a.value.1) _ r a.then in
@@ -415,8 +415,8 @@ module _ (inner : Readers) (types_sound : ReadsTypes inner.types) (patterns_soun
       let annotation = annotation-sound p.value.1 a.value a.first in
       let value = initial-sound a.value.1 v.value v.first in
       subst (λ q. Begins (item_spelling q.0) whole q.1 × IsProperItem q.0) l.then (
-        Begins-same _ _ whole l.value (sym (let_spelled (word (codes "let") (Some place)) (pattern_spelling p.value.0) (annotation_spelling a.value.0) (initial_spelling (maybe_expression_of v.value.0)) (sign Semicolon ∷ [])))
-            (Begins-append (word (codes "let") (Some place) ∷ []) _ whole ts l.value front
+        Begins-same _ _ whole l.value (sym (let_spelled (word (codes "let") (Some span)) (pattern_spelling p.value.0) (annotation_spelling a.value.0) (initial_spelling (maybe_expression_of v.value.0)) (sign Semicolon ∷ [])))
+            (Begins-append (word (codes "let") (Some span) ∷ []) _ whole ts l.value front
             (Begins-append (pattern_spelling p.value.0) _ ts p.value.1 l.value pattern.0
             (Begins-append (annotation_spelling a.value.0) _ p.value.1 a.value.1 l.value annotation.0
             (Begins-append (initial_spelling (maybe_expression_of v.value.0)) (sign Semicolon ∷ []) a.value.1 v.value.1 l.value value.0 (after_sign-sound Semicolon v.value.1 l.value l.first))))),
@@ -443,10 +443,10 @@ module _ (inner : Readers) (types_sound : ReadsTypes inner.types) (patterns_soun
   step-sound ts r e =
       elim (either (after_sign RightBrace ts) _ _ r e) [
         | inl s ↦ subst (λ q. Stepped q.0 ts q.1) (some_one (End None, s.value) r s.then) (after_sign-sound RightBrace ts s.value s.first, tt)
-        | inr n ↦ elim (either (word_place_at (codes "let") ts) _ _ r n.1) [
+        | inr n ↦ elim (either (word_span_at (codes "let") ts) _ _ r n.1) [
           | inl s ↦
               let i = last (let_at inner s.value.0 s.value.1) (λ item. (One item.0, item.1)) r s.then in
-              subst (λ q. Stepped q.0 ts q.1) i.then (let-sound s.value.0 ts s.value.1 i.value (word_place_at-sound (codes "let") ts s.value s.first) i.first)
+              subst (λ q. Stepped q.0 ts q.1) i.then (let-sound s.value.0 ts s.value.1 i.value (word_span_at-sound (codes "let") ts s.value s.first) i.first)
           | inr m ↦
               let x = step (any inner ts) _ r m.1 in
               let read = any-sound ts x.value x.first in
@@ -479,14 +479,14 @@ module _ (inner : Readers) (types_sound : ReadsTypes inner.types) (patterns_soun
             value_proper = others.value_proper;
           })
 
-  block-sound : (place : Span) (whole ts : List Token) (r : ExpressionData × List Token) → Begins (sign_at place LeftBrace ∷ []) whole ts → block_at inner place ts ≡ Some r → Good elsewhere term_level whole r
+  block-sound : (span : Span) (whole ts : List Token) (r : ExpressionData × List Token) → Begins (sign_at span LeftBrace ∷ []) whole ts → block_at inner span ts ≡ Some r → Good elsewhere term_level whole r
   unfolding block_at
-  block-sound place whole ts r front e =
+  block-sound span whole ts r front e =
       let l = last (whole_contents_at inner ts) _ r e in
       let c = contents-sound (length ts) ts l.value l.first in
       subst (Good elsewhere term_level whole) l.then (record {
-        spelled = Begins-same _ _ whole l.value.1 (sym (block_spelled (sign_at place LeftBrace) (items_spelling (items_of l.value.0.0)) (maybe_expression_spelling (maybe_expression_of l.value.0.1)) (sign RightBrace ∷ [])))
-            (Begins-append (sign_at place LeftBrace ∷ []) _ whole ts l.value.1 front c.spelled);
+        spelled = Begins-same _ _ whole l.value.1 (sym (block_spelled (sign_at span LeftBrace) (items_spelling (items_of l.value.0.0)) (maybe_expression_spelling (maybe_expression_of l.value.0.1)) (sign RightBrace ∷ [])))
+            (Begins-append (sign_at span LeftBrace ∷ []) _ whole ts l.value.1 front c.spelled);
         is_proper = (tt, c.items_proper, c.value_proper);
         high = omega arith;
       })
@@ -529,24 +529,24 @@ module _ (inner : Readers) (types_sound : ReadsTypes inner.types) (patterns_soun
   none_is_none : (rest : List Token) → ◌≡◌ {A = Option (List Token)} None (Some rest) → ⊥
   none_is_none rest g = cc
 
-  if_front : (place : Span) (whole a b c d f : List Token) (x y : ExpressionData) → Begins (word (codes "if") (Some place) ∷ []) whole a → Begins (sign LeftParenthesis ∷ []) a b → Begins (expression_spelling x) b c → Begins (sign RightParenthesis ∷ []) c d → Begins (expression_spelling y) d f
-      → Begins (word (codes "if") (Some place) ∷ sign LeftParenthesis ∷ (expression_spelling x ++ sign RightParenthesis ∷ expression_spelling y)) whole f
-  if_front place whole a b c d f x y p q r s t =
+  if_front : (span : Span) (whole a b c d f : List Token) (x y : ExpressionData) → Begins (word (codes "if") (Some span) ∷ []) whole a → Begins (sign LeftParenthesis ∷ []) a b → Begins (expression_spelling x) b c → Begins (sign RightParenthesis ∷ []) c d → Begins (expression_spelling y) d f
+      → Begins (word (codes "if") (Some span) ∷ sign LeftParenthesis ∷ (expression_spelling x ++ sign RightParenthesis ∷ expression_spelling y)) whole f
+  if_front span whole a b c d f x y p q r s t =
       let behind = sign RightParenthesis ∷ expression_spelling y in
-      Begins-append (word (codes "if") (Some place) ∷ []) (sign LeftParenthesis ∷ (expression_spelling x ++ behind)) whole a f p (Begins-append (sign LeftParenthesis ∷ []) (expression_spelling x ++ behind) a b f q
+      Begins-append (word (codes "if") (Some span) ∷ []) (sign LeftParenthesis ∷ (expression_spelling x ++ behind)) whole a f p (Begins-append (sign LeftParenthesis ∷ []) (expression_spelling x ++ behind) a b f q
       (Begins-append (expression_spelling x) behind b c f r (Begins-append (sign RightParenthesis ∷ []) (expression_spelling y) c d f s t)))
 
-  else-sound : (place : Span) (x y : ExpressionData) (whole ts : List Token) (r : ExpressionData × List Token) → Begins (word (codes "if") (Some place) ∷ sign LeftParenthesis ∷ (expression_spelling x ++ sign RightParenthesis ∷ expression_spelling y)) whole ts
-      → IsProperExpression x → IsProperExpression y → (takes_else y ≡ true → after_word (codes "else") ts ≡ None) → else_at inner place x y ts ≡ Some r → ReadFree whole r
+  else-sound : (span : Span) (x y : ExpressionData) (whole ts : List Token) (r : ExpressionData × List Token) → Begins (word (codes "if") (Some span) ∷ sign LeftParenthesis ∷ (expression_spelling x ++ sign RightParenthesis ∷ expression_spelling y)) whole ts
+      → IsProperExpression x → IsProperExpression y → (takes_else y ≡ true → after_word (codes "else") ts ≡ None) → else_at inner span x y ts ≡ Some r → ReadFree whole r
   unfolding else_at
-  else-sound place x y whole ts r front p q free e =
+  else-sound span x y whole ts r front p q free e =
       elim (either (after_word (codes "else") ts) _ _ r e) [
         | inl s ↦
             let z = last (any inner s.value) _ r s.then in
             let read = sound 0 s.value z.value (omega arith) z.first in
             subst (ReadFree whole) z.then (record {
               good = record {
-                spelled = Begins-append (word (codes "if") (Some place) ∷ sign LeftParenthesis ∷ (expression_spelling x ++ sign RightParenthesis ∷ expression_spelling y)) (word (codes "else") None ∷ expression_spelling z.value.0) whole ts z.value.1 front
+                spelled = Begins-append (word (codes "if") (Some span) ∷ sign LeftParenthesis ∷ (expression_spelling x ++ sign RightParenthesis ∷ expression_spelling y)) (word (codes "else") None ∷ expression_spelling z.value.0) whole ts z.value.1 front
                     (Begins-append (word (codes "else") None ∷ []) (expression_spelling z.value.0) ts s.value z.value.1 (after_word-sound (codes "else") ts s.value s.first) read.joined.spelled);
                 is_proper = (p, q, read.joined.is_proper, leaves (takes_else y) refl s.value s.first);
                 high = omega arith;
@@ -554,8 +554,8 @@ module _ (inner : Readers) (types_sound : ReadsTypes inner.types) (patterns_soun
               free = read.free;
             })
         | inr n ↦
-            subst (ReadFree whole) (some_one (IfExpression place x y NoExpression, ts) r n.1) (record {
-              good = record { spelled = Begins-same _ _ whole ts (sym (append-nil (word (codes "if") (Some place) ∷ sign LeftParenthesis ∷ (expression_spelling x ++ sign RightParenthesis ∷ expression_spelling y)))) front; is_proper = (p, q, tt, tt); high = omega arith };
+            subst (ReadFree whole) (some_one (IfExpression span x y NoExpression, ts) r n.1) (record {
+              good = record { spelled = Begins-same _ _ whole ts (sym (append-nil (word (codes "if") (Some span) ∷ sign LeftParenthesis ∷ (expression_spelling x ++ sign RightParenthesis ∷ expression_spelling y)))) front; is_proper = (p, q, tt, tt); high = omega arith };
               free = λ h. n.0;
             })
       ]
@@ -564,22 +564,22 @@ module _ (inner : Readers) (types_sound : ReadsTypes inner.types) (patterns_soun
       leaves false is rest h = is
       leaves true is rest h = absurd (none_is_none rest (sym (free is) ∙ h))
 
-  if-sound : (place : Span) (whole ts : List Token) (r : ExpressionData × List Token) → Begins (word (codes "if") (Some place) ∷ []) whole ts → if_at inner place ts ≡ Some r → ReadFree whole r
+  if-sound : (span : Span) (whole ts : List Token) (r : ExpressionData × List Token) → Begins (word (codes "if") (Some span) ∷ []) whole ts → if_at inner span ts ≡ Some r → ReadFree whole r
   unfolding if_at
-  if-sound place whole ts r front e =
+  if-sound span whole ts r front e =
       let o = step (after_sign LeftParenthesis ts) _ r e in
       let x = step (any inner o.value) _ r o.then in
       let c = step (after_sign RightParenthesis x.value.1) _ r x.then in
       let y = step (any inner c.value) _ r c.then in
       let condition = sound 0 o.value x.value (omega arith) x.first in
       let branch = sound 0 c.value y.value (omega arith) y.first in
-      else-sound place x.value.0 y.value.0 whole y.value.1 r
-      (if_front place whole ts o.value x.value.1 c.value y.value.1 x.value.0 y.value.0 front (after_sign-sound LeftParenthesis ts o.value o.first) condition.joined.spelled (after_sign-sound RightParenthesis x.value.1 c.value c.first) branch.joined.spelled)
+      else-sound span x.value.0 y.value.0 whole y.value.1 r
+      (if_front span whole ts o.value x.value.1 c.value y.value.1 x.value.0 y.value.0 front (after_sign-sound LeftParenthesis ts o.value o.first) condition.joined.spelled (after_sign-sound RightParenthesis x.value.1 c.value c.first) branch.joined.spelled)
       condition.joined.is_proper branch.joined.is_proper branch.free y.then
 
-  while-sound : (place : Span) (whole ts : List Token) (r : ExpressionData × List Token) → Begins (word (codes "while") (Some place) ∷ []) whole ts → while_at inner place ts ≡ Some r → ReadFree whole r
+  while-sound : (span : Span) (whole ts : List Token) (r : ExpressionData × List Token) → Begins (word (codes "while") (Some span) ∷ []) whole ts → while_at inner span ts ≡ Some r → ReadFree whole r
   unfolding while_at
-  while-sound place whole ts r front e =
+  while-sound span whole ts r front e =
       let o = step (after_sign LeftParenthesis ts) _ r e in
       let x = step (body_at inner true o.value) _ r o.then in
       let c = step (after_sign RightParenthesis x.value.1) _ r x.then in
@@ -588,7 +588,7 @@ module _ (inner : Readers) (types_sound : ReadsTypes inner.types) (patterns_soun
       let body = sound 0 c.value y.value (omega arith) y.first in
       subst (ReadFree whole) y.then (record {
         good = record {
-          spelled = Begins-append (word (codes "while") (Some place) ∷ []) (sign LeftParenthesis ∷ (expression_spelling x.value.0 ++ sign RightParenthesis ∷ expression_spelling y.value.0)) whole ts y.value.1 front
+          spelled = Begins-append (word (codes "while") (Some span) ∷ []) (sign LeftParenthesis ∷ (expression_spelling x.value.0 ++ sign RightParenthesis ∷ expression_spelling y.value.0)) whole ts y.value.1 front
               (Begins-append (sign LeftParenthesis ∷ []) (expression_spelling x.value.0 ++ sign RightParenthesis ∷ expression_spelling y.value.0) ts o.value y.value.1 (after_sign-sound LeftParenthesis ts o.value o.first)
               (Begins-append (expression_spelling x.value.0) (sign RightParenthesis ∷ expression_spelling y.value.0) o.value x.value.1 y.value.1 condition.read.0
               (Begins-append (sign RightParenthesis ∷ []) (expression_spelling y.value.0) x.value.1 c.value y.value.1 (after_sign-sound RightParenthesis x.value.1 c.value c.first) body.joined.spelled)));
@@ -598,64 +598,64 @@ module _ (inner : Readers) (types_sound : ReadsTypes inner.types) (patterns_soun
         free = body.free;
       })
 
-  return-sound : (place : Span) (whole ts : List Token) (r : ExpressionData × List Token) → Begins (word (codes "return") (Some place) ∷ []) whole ts → return_at inner place ts ≡ Some r → ReadFree whole r
+  return-sound : (span : Span) (whole ts : List Token) (r : ExpressionData × List Token) → Begins (word (codes "return") (Some span) ∷ []) whole ts → return_at inner span ts ≡ Some r → ReadFree whole r
   unfolding return_at
-  return-sound place whole ts r front e =
+  return-sound span whole ts r front e =
       elim (either_read (may_begin ts) _ _ r e) [
         | inl s ↦
-            let v = last (any inner ts) (λ value. (ReturnExpression place (SomeExpression value.0), value.1)) r s.1 in
+            let v = last (any inner ts) (λ value. (ReturnExpression span (SomeExpression value.0), value.1)) r s.1 in
             let read = sound 0 ts v.value (omega arith) v.first in
             subst (ReadFree whole) v.then (record {
-              good = record { spelled = Begins-append (word (codes "return") (Some place) ∷ []) (expression_spelling v.value.0) whole ts v.value.1 front read.joined.spelled; is_proper = read.joined.is_proper; high = omega arith };
+              good = record { spelled = Begins-append (word (codes "return") (Some span) ∷ []) (expression_spelling v.value.0) whole ts v.value.1 front read.joined.spelled; is_proper = read.joined.is_proper; high = omega arith };
               free = read.free;
             })
-        | inr n ↦ subst (ReadFree whole) (some_one (ReturnExpression place NoExpression, ts) r n.1) (record { good = record { spelled = front; is_proper = tt; high = omega arith }; free = λ h. absurd (cc) })
+        | inr n ↦ subst (ReadFree whole) (some_one (ReturnExpression span NoExpression, ts) r n.1) (record { good = record { spelled = front; is_proper = tt; high = omega arith }; free = λ h. absurd (cc) })
       ]
 
-  control-sound : (c : Control) (place : Span) (whole ts : List Token) (r : ExpressionData × List Token) → Begins (word (control_word c) (Some place) ∷ []) whole ts → control_form inner c place ts ≡ Some r → ReadFree whole r
-  control-sound If place whole ts r front e = if-sound place whole ts r front e
-  control-sound While place whole ts r front e = while-sound place whole ts r front e
-  control-sound Loop place whole ts r front e =
-      let b = last (body_at inner false ts) (λ body. (LoopExpression place body.0, body.1)) r e in
+  control-sound : (c : Control) (span : Span) (whole ts : List Token) (r : ExpressionData × List Token) → Begins (word (control_word c) (Some span) ∷ []) whole ts → control_form inner c span ts ≡ Some r → ReadFree whole r
+  control-sound If span whole ts r front e = if-sound span whole ts r front e
+  control-sound While span whole ts r front e = while-sound span whole ts r front e
+  control-sound Loop span whole ts r front e =
+      let b = last (body_at inner false ts) (λ body. (LoopExpression span body.0, body.1)) r e in
       let body = body-sound false ts b.value b.first in
       subst (ReadFree whole) b.then (record {
-        good = record { spelled = Begins-append (word (codes "loop") (Some place) ∷ []) (expression_spelling b.value.0) whole ts b.value.1 front body.read.0; is_proper = body.read.1; high = omega arith };
+        good = record { spelled = Begins-append (word (codes "loop") (Some span) ∷ []) (expression_spelling b.value.0) whole ts b.value.1 front body.read.0; is_proper = body.read.1; high = omega arith };
         free = body.free;
       })
-  control-sound Return place whole ts r front e = return-sound place whole ts r front e
-  control-sound Abort place whole ts r front e =
-      let v = last (any inner ts) (λ code. (AbortExpression place code.0, code.1)) r e in
+  control-sound Return span whole ts r front e = return-sound span whole ts r front e
+  control-sound Abort span whole ts r front e =
+      let v = last (any inner ts) (λ code. (AbortExpression span code.0, code.1)) r e in
       let read = sound 0 ts v.value (omega arith) v.first in
       subst (ReadFree whole) v.then (record {
-        good = record { spelled = Begins-append (word (codes "abort") (Some place) ∷ []) (expression_spelling v.value.0) whole ts v.value.1 front read.joined.spelled; is_proper = read.joined.is_proper; high = omega arith };
+        good = record { spelled = Begins-append (word (codes "abort") (Some span) ∷ []) (expression_spelling v.value.0) whole ts v.value.1 front read.joined.spelled; is_proper = read.joined.is_proper; high = omega arith };
         free = read.free;
       })
-  control-sound Break place whole ts r front e = subst (ReadFree whole) (some_one (BreakExpression place, ts) r e) (record { good = record { spelled = front; is_proper = tt; high = omega arith }; free = λ h. absurd (cc) })
-  control-sound Continue place whole ts r front e = subst (ReadFree whole) (some_one (ContinueExpression place, ts) r e) (record { good = record { spelled = front; is_proper = tt; high = omega arith }; free = λ h. absurd (cc) })
+  control-sound Break span whole ts r front e = subst (ReadFree whole) (some_one (BreakExpression span, ts) r e) (record { good = record { spelled = front; is_proper = tt; high = omega arith }; free = λ h. absurd (cc) })
+  control-sound Continue span whole ts r front e = subst (ReadFree whole) (some_one (ContinueExpression span, ts) r e) (record { good = record { spelled = front; is_proper = tt; high = omega arith }; free = λ h. absurd (cc) })
 
   -- ---- operands
 
   term-sound : (ts : List Token) (r : ExpressionData × List Token) → term_at inner ts ≡ Some r → Good elsewhere term_level ts r
   unfolding term_at
   term-sound ts r e =
-      elim (either (sign_place_at LeftParenthesis ts) _ _ r e) [
-        | inl s ↦ parenthesized-sound s.value.0 ts s.value.1 r (sign_place_at-sound LeftParenthesis ts s.value s.first) s.then
-        | inr n ↦ elim (either (sign_place_at LeftBrace ts) _ _ r n.1) [
-          | inl s ↦ block-sound s.value.0 ts s.value.1 r (sign_place_at-sound LeftBrace ts s.value s.first) s.then
-          | inr n ↦ elim (either (sign_place_at AtSign ts) _ _ r n.1) [
+      elim (either (sign_span_at LeftParenthesis ts) _ _ r e) [
+        | inl s ↦ parenthesized-sound s.value.0 ts s.value.1 r (sign_span_at-sound LeftParenthesis ts s.value s.first) s.then
+        | inr n ↦ elim (either (sign_span_at LeftBrace ts) _ _ r n.1) [
+          | inl s ↦ block-sound s.value.0 ts s.value.1 r (sign_span_at-sound LeftBrace ts s.value s.first) s.then
+          | inr n ↦ elim (either (sign_span_at AtSign ts) _ _ r n.1) [
             | inl s ↦
                 let a = last (address_at s.value.1) (λ a. (LiteralExpression (address_literal s.value.0 a.0), a.1)) r s.then in
                 let address = address_at-sound s.value.1 a.value a.first in
                 subst (Good elsewhere term_level ts) a.then
-                (record { spelled = Begins-append (sign_at s.value.0 AtSign ∷ []) (address_spelling a.value.0) ts s.value.1 a.value.1 (sign_place_at-sound AtSign ts s.value s.first) address.0; is_proper = address.1; high = omega arith })
+                (record { spelled = Begins-append (sign_at s.value.0 AtSign ∷ []) (address_spelling a.value.0) ts s.value.1 a.value.1 (sign_span_at-sound AtSign ts s.value s.first) address.0; is_proper = address.1; high = omega arith })
             | inr n ↦ elim (either (plain_literal_at ts) _ _ r n.1) [
               | inl s ↦
                   let l = plain_literal_at-sound ts s.value s.first in
                   subst (Good elsewhere term_level ts) (some_one (LiteralExpression s.value.0, s.value.1) r s.then) (record { spelled = l.0; is_proper = l.1; high = omega arith })
-              | inr n ↦ elim (either (vector_place_at ts) _ _ r n.1) [
-                | inl s ↦ vector-sound s.value.0 ts s.value.1 r (vector_place_at-sound ts s.value s.first) s.then
-                | inr n ↦ elim (either (assert_place_at ts) _ _ r n.1) [
-                  | inl s ↦ assert-sound s.value.0 ts s.value.1 r (assert_place_at-sound ts s.value s.first) s.then
+              | inr n ↦ elim (either (vector_span_at ts) _ _ r n.1) [
+                | inl s ↦ vector-sound s.value.0 ts s.value.1 r (vector_span_at-sound ts s.value s.first) s.then
+                | inr n ↦ elim (either (assert_span_at ts) _ _ r n.1) [
+                  | inl s ↦ assert-sound s.value.0 ts s.value.1 r (assert_span_at-sound ts s.value s.first) s.then
                   | inr n ↦ path_term-sound ts r n.1
                 ]
               ]
@@ -723,14 +723,14 @@ module _ (inner : Readers) (types_sound : ReadsTypes inner.types) (patterns_soun
   behind_operand-sound : (x : ExpressionData) (whole ts : List Token) (r : ExpressionData × List Token) → Good elsewhere unary_level whole (x, ts) → behind_operand inner x ts ≡ Some r → ReadFree whole r
   unfolding behind_operand
   behind_operand-sound x whole ts r g e =
-      elim (either (sign_place_at Equal ts) _ _ r e) [
+      elim (either (sign_span_at Equal ts) _ _ r e) [
         | inl s ↦
             let v = last (any inner s.value.1) (λ value. (AssignExpression x s.value.0 value.0, value.1)) r s.then in
             let read = sound 0 s.value.1 v.value (omega arith) v.first in
             subst (ReadFree whole) v.then (record {
               good = record {
                 spelled = Begins-append (expression_spelling x) (sign_at s.value.0 Equal ∷ expression_spelling v.value.0) whole ts v.value.1 g.spelled
-                    (Begins-append (sign_at s.value.0 Equal ∷ []) (expression_spelling v.value.0) ts s.value.1 v.value.1 (sign_place_at-sound Equal ts s.value s.first) read.joined.spelled);
+                    (Begins-append (sign_at s.value.0 Equal ∷ []) (expression_spelling v.value.0) ts s.value.1 v.value.1 (sign_span_at-sound Equal ts s.value s.first) read.joined.spelled);
                 is_proper = (g.is_proper, g.high, read.joined.is_proper);
                 high = omega arith;
               };

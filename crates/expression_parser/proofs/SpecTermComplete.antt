@@ -24,11 +24,11 @@ use Rattle.syntax_tree.specs.SpecExpressionData.{SpecExpressionData, SpecBinary,
 use Rattle.syntax_tree.specs.SpecExpressionSpelling.{ends_in_path, spec_spelling, spec_spellings, spec_field_spelling, spec_field_spellings}
 use Rattle.syntax_tree.specs.ProperSpecExpressions.{level, AreSome, AreSomeFields, IsProperSpec, IsProperField, AreProperSpecs, AreProperFields}
 use Rattle.parser_base.specs.Beginnings.{Begins}
-use Rattle.parser_base.specs.TokenReading.{Read, is_sign, after_sign, sign_place_at, identifier_at}
+use Rattle.parser_base.specs.TokenReading.{Read, is_sign, after_sign, sign_span_at, identifier_at}
 use Rattle.parser_base.specs.ListReading.{comma_list_at}
 use Rattle.parser_base.proofs.Steps.{bind_some, map_some, map_or_none, map_or_some}
 use Rattle.parser_base.proofs.BeginLemmas.{Begins-split, Begins-first, Begins-same, length-Begins}
-use Rattle.parser_base.proofs.TokenLemmas.{after_sign-complete, after_sign-other, sign_place_at-complete, sign_place_at-other, sign_place_at-none, identifier_at-complete}
+use Rattle.parser_base.proofs.TokenLemmas.{after_sign-complete, after_sign-other, sign_span_at-complete, sign_span_at-other, sign_span_at-none, identifier_at-complete}
 use Rattle.parser_base.proofs.ListLemmas.{comma_list_at-complete}
 use Rattle.parser_base.specs.PathReading.{path_at}
 use Rattle.parser_base.specs.TypeReading.{arguments_at}
@@ -91,14 +91,14 @@ sign_ends packs s n ls ts rest b = record {
 }
 
 -- A word that opens no bind ends it too, such as `else`.
-pub word_ends : (packs : Bool) (w : List ℕ) (place : Option Span) (ls : List Lexeme) (ts rest : List Token) → Begins (word w place ∷ ls) ts rest → opens_bind ts ≡ false → SpecEnds packs ts
-word_ends packs w place ls ts rest b n = record {
-  no_colons = after_sign-other ColonColon (word w place) ls ts rest refl b;
-  no_call = after_sign-other LeftParenthesis (word w place) ls ts rest refl b;
-  no_pack = λ h. after_sign-other LeftBrace (word w place) ls ts rest refl b;
-  no_arguments = after_glued-other Less (word w place) ls ts rest refl b;
-  no_postfix = has_postfix-other (word w place) ls ts rest refl refl b;
-  no_operator = spec_operator_at-other false (word w place) ls ts rest refl b;
+pub word_ends : (packs : Bool) (w : List ℕ) (span : Option Span) (ls : List Lexeme) (ts rest : List Token) → Begins (word w span ∷ ls) ts rest → opens_bind ts ≡ false → SpecEnds packs ts
+word_ends packs w span ls ts rest b n = record {
+  no_colons = after_sign-other ColonColon (word w span) ls ts rest refl b;
+  no_call = after_sign-other LeftParenthesis (word w span) ls ts rest refl b;
+  no_pack = λ h. after_sign-other LeftBrace (word w span) ls ts rest refl b;
+  no_arguments = after_glued-other Less (word w span) ls ts rest refl b;
+  no_postfix = has_postfix-other (word w span) ls ts rest refl refl b;
+  no_operator = spec_operator_at-other false (word w span) ls ts rest refl b;
   no_bind = n;
 }
 
@@ -131,9 +131,9 @@ bracket_no_sign s (SomeArguments (Arguments items last)) l ls ts rest c d b = af
 
 literal_no_exclaim : (l : Literal) (ls : List Lexeme) (ts rest : List Token) → Begins (literal_spelling l ++ ls) ts rest → after_sign Exclaim ts ≡ None
 literal_no_exclaim (number_literal n) ls ts rest b = after_sign-other Exclaim (numeral n) ls ts rest refl b
-literal_no_exclaim (Truth place true) ls ts rest b = after_sign-other Exclaim (word (codes "true") (Some place)) ls ts rest refl b
-literal_no_exclaim (Truth place false) ls ts rest b = after_sign-other Exclaim (word (codes "false") (Some place)) ls ts rest refl b
-literal_no_exclaim (address_literal place address) ls ts rest b = after_sign-other Exclaim (sign_at place AtSign) (address_spelling address ++ ls) ts rest refl b
+literal_no_exclaim (Truth span true) ls ts rest b = after_sign-other Exclaim (word (codes "true") (Some span)) ls ts rest refl b
+literal_no_exclaim (Truth span false) ls ts rest b = after_sign-other Exclaim (word (codes "false") (Some span)) ls ts rest refl b
+literal_no_exclaim (address_literal span address) ls ts rest b = after_sign-other Exclaim (sign_at span AtSign) (address_spelling address ++ ls) ts rest refl b
 
 applied_no_exclaim : (p : Path) (a : MaybeArgumentsData) (l : Lexeme) (inside close ls : List Lexeme) (ts rest : List Token) → Begins ((((path_spelling p ++ maybe_arguments_spelling (Some true) a) ++ l ∷ inside) ++ close) ++ ls) ts rest → IsProperPath p → after_sign Exclaim ts ≡ None
 applied_no_exclaim p a l inside close ls ts rest b q =
@@ -141,10 +141,10 @@ applied_no_exclaim p a l inside close ls ts rest b q =
     (Begins-same _ _ ts rest (append_assoc ((path_spelling p ++ maybe_arguments_spelling (Some true) a) ++ l ∷ inside) close ls ∙ three_behind (path_spelling p) (maybe_arguments_spelling (Some true) a) (l ∷ inside) (close ++ ls)) b) q
 
 pub term_no_exclaim : (e : SpecExpressionData) (ls : List Lexeme) (ts rest : List Token) → Begins (spec_spelling e ++ ls) ts rest → IsProperSpec e → term_level ≤ level e → after_sign Exclaim ts ≡ None
-term_no_exclaim (SpecBinary left operator place right) ls ts rest b p h = absurd (omega (arith, h, (level_is_some operator).1))
-term_no_exclaim (SpecQuantified quantifier place binds _ body) ls ts rest b p h = absurd (omega (arith, h))
-term_no_exclaim (SpecIf place condition then_branch else_branch) ls ts rest b p h = absurd (omega (arith, h))
-term_no_exclaim (SpecNot place operand) ls ts rest b p h = absurd (omega (arith, h))
+term_no_exclaim (SpecBinary left operator span right) ls ts rest b p h = absurd (omega (arith, h, (level_is_some operator).1))
+term_no_exclaim (SpecQuantified quantifier span binds _ body) ls ts rest b p h = absurd (omega (arith, h))
+term_no_exclaim (SpecIf span condition then_branch else_branch) ls ts rest b p h = absurd (omega (arith, h))
+term_no_exclaim (SpecNot span operand) ls ts rest b p h = absurd (omega (arith, h))
 term_no_exclaim (SpecField base field) ls ts rest b p h =
     term_no_exclaim base (sign Period ∷ identifier field ∷ ls) ts rest (Begins-same _ _ ts rest (append_assoc (spec_spelling base) (sign Period ∷ identifier field ∷ []) ls) b) p.0 p.1
 term_no_exclaim (SpecIndex base index) ls ts rest b p h =
@@ -154,7 +154,7 @@ term_no_exclaim (SpecLiteral literal) ls ts rest b p h = literal_no_exclaim lite
 term_no_exclaim (SpecPath path) ls ts rest b p h = path_no_sign Exclaim path ls ts rest b p
 term_no_exclaim (SpecCall function given values last) ls ts rest b p h = applied_no_exclaim function given (sign LeftParenthesis) (comma_list (spec_spellings values) last) (sign RightParenthesis ∷ []) ls ts rest b p.0
 term_no_exclaim (SpecPack path given fields last) ls ts rest b p h = applied_no_exclaim path given (sign LeftBrace) (comma_list (spec_field_spellings fields) last) (sign RightBrace ∷ []) ls ts rest b p.0
-term_no_exclaim (SpecParenthesized place inner) ls ts rest b p h = after_sign-other Exclaim (sign_at place LeftParenthesis) ((spec_spelling inner ++ sign RightParenthesis ∷ []) ++ ls) ts rest refl b
+term_no_exclaim (SpecParenthesized span inner) ls ts rest b p h = after_sign-other Exclaim (sign_at span LeftParenthesis) ((spec_spelling inner ++ sign RightParenthesis ∷ []) ++ ls) ts rest refl b
 
 -- a field or an index is here
 period_goes_on : (ls : List Lexeme) (ts rest : List Token) → Begins (sign Period ∷ ls) ts rest → has_postfix ts ≡ true
@@ -237,8 +237,8 @@ module _ (bound : ℕ) (types : List Token → Read SourceTypeData) (types_compl
   from_path packs path ls ts rest r b p behind =
       let s = Begins-split (path_spelling path) ls ts rest b in
       let d = behind s.mid (omega (arith, length-Begins (path_spelling path) ts s.mid s.front, path_some path)) s.back in
-      map_or_none (sign_place_at LeftParenthesis ts) (λ p. parenthesized_at item p.0 p.1) _ (sign_place_at-none LeftParenthesis ts (path_no_sign LeftParenthesis path ls ts rest b p))
-      ∙ map_or_none (sign_place_at AtSign ts) _ _ (sign_place_at-none AtSign ts (path_no_sign AtSign path ls ts rest b p))
+      map_or_none (sign_span_at LeftParenthesis ts) (λ p. parenthesized_at item p.0 p.1) _ (sign_span_at-none LeftParenthesis ts (path_no_sign LeftParenthesis path ls ts rest b p))
+      ∙ map_or_none (sign_span_at AtSign ts) _ _ (sign_span_at-none AtSign ts (path_no_sign AtSign path ls ts rest b p))
       ∙ map_or_none (plain_literal_at ts) (λ l. Some (SpecLiteral l.0, l.1)) _ (path_no_literal path ls ts rest b p)
       ∙ bind_some (path_at ts) (λ path. path_form types item packs path.0 path.1) (path, s.mid) (path_at-complete path ts s.mid s.front p d.0) ∙ d.1
 
@@ -290,36 +290,36 @@ module _ (bound : ℕ) (types : List Token → Read SourceTypeData) (types_compl
 
   -- ---- other terms
 
-  parenthesized-complete : (packs : Bool) (place : Span) (e : SpecExpressionData) (ts rest : List Token) → length ts ≤ suc bound → Begins (sign_at place LeftParenthesis ∷ (spec_spelling e ++ sign RightParenthesis ∷ [])) ts rest → IsProperSpec e
-      → term_at types item packs ts ≡ Some (SpecParenthesized place e, rest)
+  parenthesized-complete : (packs : Bool) (span : Span) (e : SpecExpressionData) (ts rest : List Token) → length ts ≤ suc bound → Begins (sign_at span LeftParenthesis ∷ (spec_spelling e ++ sign RightParenthesis ∷ [])) ts rest → IsProperSpec e
+      → term_at types item packs ts ≡ Some (SpecParenthesized span e, rest)
   unfolding term_at parenthesized_at
-  parenthesized-complete packs place e ts rest h b p =
-      let s = Begins-first (sign_at place LeftParenthesis) (spec_spelling e ++ sign RightParenthesis ∷ []) ts rest b in
+  parenthesized-complete packs span e ts rest h b p =
+      let s = Begins-first (sign_at span LeftParenthesis) (spec_spelling e ++ sign RightParenthesis ∷ []) ts rest b in
       let i = Begins-split (spec_spelling e) (sign RightParenthesis ∷ []) s.mid rest s.back in
-      map_or_some (sign_place_at LeftParenthesis ts) (λ p. parenthesized_at item p.0 p.1) _ (place, s.mid) (sign_place_at-complete LeftParenthesis place ts s.mid s.front)
-      ∙ bind_some (item s.mid) (λ e. option_map (λ rest. (SpecParenthesized place e.0, rest)) (after_sign RightParenthesis e.1)) (e, i.mid)
-      (complete e s.mid i.mid (omega (arith, h, length-Begins (sign_at place LeftParenthesis ∷ []) ts s.mid s.front)) i.front p
+      map_or_some (sign_span_at LeftParenthesis ts) (λ p. parenthesized_at item p.0 p.1) _ (span, s.mid) (sign_span_at-complete LeftParenthesis span ts s.mid s.front)
+      ∙ bind_some (item s.mid) (λ e. option_map (λ rest. (SpecParenthesized span e.0, rest)) (after_sign RightParenthesis e.1)) (e, i.mid)
+      (complete e s.mid i.mid (omega (arith, h, length-Begins (sign_at span LeftParenthesis ∷ []) ts s.mid s.front)) i.front p
       (sign_ends true RightParenthesis (refl, refl, λ h. refl, refl, refl, refl, refl) [] i.mid rest i.back))
-      ∙ map_some (after_sign RightParenthesis i.mid) (λ rest. (SpecParenthesized place e, rest)) rest (after_sign-complete RightParenthesis i.mid rest i.back)
+      ∙ map_some (after_sign RightParenthesis i.mid) (λ rest. (SpecParenthesized span e, rest)) rest (after_sign-complete RightParenthesis i.mid rest i.back)
 
   plain_literal-complete : (packs : Bool) (l : Literal) (first : Lexeme) (ls : List Lexeme) (ts rest : List Token) → Begins (first ∷ ls) ts rest → is_sign LeftParenthesis first.kind ≡ false → is_sign AtSign first.kind ≡ false
       → plain_literal_at ts ≡ Some (l, rest) → term_at types item packs ts ≡ Some (SpecLiteral l, rest)
   unfolding term_at plain_term_at
   plain_literal-complete packs l first ls ts rest b c d e =
-      map_or_none (sign_place_at LeftParenthesis ts) (λ p. parenthesized_at item p.0 p.1) _ (sign_place_at-other LeftParenthesis first ls ts rest c b)
-      ∙ map_or_none (sign_place_at AtSign ts) _ _ (sign_place_at-other AtSign first ls ts rest d b)
+      map_or_none (sign_span_at LeftParenthesis ts) (λ p. parenthesized_at item p.0 p.1) _ (sign_span_at-other LeftParenthesis first ls ts rest c b)
+      ∙ map_or_none (sign_span_at AtSign ts) _ _ (sign_span_at-other AtSign first ls ts rest d b)
       ∙ map_or_some (plain_literal_at ts) (λ l. Some (SpecLiteral l.0, l.1)) _ (l, rest) e
 
   literal-complete : (packs : Bool) (l : Literal) (ts rest : List Token) → Begins (literal_spelling l) ts rest → IsProperLiteral l → after_sign ColonColon rest ≡ None → term_at types item packs ts ≡ Some (SpecLiteral l, rest)
   unfolding term_at
   literal-complete packs (number_literal n) ts rest b p d = plain_literal-complete packs (number_literal n) (numeral n) [] ts rest b refl refl (plain_number n ts rest b p d)
-  literal-complete packs (Truth place true) ts rest b p d = plain_literal-complete packs (Truth place true) (word (codes "true") (Some place)) [] ts rest b refl refl (plain_truth place true ts rest b)
-  literal-complete packs (Truth place false) ts rest b p d = plain_literal-complete packs (Truth place false) (word (codes "false") (Some place)) [] ts rest b refl refl (plain_truth place false ts rest b)
-  literal-complete packs (address_literal place address) ts rest b p d =
-      let s = Begins-first (sign_at place AtSign) (address_spelling address) ts rest b in
-      map_or_none (sign_place_at LeftParenthesis ts) (λ p. parenthesized_at item p.0 p.1) _ (sign_place_at-other LeftParenthesis (sign_at place AtSign) (address_spelling address) ts rest refl b)
-      ∙ map_or_some (sign_place_at AtSign ts) (λ p. option_map (λ l. (SpecLiteral l.0, l.1)) (address_literal_at p.0 p.1)) _ (place, s.mid) (sign_place_at-complete AtSign place ts s.mid s.front)
-      ∙ map_some (address_literal_at place s.mid) (λ l. (SpecLiteral l.0, l.1)) (address_literal place address, rest) (address_literal_at-complete place address s.mid rest s.back p)
+  literal-complete packs (Truth span true) ts rest b p d = plain_literal-complete packs (Truth span true) (word (codes "true") (Some span)) [] ts rest b refl refl (plain_truth span true ts rest b)
+  literal-complete packs (Truth span false) ts rest b p d = plain_literal-complete packs (Truth span false) (word (codes "false") (Some span)) [] ts rest b refl refl (plain_truth span false ts rest b)
+  literal-complete packs (address_literal span address) ts rest b p d =
+      let s = Begins-first (sign_at span AtSign) (address_spelling address) ts rest b in
+      map_or_none (sign_span_at LeftParenthesis ts) (λ p. parenthesized_at item p.0 p.1) _ (sign_span_at-other LeftParenthesis (sign_at span AtSign) (address_spelling address) ts rest refl b)
+      ∙ map_or_some (sign_span_at AtSign ts) (λ p. option_map (λ l. (SpecLiteral l.0, l.1)) (address_literal_at p.0 p.1)) _ (span, s.mid) (sign_span_at-complete AtSign span ts s.mid s.front)
+      ∙ map_some (address_literal_at span s.mid) (λ l. (SpecLiteral l.0, l.1)) (address_literal span address, rest) (address_literal_at-complete span address s.mid rest s.back p)
 
   -- ---- fields and indices, one after another
 
@@ -381,10 +381,10 @@ module _ (bound : ℕ) (types : List Token → Read SourceTypeData) (types_compl
   }
 
   pub postfix_walk : (packs : Bool) (e : SpecExpressionData) (ts rest : List Token) → length ts ≤ suc bound → Begins (spec_spelling e) ts rest → IsProperSpec e → Allowed packs e → term_level ≤ level e → TermEnds packs e rest → PostfixWalk packs e ts rest
-  postfix_walk packs (SpecBinary left operator place right) ts rest h b p a l d = absurd (omega (arith, l, (level_is_some operator).1))
-  postfix_walk packs (SpecQuantified quantifier place binds _ body) ts rest h b p a l d = absurd (omega (arith, l))
-  postfix_walk packs (SpecIf place condition then_branch else_branch) ts rest h b p a l d = absurd (omega (arith, l))
-  postfix_walk packs (SpecNot place operand) ts rest h b p a l d = absurd (omega (arith, l))
+  postfix_walk packs (SpecBinary left operator span right) ts rest h b p a l d = absurd (omega (arith, l, (level_is_some operator).1))
+  postfix_walk packs (SpecQuantified quantifier span binds _ body) ts rest h b p a l d = absurd (omega (arith, l))
+  postfix_walk packs (SpecIf span condition then_branch else_branch) ts rest h b p a l d = absurd (omega (arith, l))
+  postfix_walk packs (SpecNot span operand) ts rest h b p a l d = absurd (omega (arith, l))
   postfix_walk packs (SpecField base field) ts rest h b p a l d =
       let s = Begins-split (spec_spelling base) (sign Period ∷ identifier field ∷ []) ts rest b in
       longer packs base (SpecField base field) ts s.mid rest
@@ -402,4 +402,4 @@ module _ (bound : ℕ) (types : List Token → Read SourceTypeData) (types_compl
   postfix_walk packs (SpecCall function given values last) ts rest h b p a l d = term_walk packs (SpecCall function given values last) ts rest (call-complete packs function given values last ts rest h b p)
   postfix_walk true (SpecPack path given fields last) ts rest h b p a l d = term_walk true (SpecPack path given fields last) ts rest (pack-complete path given fields last ts rest h b p)
   postfix_walk false (SpecPack path given fields last) ts rest h b p a l d = absurd a
-  postfix_walk packs (SpecParenthesized place inner) ts rest h b p a l d = term_walk packs (SpecParenthesized place inner) ts rest (parenthesized-complete packs place inner ts rest h b p)
+  postfix_walk packs (SpecParenthesized span inner) ts rest h b p a l d = term_walk packs (SpecParenthesized span inner) ts rest (parenthesized-complete packs span inner ts rest h b p)

@@ -28,11 +28,11 @@ use Rattle.syntax_tree.specs.ExpressionData.{ExpressionData, LiteralExpression, 
 use Rattle.syntax_tree.specs.ExpressionSpelling.{expression_spelling, expression_spellings, field_value_spelling, field_value_spellings}
 use Rattle.syntax_tree.specs.ProperExpressions.{elsewhere, level, IsProperExpression, IsProperLiteral, IsProperFieldValue, AreProperExpressions, AreProperFieldValues, AreSomeExpressions, AreSomeValues, MayHaveArguments}
 use Rattle.parser_base.specs.Beginnings.{Begins}
-use Rattle.parser_base.specs.TokenReading.{Read, is_sign, is_word, is_keyword, after_sign, sign_place_at, after_word, identifier_at, begins_capital}
+use Rattle.parser_base.specs.TokenReading.{Read, is_sign, is_word, is_keyword, after_sign, sign_span_at, after_word, identifier_at, begins_capital}
 use Rattle.parser_base.specs.ListReading.{comma_list_at}
 use Rattle.parser_base.proofs.Steps.{bind_some, map_some, map_or_none, map_or_some, cond_true, cond_false}
 use Rattle.parser_base.proofs.BeginLemmas.{Begins-split, Begins-first, Begins-same, length-Begins}
-use Rattle.parser_base.proofs.TokenLemmas.{after_sign-complete, after_sign-other, sign_place_at-complete, sign_place_at-none, sign_place_at-other, after_word-complete, after_word-other, identifier_at-complete, begins_capital-complete, name_is_no_keyword}
+use Rattle.parser_base.proofs.TokenLemmas.{after_sign-complete, after_sign-other, sign_span_at-complete, sign_span_at-none, sign_span_at-other, after_word-complete, after_word-other, identifier_at-complete, begins_capital-complete, name_is_no_keyword}
 use Rattle.base.proofs.NameLaws.{same_name-other}
 use Rattle.parser_base.proofs.FirstLemmas.{after_sign-first}
 use Rattle.parser_base.proofs.ListLemmas.{Filled, comma_list_at-complete}
@@ -43,10 +43,10 @@ use Rattle.parser_base.proofs.TypeLemmas.{ReadsBackTypes, inside_spelling, argum
 use Rattle.parser_base.specs.declared.leaf.PathForm.TheVariants.{Call, Pack, Alone}
 use Rattle.parser_base.specs.declared.leaf.BehindFirst.{BehindFirst}
 use Rattle.parser_base.specs.declared.leaf.BehindFirst.TheVariants.{Close, As, Comma}
-use Rattle.parser_base.specs.LeafReading.{begins_operand, plain_literal_at, vector_place_at, assert_place_at, path_form_at, glued_arguments_at, has_arguments, behind_first_at, cast_target_at, after_glued}
+use Rattle.parser_base.specs.LeafReading.{begins_operand, plain_literal_at, vector_span_at, assert_span_at, path_form_at, glued_arguments_at, has_arguments, behind_first_at, cast_target_at, after_glued}
 use Rattle.parser_base.specs.ParenthesesReading.{several}
 use Rattle.expression_parser.specs.ExpressionReading.{Readers, any, field_value_at, path_term_at, vector_at, assert_at, behind_first, parenthesized_at, term_at}
-use Rattle.parser_base.proofs.LeafLemmas.{number_at-other, number_at-path, plain_number, plain_truth, plain_none, vector_place_at-complete, vector_place_at-other, vector_place_at-path, assert_place_at-complete, assert_place_at-other, assert_place_at-path, after_glued-complete, after_glued-other}
+use Rattle.parser_base.proofs.LeafLemmas.{number_at-other, number_at-path, plain_number, plain_truth, plain_none, vector_span_at-complete, vector_span_at-other, vector_span_at-path, assert_span_at-complete, assert_span_at-other, assert_span_at-path, after_glued-complete, after_glued-other}
 use Rattle.parser_base.proofs.OpenLemmas.{expression_no_sign}
 use Rattle.parser_base.proofs.EndLemmas.{Quiet, TermEnds, Follows, follows_sign, follows_closed, closes_word, as_begins_none, closing}
 use Rattle.expression_parser.proofs.Sound.{assert_spelled, cast_spelled, several_spelled}
@@ -106,27 +106,27 @@ full_spelled (number_address x) m n ls = refl
 full_spelled (name_address i) m n ls = refl
 
 -- a name is not the word `vector` before a `<` or a bracket
-vector_none : (i : Identifier) (ts mid : List Token) → Begins (identifier i ∷ []) ts mid → after_sign Less mid ≡ None → after_sign LeftBracket mid ≡ None → vector_place_at ts ≡ None
+vector_none : (i : Identifier) (ts mid : List Token) → Begins (identifier i ∷ []) ts mid → after_sign Less mid ≡ None → after_sign LeftBracket mid ≡ None → vector_span_at ts ≡ None
 vector_none i ts mid b h k = go (is_word (codes "vector") (Word i.text)) refl
   where
-    go : (c : Bool) → is_word (codes "vector") (Word i.text) ≡ c → vector_place_at ts ≡ None
-    go true is = vector_place_at-path i.place ts mid (subst (λ w. Begins (word w (Some i.place) ∷ []) ts mid) (same_text i.text (codes "vector") (sym is)) b) h k
-    go false is = vector_place_at-other (identifier i) [] ts mid is b
+    go : (c : Bool) → is_word (codes "vector") (Word i.text) ≡ c → vector_span_at ts ≡ None
+    go true is = vector_span_at-path i.span ts mid (subst (λ w. Begins (word w (Some i.span) ∷ []) ts mid) (same_text i.text (codes "vector") (sym is)) b) h k
+    go false is = vector_span_at-other (identifier i) [] ts mid is b
 
-assert_none : (i : Identifier) (ts mid : List Token) → Begins (identifier i ∷ []) ts mid → after_sign Exclaim mid ≡ None → assert_place_at ts ≡ None
+assert_none : (i : Identifier) (ts mid : List Token) → Begins (identifier i ∷ []) ts mid → after_sign Exclaim mid ≡ None → assert_span_at ts ≡ None
 assert_none i ts mid b h = go (is_word (codes "assert") (Word i.text)) refl
   where
-    go : (c : Bool) → is_word (codes "assert") (Word i.text) ≡ c → assert_place_at ts ≡ None
-    go true is = assert_place_at-path i.place ts mid (subst (λ w. Begins (word w (Some i.place) ∷ []) ts mid) (same_text i.text (codes "assert") (sym is)) b) h
-    go false is = assert_place_at-other (identifier i) [] ts mid is b
+    go : (c : Bool) → is_word (codes "assert") (Word i.text) ≡ c → assert_span_at ts ≡ None
+    go true is = assert_span_at-path i.span ts mid (subst (λ w. Begins (word w (Some i.span) ∷ []) ts mid) (same_text i.text (codes "assert") (sym is)) b) h
+    go false is = assert_span_at-other (identifier i) [] ts mid is b
 
 -- a path does not begin with such a word
 NoVector : Path → List Token → Type 0
 NoVector path mid = IsOther (codes "vector") path ⊎ ((after_sign Less mid ≡ None) × (after_sign LeftBracket mid ≡ None))
 
-no_vector : (path : Path) (ts mid : List Token) → Begins (path_spelling path) ts mid → NoVector path mid → vector_place_at ts ≡ None
+no_vector : (path : Path) (ts mid : List Token) → Begins (path_spelling path) ts mid → NoVector path mid → vector_span_at ts ≡ None
 unfolding NoVector
-no_vector (name_path i) ts mid b (inl o) = vector_place_at-other (identifier i) [] ts mid (same_name-other i.text (codes "vector") o) b
+no_vector (name_path i) ts mid b (inl o) = vector_span_at-other (identifier i) [] ts mid (same_name-other i.text (codes "vector") o) b
 no_vector (name_path i) ts mid b (inr n) = vector_none i ts mid b n.0 n.1
 no_vector (member_path i j) ts mid b n =
     let s = Begins-first (identifier i) (sign ColonColon ∷ identifier j ∷ []) ts mid b in
@@ -134,14 +134,14 @@ no_vector (member_path i j) ts mid b n =
 no_vector (full_path m n) ts mid b o =
     full m.address m.name n (subst (λ l. Begins l ts mid) (sym (append-nil (path_spelling (full_path m n))) ∙ full_spelled m.address m.name n []) b)
   where
-    full : (a : Address) (m n : Identifier) → Begins (address_spelling a ++ (sign ColonColon ∷ identifier m ∷ sign ColonColon ∷ identifier n ∷ [])) ts mid → vector_place_at ts ≡ None
-    full (number_address x) m n b = vector_place_at-other (numeral x) (sign ColonColon ∷ identifier m ∷ sign ColonColon ∷ identifier n ∷ []) ts mid refl b
+    full : (a : Address) (m n : Identifier) → Begins (address_spelling a ++ (sign ColonColon ∷ identifier m ∷ sign ColonColon ∷ identifier n ∷ [])) ts mid → vector_span_at ts ≡ None
+    full (number_address x) m n b = vector_span_at-other (numeral x) (sign ColonColon ∷ identifier m ∷ sign ColonColon ∷ identifier n ∷ []) ts mid refl b
     full (name_address i) m n b =
         let s = Begins-first (identifier i) (sign ColonColon ∷ identifier m ∷ sign ColonColon ∷ identifier n ∷ []) ts mid b in
         vector_none i ts s.mid s.front (after_sign-other Less (sign ColonColon) (identifier m ∷ sign ColonColon ∷ identifier n ∷ []) s.mid mid refl s.back)
         (after_sign-other LeftBracket (sign ColonColon) (identifier m ∷ sign ColonColon ∷ identifier n ∷ []) s.mid mid refl s.back)
 
-no_assert : (path : Path) (ts mid : List Token) → Begins (path_spelling path) ts mid → after_sign Exclaim mid ≡ None → assert_place_at ts ≡ None
+no_assert : (path : Path) (ts mid : List Token) → Begins (path_spelling path) ts mid → after_sign Exclaim mid ≡ None → assert_span_at ts ≡ None
 no_assert (name_path i) ts mid b h = assert_none i ts mid b h
 no_assert (member_path i j) ts mid b h =
     let s = Begins-first (identifier i) (sign ColonColon ∷ identifier j ∷ []) ts mid b in
@@ -149,8 +149,8 @@ no_assert (member_path i j) ts mid b h =
 no_assert (full_path m n) ts mid b h =
     full m.address m.name n (subst (λ l. Begins l ts mid) (sym (append-nil (path_spelling (full_path m n))) ∙ full_spelled m.address m.name n []) b)
   where
-    full : (a : Address) (m n : Identifier) → Begins (address_spelling a ++ (sign ColonColon ∷ identifier m ∷ sign ColonColon ∷ identifier n ∷ [])) ts mid → assert_place_at ts ≡ None
-    full (number_address x) m n b = assert_place_at-other (numeral x) (sign ColonColon ∷ identifier m ∷ sign ColonColon ∷ identifier n ∷ []) ts mid refl b
+    full : (a : Address) (m n : Identifier) → Begins (address_spelling a ++ (sign ColonColon ∷ identifier m ∷ sign ColonColon ∷ identifier n ∷ [])) ts mid → assert_span_at ts ≡ None
+    full (number_address x) m n b = assert_span_at-other (numeral x) (sign ColonColon ∷ identifier m ∷ sign ColonColon ∷ identifier n ∷ []) ts mid refl b
     full (name_address i) m n b =
         let s = Begins-first (identifier i) (sign ColonColon ∷ identifier m ∷ sign ColonColon ∷ identifier n ∷ []) ts mid b in
         assert_none i ts s.mid s.front (after_sign-other Exclaim (sign ColonColon) (identifier m ∷ sign ColonColon ∷ identifier n ∷ []) s.mid mid refl s.back)
@@ -175,7 +175,7 @@ capital_may_have (name_path i) (SomeArguments a) c = λ h. small (subst IsCapita
 capital_may_have (member_path i j) (SomeArguments a) c = tt
 capital_may_have (full_path m n) (SomeArguments a) c = tt
 
-alone_no_vector : (path : Path) (ts rest : List Token) → Begins (path_spelling path) ts rest → TermEnds (PathExpression path) rest → vector_place_at ts ≡ None
+alone_no_vector : (path : Path) (ts rest : List Token) → Begins (path_spelling path) ts rest → TermEnds (PathExpression path) rest → vector_span_at ts ≡ None
 unfolding NoVector
 alone_no_vector path ts rest b d = no_vector path ts rest b (go (is_single (codes "vector") path) refl)
   where
@@ -274,13 +274,13 @@ module _ (bound : ℕ) (inner : Readers) (types_complete : ReadsBackTypes bound 
 
   -- the reader of a term that begins with a path reaches the path
   path_term : (path : Path) (ls : List Lexeme) (ts rest : List Token) (r : ExpressionData × List Token) → Begins (path_spelling path ++ ls) ts rest → IsProperPath path
-      → vector_place_at ts ≡ None → assert_place_at ts ≡ None → plain_literal_at ts ≡ None → path_term_at inner ts ≡ Some r → term_at inner ts ≡ Some r
+      → vector_span_at ts ≡ None → assert_span_at ts ≡ None → plain_literal_at ts ≡ None → path_term_at inner ts ≡ Some r → term_at inner ts ≡ Some r
   unfolding term_at
   path_term path ls ts rest r b p v a l e =
-      map_or_none (sign_place_at LeftParenthesis ts) _ _ (sign_place_at-none LeftParenthesis ts (path_no_sign LeftParenthesis path ls ts rest b p))
-      ∙ map_or_none (sign_place_at LeftBrace ts) _ _ (sign_place_at-none LeftBrace ts (path_no_sign LeftBrace path ls ts rest b p))
-      ∙ map_or_none (sign_place_at AtSign ts) _ _ (sign_place_at-none AtSign ts (path_no_sign AtSign path ls ts rest b p))
-      ∙ map_or_none (plain_literal_at ts) _ _ l ∙ map_or_none (vector_place_at ts) _ _ v ∙ map_or_none (assert_place_at ts) _ _ a ∙ e
+      map_or_none (sign_span_at LeftParenthesis ts) _ _ (sign_span_at-none LeftParenthesis ts (path_no_sign LeftParenthesis path ls ts rest b p))
+      ∙ map_or_none (sign_span_at LeftBrace ts) _ _ (sign_span_at-none LeftBrace ts (path_no_sign LeftBrace path ls ts rest b p))
+      ∙ map_or_none (sign_span_at AtSign ts) _ _ (sign_span_at-none AtSign ts (path_no_sign AtSign path ls ts rest b p))
+      ∙ map_or_none (plain_literal_at ts) _ _ l ∙ map_or_none (vector_span_at ts) _ _ v ∙ map_or_none (assert_span_at ts) _ _ a ∙ e
 
   -- a path is not a literal
   truth_words : (w : List ℕ) → IsName w → (is_word (codes "true") (Word w) ≡ false) × (is_word (codes "false") (Word w) ≡ false)
@@ -354,64 +354,64 @@ module _ (bound : ℕ) (inner : Readers) (types_complete : ReadsBackTypes bound 
   pub literal-complete : (l : Literal) (ts rest : List Token) → Begins (literal_spelling l) ts rest → IsProperLiteral l → after_sign ColonColon rest ≡ None → term_at inner ts ≡ Some (LiteralExpression l, rest)
   unfolding term_at
   literal-complete (number_literal n) ts rest b p e =
-      map_or_none (sign_place_at LeftParenthesis ts) _ _ (sign_place_at-other LeftParenthesis (numeral n) [] ts rest refl b)
-      ∙ map_or_none (sign_place_at LeftBrace ts) _ _ (sign_place_at-other LeftBrace (numeral n) [] ts rest refl b)
-      ∙ map_or_none (sign_place_at AtSign ts) _ _ (sign_place_at-other AtSign (numeral n) [] ts rest refl b)
+      map_or_none (sign_span_at LeftParenthesis ts) _ _ (sign_span_at-other LeftParenthesis (numeral n) [] ts rest refl b)
+      ∙ map_or_none (sign_span_at LeftBrace ts) _ _ (sign_span_at-other LeftBrace (numeral n) [] ts rest refl b)
+      ∙ map_or_none (sign_span_at AtSign ts) _ _ (sign_span_at-other AtSign (numeral n) [] ts rest refl b)
       ∙ map_or_some (plain_literal_at ts) _ _ (number_literal n, rest) (plain_number n ts rest b p e)
-  literal-complete (truth_literal place true) ts rest b p e =
-      map_or_none (sign_place_at LeftParenthesis ts) _ _ (sign_place_at-other LeftParenthesis (word (codes "true") (Some place)) [] ts rest refl b)
-      ∙ map_or_none (sign_place_at LeftBrace ts) _ _ (sign_place_at-other LeftBrace (word (codes "true") (Some place)) [] ts rest refl b)
-      ∙ map_or_none (sign_place_at AtSign ts) _ _ (sign_place_at-other AtSign (word (codes "true") (Some place)) [] ts rest refl b)
-      ∙ map_or_some (plain_literal_at ts) _ _ (truth_literal place true, rest) (plain_truth place true ts rest b)
-  literal-complete (truth_literal place false) ts rest b p e =
-      map_or_none (sign_place_at LeftParenthesis ts) _ _ (sign_place_at-other LeftParenthesis (word (codes "false") (Some place)) [] ts rest refl b)
-      ∙ map_or_none (sign_place_at LeftBrace ts) _ _ (sign_place_at-other LeftBrace (word (codes "false") (Some place)) [] ts rest refl b)
-      ∙ map_or_none (sign_place_at AtSign ts) _ _ (sign_place_at-other AtSign (word (codes "false") (Some place)) [] ts rest refl b)
-      ∙ map_or_some (plain_literal_at ts) _ _ (truth_literal place false, rest) (plain_truth place false ts rest b)
-  literal-complete (address_literal place a) ts rest b p e =
-      let s = Begins-first (sign_at place AtSign) (address_spelling a) ts rest b in
-      map_or_none (sign_place_at LeftParenthesis ts) _ _ (sign_place_at-other LeftParenthesis (sign_at place AtSign) (address_spelling a) ts rest refl b)
-      ∙ map_or_none (sign_place_at LeftBrace ts) _ _ (sign_place_at-other LeftBrace (sign_at place AtSign) (address_spelling a) ts rest refl b)
-      ∙ map_or_some (sign_place_at AtSign ts) _ _ (place, s.mid) (sign_place_at-complete AtSign place ts s.mid s.front)
-      ∙ map_some (address_at s.mid) (λ a. (LiteralExpression (address_literal place a.0), a.1)) (a, rest) (address_at-complete a s.mid rest s.back p)
+  literal-complete (truth_literal span true) ts rest b p e =
+      map_or_none (sign_span_at LeftParenthesis ts) _ _ (sign_span_at-other LeftParenthesis (word (codes "true") (Some span)) [] ts rest refl b)
+      ∙ map_or_none (sign_span_at LeftBrace ts) _ _ (sign_span_at-other LeftBrace (word (codes "true") (Some span)) [] ts rest refl b)
+      ∙ map_or_none (sign_span_at AtSign ts) _ _ (sign_span_at-other AtSign (word (codes "true") (Some span)) [] ts rest refl b)
+      ∙ map_or_some (plain_literal_at ts) _ _ (truth_literal span true, rest) (plain_truth span true ts rest b)
+  literal-complete (truth_literal span false) ts rest b p e =
+      map_or_none (sign_span_at LeftParenthesis ts) _ _ (sign_span_at-other LeftParenthesis (word (codes "false") (Some span)) [] ts rest refl b)
+      ∙ map_or_none (sign_span_at LeftBrace ts) _ _ (sign_span_at-other LeftBrace (word (codes "false") (Some span)) [] ts rest refl b)
+      ∙ map_or_none (sign_span_at AtSign ts) _ _ (sign_span_at-other AtSign (word (codes "false") (Some span)) [] ts rest refl b)
+      ∙ map_or_some (plain_literal_at ts) _ _ (truth_literal span false, rest) (plain_truth span false ts rest b)
+  literal-complete (address_literal span a) ts rest b p e =
+      let s = Begins-first (sign_at span AtSign) (address_spelling a) ts rest b in
+      map_or_none (sign_span_at LeftParenthesis ts) _ _ (sign_span_at-other LeftParenthesis (sign_at span AtSign) (address_spelling a) ts rest refl b)
+      ∙ map_or_none (sign_span_at LeftBrace ts) _ _ (sign_span_at-other LeftBrace (sign_at span AtSign) (address_spelling a) ts rest refl b)
+      ∙ map_or_some (sign_span_at AtSign ts) _ _ (span, s.mid) (sign_span_at-complete AtSign span ts s.mid s.front)
+      ∙ map_some (address_at s.mid) (λ a. (LiteralExpression (address_literal span a.0), a.1)) (a, rest) (address_at-complete a s.mid rest s.back p)
 
   -- ---- vectors and `assert!`
 
   -- a word with a special meaning before the next token: no alternative before it in the reading order applies
-  word_term : (w : List ℕ) (place : Span) (ls : List Lexeme) (ts rest : List Token) → Begins (word w (Some place) ∷ ls) ts rest → is_word (codes "true") (Word w) ≡ false → is_word (codes "false") (Word w) ≡ false
-      → (sign_place_at LeftParenthesis ts ≡ None) × (sign_place_at LeftBrace ts ≡ None) × (sign_place_at AtSign ts ≡ None) × (plain_literal_at ts ≡ None)
-  word_term w place ls ts rest b t f = (
-    sign_place_at-other LeftParenthesis (word w (Some place)) ls ts rest refl b,
-    sign_place_at-other LeftBrace (word w (Some place)) ls ts rest refl b,
-    sign_place_at-other AtSign (word w (Some place)) ls ts rest refl b,
-    plain_none (word w (Some place)) ls ts rest (number_at-other (word w (Some place)) ls ts rest refl b) t f b,
+  word_term : (w : List ℕ) (span : Span) (ls : List Lexeme) (ts rest : List Token) → Begins (word w (Some span) ∷ ls) ts rest → is_word (codes "true") (Word w) ≡ false → is_word (codes "false") (Word w) ≡ false
+      → (sign_span_at LeftParenthesis ts ≡ None) × (sign_span_at LeftBrace ts ≡ None) × (sign_span_at AtSign ts ≡ None) × (plain_literal_at ts ≡ None)
+  word_term w span ls ts rest b t f = (
+    sign_span_at-other LeftParenthesis (word w (Some span)) ls ts rest refl b,
+    sign_span_at-other LeftBrace (word w (Some span)) ls ts rest refl b,
+    sign_span_at-other AtSign (word w (Some span)) ls ts rest refl b,
+    plain_none (word w (Some span)) ls ts rest (number_at-other (word w (Some span)) ls ts rest refl b) t f b,
   )
 
-  pub vector-complete : (place : Span) (a : MaybeArgumentsData) (items : ExpressionsData) (last : Bool) (ts rest : List Token) → length ts ≤ suc bound → Begins (expression_spelling (VectorExpression place a items last)) ts rest → IsProperExpression (VectorExpression place a items last)
-      → term_at inner ts ≡ Some (VectorExpression place a items last, rest)
+  pub vector-complete : (span : Span) (a : MaybeArgumentsData) (items : ExpressionsData) (last : Bool) (ts rest : List Token) → length ts ≤ suc bound → Begins (expression_spelling (VectorExpression span a items last)) ts rest → IsProperExpression (VectorExpression span a items last)
+      → term_at inner ts ≡ Some (VectorExpression span a items last, rest)
   unfolding term_at vector_at
-  vector-complete place a items last ts rest h b p =
+  vector-complete span a items last ts rest h b p =
       let inside = comma_list (expression_spellings items) last ++ sign RightBracket ∷ [] in
-      let w = word (codes "vector") (Some place) in
+      let w = word (codes "vector") (Some span) in
       let whole = Begins-same _ ((w ∷ []) ++ (maybe_arguments_spelling None a ++ sign LeftBracket ∷ inside)) ts rest
       (regroup (w ∷ []) (maybe_arguments_spelling None a) (comma_list (expression_spellings items) last) (sign RightBracket ∷ []) (sign LeftBracket)) b in
       let s = Begins-first w (maybe_arguments_spelling None a ++ sign LeftBracket ∷ inside) ts rest whole in
       let g = Begins-split (maybe_arguments_spelling None a) (sign LeftBracket ∷ inside) s.mid rest s.back in
       let o = Begins-first (sign LeftBracket) inside g.mid rest g.back in
-      let none = word_term (codes "vector") place (maybe_arguments_spelling None a ++ sign LeftBracket ∷ inside) ts rest whole refl refl in
-      map_or_none (sign_place_at LeftParenthesis ts) _ _ none.0 ∙ map_or_none (sign_place_at LeftBrace ts) _ _ none.1 ∙ map_or_none (sign_place_at AtSign ts) _ _ none.2 ∙ map_or_none (plain_literal_at ts) _ _ none.3
-      ∙ map_or_some (vector_place_at ts) _ _ (place, s.mid) (vector_place_at-complete place ts s.mid s.front (opens_vector a inside s.mid rest s.back))
+      let none = word_term (codes "vector") span (maybe_arguments_spelling None a ++ sign LeftBracket ∷ inside) ts rest whole refl refl in
+      map_or_none (sign_span_at LeftParenthesis ts) _ _ none.0 ∙ map_or_none (sign_span_at LeftBrace ts) _ _ none.1 ∙ map_or_none (sign_span_at AtSign ts) _ _ none.2 ∙ map_or_none (plain_literal_at ts) _ _ none.3
+      ∙ map_or_some (vector_span_at ts) _ _ (span, s.mid) (vector_span_at-complete span ts s.mid s.front (opens_vector a inside s.mid rest s.back))
       ∙ bind_some (maybe_arguments_at inner.types s.mid) _ (a, g.mid) (maybe_arguments_at-complete bound inner.types types_complete a s.mid g.mid (omega (arith, h, length-Begins (w ∷ []) ts s.mid s.front)) g.front p.0 (after_sign-other Less (sign LeftBracket) inside g.mid rest refl g.back))
       ∙ bind_some (after_sign LeftBracket g.mid) _ o.mid (after_sign-complete LeftBracket g.mid o.mid o.front)
-      ∙ map_some (comma_list_at (after_sign RightBracket) (any inner) o.mid) (λ items. (VectorExpression place a (expressions_of items.0.0) items.0.1, items.1)) ((list_of_expressions items, last), rest)
+      ∙ map_some (comma_list_at (after_sign RightBracket) (any inner) o.mid) (λ items. (VectorExpression span a (expressions_of items.0.0) items.0.1, items.1)) ((list_of_expressions items, last), rest)
       (list-complete RightBracket refl refl refl items last o.mid rest
       (omega (arith, h, length-Begins (w ∷ []) ts s.mid s.front, length-Begins (maybe_arguments_spelling None a) s.mid g.mid g.front, length-Begins (sign LeftBracket ∷ []) g.mid o.mid o.front)) o.back p.1 p.2)
-      ∙ ap (λ xs. Some (VectorExpression place a xs last, rest)) (listed_expressions items)
+      ∙ ap (λ xs. Some (VectorExpression span a xs last, rest)) (listed_expressions items)
 
-  pub assert-complete : (place : Span) (c d : ExpressionData) (ts rest : List Token) → length ts ≤ suc bound → Begins (expression_spelling (AssertExpression place c d)) ts rest → IsProperExpression (AssertExpression place c d) → term_at inner ts ≡ Some (AssertExpression place c d, rest)
+  pub assert-complete : (span : Span) (c d : ExpressionData) (ts rest : List Token) → length ts ≤ suc bound → Begins (expression_spelling (AssertExpression span c d)) ts rest → IsProperExpression (AssertExpression span c d) → term_at inner ts ≡ Some (AssertExpression span c d, rest)
   unfolding term_at assert_at
-  assert-complete place c d ts rest h b p =
-      let w = word (codes "assert") (Some place) in
+  assert-complete span c d ts rest h b p =
+      let w = word (codes "assert") (Some span) in
       let tail = expression_spelling c ++ sign comma_sign ∷ (expression_spelling d ++ sign RightParenthesis ∷ []) in
       let whole = Begins-same _ (w ∷ sign Exclaim ∷ sign LeftParenthesis ∷ tail) ts rest (assert_spelled w (expression_spelling c) (expression_spelling d)) b in
       let s = Begins-first w (sign Exclaim ∷ sign LeftParenthesis ∷ tail) ts rest whole in
@@ -420,29 +420,29 @@ module _ (bound : ℕ) (inner : Readers) (types_complete : ReadsBackTypes bound 
       let x = Begins-split (expression_spelling c) (sign comma_sign ∷ (expression_spelling d ++ sign RightParenthesis ∷ [])) o.mid rest o.back in
       let m = Begins-first (sign comma_sign) (expression_spelling d ++ sign RightParenthesis ∷ []) x.mid rest x.back in
       let y = Begins-split (expression_spelling d) (sign RightParenthesis ∷ []) m.mid rest m.back in
-      let none = word_term (codes "assert") place (sign Exclaim ∷ sign LeftParenthesis ∷ tail) ts rest whole refl refl in
+      let none = word_term (codes "assert") span (sign Exclaim ∷ sign LeftParenthesis ∷ tail) ts rest whole refl refl in
       let shorter : length o.mid ≤ bound = omega (arith, h, length-Begins (w ∷ []) ts s.mid s.front, length-Begins (sign Exclaim ∷ []) s.mid e.mid e.front, length-Begins (sign LeftParenthesis ∷ []) e.mid o.mid o.front) in
-      map_or_none (sign_place_at LeftParenthesis ts) _ _ none.0 ∙ map_or_none (sign_place_at LeftBrace ts) _ _ none.1 ∙ map_or_none (sign_place_at AtSign ts) _ _ none.2 ∙ map_or_none (plain_literal_at ts) _ _ none.3
-      ∙ map_or_none (vector_place_at ts) _ _ (vector_place_at-other w (sign Exclaim ∷ sign LeftParenthesis ∷ tail) ts rest refl whole)
-      ∙ map_or_some (assert_place_at ts) _ _ (place, e.mid) (assert_place_at-complete place ts s.mid e.mid s.front e.front)
+      map_or_none (sign_span_at LeftParenthesis ts) _ _ none.0 ∙ map_or_none (sign_span_at LeftBrace ts) _ _ none.1 ∙ map_or_none (sign_span_at AtSign ts) _ _ none.2 ∙ map_or_none (plain_literal_at ts) _ _ none.3
+      ∙ map_or_none (vector_span_at ts) _ _ (vector_span_at-other w (sign Exclaim ∷ sign LeftParenthesis ∷ tail) ts rest refl whole)
+      ∙ map_or_some (assert_span_at ts) _ _ (span, e.mid) (assert_span_at-complete span ts s.mid e.mid s.front e.front)
       ∙ bind_some (after_sign LeftParenthesis e.mid) _ o.mid (after_sign-complete LeftParenthesis e.mid o.mid o.front)
       ∙ bind_some (any inner o.mid) _ (c, x.mid) (any-complete c o.mid x.mid shorter x.front p.0 (follows_sign comma_sign c [] x.mid m.mid refl m.front))
       ∙ bind_some (after_sign comma_sign x.mid) _ m.mid (after_sign-complete comma_sign x.mid m.mid m.front)
       ∙ bind_some (any inner m.mid) _ (d, y.mid) (any-complete d m.mid y.mid (omega (arith, shorter, length-Begins (expression_spelling c) o.mid x.mid x.front, length-Begins (sign comma_sign ∷ []) x.mid m.mid m.front)) y.front p.1 (follows_sign RightParenthesis d [] y.mid rest refl y.back))
-      ∙ map_some (after_sign RightParenthesis y.mid) (λ rest. (AssertExpression place c d, rest)) rest (after_sign-complete RightParenthesis y.mid rest y.back)
+      ∙ map_some (after_sign RightParenthesis y.mid) (λ rest. (AssertExpression span c d, rest)) rest (after_sign-complete RightParenthesis y.mid rest y.back)
 
   -- ---- parentheses
 
   -- the term is in parentheses
-  opened : (place : Span) (ls : List Lexeme) (ts mid rest : List Token) (r : ExpressionData × List Token) → Begins (sign_at place LeftParenthesis ∷ []) ts mid → parenthesized_at inner place mid ≡ Some r → term_at inner ts ≡ Some r
+  opened : (span : Span) (ls : List Lexeme) (ts mid rest : List Token) (r : ExpressionData × List Token) → Begins (sign_at span LeftParenthesis ∷ []) ts mid → parenthesized_at inner span mid ≡ Some r → term_at inner ts ≡ Some r
   unfolding term_at
-  opened place ls ts mid rest r b e = map_or_some (sign_place_at LeftParenthesis ts) _ _ (place, mid) (sign_place_at-complete LeftParenthesis place ts mid b) ∙ e
+  opened span ls ts mid rest r b e = map_or_some (sign_span_at LeftParenthesis ts) _ _ (span, mid) (sign_span_at-complete LeftParenthesis span ts mid b) ∙ e
 
   -- the first expression, and what follows it
-  first_in : (place : Span) (x : ExpressionData) (form : BehindFirst) (ts us vs : List Token) (r : ExpressionData × List Token) → after_sign RightParenthesis ts ≡ None → any inner ts ≡ Some (x, us) → behind_first_at us ≡ Some (form, vs)
-      → behind_first inner place x form vs ≡ Some r → parenthesized_at inner place ts ≡ Some r
+  first_in : (span : Span) (x : ExpressionData) (form : BehindFirst) (ts us vs : List Token) (r : ExpressionData × List Token) → after_sign RightParenthesis ts ≡ None → any inner ts ≡ Some (x, us) → behind_first_at us ≡ Some (form, vs)
+      → behind_first inner span x form vs ≡ Some r → parenthesized_at inner span ts ≡ Some r
   unfolding parenthesized_at
-  first_in place x form ts us vs r n a f e = map_or_none (after_sign RightParenthesis ts) _ _ n ∙ bind_some (any inner ts) _ (x, us) a ∙ bind_some (behind_first_at us) _ (form, vs) f ∙ e
+  first_in span x form ts us vs r n a f e = map_or_none (after_sign RightParenthesis ts) _ _ n ∙ bind_some (any inner ts) _ (x, us) a ∙ bind_some (behind_first_at us) _ (form, vs) f ∙ e
 
   behind_close : (ts rest : List Token) → Begins (sign RightParenthesis ∷ []) ts rest → behind_first_at ts ≡ Some (Close, rest)
   unfolding behind_first_at
@@ -460,50 +460,50 @@ module _ (bound : ℕ) (inner : Readers) (types_complete : ReadsBackTypes bound 
       ∙ map_or_none (after_word (codes "as") ts) _ _ (after_word-other (codes "as") (sign comma_sign) [] ts rest refl b)
       ∙ map_some (after_sign comma_sign ts) (λ rest. (Comma, rest)) rest (after_sign-complete comma_sign ts rest b)
 
-  pub cast-complete : (place : Span) (x : ExpressionData) (t : SourceTypeData) (ts rest : List Token) → length ts ≤ suc bound → Begins (expression_spelling (CastExpression place x t)) ts rest → IsProperExpression (CastExpression place x t) → term_at inner ts ≡ Some (CastExpression place x t, rest)
+  pub cast-complete : (span : Span) (x : ExpressionData) (t : SourceTypeData) (ts rest : List Token) → length ts ≤ suc bound → Begins (expression_spelling (CastExpression span x t)) ts rest → IsProperExpression (CastExpression span x t) → term_at inner ts ≡ Some (CastExpression span x t, rest)
   unfolding cast_target_at
-  cast-complete place x t ts rest h b p =
+  cast-complete span x t ts rest h b p =
       let tail = expression_spelling x ++ word (codes "as") None ∷ (type_spelling t ++ sign RightParenthesis ∷ []) in
-      let s = Begins-first (sign_at place LeftParenthesis) tail ts rest (Begins-same _ _ ts rest (cast_spelled (sign_at place LeftParenthesis) (expression_spelling x) (type_spelling t)) b) in
+      let s = Begins-first (sign_at span LeftParenthesis) tail ts rest (Begins-same _ _ ts rest (cast_spelled (sign_at span LeftParenthesis) (expression_spelling x) (type_spelling t)) b) in
       let y = Begins-split (expression_spelling x) (word (codes "as") None ∷ (type_spelling t ++ sign RightParenthesis ∷ [])) s.mid rest s.back in
       let w = Begins-first (word (codes "as") None) (type_spelling t ++ sign RightParenthesis ∷ []) y.mid rest y.back in
       let z = Begins-split (type_spelling t) (sign RightParenthesis ∷ []) w.mid rest w.back in
-      let shorter : length s.mid ≤ bound = omega (arith, h, length-Begins (sign_at place LeftParenthesis ∷ []) ts s.mid s.front) in
-      opened place tail ts s.mid rest _ s.front
-      (first_in place x As s.mid y.mid w.mid _ (expression_no_sign RightParenthesis refl elsewhere x s.mid y.mid y.front p.0)
+      let shorter : length s.mid ≤ bound = omega (arith, h, length-Begins (sign_at span LeftParenthesis ∷ []) ts s.mid s.front) in
+      opened span tail ts s.mid rest _ s.front
+      (first_in span x As s.mid y.mid w.mid _ (expression_no_sign RightParenthesis refl elsewhere x s.mid y.mid y.front p.0)
       (any-complete x s.mid y.mid shorter y.front p.0 (follows_closed 0 x y.mid (closes_word (codes "as") [] y.mid w.mid as_begins_none w.front) (λ g. after_word-other (codes "else") (word (codes "as") None) [] y.mid w.mid refl w.front)))
       (behind_as y.mid w.mid w.front)
-      (map_some (cast_target_at inner.types w.mid) (λ target. (CastExpression place x target.0, target.1)) (t, rest)
+      (map_some (cast_target_at inner.types w.mid) (λ target. (CastExpression span x target.0, target.1)) (t, rest)
       (bind_some (inner.types w.mid) (λ target. option_map (λ rest. (target.0, rest)) (after_sign RightParenthesis target.1)) (t, z.mid)
       (types_complete t w.mid z.mid (omega (arith, shorter, length-Begins (expression_spelling x) s.mid y.mid y.front, length-Begins (word (codes "as") None ∷ []) y.mid w.mid w.front)) z.front p.1
       (after_sign-other ColonColon (sign RightParenthesis) [] z.mid rest refl z.back, after_sign-other Less (sign RightParenthesis) [] z.mid rest refl z.back))
       ∙ map_some (after_sign RightParenthesis z.mid) (λ rest. (t, rest)) rest (after_sign-complete RightParenthesis z.mid rest z.back))))
 
-  pub tuple-complete : (place : Span) (items : ExpressionsData) (last : Bool) (ts rest : List Token) → length ts ≤ suc bound → Begins (expression_spelling (TupleExpression place items last)) ts rest → IsProperExpression (TupleExpression place items last)
-      → term_at inner ts ≡ Some (TupleExpression place items last, rest)
+  pub tuple-complete : (span : Span) (items : ExpressionsData) (last : Bool) (ts rest : List Token) → length ts ≤ suc bound → Begins (expression_spelling (TupleExpression span items last)) ts rest → IsProperExpression (TupleExpression span items last)
+      → term_at inner ts ≡ Some (TupleExpression span items last, rest)
   unfolding parenthesized_at
-  tuple-complete place NoExpressions true ts rest h b p = absurd (p.1 refl)
-  tuple-complete place NoExpressions false ts rest h b p =
-      let s = Begins-first (sign_at place LeftParenthesis) (sign RightParenthesis ∷ []) ts rest b in
-      opened place [] ts s.mid rest _ s.front (map_or_some (after_sign RightParenthesis s.mid) _ _ rest (after_sign-complete RightParenthesis s.mid rest s.back))
-  tuple-complete place (MoreExpressions x NoExpressions) true ts rest h b p = absurd (p.1 refl)
-  tuple-complete place (MoreExpressions x NoExpressions) false ts rest h b p =
-      let s = Begins-first (sign_at place LeftParenthesis) (expression_spelling x ++ sign RightParenthesis ∷ []) ts rest
-      (Begins-same _ _ ts rest (ap (λ l. sign_at place LeftParenthesis ∷ (l ++ sign RightParenthesis ∷ [])) (append-nil (expression_spelling x ++ []) ∙ append-nil (expression_spelling x))) b) in
+  tuple-complete span NoExpressions true ts rest h b p = absurd (p.1 refl)
+  tuple-complete span NoExpressions false ts rest h b p =
+      let s = Begins-first (sign_at span LeftParenthesis) (sign RightParenthesis ∷ []) ts rest b in
+      opened span [] ts s.mid rest _ s.front (map_or_some (after_sign RightParenthesis s.mid) _ _ rest (after_sign-complete RightParenthesis s.mid rest s.back))
+  tuple-complete span (MoreExpressions x NoExpressions) true ts rest h b p = absurd (p.1 refl)
+  tuple-complete span (MoreExpressions x NoExpressions) false ts rest h b p =
+      let s = Begins-first (sign_at span LeftParenthesis) (expression_spelling x ++ sign RightParenthesis ∷ []) ts rest
+      (Begins-same _ _ ts rest (ap (λ l. sign_at span LeftParenthesis ∷ (l ++ sign RightParenthesis ∷ [])) (append-nil (expression_spelling x ++ []) ∙ append-nil (expression_spelling x))) b) in
       let y = Begins-split (expression_spelling x) (sign RightParenthesis ∷ []) s.mid rest s.back in
-      opened place [] ts s.mid rest _ s.front
-      (first_in place x Close s.mid y.mid rest _ (expression_no_sign RightParenthesis refl elsewhere x s.mid y.mid y.front p.0.0)
-      (any-complete x s.mid y.mid (omega (arith, h, length-Begins (sign_at place LeftParenthesis ∷ []) ts s.mid s.front)) y.front p.0.0 (follows_sign RightParenthesis x [] y.mid rest refl y.back)) (behind_close y.mid rest y.back) refl)
-  tuple-complete place (MoreExpressions x (MoreExpressions z zs)) last ts rest h b p =
+      opened span [] ts s.mid rest _ s.front
+      (first_in span x Close s.mid y.mid rest _ (expression_no_sign RightParenthesis refl elsewhere x s.mid y.mid y.front p.0.0)
+      (any-complete x s.mid y.mid (omega (arith, h, length-Begins (sign_at span LeftParenthesis ∷ []) ts s.mid s.front)) y.front p.0.0 (follows_sign RightParenthesis x [] y.mid rest refl y.back)) (behind_close y.mid rest y.back) refl)
+  tuple-complete span (MoreExpressions x (MoreExpressions z zs)) last ts rest h b p =
       let inside = comma_list (expression_spellings (MoreExpressions z zs)) last ++ sign RightParenthesis ∷ [] in
-      let s = Begins-first (sign_at place LeftParenthesis) (expression_spelling x ++ sign comma_sign ∷ inside) ts rest
-      (Begins-same _ _ ts rest (ap (λ l. sign_at place LeftParenthesis ∷ l) (several_spelled (expression_spelling x) (expression_spelling z) (expression_spellings zs) last)) b) in
+      let s = Begins-first (sign_at span LeftParenthesis) (expression_spelling x ++ sign comma_sign ∷ inside) ts rest
+      (Begins-same _ _ ts rest (ap (λ l. sign_at span LeftParenthesis ∷ l) (several_spelled (expression_spelling x) (expression_spelling z) (expression_spellings zs) last)) b) in
       let y = Begins-split (expression_spelling x) (sign comma_sign ∷ inside) s.mid rest s.back in
       let m = Begins-first (sign comma_sign) inside y.mid rest y.back in
-      let shorter : length s.mid ≤ bound = omega (arith, h, length-Begins (sign_at place LeftParenthesis ∷ []) ts s.mid s.front) in
-      opened place [] ts s.mid rest _ s.front
-      (first_in place x Comma s.mid y.mid m.mid _ (expression_no_sign RightParenthesis refl elsewhere x s.mid y.mid y.front p.0.0)
+      let shorter : length s.mid ≤ bound = omega (arith, h, length-Begins (sign_at span LeftParenthesis ∷ []) ts s.mid s.front) in
+      opened span [] ts s.mid rest _ s.front
+      (first_in span x Comma s.mid y.mid m.mid _ (expression_no_sign RightParenthesis refl elsewhere x s.mid y.mid y.front p.0.0)
       (any-complete x s.mid y.mid shorter y.front p.0.0 (follows_sign comma_sign x [] y.mid m.mid refl m.front)) (behind_comma y.mid m.mid m.front)
-      (bind_some (comma_list_at (after_sign RightParenthesis) (any inner) m.mid) (λ items. several place x items.0 items.1) ((list_of_expressions (MoreExpressions z zs), last), rest)
+      (bind_some (comma_list_at (after_sign RightParenthesis) (any inner) m.mid) (λ items. several span x items.0 items.1) ((list_of_expressions (MoreExpressions z zs), last), rest)
       (list-complete RightParenthesis refl refl refl (MoreExpressions z zs) last m.mid rest (omega (arith, shorter, length-Begins (expression_spelling x) s.mid y.mid y.front, length-Begins (sign comma_sign ∷ []) y.mid m.mid m.front)) m.back p.0.1 (λ g. tt))
-      ∙ ap (λ xs. Some (TupleExpression place (MoreExpressions x (MoreExpressions z xs)) last, rest)) (listed_expressions zs)))
+      ∙ ap (λ xs. Some (TupleExpression span (MoreExpressions x (MoreExpressions z xs)) last, rest)) (listed_expressions zs)))

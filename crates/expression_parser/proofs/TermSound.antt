@@ -14,11 +14,11 @@ use Rattle.syntax_tree.specs.SpecExpressionData.{SpecExpressionData, SpecField, 
 use Rattle.syntax_tree.specs.SpecExpressionSpelling.{spec_spelling, spec_spellings, spec_field_spelling, spec_field_spellings}
 use Rattle.syntax_tree.specs.ProperSpecExpressions.{level, HasNoOpenPack, IsProperSpec, IsProperField}
 use Rattle.parser_base.specs.Beginnings.{Begins}
-use Rattle.parser_base.specs.TokenReading.{Read, after_sign, sign_place_at, identifier_at}
+use Rattle.parser_base.specs.TokenReading.{Read, after_sign, sign_span_at, identifier_at}
 use Rattle.parser_base.specs.ListReading.{comma_list_at}
 use Rattle.parser_base.proofs.Steps.{step, last, some_one, either}
 use Rattle.parser_base.proofs.BeginLemmas.{Begins-append, Begins-same}
-use Rattle.parser_base.proofs.TokenLemmas.{after_sign-sound, sign_place_at-sound, identifier_at-sound}
+use Rattle.parser_base.proofs.TokenLemmas.{after_sign-sound, sign_span_at-sound, identifier_at-sound}
 use Rattle.parser_base.proofs.ListLemmas.{comma_list_at-sound}
 use Rattle.parser_base.specs.PathReading.{path_at}
 use Rattle.parser_base.specs.TypeReading.{arguments_at}
@@ -139,17 +139,17 @@ module _ (item : Reader) (item_sound : ReadsSpecs item) where
 
   -- ---- terms
 
-  parenthesized_at-sound : (packs : Bool) (place : Span) (whole ts : List Token) (r : SpecExpressionData × List Token) → Begins (sign_at place LeftParenthesis ∷ []) whole ts → parenthesized_at item place ts ≡ Some r → Found packs term_level whole r
+  parenthesized_at-sound : (packs : Bool) (span : Span) (whole ts : List Token) (r : SpecExpressionData × List Token) → Begins (sign_at span LeftParenthesis ∷ []) whole ts → parenthesized_at item span ts ≡ Some r → Found packs term_level whole r
   unfolding parenthesized_at
-  parenthesized_at-sound packs place whole ts r front e =
+  parenthesized_at-sound packs span whole ts r front e =
       let x = step (item ts) _ r e in
-      let c = last (after_sign RightParenthesis x.value.1) (λ rest. (SpecParenthesized place x.value.0, rest)) r x.then in
+      let c = last (after_sign RightParenthesis x.value.1) (λ rest. (SpecParenthesized span x.value.0, rest)) r x.then in
       let read = item_sound ts x.value x.first in
       subst (Found packs term_level whole) c.then (record {
-        spelled = Begins-append (sign_at place LeftParenthesis ∷ []) (spec_spelling x.value.0 ++ sign RightParenthesis ∷ []) whole ts c.value front
+        spelled = Begins-append (sign_at span LeftParenthesis ∷ []) (spec_spelling x.value.0 ++ sign RightParenthesis ∷ []) whole ts c.value front
             (Begins-append (spec_spelling x.value.0) (sign RightParenthesis ∷ []) ts x.value.1 c.value read.0 (after_sign-sound RightParenthesis x.value.1 c.value c.first));
         is_proper = read.1;
-        allows = allowed packs (SpecParenthesized place x.value.0) tt;
+        allows = allowed packs (SpecParenthesized span x.value.0) tt;
         high = omega arith;
       })
 
@@ -169,12 +169,12 @@ module _ (item : Reader) (item_sound : ReadsSpecs item) where
   pub term_at-sound : (types : List Token → Read SourceTypeData) → ReadsTypes types → (packs : Bool) (ts : List Token) (r : SpecExpressionData × List Token) → term_at types item packs ts ≡ Some r → Found packs term_level ts r
   unfolding term_at
   term_at-sound types types_sound packs ts r e =
-      elim (either (sign_place_at LeftParenthesis ts) (λ p. parenthesized_at item p.0 p.1) _ r e) [
-        | inl s ↦ parenthesized_at-sound packs s.value.0 ts s.value.1 r (sign_place_at-sound LeftParenthesis ts s.value s.first) s.then
-        | inr n ↦ elim (either (sign_place_at AtSign ts) _ _ r n.1) [
+      elim (either (sign_span_at LeftParenthesis ts) (λ p. parenthesized_at item p.0 p.1) _ r e) [
+        | inl s ↦ parenthesized_at-sound packs s.value.0 ts s.value.1 r (sign_span_at-sound LeftParenthesis ts s.value s.first) s.then
+        | inr n ↦ elim (either (sign_span_at AtSign ts) _ _ r n.1) [
           | inl s ↦
               let l = last (address_literal_at s.value.0 s.value.1) (λ l. (SpecLiteral l.0, l.1)) r s.then in
-              let read = address_literal_at-sound s.value.0 ts s.value.1 l.value (sign_place_at-sound AtSign ts s.value s.first) l.first in
+              let read = address_literal_at-sound s.value.0 ts s.value.1 l.value (sign_span_at-sound AtSign ts s.value s.first) l.first in
               subst (Found packs term_level ts) l.then (record { spelled = read.0; is_proper = read.1; allows = allowed packs (SpecLiteral l.value.0) tt; high = omega arith })
           | inr m ↦ plain_term_at-sound types types_sound packs ts r m.1
         ]

@@ -10,7 +10,7 @@ use Rattle.syntax_tree.specs.TypeTreeData.{SourceTypeData, MaybeArgumentsData}
 use Rattle.syntax_tree.specs.PatternData.{PatternData}
 use Rattle.syntax_tree.specs.ExpressionData.{ExpressionData, AssignExpression, IfExpression, WhileExpression, LoopExpression, ReturnExpression, AbortExpression, BreakExpression, ContinueExpression, UnaryExpression, UseExpression, FieldExpression, LiteralExpression, PathExpression, CallExpression, PackExpression, VectorExpression, AssertExpression, TupleExpression, CastExpression, BlockExpression, NoExpression, SomeExpression, BlockData, BlockOf, ItemData, ExpressionItem, LetItem, FieldValueData, ShortFieldValue, LongFieldValue, expressions_of, field_values_of, items_of, maybe_expression_of}
 use Rattle.syntax_tree.specs.ProperExpressions.{unary_level}
-use Rattle.parser_base.specs.TokenReading.{Read, after_sign, sign_place_at, after_word, word_place_at, identifier_at}
+use Rattle.parser_base.specs.TokenReading.{Read, after_sign, sign_span_at, after_word, word_span_at, identifier_at}
 use Rattle.parser_base.specs.ListReading.{comma_list_at}
 use Rattle.parser_base.specs.ChainReading.{whole_chain_at}
 use Rattle.parser_base.specs.PathReading.{path_at, address_at}
@@ -24,7 +24,7 @@ use Rattle.parser_base.specs.declared.leaf.PathForm.{PathForm}
 use Rattle.parser_base.specs.declared.leaf.PathForm.TheVariants.{Call, Pack, Alone}
 use Rattle.parser_base.specs.declared.leaf.BehindFirst.{BehindFirst}
 use Rattle.parser_base.specs.declared.leaf.BehindFirst.TheVariants.{Close, As, Comma}
-use Rattle.parser_base.specs.LeafReading.{plain_literal_at, vector_place_at, assert_place_at, prefix_at, use_at, control_at, may_begin, spec_opening_at, path_form_at, glued_arguments_at, has_arguments, behind_first_at, spec_statement_at, annotation_at, cast_target_at}
+use Rattle.parser_base.specs.LeafReading.{plain_literal_at, vector_span_at, assert_span_at, prefix_at, use_at, control_at, may_begin, spec_opening_at, path_form_at, glued_arguments_at, has_arguments, behind_first_at, spec_statement_at, annotation_at, cast_target_at}
 use Rattle.parser_base.specs.OperatorReading.{joints}
 use Rattle.parser_base.specs.ParenthesesReading.{several}
 
@@ -59,34 +59,34 @@ path_term_at inner ts =
 
 -- after `vector`
 unfoldable pub vector_at : Readers → Span → List Token → Read ExpressionData
-vector_at inner place ts =
+vector_at inner span ts =
     option_and_then (λ arguments.
     option_and_then (λ rest.
-    option_map (λ items. (VectorExpression place arguments.0 (expressions_of items.0.0) items.0.1, items.1))
+    option_map (λ items. (VectorExpression span arguments.0 (expressions_of items.0.0) items.0.1, items.1))
     (comma_list_at (after_sign RightBracket) (any inner) rest)) (after_sign LeftBracket arguments.1)) (maybe_arguments_at inner.types ts)
 
 -- after `assert!`
 unfoldable pub assert_at : Readers → Span → List Token → Read ExpressionData
-assert_at inner place ts =
+assert_at inner span ts =
     option_and_then (λ inside.
     option_and_then (λ condition.
     option_and_then (λ behind.
     option_and_then (λ code.
-    option_map (λ rest. (AssertExpression place condition.0 code.0, rest))
+    option_map (λ rest. (AssertExpression span condition.0 code.0, rest))
     (after_sign RightParenthesis code.1)) (any inner behind)) (after_sign comma_sign condition.1)) (any inner inside)) (after_sign LeftParenthesis ts)
 
 -- ---- parentheses
 
 abbrev pub behind_first : Readers → Span → ExpressionData → BehindFirst → List Token → Read ExpressionData
-behind_first inner place first Close ts = Some (TupleExpression place (expressions_of (first ∷ [])) false, ts)
-behind_first inner place first As ts = option_map (λ target. (CastExpression place first target.0, target.1)) (cast_target_at inner.types ts)
-behind_first inner place first Comma ts = option_and_then (λ items. several place first items.0 items.1) (comma_list_at (after_sign RightParenthesis) (any inner) ts)
+behind_first inner span first Close ts = Some (TupleExpression span (expressions_of (first ∷ [])) false, ts)
+behind_first inner span first As ts = option_map (λ target. (CastExpression span first target.0, target.1)) (cast_target_at inner.types ts)
+behind_first inner span first Comma ts = option_and_then (λ items. several span first items.0 items.1) (comma_list_at (after_sign RightParenthesis) (any inner) ts)
 
 -- after an opening parenthesis
 unfoldable pub parenthesized_at : Readers → Span → List Token → Read ExpressionData
-parenthesized_at inner place ts =
-    option_map_or (λ rest. Some (TupleExpression place (expressions_of []) false, rest)) (after_sign RightParenthesis ts)
-    (option_and_then (λ first. option_and_then (λ form. behind_first inner place first.0 form.0 form.1) (behind_first_at first.1)) (any inner ts))
+parenthesized_at inner span ts =
+    option_map_or (λ rest. Some (TupleExpression span (expressions_of []) false, rest)) (after_sign RightParenthesis ts)
+    (option_and_then (λ first. option_and_then (λ form. behind_first inner span first.0 form.0 form.1) (behind_first_at first.1)) (any inner ts))
 
 -- ---- blocks
 
@@ -95,11 +95,11 @@ initial_at inner ts = option_map_or (λ rest. option_map (λ e. (Some e.0, e.1))
 
 -- after `let`, up to its semicolon
 unfoldable pub let_at : Readers → Span → List Token → Read ItemData
-let_at inner place ts =
+let_at inner span ts =
     option_and_then (λ pattern.
     option_and_then (λ annotation.
     option_and_then (λ value.
-    option_map (λ rest. (LetItem place pattern.0 annotation.0 (maybe_expression_of value.0), rest))
+    option_map (λ rest. (LetItem span pattern.0 annotation.0 (maybe_expression_of value.0), rest))
     (after_sign Semicolon value.1)) (initial_at inner annotation.1)) (annotation_at inner.types pattern.1)) (inner.patterns ts)
 
 -- an expression with its semicolon, or the value of a block with the closing brace
@@ -112,7 +112,7 @@ step_behind e ts =
 unfoldable pub step_at : Readers → List Token → Read BlockStep
 step_at inner ts =
     option_map_or (λ rest. Some (End None, rest)) (after_sign RightBrace ts)
-    (option_map_or (λ p. option_map (λ item. (One item.0, item.1)) (let_at inner p.0 p.1)) (word_place_at (codes "let") ts)
+    (option_map_or (λ p. option_map (λ item. (One item.0, item.1)) (let_at inner p.0 p.1)) (word_span_at (codes "let") ts)
     (option_and_then (λ e. step_behind e.0 e.1) (any inner ts)))
 
 -- the items of a block and its value
@@ -135,13 +135,13 @@ whole_contents_at inner ts = contents_at inner (length ts) ts
 
 -- after the opening brace of a block
 unfoldable pub block_at : Readers → Span → List Token → Read ExpressionData
-block_at inner place ts = option_map (λ c. (BlockExpression (BlockOf place None (items_of c.0.0) (maybe_expression_of c.0.1)), c.1)) (whole_contents_at inner ts)
+block_at inner span ts = option_map (λ c. (BlockExpression (BlockOf span None (items_of c.0.0) (maybe_expression_of c.0.1)), c.1)) (whole_contents_at inner ts)
 
 -- a block with the spec block of its loop; `valued` says whether it must have a value
 unfoldable pub spec_body_at : Readers → Bool → Span → List Token → Read ExpressionData
-spec_body_at inner valued place ts =
+spec_body_at inner valued span ts =
     option_and_then (λ spec.
-    option_and_then (λ c. if valued && (if is_some c.0.1 then false else true) then None else Some (BlockExpression (BlockOf place (Some spec.0) (items_of c.0.0) (maybe_expression_of c.0.1)), c.1))
+    option_and_then (λ c. if valued && (if is_some c.0.1 then false else true) then None else Some (BlockExpression (BlockOf span (Some spec.0) (items_of c.0.0) (maybe_expression_of c.0.1)), c.1))
     (whole_contents_at inner spec.1)) (spec_statement_at ts)
 
 -- the condition of a `while` or the body of a `loop`
@@ -151,50 +151,50 @@ body_at inner valued ts = option_map_or (λ p. spec_body_at inner valued p.0 p.1
 -- ---- control forms
 
 unfoldable pub else_at : Readers → Span → ExpressionData → ExpressionData → List Token → Read ExpressionData
-else_at inner place condition then_branch ts =
-    option_map_or (λ rest. option_map (λ e. (IfExpression place condition then_branch (SomeExpression e.0), e.1)) (any inner rest)) (after_word (codes "else") ts)
-    (Some (IfExpression place condition then_branch NoExpression, ts))
+else_at inner span condition then_branch ts =
+    option_map_or (λ rest. option_map (λ e. (IfExpression span condition then_branch (SomeExpression e.0), e.1)) (any inner rest)) (after_word (codes "else") ts)
+    (Some (IfExpression span condition then_branch NoExpression, ts))
 
 unfoldable pub if_at : Readers → Span → List Token → Read ExpressionData
-if_at inner place ts =
+if_at inner span ts =
     option_and_then (λ inside.
     option_and_then (λ condition.
     option_and_then (λ behind.
-    option_and_then (λ then_branch. else_at inner place condition.0 then_branch.0 then_branch.1)
+    option_and_then (λ then_branch. else_at inner span condition.0 then_branch.0 then_branch.1)
     (any inner behind)) (after_sign RightParenthesis condition.1)) (any inner inside)) (after_sign LeftParenthesis ts)
 
 unfoldable pub while_at : Readers → Span → List Token → Read ExpressionData
-while_at inner place ts =
+while_at inner span ts =
     option_and_then (λ inside.
     option_and_then (λ condition.
     option_and_then (λ behind.
-    option_map (λ body. (WhileExpression place condition.0 body.0, body.1))
+    option_map (λ body. (WhileExpression span condition.0 body.0, body.1))
     (any inner behind)) (after_sign RightParenthesis condition.1)) (body_at inner true inside)) (after_sign LeftParenthesis ts)
 
 unfoldable pub return_at : Readers → Span → List Token → Read ExpressionData
-return_at inner place ts =
-    if may_begin ts then option_map (λ value. (ReturnExpression place (SomeExpression value.0), value.1)) (any inner ts)
-    else Some (ReturnExpression place NoExpression, ts)
+return_at inner span ts =
+    if may_begin ts then option_map (λ value. (ReturnExpression span (SomeExpression value.0), value.1)) (any inner ts)
+    else Some (ReturnExpression span NoExpression, ts)
 
 abbrev pub control_form : Readers → Control → Span → List Token → Read ExpressionData
-control_form inner If place ts = if_at inner place ts
-control_form inner While place ts = while_at inner place ts
-control_form inner Loop place ts = option_map (λ body. (LoopExpression place body.0, body.1)) (body_at inner false ts)
-control_form inner Return place ts = return_at inner place ts
-control_form inner Abort place ts = option_map (λ code. (AbortExpression place code.0, code.1)) (any inner ts)
-control_form inner Break place ts = Some (BreakExpression place, ts)
-control_form inner Continue place ts = Some (ContinueExpression place, ts)
+control_form inner If span ts = if_at inner span ts
+control_form inner While span ts = while_at inner span ts
+control_form inner Loop span ts = option_map (λ body. (LoopExpression span body.0, body.1)) (body_at inner false ts)
+control_form inner Return span ts = return_at inner span ts
+control_form inner Abort span ts = option_map (λ code. (AbortExpression span code.0, code.1)) (any inner ts)
+control_form inner Break span ts = Some (BreakExpression span, ts)
+control_form inner Continue span ts = Some (ContinueExpression span, ts)
 
 -- ---- operands
 
 unfoldable pub term_at : Readers → List Token → Read ExpressionData
 term_at inner ts =
-    option_map_or (λ p. parenthesized_at inner p.0 p.1) (sign_place_at LeftParenthesis ts)
-    (option_map_or (λ p. block_at inner p.0 p.1) (sign_place_at LeftBrace ts)
-    (option_map_or (λ p. option_map (λ a. (LiteralExpression (address_literal p.0 a.0), a.1)) (address_at p.1)) (sign_place_at AtSign ts)
+    option_map_or (λ p. parenthesized_at inner p.0 p.1) (sign_span_at LeftParenthesis ts)
+    (option_map_or (λ p. block_at inner p.0 p.1) (sign_span_at LeftBrace ts)
+    (option_map_or (λ p. option_map (λ a. (LiteralExpression (address_literal p.0 a.0), a.1)) (address_at p.1)) (sign_span_at AtSign ts)
     (option_map_or (λ l. Some (LiteralExpression l.0, l.1)) (plain_literal_at ts)
-    (option_map_or (λ p. vector_at inner p.0 p.1) (vector_place_at ts)
-    (option_map_or (λ p. assert_at inner p.0 p.1) (assert_place_at ts)
+    (option_map_or (λ p. vector_at inner p.0 p.1) (vector_span_at ts)
+    (option_map_or (λ p. assert_at inner p.0 p.1) (assert_span_at ts)
     (path_term_at inner ts))))))
 
 -- the fields after a term, in at most this many steps
@@ -217,7 +217,7 @@ operand_at inner ts =
 -- an assignment after its target and `=`, or operators after an operand
 unfoldable pub behind_operand : Readers → ExpressionData → List Token → Read ExpressionData
 behind_operand inner operand ts =
-    option_map_or (λ p. option_map (λ value. (AssignExpression operand p.0 value.0, value.1)) (any inner p.1)) (sign_place_at Equal ts)
+    option_map_or (λ p. option_map (λ value. (AssignExpression operand p.0 value.0, value.1)) (any inner p.1)) (sign_span_at Equal ts)
     (whole_chain_at joints inner.expressions 1 operand ts)
 
 unfoldable pub any_form : Readers → List Token → Read ExpressionData
@@ -240,4 +240,4 @@ readers n = record { types = type_at n; patterns = pattern_at n; expressions = e
 
 -- the body of a function, after its brace
 unfoldable pub body_block_at : Readers → Span → List Token → Read BlockData
-body_block_at inner place ts = option_map (λ c. (BlockOf place None (items_of c.0.0) (maybe_expression_of c.0.1), c.1)) (whole_contents_at inner ts)
+body_block_at inner span ts = option_map (λ c. (BlockOf span None (items_of c.0.0) (maybe_expression_of c.0.1), c.1)) (whole_contents_at inner ts)

@@ -16,14 +16,14 @@ use Rattle.syntax_tree.specs.declared.path.Path.{Path}
 use Rattle.syntax_tree.specs.ProperTypes.{last_name}
 use Rattle.syntax_tree.specs.declared.spec_expression.operator.Quantifier.{Quantifier}
 use Rattle.syntax_tree.specs.declared.spec_expression.operator.Quantifier.TheVariants.{ForAll, Exists}
-use Rattle.parser_base.specs.TokenReading.{Read, after_sign, after_word, word_place_at, identifier_at, begins_capital}
+use Rattle.parser_base.specs.TokenReading.{Read, after_sign, after_word, word_span_at, identifier_at, begins_capital}
 use Rattle.parser_base.specs.PathReading.{address_at}
 
 -- ---- literals
 
 -- an address after its `@`
 unfoldable pub address_literal_at : Span → List Token → Read Literal
-address_literal_at place ts = option_map (λ a. (Address place a.0, a.1)) (address_at ts)
+address_literal_at span ts = option_map (λ a. (Address span a.0, a.1)) (address_at ts)
 
 -- ---- the beginnings of other parts
 
@@ -33,7 +33,7 @@ opens_bind ts = option_map_or (λ name. is_some (after_sign Colon name.1) || is_
 
 unfoldable pub quantifier_word_at : List Token → Read (Quantifier × Span)
 quantifier_word_at ts =
-    option_map_or (λ p. Some ((ForAll, p.0), p.1)) (word_place_at (codes "forall") ts) (option_map (λ p. ((Exists, p.0), p.1)) (word_place_at (codes "exists") ts))
+    option_map_or (λ p. Some ((ForAll, p.0), p.1)) (word_span_at (codes "forall") ts) (option_map (λ p. ((Exists, p.0), p.1)) (word_span_at (codes "exists") ts))
 
 -- the word of a quantifier, if a bind follows it; otherwise it is a name
 unfoldable pub quantifier_at : List Token → Read (Quantifier × Span)

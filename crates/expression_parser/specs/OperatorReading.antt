@@ -39,8 +39,8 @@ opens_arguments _ = false
 
 -- the operator after its first sign: a `>` glued to a `>` is a shift
 abbrev pub lengthened : SpecOperator → Span → List Token → (SpecOperator × Span) × List Token
-lengthened (Common Greater) place ts = option_map_or (λ rest. ((Common ShiftRight, place), rest)) (after_glued greater_sign ts) ((Common Greater, place), ts)
-lengthened operator place ts = ((operator, place), ts)
+lengthened (Common Greater) span ts = option_map_or (λ rest. ((Common ShiftRight, span), rest)) (after_glued greater_sign ts) ((Common Greater, span), ts)
+lengthened operator span ts = ((operator, span), ts)
 
 -- an operator and its span, after a path or not
 unfoldable pub spec_operator_at : Bool → List Token → Read (SpecOperator × Span)

@@ -11,7 +11,7 @@ use Rattle.syntax_tree.specs.ProperExpressions.{unary_level}
 use Rattle.syntax_tree.specs.TypeTreeData.{SourceTypeData, MaybeArgumentsData, NoArguments, SomeArguments}
 use Rattle.syntax_tree.specs.declared.spec_expression.operator.Quantifier.{Quantifier}
 use Rattle.syntax_tree.specs.SpecExpressionData.{SpecExpressionData, SpecQuantified, SpecIf, SpecNot, SpecField, SpecIndex, SpecLiteral, SpecPath, SpecCall, SpecPack, SpecParenthesized, BindData, TypedBind, RangeBind, TriggerData, TriggerOf, SpecFieldData, ShortSpecField, LongSpecField, spec_expressions_of, binds_of, triggers_of, spec_fields_of}
-use Rattle.parser_base.specs.TokenReading.{Read, after_sign, sign_place_at, after_word, word_place_at, identifier_at}
+use Rattle.parser_base.specs.TokenReading.{Read, after_sign, sign_span_at, after_word, word_span_at, identifier_at}
 use Rattle.parser_base.specs.ListReading.{some_items_at, comma_list_at}
 use Rattle.parser_base.specs.ChainReading.{whole_chain_at}
 use Rattle.parser_base.specs.PathReading.{path_at}
@@ -60,7 +60,7 @@ path_form types item packs path ts =
 -- ---- terms
 
 unfoldable pub parenthesized_at : Reader → Span → List Token → Read SpecExpressionData
-parenthesized_at item place ts = option_and_then (λ e. option_map (λ rest. (SpecParenthesized place e.0, rest)) (after_sign RightParenthesis e.1)) (item ts)
+parenthesized_at item span ts = option_and_then (λ e. option_map (λ rest. (SpecParenthesized span e.0, rest)) (after_sign RightParenthesis e.1)) (item ts)
 
 -- a term that begins with none of the signs for terms
 unfoldable pub plain_term_at : (List Token → Read SourceTypeData) → Reader → Bool → List Token → Read SpecExpressionData
@@ -70,8 +70,8 @@ plain_term_at types item packs ts =
 
 unfoldable pub term_at : (List Token → Read SourceTypeData) → Reader → Bool → List Token → Read SpecExpressionData
 term_at types item packs ts =
-    option_map_or (λ p. parenthesized_at item p.0 p.1) (sign_place_at LeftParenthesis ts)
-    (option_map_or (λ p. option_map (λ l. (SpecLiteral l.0, l.1)) (address_literal_at p.0 p.1)) (sign_place_at AtSign ts) (plain_term_at types item packs ts))
+    option_map_or (λ p. parenthesized_at item p.0 p.1) (sign_span_at LeftParenthesis ts)
+    (option_map_or (λ p. option_map (λ l. (SpecLiteral l.0, l.1)) (address_literal_at p.0 p.1)) (sign_span_at AtSign ts) (plain_term_at types item packs ts))
 
 -- ---- operands
 
@@ -86,7 +86,7 @@ postfix_at item base ts =
 
 unfoldable pub operand_at : (List Token → Read SourceTypeData) → (Bool → ℕ → Reader) → Bool → List Token → Read SpecExpressionData
 operand_at types inner packs ts =
-    option_map_or (λ p. option_map (λ e. (SpecNot p.0 e.0, e.1)) (inner packs unary_level p.1)) (sign_place_at Exclaim ts)
+    option_map_or (λ p. option_map (λ e. (SpecNot p.0 e.0, e.1)) (inner packs unary_level p.1)) (sign_span_at Exclaim ts)
     (option_and_then (λ base. whole_repeat_at has_postfix (postfix_at (inner true 0)) base.0 base.1) (term_at types (inner true 0) packs ts))
 
 -- operands joined by operators
@@ -122,11 +122,11 @@ has_trigger ts = is_some (after_sign LeftBrace ts)
 
 -- a quantified expression after its word
 unfoldable pub quantified_at : (List Token → Read SourceTypeData) → (Bool → ℕ → Reader) → Bool → Quantifier → Span → List Token → Read SpecExpressionData
-quantified_at types inner packs quantifier place ts =
+quantified_at types inner packs quantifier span ts =
     option_and_then (λ binds.
     option_and_then (λ triggers.
     option_and_then (λ rest.
-    option_map (λ body. (SpecQuantified quantifier place (binds_of binds.0) (triggers_of triggers.0) body.0, body.1))
+    option_map (λ body. (SpecQuantified quantifier span (binds_of binds.0) (triggers_of triggers.0) body.0, body.1))
     (inner packs 0 rest)) (after_sign Colon triggers.1)) (whole_repeat_at has_trigger (trigger_at (inner true 0)) [] binds.1)) (binds_at types (inner false 0) ts)
 
 -- ---- all forms
@@ -138,18 +138,18 @@ condition_at item ts =
 
 -- an `if` after its word
 unfoldable pub if_at : (Bool → ℕ → Reader) → Bool → Span → List Token → Read SpecExpressionData
-if_at inner packs place ts =
+if_at inner packs span ts =
     option_and_then (λ condition.
     option_and_then (λ chosen.
     option_and_then (λ rest.
-    option_map (λ other. (SpecIf place condition.0 chosen.0 other.0, other.1))
+    option_map (λ other. (SpecIf span condition.0 chosen.0 other.0, other.1))
     (inner packs 0 rest)) (after_word (codes "else") chosen.1)) (inner packs 0 condition.1)) (condition_at (inner true 0) ts)
 
 -- a quantified expression, an `if`, or operands joined by operators of any level
 unfoldable pub loose_at : (List Token → Read SourceTypeData) → (Bool → ℕ → Reader) → Bool → List Token → Read SpecExpressionData
 loose_at types inner packs ts =
     option_map_or (λ q. quantified_at types inner packs q.0.0 q.0.1 q.1) (quantifier_at ts)
-    (option_map_or (λ p. if_at inner packs p.0 p.1) (word_place_at (codes "if") ts) (operated_at types inner packs 0 ts))
+    (option_map_or (λ p. if_at inner packs p.0 p.1) (word_span_at (codes "if") ts) (operated_at types inner packs 0 ts))
 
 unfoldable pub spec_form : (List Token → Read SourceTypeData) → (Bool → ℕ → Reader) → Bool → ℕ → Reader
 spec_form types inner packs minimum ts = if minimum == 0 then loose_at types inner packs ts else operated_at types inner packs minimum ts

@@ -10,7 +10,7 @@ use base::span::Span;
 use parser_base::fault::ReadFault;
 use parser_base::leaf::{read_annotation, read_spec_opening, read_spec_statement};
 use parser_base::pattern::read_pattern;
-use parser_base::signs::{expect_sign, place_of_word, skip_sign};
+use parser_base::signs::{expect_sign, skip_sign, span_of_word};
 use std::alloc::Global;
 use syntax_tree::expression::{Block, Expression, ExpressionNode, Item, ItemNode};
 use tokens::token::{Punctuation, Token};
@@ -60,8 +60,8 @@ fn read_step(
     if let Some(rest) = skip_sign(tokens, Punctuation::RightBrace) {
         return Ok((BlockStep::End(None), rest));
     }
-    if let Some((place, rest)) = place_of_word(tokens, b"let") {
-        let (item, rest) = read_let(alloc, place, rest, budget)?;
+    if let Some((span, rest)) = span_of_word(tokens, b"let") {
+        let (item, rest) = read_let(alloc, span, rest, budget)?;
         return Ok((BlockStep::One(item), rest));
     }
     let (expression, rest) = read_boxed(alloc, 0, tokens, budget)?;
@@ -91,18 +91,18 @@ fn step_behind(
 #[tactic(auto, unfolding(crate::specs::ExpressionReading::let_at))]
 fn read_let(
     alloc: Global,
-    place: Span,
+    span: Span,
     tokens: &[Token],
     budget: usize,
 ) -> Result<(Item, &[Token]), ReadFault>
-    ensures { Reads result (λ read. (read.0, read.1.now)) (let_at (readers budget) place tokens.now) }
+    ensures { Reads result (λ read. (read.0, read.1.now)) (let_at (readers budget) span tokens.now) }
 {
     let (pattern, rest) = read_pattern(alloc, tokens, budget)?;
     let (annotation, rest) = read_annotation(alloc, rest, budget)?;
     let (value, rest) = read_initial(alloc, rest, budget)?;
     let rest = expect_sign(rest, Punctuation::Semicolon)?;
     let node = ItemNode::Let {
-        place,
+        span,
         pattern,
         annotation,
         value,
@@ -141,7 +141,7 @@ pub fn read_body(
 ) -> Result<(Expression, &[Token]), ReadFault>
     ensures { Reads result (λ read. (read.0, read.1.now)) (body_at (readers budget) valued tokens.now) }
 {
-    let Some((place, rest)) = read_spec_opening(tokens) else {
+    let Some((span, rest)) = read_spec_opening(tokens) else {
         return read_expression(alloc, 0, tokens, budget);
     };
     let (spec, rest) = read_spec_statement(alloc, rest)?;
@@ -150,7 +150,7 @@ pub fn read_body(
         return Err(ReadFault::NoTree { left: rest.len() });
     }
     let block = Block {
-        place,
+        span,
         spec: Some(spec),
         items,
         value,
@@ -163,15 +163,15 @@ pub fn read_body(
 #[tactic(auto, unfolding(crate::specs::ExpressionReading::body_block_at))]
 pub fn read_block(
     alloc: Global,
-    place: Span,
+    span: Span,
     tokens: &[Token],
     budget: usize,
 ) -> Result<(Block, &[Token]), ReadFault>
-    ensures { Reads result (λ read. (read.0, read.1.now)) (body_block_at (readers budget) place tokens.now) }
+    ensures { Reads result (λ read. (read.0, read.1.now)) (body_block_at (readers budget) span tokens.now) }
 {
     let (items, value, rest) = read_contents(alloc, tokens, budget)?;
     let block = Block {
-        place,
+        span,
         spec: None,
         items,
         value,

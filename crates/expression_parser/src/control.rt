@@ -19,42 +19,42 @@ use tokens::token::{Punctuation, Token};
 pub fn read_control(
     alloc: Global,
     control: Control,
-    place: Span,
+    span: Span,
     tokens: &[Token],
     budget: usize,
 ) -> Result<(Expression, &[Token]), ReadFault>
-    ensures { Reads result (λ read. (read.0, read.1.now)) (control_form (readers budget) control place tokens.now) }
+    ensures { Reads result (λ read. (read.0, read.1.now)) (control_form (readers budget) control span tokens.now) }
 {
     match control {
-        Control::If => read_if(alloc, place, tokens, budget),
-        Control::While => read_while(alloc, place, tokens, budget),
+        Control::If => read_if(alloc, span, tokens, budget),
+        Control::While => read_while(alloc, span, tokens, budget),
         Control::Loop => {
             let (body, rest) = read_body(alloc, false, tokens, budget)?;
             let body = Box::new(alloc, body)?;
-            let node = ExpressionNode::Loop { place, body };
+            let node = ExpressionNode::Loop { span, body };
             Ok((Expression { node }, rest))
         }
         Control::Return if may_begin(tokens) => {
             let (value, rest) = read_boxed(alloc, 0, tokens, budget)?;
             let value = Some(value);
-            let node = ExpressionNode::Return { place, value };
+            let node = ExpressionNode::Return { span, value };
             Ok((Expression { node }, rest))
         }
         Control::Return => {
-            let node = ExpressionNode::Return { place, value: None };
+            let node = ExpressionNode::Return { span, value: None };
             Ok((Expression { node }, tokens))
         }
         Control::Abort => {
             let (code, rest) = read_boxed(alloc, 0, tokens, budget)?;
-            let node = ExpressionNode::Abort { place, code };
+            let node = ExpressionNode::Abort { span, code };
             Ok((Expression { node }, rest))
         }
         Control::Break => {
-            let node = ExpressionNode::Break(place);
+            let node = ExpressionNode::Break(span);
             Ok((Expression { node }, tokens))
         }
         Control::Continue => {
-            let node = ExpressionNode::Continue(place);
+            let node = ExpressionNode::Continue(span);
             Ok((Expression { node }, tokens))
         }
     }
@@ -65,11 +65,11 @@ pub fn read_control(
 #[tactic(auto, unfolding(crate::specs::ExpressionReading::if_at, crate::specs::ExpressionReading::else_at))]
 fn read_if(
     alloc: Global,
-    place: Span,
+    span: Span,
     tokens: &[Token],
     budget: usize,
 ) -> Result<(Expression, &[Token]), ReadFault>
-    ensures { Reads result (λ read. (read.0, read.1.now)) (if_at (readers budget) place tokens.now) }
+    ensures { Reads result (λ read. (read.0, read.1.now)) (if_at (readers budget) span tokens.now) }
 {
     let rest = expect_sign(tokens, Punctuation::LeftParenthesis)?;
     let (condition, rest) = read_boxed(alloc, 0, rest, budget)?;
@@ -77,7 +77,7 @@ fn read_if(
     let (then_branch, rest) = read_boxed(alloc, 0, rest, budget)?;
     let Some(behind) = skip_else(rest) else {
         let node = ExpressionNode::If {
-            place,
+            span,
             condition,
             then_branch,
             else_branch: None,
@@ -86,7 +86,7 @@ fn read_if(
     };
     let (else_branch, rest) = read_boxed(alloc, 0, behind, budget)?;
     let node = ExpressionNode::If {
-        place,
+        span,
         condition,
         then_branch,
         else_branch: Some(else_branch),
@@ -99,11 +99,11 @@ fn read_if(
 #[tactic(auto, unfolding(crate::specs::ExpressionReading::while_at))]
 fn read_while(
     alloc: Global,
-    place: Span,
+    span: Span,
     tokens: &[Token],
     budget: usize,
 ) -> Result<(Expression, &[Token]), ReadFault>
-    ensures { Reads result (λ read. (read.0, read.1.now)) (while_at (readers budget) place tokens.now) }
+    ensures { Reads result (λ read. (read.0, read.1.now)) (while_at (readers budget) span tokens.now) }
 {
     let rest = expect_sign(tokens, Punctuation::LeftParenthesis)?;
     let (condition, rest) = read_body(alloc, true, rest, budget)?;
@@ -111,7 +111,7 @@ fn read_while(
     let rest = expect_sign(rest, Punctuation::RightParenthesis)?;
     let (body, rest) = read_boxed(alloc, 0, rest, budget)?;
     let node = ExpressionNode::While {
-        place,
+        span,
         condition,
         body,
     };

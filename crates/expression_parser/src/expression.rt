@@ -10,7 +10,7 @@ use crate::term::read_operand;
 use parser_base::fault::ReadFault;
 use parser_base::leaf::read_control_word;
 use parser_base::operator::{next_operator, right_level};
-use parser_base::signs::place_of_sign;
+use parser_base::signs::span_of_sign;
 use std::alloc::Global;
 use syntax_tree::expression::{Expression, ExpressionNode};
 use tokens::token::{Punctuation, Token};
@@ -77,16 +77,16 @@ fn read_any_form(
 ) -> Result<(Expression, &[Token]), ReadFault>
     ensures { Reads result (λ read. (read.0, read.1.now)) (any_form (readers budget) tokens.now) }
 {
-    if let Some((control, place, rest)) = read_control_word(tokens) {
-        return read_control(alloc, control, place, rest, budget);
+    if let Some((control, span, rest)) = read_control_word(tokens) {
+        return read_control(alloc, control, span, rest, budget);
     }
     let (operand, rest) = read_operand(alloc, tokens, budget)?;
     let operand = Box::new(alloc, operand)?;
-    if let Some((place, rest)) = place_of_sign(rest, Punctuation::Equal) {
+    if let Some((span, rest)) = span_of_sign(rest, Punctuation::Equal) {
         let (value, rest) = read_boxed(alloc, 0, rest, budget)?;
         let node = ExpressionNode::Assign {
             target: operand,
-            place,
+            span,
             value,
         };
         return Ok((Expression { node }, rest));
@@ -110,14 +110,14 @@ fn read_chain(
     let mut left = operand;
     let mut rest = tokens;
     for _ in 0..tokens.len() + 1 {
-        let Some((operator, place, behind)) = next_operator(minimum, &left, rest) else {
+        let Some((operator, span, behind)) = next_operator(minimum, &left, rest) else {
             return Ok((left, rest));
         };
         let (right, behind) = read_boxed(alloc, right_level(operator), behind, budget)?;
         let node = ExpressionNode::Binary {
             left,
             operator,
-            place,
+            span,
             right,
         };
         left = Box::new(alloc, Expression { node })?;

@@ -10,12 +10,12 @@ use crate::lists::{read_expressions, read_field_values};
 use base::span::Span;
 use parser_base::fault::ReadFault;
 use parser_base::leaf::{
-    BehindFirst, PathForm, place_of_assert, place_of_vector, read_behind_first, read_cast_target,
-    read_glued_arguments, read_path_form, read_plain_literal, read_prefix, read_use,
+    BehindFirst, PathForm, read_behind_first, read_cast_target, read_glued_arguments,
+    read_path_form, read_plain_literal, read_prefix, read_use, span_of_assert, span_of_vector,
 };
 use parser_base::parentheses::several;
 use parser_base::path::{read_address, read_path_of_term};
-use parser_base::signs::{expect_sign, place_of_sign, read_identifier, skip_sign};
+use parser_base::signs::{expect_sign, read_identifier, skip_sign, span_of_sign};
 use parser_base::types::read_maybe_arguments;
 use std::alloc::Global;
 use syntax_tree::expression::{Block, Expression, ExpressionNode};
@@ -35,18 +35,18 @@ pub fn read_operand(
 ) -> Result<(Expression, &[Token]), ReadFault>
     ensures { Reads result (λ read. (read.0, read.1.now)) (operand_at (readers budget) tokens.now) }
 {
-    if let Some((operator, place, rest)) = read_prefix(tokens) {
+    if let Some((operator, span, rest)) = read_prefix(tokens) {
         let (operand, rest) = read_boxed(alloc, UNARY_LEVEL, rest, budget)?;
         let node = ExpressionNode::Unary {
             operator,
-            place,
+            span,
             operand,
         };
         return Ok((Expression { node }, rest));
     }
-    if let Some((kind, place, rest)) = read_use(tokens) {
+    if let Some((kind, span, rest)) = read_use(tokens) {
         let (local, rest) = read_identifier(alloc, rest)?;
-        let node = ExpressionNode::Use { kind, place, local };
+        let node = ExpressionNode::Use { kind, span, local };
         return Ok((Expression { node }, rest));
     }
     let (term, rest) = read_term(alloc, tokens, budget)?;
@@ -85,13 +85,13 @@ fn read_term(
 ) -> Result<(Expression, &[Token]), ReadFault>
     ensures { Reads result (λ read. (read.0, read.1.now)) (term_at (readers budget) tokens.now) }
 {
-    if let Some((place, rest)) = place_of_sign(tokens, Punctuation::LeftParenthesis) {
-        return read_parenthesized(alloc, place, rest, budget);
+    if let Some((span, rest)) = span_of_sign(tokens, Punctuation::LeftParenthesis) {
+        return read_parenthesized(alloc, span, rest, budget);
     }
-    if let Some((place, rest)) = place_of_sign(tokens, Punctuation::LeftBrace) {
+    if let Some((span, rest)) = span_of_sign(tokens, Punctuation::LeftBrace) {
         let (items, value, rest) = read_contents(alloc, rest, budget)?;
         let block = Block {
-            place,
+            span,
             spec: None,
             items,
             value,
@@ -99,20 +99,20 @@ fn read_term(
         let node = ExpressionNode::Block(Box::new(alloc, block)?);
         return Ok((Expression { node }, rest));
     }
-    if let Some((place, rest)) = place_of_sign(tokens, Punctuation::AtSign) {
+    if let Some((span, rest)) = span_of_sign(tokens, Punctuation::AtSign) {
         let (address, rest) = read_address(alloc, rest)?;
-        let node = ExpressionNode::Literal(Literal::Address { place, address });
+        let node = ExpressionNode::Literal(Literal::Address { span, address });
         return Ok((Expression { node }, rest));
     }
     if let Some((literal, rest)) = read_plain_literal(alloc, tokens)? {
         let node = ExpressionNode::Literal(literal);
         return Ok((Expression { node }, rest));
     }
-    if let Some((place, rest)) = place_of_vector(tokens) {
-        return read_vector(alloc, place, rest, budget);
+    if let Some((span, rest)) = span_of_vector(tokens) {
+        return read_vector(alloc, span, rest, budget);
     }
-    if let Some((place, rest)) = place_of_assert(tokens) {
-        return read_assert(alloc, place, rest, budget);
+    if let Some((span, rest)) = span_of_assert(tokens) {
+        return read_assert(alloc, span, rest, budget);
     }
     read_path_term(alloc, tokens, budget)
 }
@@ -122,15 +122,15 @@ fn read_term(
 #[tactic(auto, unfolding(crate::specs::ExpressionReading::parenthesized_at))]
 fn read_parenthesized(
     alloc: Global,
-    place: Span,
+    span: Span,
     tokens: &[Token],
     budget: usize,
 ) -> Result<(Expression, &[Token]), ReadFault>
-    ensures { Reads result (λ read. (read.0, read.1.now)) (parenthesized_at (readers budget) place tokens.now) }
+    ensures { Reads result (λ read. (read.0, read.1.now)) (parenthesized_at (readers budget) span tokens.now) }
 {
     if let Some(rest) = skip_sign(tokens, Punctuation::RightParenthesis) {
         let node = ExpressionNode::Tuple {
-            place,
+            span,
             items: Vec::new(alloc),
             last_comma: false,
         };
@@ -142,7 +142,7 @@ fn read_parenthesized(
             let mut items = Vec::new(alloc);
             items.push(Box::into_inner(first))?;
             let node = ExpressionNode::Tuple {
-                place,
+                span,
                 items,
                 last_comma: false,
             };
@@ -151,7 +151,7 @@ fn read_parenthesized(
         (BehindFirst::As, rest) => {
             let (target, rest) = read_cast_target(alloc, rest, budget)?;
             let node = ExpressionNode::Cast {
-                place,
+                span,
                 value: first,
                 target,
             };
@@ -164,7 +164,7 @@ fn read_parenthesized(
                 rest,
                 budget,
             )?;
-            several(place, first, more, last_comma, rest)
+            several(span, first, more, last_comma, rest)
         }
     }
 }
@@ -219,11 +219,11 @@ fn read_path_term(
 #[tactic(auto, unfolding(crate::specs::ExpressionReading::vector_at))]
 fn read_vector(
     alloc: Global,
-    place: Span,
+    span: Span,
     tokens: &[Token],
     budget: usize,
 ) -> Result<(Expression, &[Token]), ReadFault>
-    ensures { Reads result (λ read. (read.0, read.1.now)) (vector_at (readers budget) place tokens.now) }
+    ensures { Reads result (λ read. (read.0, read.1.now)) (vector_at (readers budget) span tokens.now) }
 {
     let (arguments, rest) = read_maybe_arguments(alloc, tokens, budget)?;
     let rest = expect_sign(rest, Punctuation::LeftBracket)?;
@@ -234,7 +234,7 @@ fn read_vector(
         budget,
     )?;
     let node = ExpressionNode::Vector {
-        place,
+        span,
         arguments,
         items,
         last_comma,
@@ -247,11 +247,11 @@ fn read_vector(
 #[tactic(auto, unfolding(crate::specs::ExpressionReading::assert_at))]
 fn read_assert(
     alloc: Global,
-    place: Span,
+    span: Span,
     tokens: &[Token],
     budget: usize,
 ) -> Result<(Expression, &[Token]), ReadFault>
-    ensures { Reads result (λ read. (read.0, read.1.now)) (assert_at (readers budget) place tokens.now) }
+    ensures { Reads result (λ read. (read.0, read.1.now)) (assert_at (readers budget) span tokens.now) }
 {
     let rest = expect_sign(tokens, Punctuation::LeftParenthesis)?;
     let (condition, rest) = read_boxed(alloc, 0, rest, budget)?;
@@ -259,7 +259,7 @@ fn read_assert(
     let (code, rest) = read_boxed(alloc, 0, rest, budget)?;
     let rest = expect_sign(rest, Punctuation::RightParenthesis)?;
     let node = ExpressionNode::Assert {
-        place,
+        span,
         condition,
         code,
     };

@@ -24,8 +24,8 @@ module _ {A : Type 0} {size : List A → ℕ} {left right : List A} where
     within = omega (arith, ap size p);
   }
 
-  pub alike_turn : {x y : A} {xs ys : List A} → Alike size left right (x ∷ xs) (y ∷ ys) → x ≡ y → size xs ≤ size (x ∷ xs) → Alike size left right xs ys
-  alike_turn h e less = record {
+  pub alike_reversed : {x y : A} {xs ys : List A} → Alike size left right (x ∷ xs) (y ∷ ys) → x ≡ y → size xs ≤ size (x ∷ xs) → Alike size left right xs ys
+  alike_reversed h e less = record {
     same_rest = (λ p. h.same_rest.0 (λ i. e i ∷ p i), λ p. tail_is (h.same_rest.1 p));
     same_length = omega (arith, h.same_length);
     within = omega (arith, h.within);

@@ -11,7 +11,7 @@ use Rattle.sum_module.specs.declared.member.SumMember.TheVariants.{Function as f
 use Rattle.sum_module.specs.BuiltModuleData.{BuiltModuleData}
 use Rattle.sum_module.specs.Built.{IsBuilt, IsFirstUnbuilt as IsFirstUnbuiltMember, IsUnbuiltAt, address_of}
 use Rattle.sum_module.specs.Members.{AreMembers, IsMember, IsUnbuilt}
-use Rattle.syntax_tree.specs.Places.{form_place}
+use Rattle.syntax_tree.specs.Spans.{form_span}
 use Rattle.sum_module.specs.Joined.{module_of}
 use Rattle.sum_module.specs.Program.{IsSumModule}
 
@@ -56,9 +56,9 @@ member_once members front (v ∷ one) (w ∷ other) x y back behind (a ∷ xs) (
     (subst (λ before. IsUnbuilt members before x.form) (sym (append_assoc front (v ∷ []) one)) f)
     (subst (λ before. IsUnbuilt members before y.form) (ap (λ m. front ++ m ∷ other) (sym (head_is e)) ∙ sym (append_assoc front (v ∷ []) other)) g)
 
-first_once : (members : List SourceMemberData) (place other : ℕ) → IsFirstUnbuiltMember members place → IsFirstUnbuiltMember members other → place ≡ other
-first_once members place other p q =
-    p.place_is ∙ ap (λ (m : SourceMemberData). (form_place m.form).start) (member_once members [] p.before q.before p.member q.member p.behind q.behind p.built q.built (sym p.parts ∙ q.parts) p.are_built q.are_built p.unbuilt q.unbuilt) ∙ sym q.place_is
+first_once : (members : List SourceMemberData) (offset other : ℕ) → IsFirstUnbuiltMember members offset → IsFirstUnbuiltMember members other → offset ≡ other
+first_once members offset other p q =
+    p.offset_is ∙ ap (λ (m : SourceMemberData). (form_span m.form).start) (member_once members [] p.before q.before p.member q.member p.behind q.behind p.built q.built (sym p.parts ∙ q.parts) p.are_built q.are_built p.unbuilt q.unbuilt) ∙ sym q.offset_is
 
 -- if all members are built, none is not
 all_built : (members front before : List SourceMemberData) (m : SourceMemberData) (behind : List SourceMemberData) (xs : List SumMember) → AreMembers members front (before ++ m ∷ behind) xs → IsUnbuilt members (front ++ before) m.form → ⊥
@@ -85,22 +85,22 @@ no_number m address n s = apart (sym n ∙ s)
     apart : {a : ℕ} → None ≡ Some a → ⊥
     apart e = absurd (cc)
 
-pub built_or_not : (file : ℕ) (m : SourceModuleData) (found : SumModuleData) (place : ℕ) → IsSumModule file m found → IsUnbuiltAt m place → ⊥
-built_or_not file m found place b u =
+pub built_or_not : (file : ℕ) (m : SourceModuleData) (found : SumModuleData) (offset : ℕ) → IsSumModule file m found → IsUnbuiltAt m offset → ⊥
+built_or_not file m found offset b u =
     elim u [
       | inl n ↦ no_number m b.built.address n.address b.is_built.address
       | inr n ↦ all_built m.members [] n.first.before n.first.member n.first.behind b.built.members (subst (λ ms. AreMembers m.members [] ms b.built.members) n.first.parts b.is_built.members) n.first.unbuilt
     ]
 
-pub one_place : (m : SourceModuleData) (place other : ℕ) → IsUnbuiltAt m place → IsUnbuiltAt m other → place ≡ other
-one_place m place other p q =
+pub one_offset : (m : SourceModuleData) (offset other : ℕ) → IsUnbuiltAt m offset → IsUnbuiltAt m other → offset ≡ other
+one_offset m offset other p q =
     elim p [
       | inl a ↦ elim q [
-        | inl b ↦ a.place_is ∙ sym b.place_is
+        | inl b ↦ a.offset_is ∙ sym b.offset_is
         | inr b ↦ absurd (no_number m b.address a.address b.address_is)
       ]
       | inr a ↦ elim q [
         | inl b ↦ absurd (no_number m a.address b.address a.address_is)
-        | inr b ↦ first_once m.members place other a.first b.first
+        | inr b ↦ first_once m.members offset other a.first b.first
       ]
     ]

@@ -1,7 +1,7 @@
 -- The laws of stages hold of chains of stages: a chain gives at most one result, or it stops in one way.
 use Rattle.std.proofs.Common.{◌≡◌, ℕ, List, sym, subst, ◌∙◌}
 use Rattle.front_end.specs.Chain.{FileStage, GivesBehind, StopsBehind, allows, at_first, at_second, makes, checks, ◌▷◌}
-use Rattle.front_end.specs.FileFault.{IsSameStop, without_place}
+use Rattle.front_end.specs.FileFault.{IsSameStop, without_offset}
 use Rattle.front_end.specs.Numbered.{Each, IsFirst}
 use Rattle.front_end.specs.declared.fault.FileFault.{FileFault}
 use Rattle.front_end.proofs.NumberedLaws.{none_first, once, one_list}
@@ -38,10 +38,10 @@ module _ {A B C : Type 0} (s : FileStage A B) (t : FileStage B C) (S : Laws s) (
 
 -- two faults of one file are the same
 abbrev pub TellsOnce : {A : Type 0} → (ℕ → A → FileFault → Type 0) → Type 0
-TellsOnce {A = A} IsWrong = (n : ℕ) (item : A) (fault other : FileFault) → IsWrong n item fault → IsWrong n item other → without_place fault ≡ without_place other
+TellsOnce {A = A} IsWrong = (n : ℕ) (item : A) (fault other : FileFault) → IsWrong n item fault → IsWrong n item other → without_offset fault ≡ without_offset other
 
 module _ {A : Type 0} (IsRight : ℕ → A → Type 0) (IsWrong : ℕ → A → FileFault → Type 0)
-    (apart : (n : ℕ) (item : A) (fault : FileFault) → IsRight n item → IsWrong n item fault → ⊥) (told : TellsOnce IsWrong) where
+    (apart : (n : ℕ) (item : A) (fault : FileFault) → IsRight n item → IsWrong n item fault → ⊥) (known : TellsOnce IsWrong) where
   abbrev StopsIn : List A → ℕ → FileFault → Type 0
   StopsIn items file fault = IsFirst IsRight (λ n item. IsWrong n item fault) items file
 
@@ -51,7 +51,7 @@ module _ {A : Type 0} (IsRight : ℕ → A → Type 0) (IsWrong : ℕ → A → 
   stops_once : (items : List A) (file other_file : ℕ) (fault other : FileFault) → StopsIn items file fault → StopsIn items other_file other → IsSameStop file other_file fault other
   stops_once items file other_file fault other p q =
       let o = once items file other_file (λ n item. apart n item other) (λ n item. apart n item fault) p q in
-      record { file_is = o.number; fault_is = told file o.item fault other o.one o.other }
+      record { file_is = o.number; fault_is = known file o.item fault other o.one o.other }
 
   pub checks_laws : Laws (checks IsRight IsWrong)
   checks_laws = record {
@@ -62,7 +62,7 @@ module _ {A : Type 0} (IsRight : ℕ → A → Type 0) (IsWrong : ℕ → A → 
 
 module _ {A B : Type 0} (IsOf : ℕ → A → B → Type 0) (IsWrong : ℕ → A → FileFault → Type 0)
     (one_made : (n : ℕ) (item : A) (made other : B) → IsOf n item made → IsOf n item other → made ≡ other)
-    (apart : (n : ℕ) (item : A) (made : B) (fault : FileFault) → IsOf n item made → IsWrong n item fault → ⊥) (told : TellsOnce IsWrong) where
+    (apart : (n : ℕ) (item : A) (made : B) (fault : FileFault) → IsOf n item made → IsWrong n item fault → ⊥) (known : TellsOnce IsWrong) where
   abbrev HasMade : ℕ → A → Type 0
   HasMade n item = (made : B) × IsOf n item made
 
@@ -72,18 +72,18 @@ module _ {A B : Type 0} (IsOf : ℕ → A → B → Type 0) (IsWrong : ℕ → A
   pub makes_laws : Laws (makes IsOf IsWrong)
   makes_laws = record {
     one = λ given made other p q. one_list IsOf 0 given made other one_made p q;
-    either = λ given made file fault p stops. none_stops HasMade IsWrong made_apart told given file fault (each_of_pairs IsOf HasMade 0 given made (λ n item m h. (m, h)) p) stops;
-    stop = stops_once HasMade IsWrong made_apart told;
+    either = λ given made file fault p stops. none_stops HasMade IsWrong made_apart known given file fault (each_of_pairs IsOf HasMade 0 given made (λ n item m h. (m, h)) p) stops;
+    stop = stops_once HasMade IsWrong made_apart known;
   }
 
 -- ---- stages that handle all files at once
 
 module _ {A : Type 0} (IsRight : A → Type 0) (IsWrong : A → ℕ → FileFault → Type 0)
     (apart : (given : A) (file : ℕ) (fault : FileFault) → IsRight given → IsWrong given file fault → ⊥)
-    (told : (given : A) (file other_file : ℕ) (fault other : FileFault) → IsWrong given file fault → IsWrong given other_file other → IsSameStop file other_file fault other) where
+    (known : (given : A) (file other_file : ℕ) (fault other : FileFault) → IsWrong given file fault → IsWrong given other_file other → IsSameStop file other_file fault other) where
   pub allows_laws : Laws (allows IsRight IsWrong)
   allows_laws = record {
     one = λ given made other p q. p.0 ∙ sym q.0;
     either = λ given made file fault p stops. apart given file fault p.1 stops;
-    stop = told;
+    stop = known;
   }

@@ -12,7 +12,7 @@ use Rattle.base.specs.Names.{same_name}
 use Rattle.syntax_tree.specs.SourceModuleData.{SourceModuleData}
 use Rattle.sum_tree.specs.SumModuleData.{SumModuleData}
 use Rattle.sum_module.specs.Built.{IsUnbuiltAt}
-use Rattle.syntax_tree.specs.Places.{module_place}
+use Rattle.syntax_tree.specs.Spans.{module_span}
 use Rattle.sum_module.specs.Program.{IsSumModule}
 use Rattle.front_end.specs.declared.fault.FileFault.{FileFault}
 use Rattle.front_end.specs.FileFault.{breaks}
@@ -70,10 +70,10 @@ read_new modules found more old new file m f key added a i k n t s e =
 
 -- ---- a module that is not built
 
-pub unbuilt : (modules : List (ℕ × SourceModuleData)) (found : List SumModuleData) (taken : BTreeSet (ℕ × List ℕ)) (file : ℕ) (m : SourceModuleData) (place : ℕ)
-    → AreRead modules found taken → IsUnbuiltAt m place → HasUnbuilt (modules ++ (file, m) ∷ []) file (breaks NotBuilt place)
-unbuilt modules found taken file m place a u = record {
-  place = place;
+pub unbuilt : (modules : List (ℕ × SourceModuleData)) (found : List SumModuleData) (taken : BTreeSet (ℕ × List ℕ)) (file : ℕ) (m : SourceModuleData) (offset : ℕ)
+    → AreRead modules found taken → IsUnbuiltAt m offset → HasUnbuilt (modules ++ (file, m) ∷ []) file (breaks NotBuilt offset)
+unbuilt modules found taken file m offset a u = record {
+  offset = offset;
   fault_is = refl;
   first = record {
     before = modules;
@@ -86,10 +86,10 @@ unbuilt modules found taken file m place a u = record {
   };
 }
 
-pub taken_twice : (modules : List (ℕ × SourceModuleData)) (found : List SumModuleData) (taken : BTreeSet (ℕ × List ℕ)) (file : ℕ) (m : SourceModuleData) (f : SumModuleData) (place : ℕ)
-    → AreRead modules found taken → IsSumModule file m f → is_in taken f.address f.name ≡ true → place ≡ (module_place m).start → HasUnbuilt (modules ++ (file, m) ∷ []) file (breaks NotBuilt place)
-taken_twice modules found taken file m f place a i t e = record {
-  place = place;
+pub taken_twice : (modules : List (ℕ × SourceModuleData)) (found : List SumModuleData) (taken : BTreeSet (ℕ × List ℕ)) (file : ℕ) (m : SourceModuleData) (f : SumModuleData) (offset : ℕ)
+    → AreRead modules found taken → IsSumModule file m f → is_in taken f.address f.name ≡ true → offset ≡ (module_span m).start → HasUnbuilt (modules ++ (file, m) ∷ []) file (breaks NotBuilt offset)
+taken_twice modules found taken file m f offset a i t e = record {
+  offset = offset;
   fault_is = refl;
   first = record {
     before = modules;
@@ -98,7 +98,7 @@ taken_twice modules found taken file m f place a i t e = record {
     parts = refl;
     found = found;
     are = a.0;
-    unbuilt = inr (record { found = f; is = i; taken = sym (a.1 f.address f.name) ∙ t; place_is = e });
+    unbuilt = inr (record { found = f; is = i; taken = sym (a.1 f.address f.name) ∙ t; offset_is = e });
   };
 }
 
@@ -108,15 +108,15 @@ taken_there true there e t = absurd (cc)
 taken_there false true e t = refl
 taken_there false false e t = absurd (cc)
 
-pub taken_again : (modules : List (ℕ × SourceModuleData)) (found : List SumModuleData) (old : BTreeSet (ℕ × List ℕ)) (file : ℕ) (m : SourceModuleData) (f : SumModuleData) (place : ℕ) (key : ℕ × List ℕ) (added : Bool)
-    → AreRead modules found old → IsSumModule file m f → key ≡ (f.address, f.name) → added ≡ not (set.contains key_cmp old key) → added ≡ false → place ≡ (module_place m).start → HasUnbuilt (modules ++ (file, m) ∷ []) file (breaks NotBuilt place)
-taken_again modules found old file m f place key added a i k n t e =
-    taken_twice modules found old file m f place a i (taken_there added (is_in old f.address f.name) (n ∙ ap (λ (other : ℕ × List ℕ). not (set.contains key_cmp old other)) k) t) e
+pub taken_again : (modules : List (ℕ × SourceModuleData)) (found : List SumModuleData) (old : BTreeSet (ℕ × List ℕ)) (file : ℕ) (m : SourceModuleData) (f : SumModuleData) (offset : ℕ) (key : ℕ × List ℕ) (added : Bool)
+    → AreRead modules found old → IsSumModule file m f → key ≡ (f.address, f.name) → added ≡ not (set.contains key_cmp old key) → added ≡ false → offset ≡ (module_span m).start → HasUnbuilt (modules ++ (file, m) ∷ []) file (breaks NotBuilt offset)
+taken_again modules found old file m f offset key added a i k n t e =
+    taken_twice modules found old file m f offset a i (taken_there added (is_in old f.address f.name) (n ∙ ap (λ (other : ℕ × List ℕ). not (set.contains key_cmp old other)) k) t) e
 
 -- modules after it change nothing
 pub stopped_before : (modules more : List (ℕ × SourceModuleData)) (file : ℕ) (fault : FileFault) → HasUnbuilt modules file fault → HasUnbuilt (modules ++ more) file fault
 stopped_before modules more file fault u = record {
-  place = u.place;
+  offset = u.offset;
   fault_is = u.fault_is;
   first = record {
     before = u.first.before;

@@ -6,7 +6,7 @@ use Rattle.tokens.specs.declared.token.Token.{Token}
 use Rattle.syntax_tree.specs.DenotedSources.{IsSourceOf}
 use Rattle.syntax_tree.specs.SourceModuleData.{SourceModuleData}
 use Rattle.front_end.specs.Chain.{◌▷◌}
-use Rattle.front_end.specs.FileFault.{IsSameStop, breaks, without_place}
+use Rattle.front_end.specs.FileFault.{IsSameStop, breaks, without_offset}
 use Rattle.front_end.specs.LocalCounts.{HasFewLocals, HasManyLocals, locals_stage}
 use Rattle.front_end.specs.Modules.{AreNoSums, modules_stage, numbered}
 use Rattle.front_end.specs.Named.{NamedData}
@@ -29,22 +29,22 @@ use Rattle.front_end.proofs.ModuleLaws.{all_or_first, first_once, one_program}
 -- what is known of tokens and of sources
 pub record Known : Type 0 where
   pub one_spelling : (file : ℕ) (bytes : List ℕ) (one other : List Token) → Spells file one bytes → Spells file other bytes → one ≡ other
-  pub one_place : (one other : ℕ) (bytes : List ℕ) → IsBadAt one bytes → IsBadAt other bytes → one ≡ other
+  pub one_offset : (one other : ℕ) (bytes : List ℕ) → IsBadAt one bytes → IsBadAt other bytes → one ≡ other
   pub one_source : (tokens : List Token) (one other : List SourceModuleData) → IsSourceOf one tokens → IsSourceOf other tokens → one ≡ other
   pub one_program : HaveOneProgram
 
-bad_once : Known → (n : ℕ) (bytes : List ℕ) (fault other : FileFault) → HasBadToken n bytes fault → HasBadToken n bytes other → without_place fault ≡ without_place other
+bad_once : Known → (n : ℕ) (bytes : List ℕ) (fault other : FileFault) → HasBadToken n bytes fault → HasBadToken n bytes other → without_offset fault ≡ without_offset other
 bad_once known n bytes fault other p q =
-    ap without_place (p.fault_is ∙ ap (breaks BadToken) (known.one_place p.place q.place bytes p.at q.at) ∙ sym q.fault_is)
+    ap without_offset (p.fault_is ∙ ap (breaks BadToken) (known.one_offset p.offset q.offset bytes p.at q.at) ∙ sym q.fault_is)
 
 tokens_laws : Known → Laws tokens_stage
 tokens_laws known = makes_laws AreTokensOf HasBadToken known.one_spelling (λ n bytes tokens fault spells bad. bad.unspelled tokens spells) (bad_once known)
 
 length_laws : Laws length_stage
-length_laws = checks_laws IsShort IsLong (λ n tokens fault short long. omega (arith, short, long.many)) (λ n tokens fault other p q. ap without_place (p.fault_is ∙ sym q.fault_is))
+length_laws = checks_laws IsShort IsLong (λ n tokens fault short long. omega (arith, short, long.many)) (λ n tokens fault other p q. ap without_offset (p.fault_is ∙ sym q.fault_is))
 
 nesting_laws : Laws nesting_stage
-nesting_laws = checks_laws IsLight IsHeavy (λ n tokens fault light heavy. omega (arith, light, heavy.heavy)) (λ n tokens fault other p q. ap without_place (p.fault_is ∙ sym q.fault_is))
+nesting_laws = checks_laws IsLight IsHeavy (λ n tokens fault light heavy. omega (arith, light, heavy.heavy)) (λ n tokens fault other p q. ap without_offset (p.fault_is ∙ sym q.fault_is))
 
 -- ---- sources
 
@@ -52,12 +52,12 @@ denote_none_apart : (n : ℕ) (tokens : List Token) (source : List SourceModuleD
 denote_none_apart n tokens source fault s (inl none) = none.cause.0 source s
 denote_none_apart n tokens source fault s (inr marked) = marked.cause.0 source s
 
-none_once : (n : ℕ) (tokens : List Token) (fault other : FileFault) → DenoteNone n tokens fault → DenoteNone n tokens other → without_place fault ≡ without_place other
-none_once n tokens fault other (inl p) (inl q) = ap without_place p.fault_is ∙ sym (ap without_place q.fault_is)
+none_once : (n : ℕ) (tokens : List Token) (fault other : FileFault) → DenoteNone n tokens fault → DenoteNone n tokens other → without_offset fault ≡ without_offset other
+none_once n tokens fault other (inl p) (inl q) = ap without_offset p.fault_is ∙ sym (ap without_offset q.fault_is)
 none_once n tokens fault other (inl p) (inr q) = absurd (marker_or_none tokens q.index q.cause.1 p.cause.1)
 none_once n tokens fault other (inr p) (inl q) = absurd (marker_or_none tokens p.index p.cause.1 q.cause.1)
 none_once n tokens fault other (inr p) (inr q) =
-    ap without_place (p.fault_is ∙ ap (left_out tokens) (marker_once tokens p.index q.index p.cause.1 q.cause.1) ∙ sym q.fault_is)
+    ap without_offset (p.fault_is ∙ ap (left_out tokens) (marker_once tokens p.index q.index p.cause.1 q.cause.1) ∙ sym q.fault_is)
 
 source_laws : Known → Laws source_stage
 source_laws known = makes_laws Denote DenoteNone (λ n tokens x y p q. known.one_source tokens x y p q) denote_none_apart none_once
@@ -73,19 +73,19 @@ none_is_some e = absurd (cc)
 locals_laws : Laws locals_stage
 locals_laws =
     checks_laws HasFewLocals HasManyLocals (λ n source fault few many. none_is_some (sym few ∙ many.excess))
-    (λ n source fault other p q. ap without_place (p.fault_is ∙ ap (Passes Locals) (some_is (sym p.excess ∙ q.excess)) ∙ sym q.fault_is))
+    (λ n source fault other p q. ap without_offset (p.fault_is ∙ ap (Passes Locals) (some_is (sym p.excess ∙ q.excess)) ∙ sym q.fault_is))
 
 -- ---- modules
 
 unbuilt_once : (given : NamedData) (file other_file : ℕ) (fault other : FileFault) → AreNoSums given.sources file fault → AreNoSums given.sources other_file other → IsSameStop file other_file fault other
 unbuilt_once given file other_file fault other p q =
-    let o = first_once (numbered 0 given.sources) file other_file p.place q.place p.first q.first in
-    record { file_is = o.file_is; fault_is = ap without_place (p.fault_is ∙ ap (breaks NotBuilt) o.place_is ∙ sym q.fault_is) }
+    let o = first_once (numbered 0 given.sources) file other_file p.offset q.offset p.first q.first in
+    record { file_is = o.file_is; fault_is = ap without_offset (p.fault_is ∙ ap (breaks NotBuilt) o.offset_is ∙ sym q.fault_is) }
 
 modules_laws : Laws modules_stage
 modules_laws = record {
   one = λ given one other p q. one_program [] (numbered 0 given.sources) one other p q;
-  either = λ given program file fault p stops. all_or_first (numbered 0 given.sources) program file stops.place p stops.first;
+  either = λ given program file fault p stops. all_or_first (numbered 0 given.sources) program file stops.offset p stops.first;
   stop = unbuilt_once;
 }
 

@@ -12,13 +12,13 @@ use Rattle.front_end.specs.Chain.{allows, ◌▷◌}
 use Rattle.front_end.specs.Named.{NamedData}
 use Rattle.front_end.specs.Typed.{ability_stage, acquires_stage, settled_stage, type_stages, typing_stage, unassigned_stage, undropped_stage}
 use Rattle.front_end.proofs.ChainLaws.{Laws, allows_laws, behind_laws}
-use Rattle.front_end.proofs.NameLaws.{place_told}
+use Rattle.front_end.proofs.NameLaws.{span_known}
 
 -- a rule that no span of the program breaks, or that stops at the first span that does
 rule_laws : (rule : Rule) (Breaks : Program → Span → Type 0) → Laws (allows (λ (given : NamedData). BreaksNone (Breaks given.program)) (λ given. StopsAt rule (Breaks given.program)))
 rule_laws rule Breaks =
     allows_laws (λ (given : NamedData). BreaksNone (Breaks given.program)) (λ given. StopsAt rule (Breaks given.program))
-    (λ given file fault none stops. none stops.place stops.first.one) (λ given. place_told rule (Breaks given.program))
+    (λ given file fault none stops. none stops.span stops.first.one) (λ given. span_known rule (Breaks given.program))
 
 settled_laws : Laws (typing_stage ▷ settled_stage)
 settled_laws = behind_laws typing_stage settled_stage (rule_laws NoTyping BreaksTyping) (rule_laws Ambiguous IsUnsettled)

@@ -16,8 +16,8 @@ use Rattle.front_end.specs.Named.{NamedData}
 use Rattle.front_end.specs.TypeFaults.{fault_of}
 use Rattle.front_end.specs.Typed.{ability_stage, acquires_stage, settled_stage, type_stages, typing_stage, unassigned_stage}
 
-stops_at : (rule : Rule) (IsSo : Span → Type 0) (place : Span) → IsFirst IsSo place → StopsAt rule IsSo place.file (breaks rule place.start)
-stops_at rule IsSo place first = record { place = place; file_is = refl; fault_is = refl; first = first }
+stops_at : (rule : Rule) (IsSo : Span → Type 0) (span : Span) → IsFirst IsSo span → StopsAt rule IsSo span.file (breaks rule span.start)
+stops_at rule IsSo span first = record { span = span; file_is = refl; fault_is = refl; first = first }
 
 -- ---- the results of the first stages
 
@@ -52,10 +52,10 @@ module _ (given : NamedData) where
   keeps_all w = record { between = given; first = finds_values w.typed w.assigned; second = (refl, w.dropped) }
 
   pub stops_first : (fault : TypeFault) → FaultSays given.program fault → IfInFile (fault_of fault) (type_stages.Stops given)
-  stops_first (NoTyping place) h = at_first (at_first (at_first (at_first (at_first (stops_at _ _ place h)))))
-  stops_first (Ambiguous place) h = at_first (at_first (at_first (at_first (at_second given (refl, h.0) (stops_at _ _ place h.1)))))
-  stops_first (Ability place) h = at_first (at_first (at_first (at_second given (settles h.0) (stops_at _ _ place h.1))))
-  stops_first (Acquires place) h = at_first (at_first (at_second given (finds_abilities h.0 h.1) (stops_at _ _ place h.2)))
-  stops_first (Unassigned place) h = at_first (at_second given (finds_lists h.0) (stops_at _ _ place h.1))
-  stops_first (Undropped place) h = at_second given (finds_values h.0 h.1) (stops_at _ _ place h.2)
+  stops_first (NoTyping span) h = at_first (at_first (at_first (at_first (at_first (stops_at _ _ span h)))))
+  stops_first (Ambiguous span) h = at_first (at_first (at_first (at_first (at_second given (refl, h.0) (stops_at _ _ span h.1)))))
+  stops_first (Ability span) h = at_first (at_first (at_first (at_second given (settles h.0) (stops_at _ _ span h.1))))
+  stops_first (Acquires span) h = at_first (at_first (at_second given (finds_abilities h.0 h.1) (stops_at _ _ span h.2)))
+  stops_first (Unassigned span) h = at_first (at_second given (finds_lists h.0) (stops_at _ _ span h.1))
+  stops_first (Undropped span) h = at_second given (finds_values h.0 h.1) (stops_at _ _ span h.2)
   stops_first NoMemory h = tt

@@ -12,15 +12,15 @@ use Rattle.front_end.specs.Bounds.{IsAllVisible, UsesBarred}
 
 -- if all is visible, no span is barred
 first_named : (program : Program) (named : Option Span) → MatchOption named (All (IsVisible program) (codes_of program)) (IsFirst (IsBarred program)) → IsFirstOrNone (IsBarred program) named
-first_named program None all = λ place h. h.3 (All-contains (IsVisible program) (codes_of program) h.0 all h.1)
-first_named program (Some place) first = first
+first_named program None all = λ span h. h.3 (All-contains (IsVisible program) (codes_of program) h.0 all h.1)
+first_named program (Some span) first = first
 
 -- nothing is barred, or the earlier of the two first spans is the first of all
 pub visible_or_first : (program : Program) (named typed found : Option Span)
     → MatchOption named (All (IsVisible program) (codes_of program)) (IsFirst (IsBarred program)) → IsFirstOrNone (BreaksVisibility program) typed → IsEarlier named typed found
     → MatchOption found (IsAllVisible program) (IsFirst (UsesBarred program))
-visible_or_first program named typed (Some place) n t e =
-    first_of_both (IsBarred program) (BreaksVisibility program) named typed (Some place) (first_named program named n) t e
+visible_or_first program named typed (Some span) n t e =
+    first_of_both (IsBarred program) (BreaksVisibility program) named typed (Some span) (first_named program named n) t e
 visible_or_first program None None None n t e = record { named = n; typed = t }
 visible_or_first program None (Some q) None n t e = absurd (cc)
 visible_or_first program (Some p) None None n t e = absurd (cc)

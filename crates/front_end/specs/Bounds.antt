@@ -10,7 +10,7 @@ use Rattle.program.specs.Order.{IsFirst}
 use Rattle.scopes.specs.Visible.{IsBarred, IsVisible, codes_of}
 use Rattle.scopes.specs.Uses.{uses_of}
 use Rattle.typing_rules.specs.Faults.{BreaksNone, BreaksVisibility}
-use Rattle.declaration_cycles.specs.Circular.{HaveNoCircles, IsCircular, Kind, kinds_of}
+use Rattle.declaration_cycles.specs.Circular.{HaveNoCycles, IsCircular, Kind, kinds_of}
 use Rattle.front_end.specs.Chain.{FileStage, allows}
 use Rattle.front_end.specs.FileFault.{breaks}
 use Rattle.front_end.specs.Named.{NamedData}
@@ -18,10 +18,10 @@ use Rattle.front_end.specs.declared.fault.FileFault.{FileFault}
 
 -- The rule is broken at the first span with the property; a span names its file.
 pub record StopsAt (rule : Rule) (IsSo : Span → Type 0) (file : ℕ) (fault : FileFault) : Type 0 where
-  pub place : Span
-  pub file_is : file ≡ place.file
-  pub fault_is : fault ≡ breaks rule place.start
-  pub first : IsFirst IsSo place
+  pub span : Span
+  pub file_is : file ≡ span.file
+  pub fault_is : fault ≡ breaks rule span.start
+  pub first : IsFirst IsSo span
 
 -- ---- visibility
 
@@ -32,7 +32,7 @@ pub record IsAllVisible (program : Program) : Type 0 where
 
 -- a function or a constant with this span uses what visibility forbids
 abbrev pub UsesBarred : Program → Span → Type 0
-UsesBarred program place = IsBarred program place ⊎ BreaksVisibility program place
+UsesBarred program span = IsBarred program span ⊎ BreaksVisibility program span
 
 -- the first one that does so has this fault
 abbrev pub HasBarred : Program → ℕ → FileFault → Type 0
@@ -47,12 +47,12 @@ visible_stage = allows (λ given. IsAllVisible given.program) (λ given. HasBarr
 abbrev pub kinds_in : List (List SourceModuleData) → Program → List Kind
 kinds_in sources program = kinds_of program (uses_of sources program)
 
-abbrev pub HasNoCircle : List (List SourceModuleData) → Program → Type 0
-HasNoCircle sources program = HaveNoCircles (kinds_in sources program)
+abbrev pub HasNoCycle : List (List SourceModuleData) → Program → Type 0
+HasNoCycle sources program = HaveNoCycles (kinds_in sources program)
 
 -- the first declaration on a cycle has this fault
-abbrev pub HasCircle : List (List SourceModuleData) → Program → ℕ → FileFault → Type 0
-HasCircle sources program = StopsAt Cycle (IsCircular (kinds_in sources program))
+abbrev pub HasCycle : List (List SourceModuleData) → Program → ℕ → FileFault → Type 0
+HasCycle sources program = StopsAt Cycle (IsCircular (kinds_in sources program))
 
-abbrev pub circle_stage : FileStage NamedData NamedData
-circle_stage = allows (λ given. HasNoCircle given.sources given.program) (λ given. HasCircle given.sources given.program)
+abbrev pub cycle_stage : FileStage NamedData NamedData
+cycle_stage = allows (λ given. HasNoCycle given.sources given.program) (λ given. HasCycle given.sources given.program)

@@ -37,7 +37,7 @@ makes IsOf IsWrong = record {
 -- Each file is right, and is passed on; the stage stops at the first that is not.
 abbrev pub checks : {A : Type 0} → (ℕ → A → Type 0) → (ℕ → A → FileFault → Type 0) → FileStage (List A) (List A)
 checks IsRight IsWrong = record {
-  Gives = λ items handed. (handed ≡ items) × Each IsRight 0 items;
+  Gives = λ items provided. (provided ≡ items) × Each IsRight 0 items;
   Stops = λ items file fault. IsFirst IsRight (λ n item. IsWrong n item fault) items file;
 }
 
@@ -45,4 +45,4 @@ checks IsRight IsWrong = record {
 
 -- The input is right, and is passed on.
 abbrev pub allows : {A : Type 0} → (A → Type 0) → (A → ℕ → FileFault → Type 0) → FileStage A A
-allows IsRight IsWrong = record { Gives = λ given handed. (handed ≡ given) × IsRight given; Stops = IsWrong }
+allows IsRight IsWrong = record { Gives = λ given provided. (provided ≡ given) × IsRight given; Stops = IsWrong }

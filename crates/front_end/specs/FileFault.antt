@@ -14,14 +14,14 @@ IfInFile NoMemory P = Unit {0}
 
 -- the file breaks this rule at this offset, without a marker
 abbrev pub breaks : Rule → ℕ → FileFault
-breaks rule place = Breaks rule place None
+breaks rule offset = Breaks rule offset None
 
 -- a fault, without an offset that no definition determines
-abbrev pub without_place : FileFault → FileFault
-without_place (Breaks rule place marker) = Breaks rule (if tells_place rule then place else 0) marker
-without_place (Passes limit count) = Passes limit count
+abbrev pub without_offset : FileFault → FileFault
+without_offset (Breaks rule offset marker) = Breaks rule (if tells_place rule then offset else 0) marker
+without_offset (Passes limit count) = Passes limit count
 
 -- reading stopped at the same file for the same reason
 pub record IsSameStop (file other_file : ℕ) (fault other : FileFault) : Type 0 where
   pub file_is : file ≡ other_file
-  pub fault_is : without_place fault ≡ without_place other
+  pub fault_is : without_offset fault ≡ without_offset other

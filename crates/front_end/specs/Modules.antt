@@ -7,7 +7,7 @@ use Rattle.base.specs.Names.{same_name}
 use Rattle.syntax_tree.specs.SourceModuleData.{SourceModuleData}
 use Rattle.sum_tree.specs.SumModuleData.{SumModuleData}
 use Rattle.sum_module.specs.Built.{IsUnbuiltAt}
-use Rattle.syntax_tree.specs.Places.{module_place}
+use Rattle.syntax_tree.specs.Spans.{module_span}
 use Rattle.sum_module.specs.Program.{IsSumModule}
 use Rattle.front_end.specs.Chain.{FileStage}
 use Rattle.front_end.specs.FileFault.{breaks}
@@ -32,31 +32,31 @@ AreModules before (m ∷ modules) (f ∷ found) =
     IsSumModule m.0 m.1 f × (is_taken before f.address f.name ≡ false) × AreModules (before ++ f ∷ []) modules found
 
 -- the module is one of sums, but one before it has its address and its name; it begins at this offset
-pub record IsTaken (before : List SumModuleData) (file : ℕ) (m : SourceModuleData) (place : ℕ) : Type 0 where
+pub record IsTaken (before : List SumModuleData) (file : ℕ) (m : SourceModuleData) (offset : ℕ) : Type 0 where
   pub found : SumModuleData
   pub is : IsSumModule file m found
   pub taken : is_taken before found.address found.name ≡ true
-  pub place_is : place ≡ (module_place m).start
+  pub offset_is : offset ≡ (module_span m).start
 
 -- what is not built begins at this offset
 abbrev pub IsUnbuiltBehind : List SumModuleData → ℕ → SourceModuleData → ℕ → Type 0
-IsUnbuiltBehind before file m place = IsUnbuiltAt m place ⊎ IsTaken before file m place
+IsUnbuiltBehind before file m span = IsUnbuiltAt m span ⊎ IsTaken before file m span
 
 -- all modules before this one are built, and it is not
-pub record IsFirstUnbuilt (modules : List (ℕ × SourceModuleData)) (file place : ℕ) : Type 0 where
+pub record IsFirstUnbuilt (modules : List (ℕ × SourceModuleData)) (file offset : ℕ) : Type 0 where
   pub before : List (ℕ × SourceModuleData)
   pub module_tree : SourceModuleData
   pub behind : List (ℕ × SourceModuleData)
   pub parts : modules ≡ before ++ (file, module_tree) ∷ behind
   pub found : List SumModuleData
   pub are : AreModules [] before found
-  pub unbuilt : IsUnbuiltBehind found file module_tree place
+  pub unbuilt : IsUnbuiltBehind found file module_tree offset
 
 -- The modules are not all built: what is not begins at this offset.
 pub record HasUnbuilt (modules : List (ℕ × SourceModuleData)) (file : ℕ) (fault : FileFault) : Type 0 where
-  pub place : ℕ
-  pub fault_is : fault ≡ breaks NotBuilt place
-  pub first : IsFirstUnbuilt modules file place
+  pub offset : ℕ
+  pub fault_is : fault ≡ breaks NotBuilt offset
+  pub first : IsFirstUnbuilt modules file offset
 
 -- these are the modules of sums of the sources
 abbrev pub AreSumsOf : List (List SourceModuleData) → List SumModuleData → Type 0

@@ -28,9 +28,9 @@ pub record IsNamed (sources : List (List SourceModuleData)) (made : NamedData) :
 
 -- the first declaration with a use that means nothing has this span in this file
 pub record HasUnknown (sources : List (List SourceModuleData)) (file : ℕ) (fault : FileFault) : Type 0 where
-  pub place : Span
-  pub fault_is : fault ≡ breaks UnknownName place.start
-  pub first : IsFirstUnknownIn (known_of sources) 0 sources file place
+  pub span : Span
+  pub fault_is : fault ≡ breaks UnknownName span.start
+  pub first : IsFirstUnknownIn (known_of sources) 0 sources file span
 
 abbrev pub known_stage : FileStage (List (List SourceModuleData)) NamedData
 known_stage = record { Gives = IsNamed; Stops = HasUnknown }

@@ -8,7 +8,7 @@ use Rattle.front_end.specs.Sources.{source_stage}
 use Rattle.front_end.specs.LocalCounts.{locals_stage}
 use Rattle.front_end.specs.Named.{NamedData, known_stage}
 use Rattle.front_end.specs.Twice.{twice_stage}
-use Rattle.front_end.specs.Bounds.{circle_stage, visible_stage}
+use Rattle.front_end.specs.Bounds.{cycle_stage, visible_stage}
 use Rattle.front_end.specs.Typed.{type_stages}
 use Rattle.front_end.specs.Modules.{modules_stage}
 use Rattle.front_end.specs.declared.fault.FileFault.{FileFault}
@@ -20,7 +20,7 @@ source_stages = text_stages ▷ source_stage ▷ locals_stage
 -- The rules on names, each over all files before the next: each use means a declaration; nothing is declared twice;
 -- code uses only what visibility allows; and there is no cycle. The program of the sources is passed on.
 abbrev pub name_stages : FileStage (List (List SourceModuleData)) NamedData
-name_stages = known_stage ▷ twice_stage ▷ visible_stage ▷ circle_stage
+name_stages = known_stage ▷ twice_stage ▷ visible_stage ▷ cycle_stage
 
 -- the stages up to a program that keeps all rules
 abbrev pub rule_stages : FileStage (List (List ℕ)) NamedData

@@ -19,9 +19,9 @@ Denote n tokens source = IsSourceOf source tokens
 
 -- They denote none, and contain no marker; the offset is where the parser stopped.
 pub record HasNoTree (tokens : List Token) (fault : FileFault) : Type 0 where
-  pub place : ℕ
-  pub fault_is : fault ≡ breaks Grammar place
-  pub cause : IsCause tokens (no_grammar place)
+  pub offset : ℕ
+  pub fault_is : fault ≡ breaks Grammar offset
+  pub cause : IsCause tokens (no_grammar offset)
 
 -- the fault of the marker with this index: its offset and its text
 abbrev pub left_out : List Token → ℕ → FileFault

@@ -19,9 +19,9 @@ AreTokensOf n bytes tokens = Spells n tokens bytes
 
 -- No tokens spell the file: a bad token begins at this offset.
 pub record HasBadToken (n : ℕ) (bytes : List ℕ) (fault : FileFault) : Type 0 where
-  pub place : ℕ
-  pub fault_is : fault ≡ breaks BadToken place
-  pub at : IsBadAt place bytes
+  pub offset : ℕ
+  pub fault_is : fault ≡ breaks BadToken offset
+  pub at : IsBadAt offset bytes
   pub unspelled : IsUnspelled n bytes
 
 abbrev pub tokens_stage : FileStage (List (List ℕ)) (List (List Token))

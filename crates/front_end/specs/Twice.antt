@@ -15,9 +15,9 @@ HasNoneTwice sources = first_twice_of sources ≡ None
 
 -- the first declaration that repeats an earlier one begins at this offset of this file
 pub record HasTwice (sources : List (List SourceModuleData)) (file : ℕ) (fault : FileFault) : Type 0 where
-  pub place : ℕ
-  pub fault_is : fault ≡ breaks TwiceDeclared place
-  pub first : first_twice_of sources ≡ Some (file, place)
+  pub offset : ℕ
+  pub fault_is : fault ≡ breaks TwiceDeclared offset
+  pub first : first_twice_of sources ≡ Some (file, offset)
 
 abbrev pub twice_stage : FileStage NamedData NamedData
 twice_stage = allows (λ given. HasNoneTwice given.sources) (λ given. HasTwice given.sources)

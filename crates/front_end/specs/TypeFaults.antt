@@ -8,10 +8,10 @@ use Rattle.front_end.specs.declared.fault.ProgramFault.TheVariants.{InFile, NoMe
 
 -- the rule is broken at the span, in the file of the span
 abbrev pub fault_of : TypeFault → ProgramFault
-fault_of (no_typing place) = InFile place.file (breaks NoTyping place.start)
-fault_of (ambiguous place) = InFile place.file (breaks Ambiguous place.start)
-fault_of (no_ability place) = InFile place.file (breaks Ability place.start)
-fault_of (no_acquires place) = InFile place.file (breaks Acquires place.start)
-fault_of (no_value place) = InFile place.file (breaks Unassigned place.start)
-fault_of (no_drop place) = InFile place.file (breaks Undropped place.start)
+fault_of (no_typing span) = InFile span.file (breaks NoTyping span.start)
+fault_of (ambiguous span) = InFile span.file (breaks Ambiguous span.start)
+fault_of (no_ability span) = InFile span.file (breaks Ability span.start)
+fault_of (no_acquires span) = InFile span.file (breaks Acquires span.start)
+fault_of (no_value span) = InFile span.file (breaks Unassigned span.start)
+fault_of (no_drop span) = InFile span.file (breaks Undropped span.start)
 fault_of no_memory = NoMemory

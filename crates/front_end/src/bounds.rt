@@ -1,13 +1,13 @@
 //! Visibility, and the absence of cycles.
 
 ghost use Rattle.std.specs.Prelude.{MatchResult};
-ghost use Rattle.front_end.specs.Bounds.{HasBarred, HasCircle, HasNoCircle, IsAllVisible};
+ghost use Rattle.front_end.specs.Bounds.{HasBarred, HasCycle, HasNoCycle, IsAllVisible};
 ghost use Rattle.front_end.specs.FileFault.{IfInFile};
 
 use crate::fault::ProgramFault;
 use base::rule::Rule;
 use body_types::barred_uses::first::first_barred;
-use declaration_cycles::first::first_circle;
+use declaration_cycles::first::first_cycle;
 use program::order::earlier;
 use program::program::Program;
 use scopes::module_uses::uses_of;
@@ -28,7 +28,7 @@ pub fn check_visible(alloc: Global, program: &Program) -> Result<(), ProgramFaul
     let typed = first_barred(alloc, program)?;
     match earlier(named, typed) {
         None => Ok(()),
-        Some(place) => Err(ProgramFault::breaks(Rule::NotVisible, place)),
+        Some(span) => Err(ProgramFault::breaks(Rule::NotVisible, span)),
     }
 }
 
@@ -37,16 +37,16 @@ pub fn check_visible(alloc: Global, program: &Program) -> Result<(), ProgramFaul
 /// # Errors
 ///
 /// `Cycle` if and only if one is, with the first such declaration.
-pub fn check_circles(
+pub fn check_cycles(
     alloc: Global,
     sources: &[Source],
     program: &Program,
 ) -> Result<(), ProgramFault>
-    ensures { MatchResult result (λ _. HasNoCircle sources.now program.now) (λ fault. IfInFile fault (HasCircle sources.now program.now)) }
+    ensures { MatchResult result (λ _. HasNoCycle sources.now program.now) (λ fault. IfInFile fault (HasCycle sources.now program.now)) }
 {
     let uses = uses_of(alloc, sources, program)?;
-    match first_circle(alloc, program, uses.as_slice())? {
+    match first_cycle(alloc, program, uses.as_slice())? {
         None => Ok(()),
-        Some(place) => Err(ProgramFault::breaks(Rule::Cycle, place)),
+        Some(span) => Err(ProgramFault::breaks(Rule::Cycle, span)),
     }
 }

@@ -32,10 +32,10 @@ pub enum FileFault {
 
 impl FileFault {
     /// The fault that a file breaks a rule, without a marker.
-    pub fn breaks(rule: Rule, place: u32) -> FileFault
-        ensures { result ≡ breaks rule place }
+    pub fn breaks(rule: Rule, offset: u32) -> FileFault
+        ensures { result ≡ breaks rule offset }
     {
-        FileFault::Breaks(rule, place, None)
+        FileFault::Breaks(rule, offset, None)
     }
 }
 
@@ -52,10 +52,10 @@ impl ProgramFault {
     ghost use Rattle.front_end.specs.declared.fault.ProgramFault.TheVariants.{InFile};
 
     /// The fault that a rule is broken at this span, in the file of the span.
-    pub fn breaks(rule: Rule, place: Span) -> ProgramFault
-        ensures { result ≡ InFile place.file (breaks rule place.start) }
+    pub fn breaks(rule: Rule, span: Span) -> ProgramFault
+        ensures { result ≡ InFile span.file (breaks rule span.start) }
     {
-        ProgramFault::InFile(place.file, FileFault::breaks(rule, place.start))
+        ProgramFault::InFile(span.file, FileFault::breaks(rule, span.start))
     }
 }
 

@@ -15,7 +15,7 @@ use std::collections::BTreeSet;
 use sum_module::fault::ModuleFault;
 use sum_module::sums::read_sum_module;
 use sum_tree::function::SumModule;
-use syntax_tree::source::places::module_place;
+use syntax_tree::source::spans::module_span;
 use syntax_tree::source::{Source, SourceModule};
 
 /// The modules that have been read, and their addresses and names.
@@ -47,15 +47,15 @@ impl Found {
     {
         let found = match read_sum_module(alloc, file, source_module) {
             Ok(found) => found,
-            Err(ModuleFault::NotBuilt(place)) => {
-                let fault = FileFault::breaks(Rule::NotBuilt, place);
+            Err(ModuleFault::NotBuilt(offset)) => {
+                let fault = FileFault::breaks(Rule::NotBuilt, offset);
                 return Err(ProgramFault::InFile(file, fault));
             }
             Err(ModuleFault::NoMemory) => return Err(ProgramFault::NoMemory),
         };
         let key = (found.address, found.name.try_clone(alloc)?);
         if !self.taken.insert(key)? {
-            let fault = FileFault::breaks(Rule::NotBuilt, module_place(source_module).start);
+            let fault = FileFault::breaks(Rule::NotBuilt, module_span(source_module).start);
             return Err(ProgramFault::InFile(file, fault));
         }
         self.modules.push(found)?;

@@ -5,7 +5,7 @@ ghost use Rattle.front_end.specs.FileFault.{IfInFile};
 ghost use Rattle.front_end.specs.Named.{HasUnknown, IsNamed, named};
 ghost use Rattle.front_end.specs.Program.{name_stages};
 
-use crate::bounds::{check_circles, check_visible};
+use crate::bounds::{check_cycles, check_visible};
 use crate::fault::{FileFault, ProgramFault};
 use crate::twice::check_twice;
 use base::rule::Rule;
@@ -26,8 +26,8 @@ fn program_of(alloc: Global, sources: &[Source]) -> Result<Program, ProgramFault
 {
     match resolve(alloc, sources) {
         Ok(program) => Ok(program),
-        Err(ResolveFault::Unknown { file, place }) => {
-            let fault = FileFault::breaks(Rule::UnknownName, place.start);
+        Err(ResolveFault::Unknown { file, span }) => {
+            let fault = FileFault::breaks(Rule::UnknownName, span.start);
             Err(ProgramFault::InFile(file as u32, fault))
         }
         Err(ResolveFault::NoMemory) => Err(ProgramFault::NoMemory),
@@ -47,6 +47,6 @@ pub fn check_names(alloc: Global, sources: &[Source]) -> Result<Program, Program
     let program = program_of(alloc, sources)?;
     check_twice(alloc, sources)?;
     check_visible(alloc, &program)?;
-    check_circles(alloc, sources, &program)?;
+    check_cycles(alloc, sources, &program)?;
     Ok(program)
 }

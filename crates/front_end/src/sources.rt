@@ -23,8 +23,8 @@ fn left_out(alloc: Global, tokens: &[Token], index: usize) -> Result<FileFault, 
     ensures { IfOk result (λ fault. fault ≡ left_out tokens.now index) }
 {
     let marker = Name::from_slice(alloc, marker_at(tokens, index))?;
-    let place = start_at(tokens, index);
-    Ok(FileFault::Breaks(Rule::LeftOut, place, Some(marker)))
+    let offset = start_at(tokens, index);
+    Ok(FileFault::Breaks(Rule::LeftOut, offset, Some(marker)))
 }
 
 /// Reads the source of the file with this number.
@@ -33,8 +33,8 @@ fn read_source(alloc: Global, number: u32, text: &Tokens) -> Result<Source, Prog
 {
     match source(alloc, text) {
         Ok(found) => Ok(found),
-        Err(ParseFault::Grammar(place)) => {
-            let fault = FileFault::breaks(Rule::Grammar, place);
+        Err(ParseFault::Grammar(offset)) => {
+            let fault = FileFault::breaks(Rule::Grammar, offset);
             Err(ProgramFault::InFile(number, fault))
         }
         Err(ParseFault::LeftOut(index)) => {

@@ -32,8 +32,8 @@ fn spell(alloc: Global, number: u32, bytes: &[u8]) -> Result<Text, ProgramFault>
     match tokens(alloc, number, bytes) {
         Ok(found) => Ok(Text::Short(found)),
         Err(TokenFault::TooMany(count)) => Ok(Text::Long(count)),
-        Err(TokenFault::BadToken(place)) => {
-            let fault = FileFault::breaks(Rule::BadToken, place);
+        Err(TokenFault::BadToken(offset)) => {
+            let fault = FileFault::breaks(Rule::BadToken, offset);
             Err(ProgramFault::InFile(number, fault))
         }
         Err(TokenFault::NoMemory) => Err(ProgramFault::NoMemory),

@@ -21,8 +21,8 @@ pub fn check_twice(alloc: Global, sources: &[Source]) -> Result<(), ProgramFault
 {
     match first_twice_of(alloc, sources)? {
         None => Ok(()),
-        Some((file, place)) => {
-            let fault = FileFault::breaks(Rule::TwiceDeclared, place);
+        Some((file, offset)) => {
+            let fault = FileFault::breaks(Rule::TwiceDeclared, offset);
             Err(ProgramFault::InFile(file as u32, fault))
         }
     }

@@ -2,7 +2,7 @@
 
 ghost use Rattle.std.specs.Prelude.{◌≡◌, List, IfOk, MatchResult};
 ghost use Rattle.syntax_tree.specs.SourceModuleData.{SourceModuleData};
-ghost use Rattle.declaration_cycles.specs.Circular.{HasNoCircle, schema_kind};
+ghost use Rattle.declaration_cycles.specs.Circular.{HasNoCycle, schema_kind};
 ghost use Rattle.type_check.specs.TypedPrograms.{IsTypedProgram};
 ghost use Rattle.front_end.specs.FileFault.{IfInFile};
 ghost use Rattle.front_end.specs.Named.{named};
@@ -22,12 +22,12 @@ impl From<TypeFault> for ProgramFault {
 
     fn from(error: TypeFault) -> ProgramFault {
         match error {
-            TypeFault::NoTyping(place) => ProgramFault::breaks(Rule::NoTyping, place),
-            TypeFault::Ambiguous(place) => ProgramFault::breaks(Rule::Ambiguous, place),
-            TypeFault::Ability(place) => ProgramFault::breaks(Rule::Ability, place),
-            TypeFault::Acquires(place) => ProgramFault::breaks(Rule::Acquires, place),
-            TypeFault::Unassigned(place) => ProgramFault::breaks(Rule::Unassigned, place),
-            TypeFault::Undropped(place) => ProgramFault::breaks(Rule::Undropped, place),
+            TypeFault::NoTyping(span) => ProgramFault::breaks(Rule::NoTyping, span),
+            TypeFault::Ambiguous(span) => ProgramFault::breaks(Rule::Ambiguous, span),
+            TypeFault::Ability(span) => ProgramFault::breaks(Rule::Ability, span),
+            TypeFault::Acquires(span) => ProgramFault::breaks(Rule::Acquires, span),
+            TypeFault::Unassigned(span) => ProgramFault::breaks(Rule::Unassigned, span),
+            TypeFault::Undropped(span) => ProgramFault::breaks(Rule::Undropped, span),
             TypeFault::NoMemory => ProgramFault::NoMemory,
         }
     }
@@ -40,7 +40,7 @@ impl From<TypeFault> for ProgramFault {
 /// In this order, each over all declarations before the next: `NoTyping`, `Ambiguous`, `Ability`, `Acquires`,
 /// `Unassigned` and `Undropped`, each if and only if its rule is broken, with the first declaration that breaks it.
 pub fn typed_program_of(alloc: Global, program: Program) -> Result<TypedProgram, ProgramFault>
-    requires { HasNoCircle (schema_kind program) }
+    requires { HasNoCycle (schema_kind program) }
     ensures rules { (sources : List (List SourceModuleData)) → MatchResult result (λ typed. type_stages.Gives (named sources program) (named sources typed.program)) (λ fault. IfInFile fault (type_stages.Stops (named sources program))) }
     ensures typed { IfOk result (λ typed. IsTypedProgram typed.program typed) }
 {

@@ -30,7 +30,7 @@ fn at(start: u32) -> Span {
 fn word(rt: &impl Abort, alloc: Global, text: &[u8]) -> Box<Expression> {
     let name = Identifier {
         text: Name::from_slice(alloc, text).expect(rt, "memory"),
-        place: at(0),
+        span: at(0),
     };
     let node = ExpressionNode::Path(Path::Name(name));
     Box::new(alloc, Expression { node }).expect(rt, "memory")
@@ -44,7 +44,7 @@ fn number(rt: &impl Abort, alloc: Global, suffix: NumberSuffix) -> Box<Expressio
     };
     let numeral = Numeral {
         literal,
-        place: at(0),
+        span: at(0),
     };
     let node = ExpressionNode::Literal(Literal::Number(numeral));
     Box::new(alloc, Expression { node }).expect(rt, "memory")
@@ -60,7 +60,7 @@ fn binary(
     let node = ExpressionNode::Binary {
         left,
         operator,
-        place: at(0),
+        span: at(0),
         right,
     };
     Box::new(alloc, Expression { node }).expect(rt, "memory")
@@ -70,7 +70,7 @@ fn parenthesized(rt: &impl Abort, alloc: Global, inner: Box<Expression>) -> Box<
     let mut items = Vec::new(alloc);
     items.push(Box::into_inner(inner)).expect(rt, "memory");
     let node = ExpressionNode::Tuple {
-        place: at(0),
+        span: at(0),
         items,
         last_comma: false,
     };
@@ -146,10 +146,7 @@ fn other_expressions_are_refused(rt: HostRuntime) -> Result<(), Fail> {
 }
 
 fn truth(value: bool) -> SpecExpression {
-    let node = SpecNode::Literal(Literal::Truth {
-        place: at(0),
-        value,
-    });
+    let node = SpecNode::Literal(Literal::Truth { span: at(0), value });
     SpecExpression { node }
 }
 
@@ -174,7 +171,7 @@ fn clauses_are_read(rt: HostRuntime) {
     let mut clauses = Vec::new(alloc);
     clauses
         .push(ClauseTree::AbortsIf {
-            place: at(7),
+            span: at(7),
             condition: truth(false),
             code: AbortCode::Bare,
         })
@@ -182,7 +179,7 @@ fn clauses_are_read(rt: HostRuntime) {
     are_one_abort(&rt, alloc, clauses.as_slice(), 7);
     clauses
         .push(ClauseTree::Invariant {
-            place: at(9),
+            span: at(9),
             is_update: false,
             condition: truth(true),
         })

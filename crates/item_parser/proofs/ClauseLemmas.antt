@@ -74,15 +74,15 @@ variable_at-complete n x ts rest h b p =
 
 -- ---- the tokens spell what is read
 
-clause_behind-sound : (n : ℕ) (w : ClauseWord) (place : Span) (whole ts : List Token) (r : Clause × List Token) → Begins (clause_lexeme w place ∷ []) whole ts → clause_behind n w place ts ≡ Some r → Begins (clause_spelling r.0) whole r.1 × IsProperForm r.0
-clause_behind-sound n pragma_word place whole ts r front e = pragmas_at-sound place whole ts r front e
-clause_behind-sound n requires_word place whole ts r front e = requires_at-sound n place whole ts r front e
-clause_behind-sound n ensures_word place whole ts r front e = ensures_at-sound n place whole ts r front e
-clause_behind-sound n aborts_if_word place whole ts r front e = aborts_if_at-sound n place whole ts r front e
-clause_behind-sound n modifies_word place whole ts r front e = modifies_at-sound n place whole ts r front e
-clause_behind-sound n invariant_word place whole ts r front e = invariant_at-sound n place whole ts r front e
-clause_behind-sound n let_word place whole ts r front e = let_at-sound n place whole ts r front e
-clause_behind-sound n include_word place whole ts r front e = include_at-sound n place whole ts r front e
+clause_behind-sound : (n : ℕ) (w : ClauseWord) (span : Span) (whole ts : List Token) (r : Clause × List Token) → Begins (clause_lexeme w span ∷ []) whole ts → clause_behind n w span ts ≡ Some r → Begins (clause_spelling r.0) whole r.1 × IsProperForm r.0
+clause_behind-sound n pragma_word span whole ts r front e = pragmas_at-sound span whole ts r front e
+clause_behind-sound n requires_word span whole ts r front e = requires_at-sound n span whole ts r front e
+clause_behind-sound n ensures_word span whole ts r front e = ensures_at-sound n span whole ts r front e
+clause_behind-sound n aborts_if_word span whole ts r front e = aborts_if_at-sound n span whole ts r front e
+clause_behind-sound n modifies_word span whole ts r front e = modifies_at-sound n span whole ts r front e
+clause_behind-sound n invariant_word span whole ts r front e = invariant_at-sound n span whole ts r front e
+clause_behind-sound n let_word span whole ts r front e = let_at-sound n span whole ts r front e
+clause_behind-sound n include_word span whole ts r front e = include_at-sound n span whole ts r front e
 
 worded_at-sound : (n : ℕ) (ts : List Token) (r : Clause × List Token) → worded_at n ts ≡ Some r → Begins (clause_spelling r.0) ts r.1 × IsProperForm r.0
 unfolding worded_at
@@ -102,11 +102,11 @@ clause_at-sound n ts r e =
 -- ---- what the tokens spell is read
 
 -- a clause after its word, if no colon follows
-worded : (n : ℕ) (w : ClauseWord) (place : Span) (c : Clause) (ts us rest : List Token) → Begins (clause_lexeme w place ∷ []) ts us → after_sign Colon us ≡ None → clause_behind (suc n) w place us ≡ Some (c, rest) → clause_at (suc n) ts ≡ Some (c, rest)
+worded : (n : ℕ) (w : ClauseWord) (span : Span) (c : Clause) (ts us rest : List Token) → Begins (clause_lexeme w span ∷ []) ts us → after_sign Colon us ≡ None → clause_behind (suc n) w span us ≡ Some (c, rest) → clause_at (suc n) ts ≡ Some (c, rest)
 unfolding clause_at worded_at
-worded n w place c ts us rest front e is =
-    cond_false (opens_variable ts) (variable_at (suc n) ts) (worded_at (suc n) ts) (no_variable (clause_lexeme w place) ts us front e)
-    ∙ bind_some (clause_word_at ts) (λ w. clause_behind (suc n) w.0.0 w.0.1 w.1) ((w, place), us) (clause_word_at-complete w place ts us front) ∙ is
+worded n w span c ts us rest front e is =
+    cond_false (opens_variable ts) (variable_at (suc n) ts) (worded_at (suc n) ts) (no_variable (clause_lexeme w span) ts us front e)
+    ∙ bind_some (clause_word_at ts) (λ w. clause_behind (suc n) w.0.0 w.0.1 w.1) ((w, span), us) (clause_word_at-complete w span ts us front) ∙ is
 
 condition_no_colon : (e : SpecExpressionData) (ts rest : List Token) → Begins (condition_spelling e) ts rest → IsProperSpec e → after_sign Colon ts ≡ None
 condition_no_colon e ts rest b p = spec_no_sign Colon (refl, refl, refl) e (sign Semicolon ∷ []) ts rest b p
@@ -133,39 +133,39 @@ let_no_colon false name e ts rest b = after_sign-other Colon (identifier name) (
 -- Each clause of a proper form is read from the tokens that spell it, whatever follows.
 pub clause_at-complete : (n : ℕ) (c : Clause) (ts rest : List Token) → length ts ≤ n → Begins (clause_spelling c) ts rest → IsProperForm c → clause_at (suc n) ts ≡ Some (c, rest)
 unfolding clause_at
-clause_at-complete n (pragma_clause place p) ts rest h b q =
-    let w = Begins-first (word (codes "pragma") (Some place)) (pragmas_spelling p ++ sign Semicolon ∷ []) ts rest b in
-    worded n pragma_word place (pragma_clause place p) ts w.mid rest w.front (pragmas_no_colon p.items p.last_comma w.mid rest w.back q.1) (pragmas_at-complete place p w.mid rest w.back q)
-clause_at-complete n (requires_clause place e) ts rest h b q =
-    let w = Begins-first (requires_lexeme place) (condition_spelling e) ts rest b in
-    worded n requires_word place (requires_clause place e) ts w.mid rest w.front (condition_no_colon e w.mid rest w.back q)
-    (requires_at-complete n place e w.mid rest (omega (arith, h, length-Begins (requires_lexeme place ∷ []) ts w.mid w.front)) w.back q)
-clause_at-complete n (ensures_clause place e) ts rest h b q =
-    let w = Begins-first (ensures_lexeme place) (condition_spelling e) ts rest b in
-    worded n ensures_word place (ensures_clause place e) ts w.mid rest w.front (condition_no_colon e w.mid rest w.back q)
-    (ensures_at-complete n place e w.mid rest (omega (arith, h, length-Begins (ensures_lexeme place ∷ []) ts w.mid w.front)) w.back q)
-clause_at-complete n (aborts_if_clause place e Bare) ts rest h b q =
-    let w = Begins-first (aborts_if_lexeme place) (condition_spelling e) ts rest (aborts_if-spelled place e ts rest b) in
-    worded n aborts_if_word place (aborts_if_clause place e Bare) ts w.mid rest w.front (condition_no_colon e w.mid rest w.back q.0)
-    (aborts_if_at-complete n place e w.mid rest (omega (arith, h, length-Begins (aborts_if_lexeme place ∷ []) ts w.mid w.front)) w.back q.0)
-clause_at-complete n (aborts_if_clause place e Failure) ts rest h b q = absurd q.1
-clause_at-complete n (aborts_if_clause place e (Code code)) ts rest h b q = absurd q.1
-clause_at-complete n (modifies_clause place t) ts rest h b q =
-    let w = Begins-first (modifies_lexeme place) (targets_spelling t ++ sign Semicolon ∷ []) ts rest b in
-    worded n modifies_word place (modifies_clause place t) ts w.mid rest w.front (targets_no_colon t.items t.last_comma w.mid rest w.back q.0 q.1)
-    (modifies_at-complete n place t w.mid rest (omega (arith, h, length-Begins (modifies_lexeme place ∷ []) ts w.mid w.front)) w.back q)
-clause_at-complete n (invariant_clause place is_update e) ts rest h b q =
-    let w = Begins-first (invariant_lexeme place) (update_spelling is_update ++ condition_spelling e) ts rest b in
-    worded n invariant_word place (invariant_clause place is_update e) ts w.mid rest w.front (invariant_no_colon is_update e w.mid rest w.back q.0)
-    (invariant_at-complete n place is_update e w.mid rest (omega (arith, h, length-Begins (invariant_lexeme place ∷ []) ts w.mid w.front)) w.back q)
-clause_at-complete n (let_clause place is_post name e) ts rest h b q =
-    let w = Begins-first (word (codes "let") (Some place)) (post_spelling is_post ++ identifier name ∷ sign Equal ∷ condition_spelling e) ts rest b in
-    worded n let_word place (let_clause place is_post name e) ts w.mid rest w.front (let_no_colon is_post name e w.mid rest w.back)
-    (let_at-complete n place is_post name e w.mid rest (omega (arith, h, length-Begins (word (codes "let") (Some place) ∷ []) ts w.mid w.front)) w.back q.0 q.1)
+clause_at-complete n (pragma_clause span p) ts rest h b q =
+    let w = Begins-first (word (codes "pragma") (Some span)) (pragmas_spelling p ++ sign Semicolon ∷ []) ts rest b in
+    worded n pragma_word span (pragma_clause span p) ts w.mid rest w.front (pragmas_no_colon p.items p.last_comma w.mid rest w.back q.1) (pragmas_at-complete span p w.mid rest w.back q)
+clause_at-complete n (requires_clause span e) ts rest h b q =
+    let w = Begins-first (requires_lexeme span) (condition_spelling e) ts rest b in
+    worded n requires_word span (requires_clause span e) ts w.mid rest w.front (condition_no_colon e w.mid rest w.back q)
+    (requires_at-complete n span e w.mid rest (omega (arith, h, length-Begins (requires_lexeme span ∷ []) ts w.mid w.front)) w.back q)
+clause_at-complete n (ensures_clause span e) ts rest h b q =
+    let w = Begins-first (ensures_lexeme span) (condition_spelling e) ts rest b in
+    worded n ensures_word span (ensures_clause span e) ts w.mid rest w.front (condition_no_colon e w.mid rest w.back q)
+    (ensures_at-complete n span e w.mid rest (omega (arith, h, length-Begins (ensures_lexeme span ∷ []) ts w.mid w.front)) w.back q)
+clause_at-complete n (aborts_if_clause span e Bare) ts rest h b q =
+    let w = Begins-first (aborts_if_lexeme span) (condition_spelling e) ts rest (aborts_if-spelled span e ts rest b) in
+    worded n aborts_if_word span (aborts_if_clause span e Bare) ts w.mid rest w.front (condition_no_colon e w.mid rest w.back q.0)
+    (aborts_if_at-complete n span e w.mid rest (omega (arith, h, length-Begins (aborts_if_lexeme span ∷ []) ts w.mid w.front)) w.back q.0)
+clause_at-complete n (aborts_if_clause span e Failure) ts rest h b q = absurd q.1
+clause_at-complete n (aborts_if_clause span e (Code code)) ts rest h b q = absurd q.1
+clause_at-complete n (modifies_clause span t) ts rest h b q =
+    let w = Begins-first (modifies_lexeme span) (targets_spelling t ++ sign Semicolon ∷ []) ts rest b in
+    worded n modifies_word span (modifies_clause span t) ts w.mid rest w.front (targets_no_colon t.items t.last_comma w.mid rest w.back q.0 q.1)
+    (modifies_at-complete n span t w.mid rest (omega (arith, h, length-Begins (modifies_lexeme span ∷ []) ts w.mid w.front)) w.back q)
+clause_at-complete n (invariant_clause span is_update e) ts rest h b q =
+    let w = Begins-first (invariant_lexeme span) (update_spelling is_update ++ condition_spelling e) ts rest b in
+    worded n invariant_word span (invariant_clause span is_update e) ts w.mid rest w.front (invariant_no_colon is_update e w.mid rest w.back q.0)
+    (invariant_at-complete n span is_update e w.mid rest (omega (arith, h, length-Begins (invariant_lexeme span ∷ []) ts w.mid w.front)) w.back q)
+clause_at-complete n (let_clause span is_post name e) ts rest h b q =
+    let w = Begins-first (word (codes "let") (Some span)) (post_spelling is_post ++ identifier name ∷ sign Equal ∷ condition_spelling e) ts rest b in
+    worded n let_word span (let_clause span is_post name e) ts w.mid rest w.front (let_no_colon is_post name e w.mid rest w.back)
+    (let_at-complete n span is_post name e w.mid rest (omega (arith, h, length-Begins (word (codes "let") (Some span) ∷ []) ts w.mid w.front)) w.back q.0 q.1)
 clause_at-complete n (include_clause i) ts rest h b q =
-    let w = Begins-first (include_lexeme i.place) (include_behind i) ts rest (Begins-same _ _ ts rest (include_spelled i) b) in
-    worded n include_word i.place (include_clause i) ts w.mid rest w.front (path_no_sign Colon i.schema (maybe_arguments_spelling None (maybe_arguments_of i.arguments) ++ (bindings_spelling i.bindings ++ sign Semicolon ∷ [])) w.mid rest w.back q.0)
-    (include_at-complete n i w.mid rest (omega (arith, h, length-Begins (include_lexeme i.place ∷ []) ts w.mid w.front)) w.back q)
+    let w = Begins-first (include_lexeme i.span) (include_behind i) ts rest (Begins-same _ _ ts rest (include_spelled i) b) in
+    worded n include_word i.span (include_clause i) ts w.mid rest w.front (path_no_sign Colon i.schema (maybe_arguments_spelling None (maybe_arguments_of i.arguments) ++ (bindings_spelling i.bindings ++ sign Semicolon ∷ [])) w.mid rest w.back q.0)
+    (include_at-complete n i w.mid rest (omega (arith, h, length-Begins (include_lexeme i.span ∷ []) ts w.mid w.front)) w.back q)
 clause_at-complete n (variable_clause x) ts rest h b q =
     cond_true (opens_variable ts) (variable_at (suc n) ts) (worded_at (suc n) ts) (one_variable x.name (type_spelling x.annotation ++ sign Semicolon ∷ []) ts rest q.0 b) ∙ variable_at-complete n x ts rest h b q
 
@@ -174,23 +174,23 @@ clause_at-complete n (variable_clause x) ts rest h b q =
 -- a clause begins with a word
 pub clause_no_sign : (s : Sign) (c : Clause) (ts rest : List Token) → Begins (clause_spelling c) ts rest → after_sign s ts ≡ None
 unfolding requires_lexeme ensures_lexeme aborts_if_lexeme modifies_lexeme invariant_lexeme include_lexeme
-clause_no_sign s (pragma_clause place p) ts rest b = after_sign-other s (word (codes "pragma") (Some place)) _ ts rest refl b
-clause_no_sign s (requires_clause place e) ts rest b = after_sign-other s (requires_lexeme place) _ ts rest refl b
-clause_no_sign s (ensures_clause place e) ts rest b = after_sign-other s (ensures_lexeme place) _ ts rest refl b
-clause_no_sign s (aborts_if_clause place e code) ts rest b = after_sign-other s (aborts_if_lexeme place) _ ts rest refl b
-clause_no_sign s (modifies_clause place t) ts rest b = after_sign-other s (modifies_lexeme place) _ ts rest refl b
-clause_no_sign s (invariant_clause place is_update e) ts rest b = after_sign-other s (invariant_lexeme place) _ ts rest refl b
-clause_no_sign s (let_clause place is_post name e) ts rest b = after_sign-other s (word (codes "let") (Some place)) _ ts rest refl b
-clause_no_sign s (include_clause i) ts rest b = after_sign-other s (include_lexeme i.place) _ ts rest refl b
+clause_no_sign s (pragma_clause span p) ts rest b = after_sign-other s (word (codes "pragma") (Some span)) _ ts rest refl b
+clause_no_sign s (requires_clause span e) ts rest b = after_sign-other s (requires_lexeme span) _ ts rest refl b
+clause_no_sign s (ensures_clause span e) ts rest b = after_sign-other s (ensures_lexeme span) _ ts rest refl b
+clause_no_sign s (aborts_if_clause span e code) ts rest b = after_sign-other s (aborts_if_lexeme span) _ ts rest refl b
+clause_no_sign s (modifies_clause span t) ts rest b = after_sign-other s (modifies_lexeme span) _ ts rest refl b
+clause_no_sign s (invariant_clause span is_update e) ts rest b = after_sign-other s (invariant_lexeme span) _ ts rest refl b
+clause_no_sign s (let_clause span is_post name e) ts rest b = after_sign-other s (word (codes "let") (Some span)) _ ts rest refl b
+clause_no_sign s (include_clause i) ts rest b = after_sign-other s (include_lexeme i.span) _ ts rest refl b
 clause_no_sign s (variable_clause x) ts rest b = after_sign-other s (identifier x.name) (sign Colon ∷ (type_spelling x.annotation ++ sign Semicolon ∷ [])) ts rest refl b
 
 pub clause_some : (c : Clause) → 0 < length (clause_spelling c)
-clause_some (pragma_clause place p) = omega arith
-clause_some (requires_clause place e) = omega arith
-clause_some (ensures_clause place e) = omega arith
-clause_some (aborts_if_clause place e code) = omega arith
-clause_some (modifies_clause place t) = omega arith
-clause_some (invariant_clause place is_update e) = omega arith
-clause_some (let_clause place is_post name e) = omega arith
+clause_some (pragma_clause span p) = omega arith
+clause_some (requires_clause span e) = omega arith
+clause_some (ensures_clause span e) = omega arith
+clause_some (aborts_if_clause span e code) = omega arith
+clause_some (modifies_clause span t) = omega arith
+clause_some (invariant_clause span is_update e) = omega arith
+clause_some (let_clause span is_post name e) = omega arith
 clause_some (include_clause i) = omega arith
 clause_some (variable_clause x) = omega arith

@@ -55,48 +55,48 @@ condition_at-complete n e ts rest h b p =
 
 -- ---- clauses with one condition
 
-pub requires_at-sound : (n : ℕ) (place : Span) (whole ts : List Token) (r : Clause × List Token) → Begins (requires_word place ∷ []) whole ts → requires_at n place ts ≡ Some r → Begins (clause_spelling r.0) whole r.1 × IsProperForm r.0
+pub requires_at-sound : (n : ℕ) (span : Span) (whole ts : List Token) (r : Clause × List Token) → Begins (requires_word span ∷ []) whole ts → requires_at n span ts ≡ Some r → Begins (clause_spelling r.0) whole r.1 × IsProperForm r.0
 unfolding requires_at
-requires_at-sound n place whole ts r front e =
-    let l = last (condition_at n ts) (λ e. (requires_clause place e.0, e.1)) r e in
+requires_at-sound n span whole ts r front e =
+    let l = last (condition_at n ts) (λ e. (requires_clause span e.0, e.1)) r e in
     let read = condition_at-sound n ts l.value l.first in
     subst (λ q. Begins (clause_spelling q.0) whole q.1 × IsProperForm q.0) l.then
-    (Begins-append (requires_word place ∷ []) (condition_spelling l.value.0) whole ts l.value.1 front read.0, read.1)
+    (Begins-append (requires_word span ∷ []) (condition_spelling l.value.0) whole ts l.value.1 front read.0, read.1)
 
-pub requires_at-complete : (n : ℕ) (place : Span) (e : SpecExpressionData) (ts rest : List Token) → length ts ≤ n → Begins (condition_spelling e) ts rest → IsProperSpec e → requires_at (suc n) place ts ≡ Some (requires_clause place e, rest)
+pub requires_at-complete : (n : ℕ) (span : Span) (e : SpecExpressionData) (ts rest : List Token) → length ts ≤ n → Begins (condition_spelling e) ts rest → IsProperSpec e → requires_at (suc n) span ts ≡ Some (requires_clause span e, rest)
 unfolding requires_at
-requires_at-complete n place e ts rest h b p = map_some (condition_at (suc n) ts) (λ e. (requires_clause place e.0, e.1)) (e, rest) (condition_at-complete n e ts rest h b p)
+requires_at-complete n span e ts rest h b p = map_some (condition_at (suc n) ts) (λ e. (requires_clause span e.0, e.1)) (e, rest) (condition_at-complete n e ts rest h b p)
 
-pub ensures_at-sound : (n : ℕ) (place : Span) (whole ts : List Token) (r : Clause × List Token) → Begins (ensures_word place ∷ []) whole ts → ensures_at n place ts ≡ Some r → Begins (clause_spelling r.0) whole r.1 × IsProperForm r.0
+pub ensures_at-sound : (n : ℕ) (span : Span) (whole ts : List Token) (r : Clause × List Token) → Begins (ensures_word span ∷ []) whole ts → ensures_at n span ts ≡ Some r → Begins (clause_spelling r.0) whole r.1 × IsProperForm r.0
 unfolding ensures_at
-ensures_at-sound n place whole ts r front e =
-    let l = last (condition_at n ts) (λ e. (ensures_clause place e.0, e.1)) r e in
+ensures_at-sound n span whole ts r front e =
+    let l = last (condition_at n ts) (λ e. (ensures_clause span e.0, e.1)) r e in
     let read = condition_at-sound n ts l.value l.first in
     subst (λ q. Begins (clause_spelling q.0) whole q.1 × IsProperForm q.0) l.then
-    (Begins-append (ensures_word place ∷ []) (condition_spelling l.value.0) whole ts l.value.1 front read.0, read.1)
+    (Begins-append (ensures_word span ∷ []) (condition_spelling l.value.0) whole ts l.value.1 front read.0, read.1)
 
-pub ensures_at-complete : (n : ℕ) (place : Span) (e : SpecExpressionData) (ts rest : List Token) → length ts ≤ n → Begins (condition_spelling e) ts rest → IsProperSpec e → ensures_at (suc n) place ts ≡ Some (ensures_clause place e, rest)
+pub ensures_at-complete : (n : ℕ) (span : Span) (e : SpecExpressionData) (ts rest : List Token) → length ts ≤ n → Begins (condition_spelling e) ts rest → IsProperSpec e → ensures_at (suc n) span ts ≡ Some (ensures_clause span e, rest)
 unfolding ensures_at
-ensures_at-complete n place e ts rest h b p = map_some (condition_at (suc n) ts) (λ e. (ensures_clause place e.0, e.1)) (e, rest) (condition_at-complete n e ts rest h b p)
+ensures_at-complete n span e ts rest h b p = map_some (condition_at (suc n) ts) (λ e. (ensures_clause span e.0, e.1)) (e, rest) (condition_at-complete n e ts rest h b p)
 
 -- without a code, the condition ends the clause
 bare_spelled : (l : Lexeme) (e : SpecExpressionData) → ((l ∷ spec_spelling e) ++ code_spelling Bare) ++ sign Semicolon ∷ [] ≡ l ∷ condition_spelling e
 bare_spelled l e = ap (λ ls. ls ++ sign Semicolon ∷ []) (append-nil (l ∷ spec_spelling e))
 
-pub aborts_if_at-sound : (n : ℕ) (place : Span) (whole ts : List Token) (r : Clause × List Token) → Begins (aborts_if_word place ∷ []) whole ts → aborts_if_at n place ts ≡ Some r → Begins (clause_spelling r.0) whole r.1 × IsProperForm r.0
+pub aborts_if_at-sound : (n : ℕ) (span : Span) (whole ts : List Token) (r : Clause × List Token) → Begins (aborts_if_word span ∷ []) whole ts → aborts_if_at n span ts ≡ Some r → Begins (clause_spelling r.0) whole r.1 × IsProperForm r.0
 unfolding aborts_if_at
-aborts_if_at-sound n place whole ts r front e =
-    let l = last (condition_at n ts) (λ e. (aborts_if_clause place e.0 Bare, e.1)) r e in
+aborts_if_at-sound n span whole ts r front e =
+    let l = last (condition_at n ts) (λ e. (aborts_if_clause span e.0 Bare, e.1)) r e in
     let read = condition_at-sound n ts l.value l.first in
     subst (λ q. Begins (clause_spelling q.0) whole q.1 × IsProperForm q.0) l.then (
-      Begins-same _ _ whole l.value.1 (sym (bare_spelled (aborts_if_word place) l.value.0)) (Begins-append (aborts_if_word place ∷ []) (condition_spelling l.value.0) whole ts l.value.1 front read.0),
+      Begins-same _ _ whole l.value.1 (sym (bare_spelled (aborts_if_word span) l.value.0)) (Begins-append (aborts_if_word span ∷ []) (condition_spelling l.value.0) whole ts l.value.1 front read.0),
       (read.1, tt),
     )
 
-pub aborts_if-spelled : (place : Span) (e : SpecExpressionData) (ts rest : List Token) → Begins (clause_spelling (aborts_if_clause place e Bare)) ts rest → Begins (aborts_if_word place ∷ condition_spelling e) ts rest
-aborts_if-spelled place e ts rest b = Begins-same _ _ ts rest (bare_spelled (aborts_if_word place) e) b
+pub aborts_if-spelled : (span : Span) (e : SpecExpressionData) (ts rest : List Token) → Begins (clause_spelling (aborts_if_clause span e Bare)) ts rest → Begins (aborts_if_word span ∷ condition_spelling e) ts rest
+aborts_if-spelled span e ts rest b = Begins-same _ _ ts rest (bare_spelled (aborts_if_word span) e) b
 
-pub aborts_if_at-complete : (n : ℕ) (place : Span) (e : SpecExpressionData) (ts rest : List Token) → length ts ≤ n → Begins (condition_spelling e) ts rest → IsProperSpec e
-    → aborts_if_at (suc n) place ts ≡ Some (aborts_if_clause place e Bare, rest)
+pub aborts_if_at-complete : (n : ℕ) (span : Span) (e : SpecExpressionData) (ts rest : List Token) → length ts ≤ n → Begins (condition_spelling e) ts rest → IsProperSpec e
+    → aborts_if_at (suc n) span ts ≡ Some (aborts_if_clause span e Bare, rest)
 unfolding aborts_if_at
-aborts_if_at-complete n place e ts rest h b p = map_some (condition_at (suc n) ts) (λ e. (aborts_if_clause place e.0 Bare, e.1)) (e, rest) (condition_at-complete n e ts rest h b p)
+aborts_if_at-complete n span e ts rest h b p = map_some (condition_at (suc n) ts) (λ e. (aborts_if_clause span e.0 Bare, e.1)) (e, rest) (condition_at-complete n e ts rest h b p)

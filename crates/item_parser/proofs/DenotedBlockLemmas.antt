@@ -38,7 +38,7 @@ none_read slot n ts k h e f = absurd (differs e (sym h ∙ ap (λ m. whole_at sl
 
 -- the reason why no spec block was read is the reason why the tokens denote none
 pub cause_is_known : (slot : Slot) (ts : List Token) (n : ℕ) (fault : ReadFault) (why : ParseFault) → n ≡ length ts + 1 → IfNoTree fault (whole_at slot n ts ≡ None) → Explains ts fault why → IsCause slot ts why
-cause_is_known slot ts n (NoTree left) (Grammar place) k h w = (none_read slot n ts k h, w.0)
+cause_is_known slot ts n (NoTree left) (Grammar span) k h w = (none_read slot n ts k h, w.0)
 cause_is_known slot ts n (NoTree left) (LeftOut index) k h w = (none_read slot n ts k h, w)
 cause_is_known slot ts n (NoTree left) NoMemory k h w = absurd w
 cause_is_known slot ts n no_memory why k h w = subst (IsCause slot ts) (sym w) tt

@@ -37,7 +37,7 @@ none_read n ts k e xs f = absurd (differs xs (sym e ∙ ap (λ m. file_at m ts) 
 
 -- the reason why no file was read is the reason why the tokens denote none
 pub cause_is_known : (ts : List Token) (n : ℕ) (fault : ReadFault) (why : ParseFault) → n ≡ length ts + 1 → IfNoTree fault (file_at n ts ≡ None) → Explains ts fault why → IsCause ts why
-cause_is_known ts n (NoTree left) (Grammar place) k e w = (none_read n ts k e, w.0)
+cause_is_known ts n (NoTree left) (Grammar span) k e w = (none_read n ts k e, w.0)
 cause_is_known ts n (NoTree left) (LeftOut index) k e w = (none_read n ts k e, w)
 cause_is_known ts n (NoTree left) NoMemory k e w = absurd w
 cause_is_known ts n no_memory why k e w = subst (IsCause ts) (sym w) tt

@@ -13,10 +13,10 @@ use Rattle.syntax_tree.specs.FileData.{MemberData, ModuleData}
 use Rattle.syntax_tree.specs.MemberSpelling.{attribute_spelling, form_spelling, member_spelling, module_tree_spelling, file_spelling}
 use Rattle.syntax_tree.specs.ProperMembers.{IsProperMember, IsProperModule, IsProperFile}
 use Rattle.parser_base.specs.Beginnings.{Begins}
-use Rattle.parser_base.specs.TokenReading.{after_sign, word_place_at}
+use Rattle.parser_base.specs.TokenReading.{after_sign, word_span_at}
 use Rattle.parser_base.proofs.Steps.{step, last, if_not, bind_some, map_some, cond_false, cond_true}
 use Rattle.parser_base.proofs.BeginLemmas.{Begins-append, Begins-split, Begins-first, Begins-same, length-Begins}
-use Rattle.parser_base.proofs.TokenLemmas.{after_sign-sound, after_sign-complete, after_sign-other, word_place_at-sound, word_place_at-complete}
+use Rattle.parser_base.proofs.TokenLemmas.{after_sign-sound, after_sign-complete, after_sign-other, word_span_at-sound, word_span_at-complete}
 use Rattle.parser_base.specs.PathReading.{module_name_at}
 use Rattle.parser_base.proofs.PathLemmas.{module_name_at-sound, module_name_at-complete}
 use Rattle.item_parser.specs.AttributeReading.{attributes_at}
@@ -43,7 +43,7 @@ members_at-sound n ts r e =
 attributes_first : (xs : List Attribute) (ls : List Lexeme) (ts rest : List Token) → Begins (flat_map attribute_spelling xs ++ ls) ts rest → ((us : List Token) → Begins ls us rest → after_sign RightBrace us ≡ None) → after_sign RightBrace ts ≡ None
 attributes_first [] ls ts rest b f = f ts b
 attributes_first (x ∷ xs) ls ts rest b f =
-    after_sign-other RightBrace (sign_at x.place NumberSign) (((sign LeftBracket ∷ map kept x.tokens ++ sign RightBracket ∷ []) ++ flat_map attribute_spelling xs) ++ ls) ts rest refl b
+    after_sign-other RightBrace (sign_at x.span NumberSign) (((sign LeftBracket ∷ map kept x.tokens ++ sign RightBracket ∷ []) ++ flat_map attribute_spelling xs) ++ ls) ts rest refl b
 
 member_no_brace : (m : MemberData) (ts rest : List Token) → Begins (member_spelling m) ts rest → IsProperMember m → after_sign RightBrace ts ≡ None
 member_no_brace m ts rest b p = attributes_first m.attributes (form_spelling m.form) ts rest b (λ us c. form_no_sign RightBrace m.form us rest p.1 c)
@@ -70,7 +70,7 @@ module_behind-sound : (n : ℕ) (ts : List Token) (r : ModuleData × List Token)
 unfolding module_behind
 module_behind-sound n ts r e =
     let a = step (attributes_at ts) _ r e in
-    let w = step (word_place_at (codes "module") a.value.1) _ r a.then in
+    let w = step (word_span_at (codes "module") a.value.1) _ r a.then in
     let m = step (module_name_at w.value.1) _ r w.then in
     let o = step (after_sign LeftBrace m.value.1) _ r m.then in
     let x = step (members_at n o.value) _ r o.then in
@@ -82,7 +82,7 @@ module_behind-sound n ts r e =
     subst (λ q. Begins (module_tree_spelling q.0) ts q.1 × IsProperModule q.0) l.then (
       Begins-same _ _ ts l.value (sym (module_spelled (flat_map attribute_spelling a.value.0) (word (codes "module") (Some w.value.0)) (module_spelling m.value.0) (flat_map member_spelling x.value.0)))
           (Begins-append (flat_map attribute_spelling a.value.0) (word (codes "module") (Some w.value.0) ∷ (module_spelling m.value.0 ++ sign LeftBrace ∷ inside)) ts a.value.1 l.value attributes.0
-          (Begins-append (word (codes "module") (Some w.value.0) ∷ []) (module_spelling m.value.0 ++ sign LeftBrace ∷ inside) a.value.1 w.value.1 l.value (word_place_at-sound (codes "module") a.value.1 w.value w.first)
+          (Begins-append (word (codes "module") (Some w.value.0) ∷ []) (module_spelling m.value.0 ++ sign LeftBrace ∷ inside) a.value.1 w.value.1 l.value (word_span_at-sound (codes "module") a.value.1 w.value w.first)
           (Begins-append (module_spelling m.value.0) (sign LeftBrace ∷ inside) w.value.1 m.value.1 l.value name.0
           (Begins-append (sign LeftBrace ∷ []) inside m.value.1 o.value l.value (after_sign-sound LeftBrace m.value.1 o.value o.first)
           (Begins-append (flat_map member_spelling x.value.0) (sign RightBrace ∷ []) o.value x.value.1 l.value members.0 (after_sign-sound RightBrace x.value.1 l.value l.first)))))),
@@ -93,7 +93,7 @@ module_behind-complete : (n : ℕ) (m : ModuleData) (ts rest : List Token) → l
 unfolding module_behind
 module_behind-complete n m ts rest h b p =
     let inside = flat_map member_spelling m.members ++ sign RightBrace ∷ [] in
-    let w = word (codes "module") (Some m.place) in
+    let w = word (codes "module") (Some m.span) in
     let a = Begins-split (flat_map attribute_spelling m.attributes) (w ∷ (module_spelling m.name ++ sign LeftBrace ∷ inside)) ts rest
     (Begins-same _ _ ts rest (module_spelled (flat_map attribute_spelling m.attributes) w (module_spelling m.name) (flat_map member_spelling m.members)) b) in
     let k = Begins-first w (module_spelling m.name ++ sign LeftBrace ∷ inside) a.mid rest a.back in
@@ -103,7 +103,7 @@ module_behind-complete n m ts rest h b p =
     let end = after_sign-complete RightBrace c.mid rest c.back in
     let l : length o.mid ≤ suc n = omega (arith, h, length-Begins (flat_map attribute_spelling m.attributes) ts a.mid a.front, length-Begins (w ∷ []) a.mid k.mid k.front, length-Begins (module_spelling m.name) k.mid x.mid x.front, length-Begins (sign LeftBrace ∷ []) x.mid o.mid o.front) in
     bind_some (attributes_at ts) _ (m.attributes, a.mid) (attributes_at-complete m.attributes ts a.mid a.front p.0 (after_sign-other NumberSign w [] a.mid k.mid refl k.front))
-    ∙ bind_some (word_place_at (codes "module") a.mid) _ (m.place, k.mid) (word_place_at-complete (codes "module") m.place a.mid k.mid k.front)
+    ∙ bind_some (word_span_at (codes "module") a.mid) _ (m.span, k.mid) (word_span_at-complete (codes "module") m.span a.mid k.mid k.front)
     ∙ bind_some (module_name_at k.mid) _ (m.name, x.mid) (module_name_at-complete m.name k.mid x.mid x.front p.1)
     ∙ bind_some (after_sign LeftBrace x.mid) _ o.mid (after_sign-complete LeftBrace x.mid o.mid o.front)
     ∙ bind_some (members_at (suc n) o.mid) _ (m.members, c.mid) (members_at-complete n m.members o.mid c.mid rest l c.front p.2 end)
@@ -111,7 +111,7 @@ module_behind-complete n m ts rest h b p =
 
 module_some : (m : ModuleData) → 0 < length (module_tree_spelling m)
 module_some m =
-    omega (arith, length-append ((flat_map attribute_spelling m.attributes ++ word (codes "module") (Some m.place) ∷ module_spelling m.name) ++ sign LeftBrace ∷ flat_map member_spelling m.members) (sign RightBrace ∷ []))
+    omega (arith, length-append ((flat_map attribute_spelling m.attributes ++ word (codes "module") (Some m.span) ∷ module_spelling m.name) ++ sign LeftBrace ∷ flat_map member_spelling m.members) (sign RightBrace ∷ []))
 
 -- ---- files
 

@@ -20,11 +20,11 @@ use Rattle.syntax_tree.specs.MemberData.{PathsData}
 use Rattle.syntax_tree.specs.MemberSpelling.{of_friends, visibility_spelling, entry_spelling, acquires_word, acquires_spelling}
 use Rattle.syntax_tree.specs.ProperMembers.{AreAny, AreProperPaths}
 use Rattle.parser_base.specs.Beginnings.{Begins}
-use Rattle.parser_base.specs.TokenReading.{Read, after_sign, before_sign, after_word, word_place_at}
+use Rattle.parser_base.specs.TokenReading.{Read, after_sign, before_sign, after_word, word_span_at}
 use Rattle.parser_base.specs.ListReading.{some_items_at}
 use Rattle.parser_base.proofs.Steps.{step, last, some_one, either, bind_some, map_some, map_or_none, map_or_some}
 use Rattle.parser_base.proofs.BeginLemmas.{Begins-append, Begins-first, Begins-same, length-Begins}
-use Rattle.parser_base.proofs.TokenLemmas.{after_sign-sound, after_sign-complete, after_sign-other, after_word-sound, after_word-complete, after_word-other, word_place_at-sound, word_place_at-complete}
+use Rattle.parser_base.proofs.TokenLemmas.{after_sign-sound, after_sign-complete, after_sign-other, after_word-sound, after_word-complete, after_word-other, word_span_at-sound, word_span_at-complete}
 use Rattle.parser_base.specs.PathReading.{path_at}
 use Rattle.parser_base.specs.TypeReading.{type_at}
 use Rattle.parser_base.proofs.PathLemmas.{path_at-sound, path_at-complete, path_no_sign}
@@ -35,71 +35,71 @@ use Rattle.parser_base.proofs.BeforeLists.{items_before-sound, items_before-comp
 
 -- ---- visibility
 
-friends_at-sound : (place : Span) (ts : List Token) (r : Visibility × List Token) → friends_at place ts ≡ Some r → (r.0 ≡ Friends place) × Begins (word (codes "friend") None ∷ sign RightParenthesis ∷ []) ts r.1
+friends_at-sound : (span : Span) (ts : List Token) (r : Visibility × List Token) → friends_at span ts ≡ Some r → (r.0 ≡ Friends span) × Begins (word (codes "friend") None ∷ sign RightParenthesis ∷ []) ts r.1
 unfolding friends_at
-friends_at-sound place ts r e =
+friends_at-sound span ts r e =
     let f = step (after_word (codes "friend") ts) _ r e in
     let c = last (after_sign RightParenthesis f.value) _ r f.then in
-    subst (λ q. (q.0 ≡ Friends place) × Begins (word (codes "friend") None ∷ sign RightParenthesis ∷ []) ts q.1) c.then (
+    subst (λ q. (q.0 ≡ Friends span) × Begins (word (codes "friend") None ∷ sign RightParenthesis ∷ []) ts q.1) c.then (
       refl,
       Begins-append (word (codes "friend") None ∷ []) (sign RightParenthesis ∷ []) ts f.value c.value (after_word-sound (codes "friend") ts f.value f.first) (after_sign-sound RightParenthesis f.value c.value c.first),
     )
 
-public_at-sound : (place : Span) (whole ts : List Token) (r : Visibility × List Token) → Begins (word (codes "public") (Some place) ∷ []) whole ts → public_at place ts ≡ Some r → Begins (visibility_spelling r.0) whole r.1
+public_at-sound : (span : Span) (whole ts : List Token) (r : Visibility × List Token) → Begins (word (codes "public") (Some span) ∷ []) whole ts → public_at span ts ≡ Some r → Begins (visibility_spelling r.0) whole r.1
 unfolding public_at of_friends
-public_at-sound place whole ts r front e =
-    elim (either (after_sign LeftParenthesis ts) (λ inside. friends_at place inside) _ r e) [
+public_at-sound span whole ts r front e =
+    elim (either (after_sign LeftParenthesis ts) (λ inside. friends_at span inside) _ r e) [
       | inl s ↦
-          let f = friends_at-sound place s.value r s.then in
+          let f = friends_at-sound span s.value r s.then in
           subst (λ v. Begins (visibility_spelling v) whole r.1) (sym f.0)
-          (Begins-append (word (codes "public") (Some place) ∷ []) (sign LeftParenthesis ∷ word (codes "friend") None ∷ sign RightParenthesis ∷ []) whole ts r.1 front
+          (Begins-append (word (codes "public") (Some span) ∷ []) (sign LeftParenthesis ∷ word (codes "friend") None ∷ sign RightParenthesis ∷ []) whole ts r.1 front
           (Begins-append (sign LeftParenthesis ∷ []) (word (codes "friend") None ∷ sign RightParenthesis ∷ []) ts s.value r.1 (after_sign-sound LeftParenthesis ts s.value s.first) f.1))
-      | inr m ↦ subst (λ q. Begins (visibility_spelling q.0) whole q.1) (some_one (Public place, ts) r m.1) front
+      | inr m ↦ subst (λ q. Begins (visibility_spelling q.0) whole q.1) (some_one (Public span, ts) r m.1) front
     ]
 
 pub visibility_at-sound : (ts : List Token) (r : Visibility × List Token) → visibility_at ts ≡ Some r → Begins (visibility_spelling r.0) ts r.1
 unfolding visibility_at
 visibility_at-sound ts r e =
-    elim (either (word_place_at (codes "public") ts) (λ p. public_at p.0 p.1) _ r e) [
-      | inl s ↦ public_at-sound s.value.0 ts s.value.1 r (word_place_at-sound (codes "public") ts s.value s.first) s.then
+    elim (either (word_span_at (codes "public") ts) (λ p. public_at p.0 p.1) _ r e) [
+      | inl s ↦ public_at-sound s.value.0 ts s.value.1 r (word_span_at-sound (codes "public") ts s.value s.first) s.then
       | inr m ↦ subst (λ q. Begins (visibility_spelling q.0) ts q.1) (some_one (in_module, ts) r m.1) refl
     ]
 
 -- no token after a visibility belongs to it
 abbrev pub VisibilityEnds : List Token → Type 0
-VisibilityEnds rest = (word_place_at (codes "public") rest ≡ None) × (after_sign LeftParenthesis rest ≡ None)
+VisibilityEnds rest = (word_span_at (codes "public") rest ≡ None) × (after_sign LeftParenthesis rest ≡ None)
 
 pub visibility_at-complete : (v : Visibility) (ts rest : List Token) → Begins (visibility_spelling v) ts rest → VisibilityEnds rest → visibility_at ts ≡ Some (v, rest)
 unfolding visibility_at public_at friends_at of_friends
 visibility_at-complete in_module ts rest b d =
-    map_or_none (word_place_at (codes "public") ts) (λ p. public_at p.0 p.1) _ (ap (word_place_at (codes "public")) b ∙ d.0) ∙ ap (λ us. Some (in_module, us)) b
-visibility_at-complete (Public place) ts rest b d =
-    map_or_some (word_place_at (codes "public") ts) (λ p. public_at p.0 p.1) _ (place, rest) (word_place_at-complete (codes "public") place ts rest b)
-    ∙ map_or_none (after_sign LeftParenthesis rest) (λ inside. friends_at place inside) _ d.1
-visibility_at-complete (Friends place) ts rest b d =
-    let s = Begins-first (word (codes "public") (Some place)) (sign LeftParenthesis ∷ word (codes "friend") None ∷ sign RightParenthesis ∷ []) ts rest b in
+    map_or_none (word_span_at (codes "public") ts) (λ p. public_at p.0 p.1) _ (ap (word_span_at (codes "public")) b ∙ d.0) ∙ ap (λ us. Some (in_module, us)) b
+visibility_at-complete (Public span) ts rest b d =
+    map_or_some (word_span_at (codes "public") ts) (λ p. public_at p.0 p.1) _ (span, rest) (word_span_at-complete (codes "public") span ts rest b)
+    ∙ map_or_none (after_sign LeftParenthesis rest) (λ inside. friends_at span inside) _ d.1
+visibility_at-complete (Friends span) ts rest b d =
+    let s = Begins-first (word (codes "public") (Some span)) (sign LeftParenthesis ∷ word (codes "friend") None ∷ sign RightParenthesis ∷ []) ts rest b in
     let o = Begins-first (sign LeftParenthesis) (word (codes "friend") None ∷ sign RightParenthesis ∷ []) s.mid rest s.back in
     let f = Begins-first (word (codes "friend") None) (sign RightParenthesis ∷ []) o.mid rest o.back in
-    map_or_some (word_place_at (codes "public") ts) (λ p. public_at p.0 p.1) _ (place, s.mid) (word_place_at-complete (codes "public") place ts s.mid s.front)
-    ∙ map_or_some (after_sign LeftParenthesis s.mid) (λ inside. friends_at place inside) _ o.mid (after_sign-complete LeftParenthesis s.mid o.mid o.front)
-    ∙ bind_some (after_word (codes "friend") o.mid) (λ rest. option_map (λ behind. (Friends place, behind)) (after_sign RightParenthesis rest)) f.mid (after_word-complete (codes "friend") o.mid f.mid f.front)
-    ∙ map_some (after_sign RightParenthesis f.mid) (λ behind. (Friends place, behind)) rest (after_sign-complete RightParenthesis f.mid rest f.back)
+    map_or_some (word_span_at (codes "public") ts) (λ p. public_at p.0 p.1) _ (span, s.mid) (word_span_at-complete (codes "public") span ts s.mid s.front)
+    ∙ map_or_some (after_sign LeftParenthesis s.mid) (λ inside. friends_at span inside) _ o.mid (after_sign-complete LeftParenthesis s.mid o.mid o.front)
+    ∙ bind_some (after_word (codes "friend") o.mid) (λ rest. option_map (λ behind. (Friends span, behind)) (after_sign RightParenthesis rest)) f.mid (after_word-complete (codes "friend") o.mid f.mid f.front)
+    ∙ map_some (after_sign RightParenthesis f.mid) (λ behind. (Friends span, behind)) rest (after_sign-complete RightParenthesis f.mid rest f.back)
 
 -- ---- `entry`
 
 pub entry_at-sound : (ts : List Token) → Begins (entry_spelling (entry_at ts).0) ts (entry_at ts).1
 unfolding entry_at
-entry_at-sound ts = go (word_place_at (codes "entry") ts) refl
+entry_at-sound ts = go (word_span_at (codes "entry") ts) refl
   where
-    go : (o : Read Span) → word_place_at (codes "entry") ts ≡ o
+    go : (o : Read Span) → word_span_at (codes "entry") ts ≡ o
         → Begins (entry_spelling (option_map_or {U = Option Span × List Token} (λ p. (Some p.0, p.1)) o (None, ts)).0) ts (option_map_or {U = Option Span × List Token} (λ p. (Some p.0, p.1)) o (None, ts)).1
     go None e = refl
-    go (Some p) e = word_place_at-sound (codes "entry") ts p e
+    go (Some p) e = word_span_at-sound (codes "entry") ts p e
 
-pub entry_at-complete : (entry : Option Span) (ts rest : List Token) → Begins (entry_spelling entry) ts rest → word_place_at (codes "entry") rest ≡ None → entry_at ts ≡ (entry, rest)
+pub entry_at-complete : (entry : Option Span) (ts rest : List Token) → Begins (entry_spelling entry) ts rest → word_span_at (codes "entry") rest ≡ None → entry_at ts ≡ (entry, rest)
 unfolding entry_at
-entry_at-complete None ts rest b e = map_or_none (word_place_at (codes "entry") ts) (λ p. (Some p.0, p.1)) (None, ts) (ap (word_place_at (codes "entry")) b ∙ e) ∙ ap (λ us. (None, us)) b
-entry_at-complete (Some place) ts rest b e = map_or_some (word_place_at (codes "entry") ts) (λ p. (Some p.0, p.1)) (None, ts) (place, rest) (word_place_at-complete (codes "entry") place ts rest b)
+entry_at-complete None ts rest b e = map_or_none (word_span_at (codes "entry") ts) (λ p. (Some p.0, p.1)) (None, ts) (ap (word_span_at (codes "entry")) b ∙ e) ∙ ap (λ us. (None, us)) b
+entry_at-complete (Some span) ts rest b e = map_or_some (word_span_at (codes "entry") ts) (λ p. (Some p.0, p.1)) (None, ts) (span, rest) (word_span_at-complete (codes "entry") span ts rest b)
 
 -- ---- the type of the result
 

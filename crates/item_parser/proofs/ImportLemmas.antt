@@ -152,48 +152,48 @@ use_behind u = module_spelling u.owner ++ imported_spelling u.imported ++ sign S
 abbrev pub friend_behind : Friend → List Lexeme
 friend_behind f = module_spelling f.owner ++ sign Semicolon ∷ []
 
-pub use_at-sound : (place : Span) (whole ts : List Token) (r : Use × List Token) → Begins (word (codes "use") (Some place) ∷ []) whole ts → use_at place ts ≡ Some r → Begins (use_member_spelling r.0) whole r.1 × IsProperUse r.0
+pub use_at-sound : (span : Span) (whole ts : List Token) (r : Use × List Token) → Begins (word (codes "use") (Some span) ∷ []) whole ts → use_at span ts ≡ Some r → Begins (use_member_spelling r.0) whole r.1 × IsProperUse r.0
 unfolding use_at
-use_at-sound place whole ts r front e =
+use_at-sound span whole ts r front e =
     let o = step (module_name_at ts) _ r e in
     let i = step (imported_at o.value.1) _ r o.then in
     let c = last (after_sign Semicolon i.value.1) _ r i.then in
     let owner = module_name_at-sound ts o.value o.first in
     let imported = imported_at-sound o.value.1 i.value i.first in
     subst (λ q. Begins (use_member_spelling q.0) whole q.1 × IsProperUse q.0) c.then (
-      Begins-append (word (codes "use") (Some place) ∷ module_spelling o.value.0 ++ imported_spelling i.value.0) (sign Semicolon ∷ []) whole i.value.1 c.value
-          (Begins-append (word (codes "use") (Some place) ∷ module_spelling o.value.0) (imported_spelling i.value.0) whole o.value.1 i.value.1
-          (Begins-append (word (codes "use") (Some place) ∷ []) (module_spelling o.value.0) whole ts o.value.1 front owner.0) imported.0)
+      Begins-append (word (codes "use") (Some span) ∷ module_spelling o.value.0 ++ imported_spelling i.value.0) (sign Semicolon ∷ []) whole i.value.1 c.value
+          (Begins-append (word (codes "use") (Some span) ∷ module_spelling o.value.0) (imported_spelling i.value.0) whole o.value.1 i.value.1
+          (Begins-append (word (codes "use") (Some span) ∷ []) (module_spelling o.value.0) whole ts o.value.1 front owner.0) imported.0)
           (after_sign-sound Semicolon i.value.1 c.value c.first),
       (owner.1, imported.1),
     )
 
-pub use_at-complete : (u : Use) (ts rest : List Token) → Begins (use_behind u) ts rest → IsProperUse u → use_at u.place ts ≡ Some (u, rest)
+pub use_at-complete : (u : Use) (ts rest : List Token) → Begins (use_behind u) ts rest → IsProperUse u → use_at u.span ts ≡ Some (u, rest)
 unfolding use_at
 use_at-complete u ts rest b p =
     let c = Begins-split (module_spelling u.owner ++ imported_spelling u.imported) (sign Semicolon ∷ []) ts rest b in
     let o = Begins-split (module_spelling u.owner) (imported_spelling u.imported) ts c.mid c.front in
-    bind_some (module_name_at ts) (λ owner. option_and_then (λ imported. option_map (λ rest. (record { place = u.place; owner = owner.0; imported = imported.0 }, rest)) (after_sign Semicolon imported.1)) (imported_at owner.1)) (u.owner, o.mid)
+    bind_some (module_name_at ts) (λ owner. option_and_then (λ imported. option_map (λ rest. (record { span = u.span; owner = owner.0; imported = imported.0 }, rest)) (after_sign Semicolon imported.1)) (imported_at owner.1)) (u.owner, o.mid)
     (module_name_at-complete u.owner ts o.mid o.front p.0)
-    ∙ bind_some (imported_at o.mid) (λ imported. option_map (λ rest. (record { place = u.place; owner = u.owner; imported = imported.0 }, rest)) (after_sign Semicolon imported.1)) (u.imported, c.mid)
+    ∙ bind_some (imported_at o.mid) (λ imported. option_map (λ rest. (record { span = u.span; owner = u.owner; imported = imported.0 }, rest)) (after_sign Semicolon imported.1)) (u.imported, c.mid)
     (imported_at-complete u.imported o.mid c.mid o.back p.1 (after_word-other (codes "as") (sign Semicolon) [] c.mid rest refl c.back) (after_sign-other ColonColon (sign Semicolon) [] c.mid rest refl c.back))
-    ∙ map_some (after_sign Semicolon c.mid) (λ rest. (record { place = u.place; owner = u.owner; imported = u.imported }, rest)) rest (after_sign-complete Semicolon c.mid rest c.back)
+    ∙ map_some (after_sign Semicolon c.mid) (λ rest. (record { span = u.span; owner = u.owner; imported = u.imported }, rest)) rest (after_sign-complete Semicolon c.mid rest c.back)
 
-pub friend_at-sound : (place : Span) (whole ts : List Token) (r : Friend × List Token) → Begins (word (codes "friend") (Some place) ∷ []) whole ts → friend_at place ts ≡ Some r → Begins (friend_spelling r.0) whole r.1 × IsProperModuleName r.0.owner
+pub friend_at-sound : (span : Span) (whole ts : List Token) (r : Friend × List Token) → Begins (word (codes "friend") (Some span) ∷ []) whole ts → friend_at span ts ≡ Some r → Begins (friend_spelling r.0) whole r.1 × IsProperModuleName r.0.owner
 unfolding friend_at
-friend_at-sound place whole ts r front e =
+friend_at-sound span whole ts r front e =
     let o = step (module_name_at ts) _ r e in
     let c = last (after_sign Semicolon o.value.1) _ r o.then in
     let owner = module_name_at-sound ts o.value o.first in
     subst (λ q. Begins (friend_spelling q.0) whole q.1 × IsProperModuleName q.0.owner) c.then (
-      Begins-append (word (codes "friend") (Some place) ∷ module_spelling o.value.0) (sign Semicolon ∷ []) whole o.value.1 c.value
-          (Begins-append (word (codes "friend") (Some place) ∷ []) (module_spelling o.value.0) whole ts o.value.1 front owner.0) (after_sign-sound Semicolon o.value.1 c.value c.first),
+      Begins-append (word (codes "friend") (Some span) ∷ module_spelling o.value.0) (sign Semicolon ∷ []) whole o.value.1 c.value
+          (Begins-append (word (codes "friend") (Some span) ∷ []) (module_spelling o.value.0) whole ts o.value.1 front owner.0) (after_sign-sound Semicolon o.value.1 c.value c.first),
       owner.1,
     )
 
-pub friend_at-complete : (f : Friend) (ts rest : List Token) → Begins (friend_behind f) ts rest → IsProperModuleName f.owner → friend_at f.place ts ≡ Some (f, rest)
+pub friend_at-complete : (f : Friend) (ts rest : List Token) → Begins (friend_behind f) ts rest → IsProperModuleName f.owner → friend_at f.span ts ≡ Some (f, rest)
 unfolding friend_at
 friend_at-complete f ts rest b p =
     let c = Begins-split (module_spelling f.owner) (sign Semicolon ∷ []) ts rest b in
-    bind_some (module_name_at ts) (λ owner. option_map (λ rest. (record { place = f.place; owner = owner.0 }, rest)) (after_sign Semicolon owner.1)) (f.owner, c.mid) (module_name_at-complete f.owner ts c.mid c.front p)
-    ∙ map_some (after_sign Semicolon c.mid) (λ rest. (record { place = f.place; owner = f.owner }, rest)) rest (after_sign-complete Semicolon c.mid rest c.back)
+    bind_some (module_name_at ts) (λ owner. option_map (λ rest. (record { span = f.span; owner = owner.0 }, rest)) (after_sign Semicolon owner.1)) (f.owner, c.mid) (module_name_at-complete f.owner ts c.mid c.front p)
+    ∙ map_some (after_sign Semicolon c.mid) (λ rest. (record { span = f.span; owner = f.owner }, rest)) rest (after_sign-complete Semicolon c.mid rest c.back)

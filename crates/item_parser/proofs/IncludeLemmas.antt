@@ -49,79 +49,79 @@ use Rattle.item_parser.proofs.UpdateLemmas.{opens-other, update_at-sound, update
 
 -- ---- `invariant`
 
-pub invariant_at-sound : (n : ℕ) (place : Span) (whole ts : List Token) (r : Clause × List Token) → Begins (invariant_word place ∷ []) whole ts → invariant_at n place ts ≡ Some r → Begins (clause_spelling r.0) whole r.1 × IsProperForm r.0
+pub invariant_at-sound : (n : ℕ) (span : Span) (whole ts : List Token) (r : Clause × List Token) → Begins (invariant_word span ∷ []) whole ts → invariant_at n span ts ≡ Some r → Begins (clause_spelling r.0) whole r.1 × IsProperForm r.0
 unfolding invariant_at
-invariant_at-sound n place whole ts r front e =
-    let l = last (condition_at n (update_at ts).1) (λ e. (invariant_clause place (update_at ts).0 e.0, e.1)) r e in
+invariant_at-sound n span whole ts r front e =
+    let l = last (condition_at n (update_at ts).1) (λ e. (invariant_clause span (update_at ts).0 e.0, e.1)) r e in
     let read = condition_at-sound n (update_at ts).1 l.value l.first in
     let s = Begins-split (spec_spelling l.value.0) (sign Semicolon ∷ []) (update_at ts).1 l.value.1 read.0 in
     subst (λ q. Begins (clause_spelling q.0) whole q.1 × IsProperForm q.0) l.then (
-      Begins-append (invariant_word place ∷ []) (update_spelling (update_at ts).0 ++ condition_spelling l.value.0) whole ts l.value.1 front
+      Begins-append (invariant_word span ∷ []) (update_spelling (update_at ts).0 ++ condition_spelling l.value.0) whole ts l.value.1 front
           (Begins-append (update_spelling (update_at ts).0) (condition_spelling l.value.0) ts (update_at ts).1 l.value.1 (update_at-sound ts) read.0),
       (read.1, λ f. update_at-name ts s.mid l.value.0 f s.front),
     )
 
-pub invariant_at-complete : (n : ℕ) (place : Span) (is_update : Bool) (e : SpecExpressionData) (ts rest : List Token) → length ts ≤ n → Begins (update_spelling is_update ++ condition_spelling e) ts rest
-    → IsProperForm (invariant_clause place is_update e) → invariant_at (suc n) place ts ≡ Some (invariant_clause place is_update e, rest)
+pub invariant_at-complete : (n : ℕ) (span : Span) (is_update : Bool) (e : SpecExpressionData) (ts rest : List Token) → length ts ≤ n → Begins (update_spelling is_update ++ condition_spelling e) ts rest
+    → IsProperForm (invariant_clause span is_update e) → invariant_at (suc n) span ts ≡ Some (invariant_clause span is_update e, rest)
 unfolding invariant_at
-invariant_at-complete n place is_update e ts rest h b p =
+invariant_at-complete n span is_update e ts rest h b p =
     let u = Begins-split (update_spelling is_update) (condition_spelling e) ts rest b in
     let s = Begins-split (spec_spelling e) (sign Semicolon ∷ []) u.mid rest u.back in
     let same = update_at-complete is_update e ts u.mid s.mid u.front s.front p.0 p.1 (opens-other (sign Semicolon) [] s.mid rest refl s.back) in
-    ap (λ (v : Bool × List Token). option_map (λ e. (invariant_clause place v.0 e.0, e.1)) (condition_at (suc n) v.1)) same
-    ∙ map_some (condition_at (suc n) u.mid) (λ e. (invariant_clause place is_update e.0, e.1)) (e, rest)
+    ap (λ (v : Bool × List Token). option_map (λ e. (invariant_clause span v.0 e.0, e.1)) (condition_at (suc n) v.1)) same
+    ∙ map_some (condition_at (suc n) u.mid) (λ e. (invariant_clause span is_update e.0, e.1)) (e, rest)
     (condition_at-complete n e u.mid rest (omega (arith, h, length-Begins (update_spelling is_update) ts u.mid u.front)) u.back p.0)
 
 -- ---- `let`
 
-pub let_at-sound : (n : ℕ) (place : Span) (whole ts : List Token) (r : Clause × List Token) → Begins (word (codes "let") (Some place) ∷ []) whole ts → let_at n place ts ≡ Some r → Begins (clause_spelling r.0) whole r.1 × IsProperForm r.0
+pub let_at-sound : (n : ℕ) (span : Span) (whole ts : List Token) (r : Clause × List Token) → Begins (word (codes "let") (Some span) ∷ []) whole ts → let_at n span ts ≡ Some r → Begins (clause_spelling r.0) whole r.1 × IsProperForm r.0
 unfolding let_at
-let_at-sound n place whole ts r front e =
+let_at-sound n span whole ts r front e =
     let i = step (identifier_at (post_at ts).1) _ r e in
     let q = step (after_sign Equal i.value.1) _ r i.then in
-    let l = last (condition_at n q.value) (λ e. (let_clause place (post_at ts).0 i.value.0 e.0, e.1)) r q.then in
+    let l = last (condition_at n q.value) (λ e. (let_clause span (post_at ts).0 i.value.0 e.0, e.1)) r q.then in
     let name = identifier_at-sound (post_at ts).1 i.value i.first in
     let read = condition_at-sound n q.value l.value l.first in
     let valued = sign Equal ∷ condition_spelling l.value.0 in
     subst (λ q. Begins (clause_spelling q.0) whole q.1 × IsProperForm q.0) l.then (
-      Begins-append (word (codes "let") (Some place) ∷ []) (post_spelling (post_at ts).0 ++ identifier i.value.0 ∷ valued) whole ts l.value.1 front
+      Begins-append (word (codes "let") (Some span) ∷ []) (post_spelling (post_at ts).0 ++ identifier i.value.0 ∷ valued) whole ts l.value.1 front
           (Begins-append (post_spelling (post_at ts).0) (identifier i.value.0 ∷ valued) ts (post_at ts).1 l.value.1 (post_at-sound ts)
           (Begins-append (identifier i.value.0 ∷ []) valued (post_at ts).1 i.value.1 l.value.1 name.0
           (Begins-append (sign Equal ∷ []) (condition_spelling l.value.0) i.value.1 q.value l.value.1 (after_sign-sound Equal i.value.1 q.value q.first) read.0))),
       (name.1, read.1),
     )
 
-pub let_at-complete : (n : ℕ) (place : Span) (is_post : Bool) (name : Identifier) (e : SpecExpressionData) (ts rest : List Token) → length ts ≤ n
-    → Begins (post_spelling is_post ++ identifier name ∷ sign Equal ∷ condition_spelling e) ts rest → IsName name.text → IsProperSpec e → let_at (suc n) place ts ≡ Some (let_clause place is_post name e, rest)
+pub let_at-complete : (n : ℕ) (span : Span) (is_post : Bool) (name : Identifier) (e : SpecExpressionData) (ts rest : List Token) → length ts ≤ n
+    → Begins (post_spelling is_post ++ identifier name ∷ sign Equal ∷ condition_spelling e) ts rest → IsName name.text → IsProperSpec e → let_at (suc n) span ts ≡ Some (let_clause span is_post name e, rest)
 unfolding let_at
-let_at-complete n place is_post name e ts rest h b p q =
+let_at-complete n span is_post name e ts rest h b p q =
     let u = Begins-split (post_spelling is_post) (identifier name ∷ sign Equal ∷ condition_spelling e) ts rest b in
     let i = Begins-first (identifier name) (sign Equal ∷ condition_spelling e) u.mid rest u.back in
     let s = Begins-first (sign Equal) (condition_spelling e) i.mid rest i.back in
     let same = post_at-complete is_post name (condition_spelling e) ts u.mid rest u.front u.back in
     let shorter : length s.mid ≤ n = omega (arith, h, length-Begins (post_spelling is_post) ts u.mid u.front, length-Begins (identifier name ∷ []) u.mid i.mid i.front, length-Begins (sign Equal ∷ []) i.mid s.mid s.front) in
-    ap (λ (v : Bool × List Token). option_and_then (λ name. option_and_then (λ rest. option_map (λ e. (let_clause place v.0 name.0 e.0, e.1)) (condition_at (suc n) rest)) (after_sign Equal name.1)) (identifier_at v.1)) same
+    ap (λ (v : Bool × List Token). option_and_then (λ name. option_and_then (λ rest. option_map (λ e. (let_clause span v.0 name.0 e.0, e.1)) (condition_at (suc n) rest)) (after_sign Equal name.1)) (identifier_at v.1)) same
     ∙ bind_some (identifier_at u.mid) _ (name, i.mid) (identifier_at-complete name u.mid i.mid i.front p)
     ∙ bind_some (after_sign Equal i.mid) _ s.mid (after_sign-complete Equal i.mid s.mid s.front)
-    ∙ map_some (condition_at (suc n) s.mid) (λ e. (let_clause place is_post name e.0, e.1)) (e, rest) (condition_at-complete n e s.mid rest shorter s.back q)
+    ∙ map_some (condition_at (suc n) s.mid) (λ e. (let_clause span is_post name e.0, e.1)) (e, rest) (condition_at-complete n e s.mid rest shorter s.back q)
 
 -- ---- `modifies`
 
-pub modifies_at-sound : (n : ℕ) (place : Span) (whole ts : List Token) (r : Clause × List Token) → Begins (modifies_word place ∷ []) whole ts → modifies_at n place ts ≡ Some r → Begins (clause_spelling r.0) whole r.1 × IsProperForm r.0
+pub modifies_at-sound : (n : ℕ) (span : Span) (whole ts : List Token) (r : Clause × List Token) → Begins (modifies_word span ∷ []) whole ts → modifies_at n span ts ≡ Some r → Begins (clause_spelling r.0) whole r.1 × IsProperForm r.0
 unfolding modifies_at
-modifies_at-sound n place whole ts r front e =
-    let l = last (some_items_at (after_sign Semicolon) (spec_at n true 0) ts) (λ items. (modifies_clause place (record { items = items.0.0; last_comma = items.0.1 }), items.1)) r e in
+modifies_at-sound n span whole ts r front e =
+    let l = last (some_items_at (after_sign Semicolon) (spec_at n true 0) ts) (λ items. (modifies_clause span (record { items = items.0.0; last_comma = items.0.1 }), items.1)) r e in
     let s = some_items_at-sound Semicolon (spec_at n true 0) spec_spelling IsProperSpec (spec_sound n) ts l.value l.first in
     subst (λ q. Begins (clause_spelling q.0) whole q.1 × IsProperForm q.0) l.then (
-      Begins-append (modifies_word place ∷ []) (comma_list (spec_spellings (spec_expressions_of l.value.0.0)) l.value.0.1 ++ sign Semicolon ∷ []) whole ts l.value.1 front
+      Begins-append (modifies_word span ∷ []) (comma_list (spec_spellings (spec_expressions_of l.value.0.0)) l.value.0.1 ++ sign Semicolon ∷ []) whole ts l.value.1 front
           (subst (λ ls. Begins (comma_list ls l.value.0.1 ++ sign Semicolon ∷ []) ts l.value.1) (sym (specs_spelled l.value.0.0)) s.0.spelled),
       (s.0.all_proper, filled_is_any l.value.0.0 s.1),
     )
 
-pub modifies_at-complete : (n : ℕ) (place : Span) (t : TargetsData) (ts rest : List Token) → length ts ≤ n → Begins (targets_spelling t ++ sign Semicolon ∷ []) ts rest → AreProperTargets t → modifies_at (suc n) place ts ≡ Some (modifies_clause place t, rest)
+pub modifies_at-complete : (n : ℕ) (span : Span) (t : TargetsData) (ts rest : List Token) → length ts ≤ n → Begins (targets_spelling t ++ sign Semicolon ∷ []) ts rest → AreProperTargets t → modifies_at (suc n) span ts ≡ Some (modifies_clause span t, rest)
 unfolding modifies_at
-modifies_at-complete n place t ts rest h b q =
-    map_some (some_items_at (after_sign Semicolon) (spec_at (suc n) true 0) ts) (λ items. (modifies_clause place (record { items = items.0.0; last_comma = items.0.1 }), items.1)) ((t.items, t.last_comma), rest)
+modifies_at-complete n span t ts rest h b q =
+    map_some (some_items_at (after_sign Semicolon) (spec_at (suc n) true 0) ts) (λ items. (modifies_clause span (record { items = items.0.0; last_comma = items.0.1 }), items.1)) ((t.items, t.last_comma), rest)
     (listed t.items t.last_comma b q.0 q.1)
   where
     listed : (xs : List SpecExpressionData) (last : Bool) → Begins (comma_list (spec_spellings (spec_expressions_of xs)) last ++ sign Semicolon ∷ []) ts rest → AllByRecursion IsProperSpec xs → AreAny xs
@@ -224,32 +224,32 @@ include_behind i = path_spelling i.schema ++ (maybe_arguments_spelling None (may
 include_grouped : (l : Lexeme) (a b c d : List Lexeme) → (((l ∷ a) ++ b) ++ c) ++ d ≡ l ∷ (a ++ (b ++ (c ++ d)))
 include_grouped l a b c d = append_assoc ((l ∷ a) ++ b) c d ∙ append_assoc (l ∷ a) b (c ++ d)
 
-pub include_spelled : (i : Include) → include_spelling i ≡ include_word i.place ∷ include_behind i
-include_spelled i = include_grouped (include_word i.place) (path_spelling i.schema) (maybe_arguments_spelling None (maybe_arguments_of i.arguments)) (bindings_spelling i.bindings) (sign Semicolon ∷ [])
+pub include_spelled : (i : Include) → include_spelling i ≡ include_word i.span ∷ include_behind i
+include_spelled i = include_grouped (include_word i.span) (path_spelling i.schema) (maybe_arguments_spelling None (maybe_arguments_of i.arguments)) (bindings_spelling i.bindings) (sign Semicolon ∷ [])
 
-pub include_at-sound : (n : ℕ) (place : Span) (whole ts : List Token) (r : Clause × List Token) → Begins (include_word place ∷ []) whole ts → include_at n place ts ≡ Some r → Begins (clause_spelling r.0) whole r.1 × IsProperForm r.0
+pub include_at-sound : (n : ℕ) (span : Span) (whole ts : List Token) (r : Clause × List Token) → Begins (include_word span ∷ []) whole ts → include_at n span ts ≡ Some r → Begins (clause_spelling r.0) whole r.1 × IsProperForm r.0
 unfolding include_at
-include_at-sound n place whole ts r front e =
+include_at-sound n span whole ts r front e =
     let p = step (path_at ts) _ r e in
     let a = step (given_at (type_at n) p.value.1) _ r p.then in
     let x = step (bindings_at n a.value.1) _ r a.then in
-    let l = last (after_sign Semicolon x.value.1) (λ rest. (include_clause (record { place = place; schema = p.value.0; arguments = a.value.0; bindings = x.value.0 }), rest)) r x.then in
+    let l = last (after_sign Semicolon x.value.1) (λ rest. (include_clause (record { span = span; schema = p.value.0; arguments = a.value.0; bindings = x.value.0 }), rest)) r x.then in
     let path = path_at-sound ts p.value p.first in
     let given = given_at-sound n p.value.1 a.value a.first in
     let bound = bindings_at-sound n a.value.1 x.value x.first in
-    let i : Include = record { place = place; schema = p.value.0; arguments = a.value.0; bindings = x.value.0 } in
+    let i : Include = record { span = span; schema = p.value.0; arguments = a.value.0; bindings = x.value.0 } in
     let ended = bindings_spelling x.value.0 ++ sign Semicolon ∷ [] in
     let arguments = maybe_arguments_spelling None (maybe_arguments_of a.value.0) in
     subst (λ q. Begins (clause_spelling q.0) whole q.1 × IsProperForm q.0) l.then (
       Begins-same _ _ whole l.value (sym (include_spelled i))
-          (Begins-append (include_word place ∷ []) (include_behind i) whole ts l.value front
+          (Begins-append (include_word span ∷ []) (include_behind i) whole ts l.value front
           (Begins-append (path_spelling p.value.0) (arguments ++ ended) ts p.value.1 l.value path.0
           (Begins-append arguments ended p.value.1 a.value.1 l.value given.0
           (Begins-append (bindings_spelling x.value.0) (sign Semicolon ∷ []) a.value.1 x.value.1 l.value bound.0 (after_sign-sound Semicolon x.value.1 l.value l.first))))),
       (path.1, given.1, bound.1),
     )
 
-pub include_at-complete : (n : ℕ) (i : Include) (ts rest : List Token) → length ts ≤ n → Begins (include_behind i) ts rest → IsProperInclude i → include_at (suc n) i.place ts ≡ Some (include_clause i, rest)
+pub include_at-complete : (n : ℕ) (i : Include) (ts rest : List Token) → length ts ≤ n → Begins (include_behind i) ts rest → IsProperInclude i → include_at (suc n) i.span ts ≡ Some (include_clause i, rest)
 unfolding include_at
 include_at-complete n i ts rest h b p =
     let arguments = maybe_arguments_spelling None (maybe_arguments_of i.arguments) in
@@ -262,4 +262,4 @@ include_at-complete n i ts rest h b p =
     bind_some (path_at ts) _ (i.schema, s.mid) (path_at-complete i.schema ts s.mid s.front p.0 (no_colons (maybe_arguments_of i.arguments) s.mid a.mid a.front (bindings_no_sign ColonColon i.bindings a.mid x.mid rest refl refl x.front x.back)))
     ∙ bind_some (given_at (type_at (suc n)) s.mid) _ (i.arguments, a.mid) (given_at-complete n i.arguments s.mid a.mid in_arguments a.front p.1 (bindings_no_sign Less i.bindings a.mid x.mid rest refl refl x.front x.back))
     ∙ bind_some (bindings_at (suc n) a.mid) _ (i.bindings, x.mid) (bindings_at-complete n i.bindings a.mid x.mid in_bindings x.front p.2 (after_sign-other LeftBrace (sign Semicolon) [] x.mid rest refl x.back))
-    ∙ map_some (after_sign Semicolon x.mid) (λ rest. (include_clause (record { place = i.place; schema = i.schema; arguments = i.arguments; bindings = i.bindings }), rest)) rest (after_sign-complete Semicolon x.mid rest x.back)
+    ∙ map_some (after_sign Semicolon x.mid) (λ rest. (include_clause (record { span = i.span; schema = i.schema; arguments = i.arguments; bindings = i.bindings }), rest)) rest (after_sign-complete Semicolon x.mid rest x.back)

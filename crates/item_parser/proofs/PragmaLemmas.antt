@@ -38,14 +38,14 @@ use Rattle.item_parser.specs.ClauseReading.{value_of, value_at, setting_at, prag
 
 -- the spelling of a value, after its `=`
 abbrev value_spelling : PragmaValue → List Lexeme
-value_spelling (truth_value place value) = truth_spelling place value
+value_spelling (truth_value span value) = truth_spelling span value
 value_spelling (number_value n) = numeral n ∷ []
 
 abbrev IsProperValue : PragmaValue → Type 0
 IsProperValue value = IsProperPragmaValue (Some value)
 
 value_spelled : (value : PragmaValue) → pragma_value_spelling (Some value) ≡ sign Equal ∷ value_spelling value
-value_spelled (truth_value place value) = refl
+value_spelled (truth_value span value) = refl
 value_spelled (number_value n) = refl
 
 -- a token with this spelling
@@ -61,7 +61,7 @@ value_of-sound t value e =
       | inr h ↦ elim (either_read (is_word (codes "false") t.kind) _ _ value h.1) [
         | inl h ↦ subst (Spells t) (some_one (truth_value t.span false) value h.1) (record { spelled = λ ts. (record { kind = is_word-sound (codes "false") t.kind h.0; placed = refl; glued = tt }, refl); proper = tt })
         | inr h ↦
-            let l = last (fitting_number_of t.kind) (λ literal. number_value (record { literal = literal; place = t.span })) value h.1 in
+            let l = last (fitting_number_of t.kind) (λ literal. number_value (record { literal = literal; span = t.span })) value h.1 in
             let n = fitting_number_of-sound t.kind l.value l.first in
             subst (Spells t) l.then (record { spelled = λ ts. (record { kind = n.0; placed = refl; glued = tt }, refl); proper = n.1 })
       ]
@@ -77,23 +77,23 @@ value_at-sound (t ∷ ts) r e =
 
 -- the value of a token, by its kind and span
 abbrev valued : TokenKind → Span → Option PragmaValue
-valued kind place =
-    cond (is_word (codes "true") kind) (Some (truth_value place true)) (cond (is_word (codes "false") kind) (Some (truth_value place false)) (option_map (λ literal. number_value (record { literal = literal; place = place })) (fitting_number_of kind)))
+valued kind span =
+    cond (is_word (codes "true") kind) (Some (truth_value span true)) (cond (is_word (codes "false") kind) (Some (truth_value span false)) (option_map (λ literal. number_value (record { literal = literal; span = span })) (fitting_number_of kind)))
 
-valued-number : (l : NumberLiteral) (place : Span) → l.suffix ≢ U256 → valued (Number l) place ≡ Some (number_value (record { literal = l; place = place }))
-valued-number l place p = ap (option_map (λ literal. number_value (record { literal = literal; place = place }))) (fitting-complete l l.suffix p)
+valued-number : (l : NumberLiteral) (span : Span) → l.suffix ≢ U256 → valued (Number l) span ≡ Some (number_value (record { literal = l; span = span }))
+valued-number l span p = ap (option_map (λ literal. number_value (record { literal = literal; span = span }))) (fitting-complete l l.suffix p)
 
-value_at-valued : (value : PragmaValue) (kind : TokenKind) (place : Span) (ts rest : List Token) → valued kind place ≡ Some value → Begins (record { kind = kind; place = Some place; glued = None } ∷ []) ts rest → value_at ts ≡ Some (value, rest)
+value_at-valued : (value : PragmaValue) (kind : TokenKind) (span : Span) (ts rest : List Token) → valued kind span ≡ Some value → Begins (record { kind = kind; span = Some span; glued = None } ∷ []) ts rest → value_at ts ≡ Some (value, rest)
 unfolding value_at value_of
-value_at-valued value kind place [] rest v b = absurd b
-value_at-valued value kind place (t ∷ ts) rest v b =
+value_at-valued value kind span [] rest v b = absurd b
+value_at-valued value kind span (t ∷ ts) rest v b =
     ap (λ k. option_map (λ value. (value, ts)) (valued k t.span)) b.0.kind ∙ ap (λ p. option_map (λ value. (value, ts)) (valued kind p)) b.0.placed
     ∙ ap (option_map (λ value. (value, ts))) v ∙ ap (λ us. Some (value, us)) b.1
 
 value_at-complete : (value : PragmaValue) (ts rest : List Token) → Begins (value_spelling value) ts rest → IsProperValue value → value_at ts ≡ Some (value, rest)
-value_at-complete (truth_value place true) ts rest b p = value_at-valued (truth_value place true) (Word (codes "true")) place ts rest refl b
-value_at-complete (truth_value place false) ts rest b p = value_at-valued (truth_value place false) (Word (codes "false")) place ts rest refl b
-value_at-complete (number_value n) ts rest b p = value_at-valued (number_value n) (Number n.literal) n.place ts rest (valued-number n.literal n.place p) b
+value_at-complete (truth_value span true) ts rest b p = value_at-valued (truth_value span true) (Word (codes "true")) span ts rest refl b
+value_at-complete (truth_value span false) ts rest b p = value_at-valued (truth_value span false) (Word (codes "false")) span ts rest refl b
+value_at-complete (number_value n) ts rest b p = value_at-valued (number_value n) (Number n.literal) n.span ts rest (valued-number n.literal n.span p) b
 
 setting_at-sound : (ts : List Token) (r : Option PragmaValue × List Token) → setting_at ts ≡ Some r → Begins (pragma_value_spelling r.0) ts r.1 × IsProperPragmaValue r.0
 unfolding setting_at
@@ -138,20 +138,20 @@ pragma_at-complete x ts rest b p e =
 
 -- ---- the clause
 
-pub pragmas_at-sound : (place : Span) (whole ts : List Token) (r : Clause × List Token) → Begins (word (codes "pragma") (Some place) ∷ []) whole ts → pragmas_at place ts ≡ Some r → Begins (clause_spelling r.0) whole r.1 × IsProperForm r.0
+pub pragmas_at-sound : (span : Span) (whole ts : List Token) (r : Clause × List Token) → Begins (word (codes "pragma") (Some span) ∷ []) whole ts → pragmas_at span ts ≡ Some r → Begins (clause_spelling r.0) whole r.1 × IsProperForm r.0
 unfolding pragmas_at
-pragmas_at-sound place whole ts r front e =
-    let l = last (some_items_at (after_sign Semicolon) pragma_at ts) (λ items. (pragma_clause place (record { items = items.0.0; last_comma = items.0.1 }), items.1)) r e in
+pragmas_at-sound span whole ts r front e =
+    let l = last (some_items_at (after_sign Semicolon) pragma_at ts) (λ items. (pragma_clause span (record { items = items.0.0; last_comma = items.0.1 }), items.1)) r e in
     let s = some_items_at-sound Semicolon pragma_at pragma_spelling IsProperPragma pragma_at-sound ts l.value l.first in
     subst (λ q. Begins (clause_spelling q.0) whole q.1 × IsProperForm q.0) l.then (
-      Begins-append (word (codes "pragma") (Some place) ∷ []) (comma_list (map pragma_spelling l.value.0.0) l.value.0.1 ++ sign Semicolon ∷ []) whole ts l.value.1 front s.0.spelled,
+      Begins-append (word (codes "pragma") (Some span) ∷ []) (comma_list (map pragma_spelling l.value.0.0) l.value.0.1 ++ sign Semicolon ∷ []) whole ts l.value.1 front s.0.spelled,
       (s.0.all_proper, filled_is_any l.value.0.0 s.1),
     )
 
-pub pragmas_at-complete : (place : Span) (p : PragmasData) (ts rest : List Token) → Begins (pragmas_spelling p ++ sign Semicolon ∷ []) ts rest → AreProperPragmas p → pragmas_at place ts ≡ Some (pragma_clause place p, rest)
+pub pragmas_at-complete : (span : Span) (p : PragmasData) (ts rest : List Token) → Begins (pragmas_spelling p ++ sign Semicolon ∷ []) ts rest → AreProperPragmas p → pragmas_at span ts ≡ Some (pragma_clause span p, rest)
 unfolding pragmas_at
-pragmas_at-complete place p ts rest b q =
-    map_some (some_items_at (after_sign Semicolon) pragma_at ts) (λ items. (pragma_clause place (record { items = items.0.0; last_comma = items.0.1 }), items.1)) ((p.items, p.last_comma), rest)
+pragmas_at-complete span p ts rest b q =
+    map_some (some_items_at (after_sign Semicolon) pragma_at ts) (λ items. (pragma_clause span (record { items = items.0.0; last_comma = items.0.1 }), items.1)) ((p.items, p.last_comma), rest)
     (listed p.items p.last_comma b q.0 q.1)
   where
     listed : (xs : List Pragma) (last : Bool) → Begins (comma_list (map pragma_spelling xs) last ++ sign Semicolon ∷ []) ts rest → AllByRecursion IsProperPragma xs → AreAny xs

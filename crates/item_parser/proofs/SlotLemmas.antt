@@ -30,9 +30,9 @@ use Rattle.item_parser.proofs.NameLemmas.{is_of_struct, of_struct-sound, of_stru
 
 -- ---- words
 
-first_word-word : (w : List ℕ) (place : Option Span) (ls : List Lexeme) (ts rest : List Token) → Begins (word w place ∷ ls) ts rest → first_word ts ≡ Some w
-first_word-word w place ls [] rest b = absurd b
-first_word-word w place ls (t ∷ ts) rest b = ap word_of_kind b.0.kind
+first_word-word : (w : List ℕ) (span : Option Span) (ls : List Lexeme) (ts rest : List Token) → Begins (word w span ∷ ls) ts rest → first_word ts ≡ Some w
+first_word-word w span ls [] rest b = absurd b
+first_word-word w span ls (t ∷ ts) rest b = ap word_of_kind b.0.kind
 
 first_word-sign : (s : Sign) (ls : List Lexeme) (ts rest : List Token) → Begins (sign s ∷ ls) ts rest → first_word ts ≡ None
 first_word-sign s ls [] rest b = absurd b
@@ -72,20 +72,20 @@ not_loop test ts e = go (after_word (codes "module") ts) (after_word (codes "fun
 
 -- a name that is read is not a keyword
 abbrev pub IsNamed : Spec → Type 0
-IsNamed (named_spec place name clauses) = IsName name.text
+IsNamed (named_spec span name clauses) = IsName name.text
 IsNamed _ = Unit {0}
 
 pub proper_named : (slot : Slot) (x : Spec) → IsProperBlock slot x → IsNamed x
-proper_named slot (module_spec place clauses) p = tt
-proper_named of_function (named_spec place name clauses) p = p.0
-proper_named of_struct (named_spec place name clauses) p = p.0
-proper_named of_module (named_spec place name clauses) p = absurd p
-proper_named of_schema (named_spec place name clauses) p = absurd p
-proper_named of_spec_function (named_spec place name clauses) p = absurd p
-proper_named of_loop (named_spec place name clauses) p = absurd p
+proper_named slot (module_spec span clauses) p = tt
+proper_named of_function (named_spec span name clauses) p = p.0
+proper_named of_struct (named_spec span name clauses) p = p.0
+proper_named of_module (named_spec span name clauses) p = absurd p
+proper_named of_schema (named_spec span name clauses) p = absurd p
+proper_named of_spec_function (named_spec span name clauses) p = absurd p
+proper_named of_loop (named_spec span name clauses) p = absurd p
 proper_named slot (schema_spec s) p = tt
 proper_named slot (function_spec f) p = tt
-proper_named slot (loop_spec place clauses) p = tt
+proper_named slot (loop_spec span clauses) p = tt
 
 module_is_keyword : is_keyword (codes "module") ≡ true
 unfolding is_keyword
@@ -109,7 +109,7 @@ named_slot : (functions : List (List ℕ)) (test : List ℕ → Bool) → ((name
     → Begins (identifier name ∷ sign LeftBrace ∷ ls) ts rest → IsName name.text → (b : Bool) → is_of_struct functions name.text ≡ b → slot_at test ts ≡ cond b of_struct of_function
 named_slot functions test same name ls ts rest b p s e =
     slot_is test ts None None false s (no_word (codes "module") module_is_keyword) (no_word (codes "fun") fun_is_keyword) (not_schema name ls ts rest b)
-    (ap (λ o. option_map_or (λ w. begins_capital w && not (test w)) o false) (first_word-word name.text (Some name.place) (sign LeftBrace ∷ ls) ts rest b)
+    (ap (λ o. option_map_or (λ w. begins_capital w && not (test w)) o false) (first_word-word name.text (Some name.span) (sign LeftBrace ∷ ls) ts rest b)
     ∙ ap (λ t. begins_capital name.text && not t) (same name.text) ∙ e)
   where
     no_word : (w : List ℕ) → is_keyword w ≡ true → after_word w ts ≡ None
@@ -117,7 +117,7 @@ named_slot functions test same name ls ts rest b p s e =
 
 pub slot_right : (functions : List (List ℕ)) (test : List ℕ → Bool) → ((name : List ℕ) → test name ≡ is_one_of functions name) → (x : Spec) (slot : Slot) (ts rest : List Token)
     → Begins (behind x) ts rest → IsNamed x → IsSlotOf functions x slot → slot_at test ts ≡ slot
-slot_right functions test same (module_spec place clauses) of_module ts rest b p s =
+slot_right functions test same (module_spec span clauses) of_module ts rest b p s =
     let w = Begins-first (word (codes "module") None) (clause_block_spelling clauses) ts rest b in
     slot_is test ts (Some w.mid) _ _ _ (after_word-complete (codes "module") ts w.mid w.front) refl refl refl
 slot_right functions test same (function_spec f) of_spec_function ts rest b p s =
@@ -129,21 +129,21 @@ slot_right functions test same (schema_spec s) of_schema ts rest b p x =
     slot_is test ts None None true _ (after_word-other (codes "module") (word (codes "schema") None) in_schema ts rest refl b)
     (after_word-other (codes "fun") (word (codes "schema") None) in_schema ts rest refl b)
     (ap (λ (o : Words). option_map_or (λ (us : List Token). is_some {T = List ℕ} (first_word us)) o false) (after_word-complete (codes "schema") ts w.mid w.front)
-    ∙ ap (λ o. is_some {T = List ℕ} o) (first_word-word s.name.text (Some s.name.place) (parameters_spelling s.parameters ++ clause_block_spelling s.clauses) w.mid rest w.back))
+    ∙ ap (λ o. is_some {T = List ℕ} o) (first_word-word s.name.text (Some s.name.span) (parameters_spelling s.parameters ++ clause_block_spelling s.clauses) w.mid rest w.back))
     refl
-slot_right functions test same (named_spec place name clauses) of_struct ts rest b p s =
+slot_right functions test same (named_spec span name clauses) of_struct ts rest b p s =
     named_slot functions test same name (clauses_spelling clauses ++ sign RightBrace ∷ []) ts rest b p true (of_struct-complete functions name.text s)
-slot_right functions test same (named_spec place name clauses) of_function ts rest b p s =
+slot_right functions test same (named_spec span name clauses) of_function ts rest b p s =
     named_slot functions test same name (clauses_spelling clauses ++ sign RightBrace ∷ []) ts rest b p false (of_struct-none functions name.text s)
-slot_right functions test same (module_spec place clauses) of_function ts rest b p x = absurd x
-slot_right functions test same (module_spec place clauses) of_struct ts rest b p x = absurd x
-slot_right functions test same (module_spec place clauses) of_schema ts rest b p x = absurd x
-slot_right functions test same (module_spec place clauses) of_spec_function ts rest b p x = absurd x
-slot_right functions test same (module_spec place clauses) of_loop ts rest b p x = absurd x
-slot_right functions test same (named_spec place name clauses) of_module ts rest b p x = absurd x
-slot_right functions test same (named_spec place name clauses) of_schema ts rest b p x = absurd x
-slot_right functions test same (named_spec place name clauses) of_spec_function ts rest b p x = absurd x
-slot_right functions test same (named_spec place name clauses) of_loop ts rest b p x = absurd x
+slot_right functions test same (module_spec span clauses) of_function ts rest b p x = absurd x
+slot_right functions test same (module_spec span clauses) of_struct ts rest b p x = absurd x
+slot_right functions test same (module_spec span clauses) of_schema ts rest b p x = absurd x
+slot_right functions test same (module_spec span clauses) of_spec_function ts rest b p x = absurd x
+slot_right functions test same (module_spec span clauses) of_loop ts rest b p x = absurd x
+slot_right functions test same (named_spec span name clauses) of_module ts rest b p x = absurd x
+slot_right functions test same (named_spec span name clauses) of_schema ts rest b p x = absurd x
+slot_right functions test same (named_spec span name clauses) of_spec_function ts rest b p x = absurd x
+slot_right functions test same (named_spec span name clauses) of_loop ts rest b p x = absurd x
 slot_right functions test same (schema_spec s) of_function ts rest b p x = absurd x
 slot_right functions test same (schema_spec s) of_struct ts rest b p x = absurd x
 slot_right functions test same (schema_spec s) of_module ts rest b p x = absurd x
@@ -154,12 +154,12 @@ slot_right functions test same (function_spec f) of_struct ts rest b p x = absur
 slot_right functions test same (function_spec f) of_module ts rest b p x = absurd x
 slot_right functions test same (function_spec f) of_schema ts rest b p x = absurd x
 slot_right functions test same (function_spec f) of_loop ts rest b p x = absurd x
-slot_right functions test same (loop_spec place clauses) of_function ts rest b p x = absurd x
-slot_right functions test same (loop_spec place clauses) of_struct ts rest b p x = absurd x
-slot_right functions test same (loop_spec place clauses) of_module ts rest b p x = absurd x
-slot_right functions test same (loop_spec place clauses) of_schema ts rest b p x = absurd x
-slot_right functions test same (loop_spec place clauses) of_spec_function ts rest b p x = absurd x
-slot_right functions test same (loop_spec place clauses) of_loop ts rest b p x = absurd x
+slot_right functions test same (loop_spec span clauses) of_function ts rest b p x = absurd x
+slot_right functions test same (loop_spec span clauses) of_struct ts rest b p x = absurd x
+slot_right functions test same (loop_spec span clauses) of_module ts rest b p x = absurd x
+slot_right functions test same (loop_spec span clauses) of_schema ts rest b p x = absurd x
+slot_right functions test same (loop_spec span clauses) of_spec_function ts rest b p x = absurd x
+slot_right functions test same (loop_spec span clauses) of_loop ts rest b p x = absurd x
 
 -- each tree except a loop's has a slot
 pub record HasSlot (functions : List (List ℕ)) (x : Spec) : Type 0 where
@@ -167,17 +167,17 @@ pub record HasSlot (functions : List (List ℕ)) (x : Spec) : Type 0 where
   pub is : IsSlotOf functions x slot
 
 pub has_slot : (functions : List (List ℕ)) (slot : Slot) (x : Spec) → IsProperBlock slot x → (slot ≡ of_loop → ⊥) → HasSlot functions x
-has_slot functions slot (module_spec place clauses) p n = record { slot = of_module; is = tt }
+has_slot functions slot (module_spec span clauses) p n = record { slot = of_module; is = tt }
 has_slot functions slot (schema_spec s) p n = record { slot = of_schema; is = tt }
 has_slot functions slot (function_spec f) p n = record { slot = of_spec_function; is = tt }
-has_slot functions slot (named_spec place name clauses) p n = go (is_of_struct functions name.text) refl
+has_slot functions slot (named_spec span name clauses) p n = go (is_of_struct functions name.text) refl
   where
-    go : (b : Bool) → is_of_struct functions name.text ≡ b → HasSlot functions (named_spec place name clauses)
+    go : (b : Bool) → is_of_struct functions name.text ≡ b → HasSlot functions (named_spec span name clauses)
     go true e = record { slot = of_struct; is = of_struct-sound functions name.text e }
     go false e = record { slot = of_function; is = λ s. true_or_false (is_of_struct functions name.text) (of_struct-complete functions name.text s) e }
-has_slot functions of_loop (loop_spec place clauses) p n = absurd (n refl)
-has_slot functions of_function (loop_spec place clauses) p n = absurd p
-has_slot functions of_struct (loop_spec place clauses) p n = absurd p
-has_slot functions of_module (loop_spec place clauses) p n = absurd p
-has_slot functions of_schema (loop_spec place clauses) p n = absurd p
-has_slot functions of_spec_function (loop_spec place clauses) p n = absurd p
+has_slot functions of_loop (loop_spec span clauses) p n = absurd (n refl)
+has_slot functions of_function (loop_spec span clauses) p n = absurd p
+has_slot functions of_struct (loop_spec span clauses) p n = absurd p
+has_slot functions of_module (loop_spec span clauses) p n = absurd p
+has_slot functions of_schema (loop_spec span clauses) p n = absurd p
+has_slot functions of_spec_function (loop_spec span clauses) p n = absurd p

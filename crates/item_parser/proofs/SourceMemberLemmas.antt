@@ -34,16 +34,16 @@ pub one_member : (functions : List (List ℕ)) (m : MemberData) (x y : SourceMem
 one_member functions m x y p q =
     same_member x y (p.attributes ∙ sym q.attributes) (one_form functions m.form x.form y.form p.form q.form) (one_list IsLoopTree (loop_specs m.form) x.loops y.loops one_loop p.loops q.loops)
 
-same_module : (x y : SourceModuleData) → x.attributes ≡ y.attributes → x.place ≡ y.place → x.name ≡ y.name → x.members ≡ y.members → x ≡ y
+same_module : (x y : SourceModuleData) → x.attributes ≡ y.attributes → x.span ≡ y.span → x.name ≡ y.name → x.members ≡ y.members → x ≡ y
 same_module x y a p n m =
-    ap (λ list. record { attributes = list; place = x.place; name = x.name; members = x.members }) a
-    ∙ ap (λ place. record { attributes = y.attributes; place = place; name = x.name; members = x.members }) p
-    ∙ ap (λ name. record { attributes = y.attributes; place = y.place; name = name; members = x.members }) n
-    ∙ ap (λ ms. record { attributes = y.attributes; place = y.place; name = y.name; members = ms }) m
+    ap (λ list. record { attributes = list; span = x.span; name = x.name; members = x.members }) a
+    ∙ ap (λ span. record { attributes = y.attributes; span = span; name = x.name; members = x.members }) p
+    ∙ ap (λ name. record { attributes = y.attributes; span = y.span; name = name; members = x.members }) n
+    ∙ ap (λ ms. record { attributes = y.attributes; span = y.span; name = y.name; members = ms }) m
 
 pub one_module : (m : ModuleData) (x y : SourceModuleData) → IsSourceModule m x → IsSourceModule m y → x ≡ y
 one_module m x y p q =
-    same_module x y (p.attributes ∙ sym q.attributes) (p.place ∙ sym q.place) (p.name ∙ sym q.name)
+    same_module x y (p.attributes ∙ sym q.attributes) (p.span ∙ sym q.span) (p.name ∙ sym q.name)
     (one_list (IsSourceMember (function_names m.members)) m.members x.members y.members (one_member (function_names m.members)) p.members q.members)
 
 -- ---- none

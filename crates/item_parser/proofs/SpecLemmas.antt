@@ -64,7 +64,7 @@ no_tree functions names same block none x s =
 
 pub no_tree_is_read : (functions : List (List ℕ)) (names : BTreeSet (List ℕ)) → IsSetOf names functions → (block : KeptSpec) (fault : ParseFault)
     → IsCause (slot_of_block names block.tokens) block.tokens fault → IfNoSpec (fault_of fault) (HasNoTree functions block)
-no_tree_is_read functions names same block (Grammar place) c = no_tree functions names same block c.0
+no_tree_is_read functions names same block (Grammar span) c = no_tree functions names same block c.0
 no_tree_is_read functions names same block (LeftOut index) c = no_tree functions names same block c.0
 no_tree_is_read functions names same block NoMemory c = tt
 
@@ -81,7 +81,7 @@ settled P names block slot seen f g p = subst (λ ts. P (slot_of_block names ts)
 -- ---- loops
 
 pub no_loop_is_read : (spec : KeptSpec) (fault : ParseFault) → IsCause Loop spec.tokens fault → IfNoSpec (fault_of fault) (HasNoLoopTree spec)
-no_loop_is_read spec (Grammar place) c = c.0
+no_loop_is_read spec (Grammar span) c = c.0
 no_loop_is_read spec (LeftOut index) c = c.0
 no_loop_is_read spec NoMemory c = tt
 

@@ -194,21 +194,21 @@ pack_second w path (SomeArguments (Arguments items comma)) fields last ts us res
 
 no_literal : (w : List ℕ) (l : Literal) (ts us rest : List Token) → IsName w → Begins (word w None ∷ []) ts us → Begins (literal_spelling l) ts rest → ⊥
 no_literal w (number_literal n) ts us rest p a b = no_number_is_word n.literal w (same_kind (word w None) (numeral n) [] ts us rest a b)
-no_literal w (Truth place true) ts us rest p a b = no_keyword w (codes "true") true_is_keyword p (same_word (codes "true") w (same_kind (word w None) (word (codes "true") (Some place)) [] ts us rest a b))
-no_literal w (Truth place false) ts us rest p a b = no_keyword w (codes "false") false_is_keyword p (same_word (codes "false") w (same_kind (word w None) (word (codes "false") (Some place)) [] ts us rest a b))
-no_literal w (address_literal place address) ts us rest p a b = no_sign_is_word AtSign w (same_kind (word w None) (sign_at place AtSign) (address_spelling address) ts us rest a b)
+no_literal w (Truth span true) ts us rest p a b = no_keyword w (codes "true") true_is_keyword p (same_word (codes "true") w (same_kind (word w None) (word (codes "true") (Some span)) [] ts us rest a b))
+no_literal w (Truth span false) ts us rest p a b = no_keyword w (codes "false") false_is_keyword p (same_word (codes "false") w (same_kind (word w None) (word (codes "false") (Some span)) [] ts us rest a b))
+no_literal w (address_literal span address) ts us rest p a b = no_sign_is_word AtSign w (same_kind (word w None) (sign_at span AtSign) (address_spelling address) ts us rest a b)
 
 second : (w : List ℕ) → Plain w → (e : SpecExpressionData) (ts us rest : List Token) → Begins (word w None ∷ []) ts us → Begins (spec_spelling e) ts rest → Alone w e us rest
-second w n (SpecBinary left operator place right) ts us rest a b =
-    let between = spec_operator_spelling operator place (ends_in_path left) in
+second w n (SpecBinary left operator span right) ts us rest a b =
+    let between = spec_operator_spelling operator span (ends_in_path left) in
     let s = Begins-split (spec_spelling left) (between ++ spec_spelling right) ts rest (Begins-same _ _ ts rest (append_assoc (spec_spelling left) between (spec_spelling right)) b) in
-    longer w left (SpecBinary left operator place right) us s.mid rest
-    (opens-other (first_lexeme operator place (ends_in_path left)) (later_lexemes operator ++ spec_spelling right) s.mid rest (operator_opens_none operator) (operator_first operator place (ends_in_path left) (spec_spelling right) s.mid rest s.back))
+    longer w left (SpecBinary left operator span right) us s.mid rest
+    (opens-other (first_lexeme operator span (ends_in_path left)) (later_lexemes operator ++ spec_spelling right) s.mid rest (operator_opens_none operator) (operator_first operator span (ends_in_path left) (spec_spelling right) s.mid rest s.back))
     (λ c. c) (second w n left ts us s.mid a s.front)
-second w n (SpecQuantified ForAll place binds kept body) ts us rest a b = absurd (n.no_forall (sym (same_word (codes "forall") w (same_kind (word w None) (word (codes "forall") (Some place)) _ ts us rest a b))))
-second w n (SpecQuantified Exists place binds kept body) ts us rest a b = absurd (n.no_exists (sym (same_word (codes "exists") w (same_kind (word w None) (word (codes "exists") (Some place)) _ ts us rest a b))))
-second w n (SpecIf place condition chosen other) ts us rest a b = absurd (no_keyword w (codes "if") if_is_keyword n.name (same_word (codes "if") w (same_kind (word w None) (word (codes "if") (Some place)) (behind_if condition chosen other) ts us rest a b)))
-second w n (SpecNot place operand) ts us rest a b = absurd (no_sign_is_word Exclaim w (same_kind (word w None) (sign_at place Exclaim) (spec_spelling operand) ts us rest a b))
+second w n (SpecQuantified ForAll span binds kept body) ts us rest a b = absurd (n.no_forall (sym (same_word (codes "forall") w (same_kind (word w None) (word (codes "forall") (Some span)) _ ts us rest a b))))
+second w n (SpecQuantified Exists span binds kept body) ts us rest a b = absurd (n.no_exists (sym (same_word (codes "exists") w (same_kind (word w None) (word (codes "exists") (Some span)) _ ts us rest a b))))
+second w n (SpecIf span condition chosen other) ts us rest a b = absurd (no_keyword w (codes "if") if_is_keyword n.name (same_word (codes "if") w (same_kind (word w None) (word (codes "if") (Some span)) (behind_if condition chosen other) ts us rest a b)))
+second w n (SpecNot span operand) ts us rest a b = absurd (no_sign_is_word Exclaim w (same_kind (word w None) (sign_at span Exclaim) (spec_spelling operand) ts us rest a b))
 second w n (SpecField base field) ts us rest a b =
     let s = Begins-split (spec_spelling base) (sign Period ∷ identifier field ∷ []) ts rest b in
     longer w base (SpecField base field) us s.mid rest (opens-other (sign Period) (identifier field ∷ []) s.mid rest refl s.back) (λ c. c) (second w n base ts us s.mid a s.front)
@@ -224,7 +224,7 @@ second w n (SpecPath path) ts us rest a b =
     ]
 second w n (SpecCall function given values last) ts us rest a b = call_second w function given values last ts us rest a b
 second w n (SpecPack path given fields last) ts us rest a b = pack_second w path given fields last ts us rest a b
-second w n (SpecParenthesized place inner) ts us rest a b = absurd (no_sign_is_word LeftParenthesis w (same_kind (word w None) (sign_at place LeftParenthesis) (spec_spelling inner ++ sign RightParenthesis ∷ []) ts us rest a b))
+second w n (SpecParenthesized span inner) ts us rest a b = absurd (no_sign_is_word LeftParenthesis w (same_kind (word w None) (sign_at span LeftParenthesis) (spec_spelling inner ++ sign RightParenthesis ∷ []) ts us rest a b))
 
 -- ---- a call begins with its word and a parenthesis
 
@@ -238,9 +238,9 @@ unplaced i w [] us e b = absurd b
 unplaced i w (t ∷ ts) us e b = (record { kind = b.0.kind ∙ ap Word e; placed = tt; glued = tt }, b.1)
 
 as_call : (w : List ℕ) (e : SpecExpressionData) (ls : List Lexeme) (ts rest : List Token) → BeginsAsCall w e → Begins (spec_spelling e ++ ls) ts rest → AsCall w ts
-as_call w (SpecBinary left operator place right) ls ts rest c b =
-    as_call w left (spec_operator_spelling operator place (ends_in_path left) ++ (spec_spelling right ++ ls)) ts rest c
-    (Begins-same _ _ ts rest (three_behind (spec_spelling left) (spec_operator_spelling operator place (ends_in_path left)) (spec_spelling right) ls) b)
+as_call w (SpecBinary left operator span right) ls ts rest c b =
+    as_call w left (spec_operator_spelling operator span (ends_in_path left) ++ (spec_spelling right ++ ls)) ts rest c
+    (Begins-same _ _ ts rest (three_behind (spec_spelling left) (spec_operator_spelling operator span (ends_in_path left)) (spec_spelling right) ls) b)
 as_call w (SpecField base field) ls ts rest c b =
     as_call w base (sign Period ∷ identifier field ∷ ls) ts rest c (Begins-same _ _ ts rest (append_assoc (spec_spelling base) (sign Period ∷ identifier field ∷ []) ls) b)
 as_call w (SpecIndex base index) ls ts rest c b =

@@ -23,14 +23,14 @@ use Rattle.item_parser.specs.ClauseReading.{opens_variable, word_of, clause_word
 
 -- the first token of a clause
 abbrev pub clause_lexeme : ClauseWord → Span → Lexeme
-clause_lexeme pragma_word place = word (codes "pragma") (Some place)
-clause_lexeme requires_word place = requires_lexeme place
-clause_lexeme ensures_word place = ensures_lexeme place
-clause_lexeme aborts_if_word place = aborts_if_lexeme place
-clause_lexeme modifies_word place = modifies_lexeme place
-clause_lexeme invariant_word place = invariant_lexeme place
-clause_lexeme let_word place = word (codes "let") (Some place)
-clause_lexeme include_word place = include_lexeme place
+clause_lexeme pragma_word span = word (codes "pragma") (Some span)
+clause_lexeme requires_word span = requires_lexeme span
+clause_lexeme ensures_word span = ensures_lexeme span
+clause_lexeme aborts_if_word span = aborts_if_lexeme span
+clause_lexeme modifies_word span = modifies_lexeme span
+clause_lexeme invariant_word span = invariant_lexeme span
+clause_lexeme let_word span = word (codes "let") (Some span)
+clause_lexeme include_word span = include_lexeme span
 
 word_text : ClauseWord → List ℕ
 word_text pragma_word = codes "pragma"
@@ -42,16 +42,16 @@ word_text invariant_word = codes "invariant"
 word_text let_word = codes "let"
 word_text include_word = codes "include"
 
-lexeme_is : (w : ClauseWord) (place : Span) → clause_lexeme w place ≡ word (word_text w) (Some place)
+lexeme_is : (w : ClauseWord) (span : Span) → clause_lexeme w span ≡ word (word_text w) (Some span)
 unfolding word_text requires_lexeme ensures_lexeme aborts_if_lexeme modifies_lexeme invariant_lexeme include_lexeme
-lexeme_is pragma_word place = refl
-lexeme_is requires_word place = refl
-lexeme_is ensures_word place = refl
-lexeme_is aborts_if_word place = refl
-lexeme_is modifies_word place = refl
-lexeme_is invariant_word place = refl
-lexeme_is let_word place = refl
-lexeme_is include_word place = refl
+lexeme_is pragma_word span = refl
+lexeme_is requires_word span = refl
+lexeme_is ensures_word span = refl
+lexeme_is aborts_if_word span = refl
+lexeme_is modifies_word span = refl
+lexeme_is invariant_word span = refl
+lexeme_is let_word span = refl
+lexeme_is include_word span = refl
 
 -- the word of a token that is one of these words
 found : (kind : TokenKind) (text : List ℕ) (one w : ClauseWord) → is_word text kind ≡ true → word_text one ≡ text → ◌≡◌ {A = Option ClauseWord} (Some one) (Some w) → kind ≡ Word (word_text w)
@@ -102,20 +102,20 @@ clause_word_at-sound (t ∷ ts) r e =
     subst (λ q. Begins (clause_lexeme q.0.0 q.0.1 ∷ []) (t ∷ ts) q.1) l.then
     (Begins-same _ _ (t ∷ ts) ts (ap (λ m. m ∷ []) (sym (lexeme_is l.value t.span))) (record { kind = word_of-sound t.kind l.value l.first; placed = refl; glued = tt }, refl))
 
-worded_at-complete : (w : ClauseWord) (place : Span) (ts us : List Token) → Begins (word (word_text w) (Some place) ∷ []) ts us → clause_word_at ts ≡ Some ((w, place), us)
+worded_at-complete : (w : ClauseWord) (span : Span) (ts us : List Token) → Begins (word (word_text w) (Some span) ∷ []) ts us → clause_word_at ts ≡ Some ((w, span), us)
 unfolding clause_word_at
-worded_at-complete w place [] us b = absurd b
-worded_at-complete w place (t ∷ ts) us b =
+worded_at-complete w span [] us b = absurd b
+worded_at-complete w span (t ∷ ts) us b =
     ap (λ k. option_map (λ word. ((word, t.span), ts)) (word_of k)) b.0.kind ∙ ap (option_map (λ word. ((word, t.span), ts))) (word_of-complete w)
-    ∙ ap (λ p. Some ((w, p), ts)) b.0.placed ∙ ap (λ us. Some ((w, place), us)) b.1
+    ∙ ap (λ p. Some ((w, p), ts)) b.0.placed ∙ ap (λ us. Some ((w, span), us)) b.1
 
-pub clause_word_at-complete : (w : ClauseWord) (place : Span) (ts us : List Token) → Begins (clause_lexeme w place ∷ []) ts us → clause_word_at ts ≡ Some ((w, place), us)
-clause_word_at-complete w place ts us b = worded_at-complete w place ts us (Begins-same _ _ ts us (ap (λ m. m ∷ []) (lexeme_is w place)) b)
+pub clause_word_at-complete : (w : ClauseWord) (span : Span) (ts us : List Token) → Begins (clause_lexeme w span ∷ []) ts us → clause_word_at ts ≡ Some ((w, span), us)
+clause_word_at-complete w span ts us b = worded_at-complete w span ts us (Begins-same _ _ ts us (ap (λ m. m ∷ []) (lexeme_is w span)) b)
 
 -- ---- variables of schemas
 
 no_colon : (t : Token) (ts : List Token) (name : Option (List ℕ)) → after_sign Colon ts ≡ None
-    → option_map_or (λ (read : Identifier × List Token). is_some {T = List Token} (after_sign Colon read.1)) (option_map (λ n. (record { text = n; place = t.span }, ts)) name) false ≡ false
+    → option_map_or (λ (read : Identifier × List Token). is_some {T = List Token} (after_sign Colon read.1)) (option_map (λ n. (record { text = n; span = t.span }, ts)) name) false ≡ false
 no_colon t ts None e = refl
 no_colon t ts (Some n) e = ap (λ o. is_some {T = List Token} o) e
 

@@ -13,46 +13,46 @@ use Rattle.parser_base.specs.RepeatReading.{repeat_at}
 use Rattle.item_parser.specs.ClauseReading.{clause_at}
 
 abbrev pub in_function : Clause → Bool
-in_function (Pragma place pragmas) = true
-in_function (Requires place e) = true
-in_function (Ensures place e) = true
-in_function (AbortsIf place e code) = true
-in_function (Modifies place targets) = true
-in_function (Invariant place is_update e) = false
-in_function (Let place is_post name e) = true
+in_function (Pragma span pragmas) = true
+in_function (Requires span e) = true
+in_function (Ensures span e) = true
+in_function (AbortsIf span e code) = true
+in_function (Modifies span targets) = true
+in_function (Invariant span is_update e) = false
+in_function (Let span is_post name e) = true
 in_function (Include i) = true
 in_function (Variable x) = false
 
 abbrev pub in_struct : Clause → Bool
-in_struct (Pragma place pragmas) = true
-in_struct (Requires place e) = false
-in_struct (Ensures place e) = false
-in_struct (AbortsIf place e code) = false
-in_struct (Modifies place targets) = false
-in_struct (Invariant place is_update e) = not is_update
-in_struct (Let place is_post name e) = true
+in_struct (Pragma span pragmas) = true
+in_struct (Requires span e) = false
+in_struct (Ensures span e) = false
+in_struct (AbortsIf span e code) = false
+in_struct (Modifies span targets) = false
+in_struct (Invariant span is_update e) = not is_update
+in_struct (Let span is_post name e) = true
 in_struct (Include i) = true
 in_struct (Variable x) = false
 
 abbrev pub in_module : Clause → Bool
-in_module (Pragma place pragmas) = true
-in_module (Requires place e) = false
-in_module (Ensures place e) = false
-in_module (AbortsIf place e code) = false
-in_module (Modifies place targets) = false
-in_module (Invariant place is_update e) = true
-in_module (Let place is_post name e) = true
+in_module (Pragma span pragmas) = true
+in_module (Requires span e) = false
+in_module (Ensures span e) = false
+in_module (AbortsIf span e code) = false
+in_module (Modifies span targets) = false
+in_module (Invariant span is_update e) = true
+in_module (Let span is_post name e) = true
 in_module (Include i) = true
 in_module (Variable x) = false
 
 abbrev pub in_loop : Clause → Bool
-in_loop (Pragma place pragmas) = false
-in_loop (Requires place e) = false
-in_loop (Ensures place e) = false
-in_loop (AbortsIf place e code) = false
-in_loop (Modifies place targets) = false
-in_loop (Invariant place is_update e) = not is_update
-in_loop (Let place is_post name e) = false
+in_loop (Pragma span pragmas) = false
+in_loop (Requires span e) = false
+in_loop (Ensures span e) = false
+in_loop (AbortsIf span e code) = false
+in_loop (Modifies span targets) = false
+in_loop (Invariant span is_update e) = not is_update
+in_loop (Let span is_post name e) = false
 in_loop (Include i) = false
 in_loop (Variable x) = false
 

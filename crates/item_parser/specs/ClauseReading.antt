@@ -31,14 +31,14 @@ unfoldable pub condition_at : ℕ → List Token → Read SpecExpressionData
 condition_at n ts = option_and_then (λ e. option_map (λ rest. (e.0, rest)) (after_sign Semicolon e.1)) (spec_at n true 0 ts)
 
 unfoldable pub requires_at : ℕ → Span → List Token → Read Clause
-requires_at n place ts = option_map (λ e. (requires_clause place e.0, e.1)) (condition_at n ts)
+requires_at n span ts = option_map (λ e. (requires_clause span e.0, e.1)) (condition_at n ts)
 
 unfoldable pub ensures_at : ℕ → Span → List Token → Read Clause
-ensures_at n place ts = option_map (λ e. (ensures_clause place e.0, e.1)) (condition_at n ts)
+ensures_at n span ts = option_map (λ e. (ensures_clause span e.0, e.1)) (condition_at n ts)
 
 -- abort codes are not read
 unfoldable pub aborts_if_at : ℕ → Span → List Token → Read Clause
-aborts_if_at n place ts = option_map (λ e. (aborts_if_clause place e.0 Bare, e.1)) (condition_at n ts)
+aborts_if_at n span ts = option_map (λ e. (aborts_if_clause span e.0 Bare, e.1)) (condition_at n ts)
 
 -- decides whether a token can begin a spec expression
 abbrev pub opens_kind : TokenKind → Bool
@@ -56,17 +56,17 @@ unfoldable pub update_at : List Token → Bool × List Token
 update_at ts = option_map_or (λ rest. if opens_expression rest then (true, rest) else (false, ts)) (after_word (codes "update") ts) (false, ts)
 
 unfoldable pub invariant_at : ℕ → Span → List Token → Read Clause
-invariant_at n place ts = option_map (λ e. (invariant_clause place (update_at ts).0 e.0, e.1)) (condition_at n (update_at ts).1)
+invariant_at n span ts = option_map (λ e. (invariant_clause span (update_at ts).0 e.0, e.1)) (condition_at n (update_at ts).1)
 
 -- decides whether `post` is a keyword here, and not the name before the `=`
 unfoldable pub post_at : List Token → Bool × List Token
 post_at ts = option_map_or (λ rest. if is_some (after_sign Equal rest) then (false, ts) else (true, rest)) (after_word (codes "post") ts) (false, ts)
 
 unfoldable pub let_at : ℕ → Span → List Token → Read Clause
-let_at n place ts =
+let_at n span ts =
     option_and_then (λ name.
     option_and_then (λ rest.
-    option_map (λ e. (let_clause place (post_at ts).0 name.0 e.0, e.1))
+    option_map (λ e. (let_clause span (post_at ts).0 name.0 e.0, e.1))
     (condition_at n rest)) (after_sign Equal name.1)) (identifier_at (post_at ts).1)
 
 -- ---- pragmas
@@ -75,7 +75,7 @@ unfoldable pub value_of : Token → Option PragmaValue
 value_of t =
     if is_word (codes "true") t.kind then Some (truth_value t.span true)
     else if is_word (codes "false") t.kind then Some (truth_value t.span false)
-    else option_map (λ literal. number_value (record { literal = literal; place = t.span })) (fitting_number_of t.kind)
+    else option_map (λ literal. number_value (record { literal = literal; span = t.span })) (fitting_number_of t.kind)
 
 unfoldable pub value_at : List Token → Read PragmaValue
 value_at [] = None
@@ -89,13 +89,13 @@ unfoldable pub pragma_at : List Token → Read Pragma
 pragma_at ts = option_and_then (λ name. option_map (λ value. (record { name = name.0; value = value.0 }, value.1)) (setting_at name.1)) (identifier_at ts)
 
 unfoldable pub pragmas_at : Span → List Token → Read Clause
-pragmas_at place ts = option_map (λ items. (pragma_clause place (record { items = items.0.0; last_comma = items.0.1 }), items.1)) (some_items_at (after_sign Semicolon) pragma_at ts)
+pragmas_at span ts = option_map (λ items. (pragma_clause span (record { items = items.0.0; last_comma = items.0.1 }), items.1)) (some_items_at (after_sign Semicolon) pragma_at ts)
 
 -- ---- storage locations
 
 unfoldable pub modifies_at : ℕ → Span → List Token → Read Clause
-modifies_at n place ts =
-    option_map (λ items. (modifies_clause place (record { items = items.0.0; last_comma = items.0.1 }), items.1)) (some_items_at (after_sign Semicolon) (spec_at n true 0) ts)
+modifies_at n span ts =
+    option_map (λ items. (modifies_clause span (record { items = items.0.0; last_comma = items.0.1 }), items.1)) (some_items_at (after_sign Semicolon) (spec_at n true 0) ts)
 
 -- ---- schemas
 
@@ -111,11 +111,11 @@ unfoldable pub bindings_at : ℕ → List Token → Read (Option BindingsData)
 bindings_at n ts = option_map_or (λ inside. option_map (λ b. (Some b.0, b.1)) (bindings_behind n inside)) (after_sign LeftBrace ts) (Some (None, ts))
 
 unfoldable pub include_at : ℕ → Span → List Token → Read Clause
-include_at n place ts =
+include_at n span ts =
     option_and_then (λ path.
     option_and_then (λ arguments.
     option_and_then (λ bindings.
-    option_map (λ rest. (include_clause (record { place = place; schema = path.0; arguments = arguments.0; bindings = bindings.0 }), rest))
+    option_map (λ rest. (include_clause (record { span = span; schema = path.0; arguments = arguments.0; bindings = bindings.0 }), rest))
     (after_sign Semicolon bindings.1)) (bindings_at n arguments.1)) (given_at (type_at n) path.1)) (path_at ts)
 
 -- ---- variables of schemas
@@ -153,14 +153,14 @@ clause_word_at (t ∷ ts) = option_map (λ word. ((word, t.span), ts)) (word_of 
 
 -- a clause after its word
 abbrev pub clause_behind : ℕ → ClauseWord → Span → List Token → Read Clause
-clause_behind n pragma_word place ts = pragmas_at place ts
-clause_behind n requires_word place ts = requires_at n place ts
-clause_behind n ensures_word place ts = ensures_at n place ts
-clause_behind n aborts_if_word place ts = aborts_if_at n place ts
-clause_behind n modifies_word place ts = modifies_at n place ts
-clause_behind n invariant_word place ts = invariant_at n place ts
-clause_behind n let_word place ts = let_at n place ts
-clause_behind n include_word place ts = include_at n place ts
+clause_behind n pragma_word span ts = pragmas_at span ts
+clause_behind n requires_word span ts = requires_at n span ts
+clause_behind n ensures_word span ts = ensures_at n span ts
+clause_behind n aborts_if_word span ts = aborts_if_at n span ts
+clause_behind n modifies_word span ts = modifies_at n span ts
+clause_behind n invariant_word span ts = invariant_at n span ts
+clause_behind n let_word span ts = let_at n span ts
+clause_behind n include_word span ts = include_at n span ts
 
 unfoldable pub worded_at : ℕ → List Token → Read Clause
 worded_at n ts = option_and_then (λ w. clause_behind n w.0.0 w.0.1 w.1) (clause_word_at ts)

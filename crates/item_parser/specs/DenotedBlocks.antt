@@ -10,6 +10,6 @@ use Rattle.parser_base.specs.Markers.{HoldNone, IsFirstMarker}
 -- `Grammar` if the tokens denote no spec block and hold no marker, `LeftOut` if they denote none and hold a marker,
 -- with the first one; the position in `Grammar` is where the reader stopped
 abbrev pub IsCause : Slot → List Token → ParseFault → Type 0
-IsCause slot tokens (Grammar place) = AreOfNoSpecBlock slot tokens × HoldNone tokens
+IsCause slot tokens (Grammar span) = AreOfNoSpecBlock slot tokens × HoldNone tokens
 IsCause slot tokens (LeftOut index) = AreOfNoSpecBlock slot tokens × IsFirstMarker tokens index
 IsCause slot tokens NoMemory = Unit {0}

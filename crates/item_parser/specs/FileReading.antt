@@ -4,7 +4,7 @@ use Rattle.std.specs.Option.{option_map}
 use Rattle.tokens.specs.declared.token.Token.{Token}
 use Rattle.tokens.specs.declared.token.Punctuation.TheVariants.{LeftBrace, RightBrace}
 use Rattle.syntax_tree.specs.FileData.{MemberData, ModuleData}
-use Rattle.parser_base.specs.TokenReading.{Read, after_sign, word_place_at}
+use Rattle.parser_base.specs.TokenReading.{Read, after_sign, word_span_at}
 use Rattle.parser_base.specs.PathReading.{module_name_at}
 use Rattle.item_parser.specs.AttributeReading.{attributes_at}
 use Rattle.parser_base.specs.RepeatReading.{repeat_at}
@@ -21,12 +21,12 @@ members_at n ts = repeat_at before_member (member_at n) (length ts) ts
 unfoldable pub module_behind : ℕ → List Token → Read ModuleData
 module_behind n ts =
     option_and_then (λ attributes.
-    option_and_then (λ place.
+    option_and_then (λ span.
     option_and_then (λ name.
     option_and_then (λ inside.
     option_and_then (λ members.
-    option_map (λ rest. (record { attributes = attributes.0; place = place.0; name = name.0; members = members.0 }, rest))
-    (after_sign RightBrace members.1)) (members_at n inside)) (after_sign LeftBrace name.1)) (module_name_at place.1)) (word_place_at (codes "module") attributes.1)) (attributes_at ts)
+    option_map (λ rest. (record { attributes = attributes.0; span = span.0; name = name.0; members = members.0 }, rest))
+    (after_sign RightBrace members.1)) (members_at n inside)) (after_sign LeftBrace name.1)) (module_name_at span.1)) (word_span_at (codes "module") attributes.1)) (attributes_at ts)
 
 -- the same tokens, if there are any
 abbrev pub before_module : List Token → Option (List Token)

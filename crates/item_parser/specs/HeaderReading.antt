@@ -8,24 +8,24 @@ use Rattle.syntax_tree.specs.TypeTreeData.{SourceTypeData}
 use Rattle.syntax_tree.specs.declared.member.Visibility.{Visibility}
 use Rattle.syntax_tree.specs.declared.member.Visibility.TheVariants.{Module as in_module, Public, Friends}
 use Rattle.syntax_tree.specs.MemberData.{PathsData}
-use Rattle.parser_base.specs.TokenReading.{Read, after_sign, before_sign, after_word, word_place_at}
+use Rattle.parser_base.specs.TokenReading.{Read, after_sign, before_sign, after_word, word_span_at}
 use Rattle.parser_base.specs.ListReading.{some_items_at}
 use Rattle.parser_base.specs.PathReading.{path_at}
 
 -- `friend` after its parenthesis, for a `public` here
 unfoldable pub friends_at : Span → List Token → Read Visibility
-friends_at place ts = option_and_then (λ rest. option_map (λ behind. (Friends place, behind)) (after_sign RightParenthesis rest)) (after_word (codes "friend") ts)
+friends_at span ts = option_and_then (λ rest. option_map (λ behind. (Friends span, behind)) (after_sign RightParenthesis rest)) (after_word (codes "friend") ts)
 
 -- the visibility of a `public`, by what follows it
 unfoldable pub public_at : Span → List Token → Read Visibility
-public_at place ts = option_map_or (λ inside. friends_at place inside) (after_sign LeftParenthesis ts) (Some (Public place, ts))
+public_at span ts = option_map_or (λ inside. friends_at span inside) (after_sign LeftParenthesis ts) (Some (Public span, ts))
 
 unfoldable pub visibility_at : List Token → Read Visibility
-visibility_at ts = option_map_or (λ p. public_at p.0 p.1) (word_place_at (codes "public") ts) (Some (in_module, ts))
+visibility_at ts = option_map_or (λ p. public_at p.0 p.1) (word_span_at (codes "public") ts) (Some (in_module, ts))
 
 -- the span of `entry`, if it is here
 unfoldable pub entry_at : List Token → Option Span × List Token
-entry_at ts = option_map_or (λ p. (Some p.0, p.1)) (word_place_at (codes "entry") ts) (None, ts)
+entry_at ts = option_map_or (λ p. (Some p.0, p.1)) (word_span_at (codes "entry") ts) (None, ts)
 
 -- paths up to the brace of a function
 unfoldable pub listed_paths_at : List Token → Read PathsData

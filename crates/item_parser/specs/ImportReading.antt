@@ -35,12 +35,12 @@ imported_at ts = option_map_or (λ rest. imported_names_at rest) (after_sign Col
 
 -- a use after its word
 unfoldable pub use_at : Span → List Token → Read Use
-use_at place ts =
+use_at span ts =
     option_and_then (λ owner.
     option_and_then (λ imported.
-    option_map (λ rest. (record { place = place; owner = owner.0; imported = imported.0 }, rest))
+    option_map (λ rest. (record { span = span; owner = owner.0; imported = imported.0 }, rest))
     (after_sign Semicolon imported.1)) (imported_at owner.1)) (module_name_at ts)
 
 -- a friend after its word
 unfoldable pub friend_at : Span → List Token → Read Friend
-friend_at place ts = option_and_then (λ owner. option_map (λ rest. (record { place = place; owner = owner.0 }, rest)) (after_sign Semicolon owner.1)) (module_name_at ts)
+friend_at span ts = option_and_then (λ owner. option_map (λ rest. (record { span = span; owner = owner.0 }, rest)) (after_sign Semicolon owner.1)) (module_name_at ts)

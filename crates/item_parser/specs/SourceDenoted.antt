@@ -9,6 +9,6 @@ use Rattle.syntax_tree.specs.DenotedSources.{AreOfNoSource}
 -- `Grammar` if the tokens denote no source and hold no marker, `LeftOut` if they denote none and hold a marker, with
 -- the first one; the position in `Grammar` is where the reader stopped
 abbrev pub IsCause : List Token → ParseFault → Type 0
-IsCause tokens (Grammar place) = AreOfNoSource tokens × HoldNone tokens
+IsCause tokens (Grammar span) = AreOfNoSource tokens × HoldNone tokens
 IsCause tokens (LeftOut index) = AreOfNoSource tokens × IsFirstMarker tokens index
 IsCause tokens NoMemory = Unit {0}

@@ -21,6 +21,6 @@ AreOfNoSpecExpression tokens = (expression : SpecExpressionData) → IsSpecExpre
 -- `Grammar` if the tokens denote no spec expression and hold no marker, `LeftOut` if they denote none and hold a
 -- marker, with the first one; the position in `Grammar` is where the reader stopped
 abbrev pub IsCause : List Token → ParseFault → Type 0
-IsCause tokens (Grammar place) = AreOfNoSpecExpression tokens × HoldNone tokens
+IsCause tokens (Grammar span) = AreOfNoSpecExpression tokens × HoldNone tokens
 IsCause tokens (LeftOut index) = AreOfNoSpecExpression tokens × IsFirstMarker tokens index
 IsCause tokens NoMemory = Unit {0}

@@ -10,6 +10,6 @@ IfNoSpec NoTree P = P
 IfNoSpec NoMemory P = Unit {0}
 
 abbrev pub fault_of : ParseFault → SpecFault
-fault_of (Grammar place) = NoTree
+fault_of (Grammar span) = NoTree
 fault_of (LeftOut index) = NoTree
 fault_of want = NoMemory

@@ -17,12 +17,12 @@ use tokens::token::{Punctuation, Token};
 #[tactic(auto, unfolding(crate::specs::MemberReading::constant_behind_name))]
 fn read_behind_name(
     alloc: Global,
-    place: Span,
+    span: Span,
     name: Identifier,
     tokens: &[Token],
     budget: usize,
 ) -> Result<(Constant, &[Token]), ReadFault>
-    ensures { Reads result (λ read. (read.0, read.1.now)) (constant_behind_name budget place name tokens.now) }
+    ensures { Reads result (λ read. (read.0, read.1.now)) (constant_behind_name budget span name tokens.now) }
 {
     let rest = expect_sign(tokens, Punctuation::Colon)?;
     let (annotation, rest) = read_type(alloc, rest, budget)?;
@@ -30,7 +30,7 @@ fn read_behind_name(
     let (value, rest) = read_expression(alloc, 0, rest, budget)?;
     let rest = expect_sign(rest, Punctuation::Semicolon)?;
     let constant = Constant {
-        place,
+        span,
         name,
         annotation,
         value,
@@ -42,15 +42,15 @@ fn read_behind_name(
 #[tactic(auto, unfolding(crate::specs::MemberReading::constant_at))]
 pub fn read_constant(
     alloc: Global,
-    place: Span,
+    span: Span,
     tokens: &[Token],
     budget: usize,
 ) -> Result<(Constant, &[Token]), ReadFault>
-    ensures { Reads result (λ read. (read.0, read.1.now)) (constant_at budget place tokens.now) }
+    ensures { Reads result (λ read. (read.0, read.1.now)) (constant_at budget span tokens.now) }
 {
     let (name, rest) = read_identifier(alloc, tokens)?;
     if begins_capital(name.text.as_slice()) {
-        read_behind_name(alloc, place, name, rest, budget)
+        read_behind_name(alloc, span, name, rest, budget)
     } else {
         Err(ReadFault::NoTree { left: tokens.len() })
     }

@@ -9,7 +9,7 @@ use expression_parser::block::read_block;
 use parser_base::fault::ReadFault;
 use parser_base::leaf::read_annotation;
 use parser_base::parameters::read_parameters;
-use parser_base::signs::{expect_sign, place_of_sign, place_of_word, read_identifier};
+use parser_base::signs::{expect_sign, read_identifier, span_of_sign, span_of_word};
 use parser_base::typed_names::read_inputs;
 use std::alloc::Global;
 use syntax_tree::lexeme::Identifier;
@@ -58,14 +58,14 @@ fn read_function_behind(
     alloc: Global,
     visibility: Visibility,
     entry: Option<Span>,
-    place: Span,
+    span: Span,
     tokens: &[Token],
     budget: usize,
 ) -> Result<(Function, &[Token]), ReadFault>
-    ensures { Reads result (λ read. (read.0, read.1.now)) (function_behind budget visibility entry place tokens.now) }
+    ensures { Reads result (λ read. (read.0, read.1.now)) (function_behind budget visibility entry span tokens.now) }
 {
     let (signature, rest) = read_signature(alloc, tokens, budget)?;
-    let Some((brace, rest)) = place_of_sign(rest, Punctuation::LeftBrace) else {
+    let Some((brace, rest)) = span_of_sign(rest, Punctuation::LeftBrace) else {
         return Err(ReadFault::NoTree { left: rest.len() });
     };
     let (body, rest) = read_block(alloc, brace, rest, budget)?;
@@ -79,7 +79,7 @@ fn read_function_behind(
     let function = Function {
         visibility,
         entry,
-        place,
+        span,
         name,
         parameters,
         inputs,
@@ -101,8 +101,8 @@ pub fn read_function(
 {
     let (visibility, rest) = read_visibility(tokens)?;
     let (entry, rest) = read_entry(rest);
-    match place_of_word(rest, b"fun") {
-        Some((place, rest)) => read_function_behind(alloc, visibility, entry, place, rest, budget),
+    match span_of_word(rest, b"fun") {
+        Some((span, rest)) => read_function_behind(alloc, visibility, entry, span, rest, budget),
         None => Err(ReadFault::NoTree { left: rest.len() }),
     }
 }

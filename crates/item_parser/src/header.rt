@@ -12,7 +12,7 @@ use base::span::Span;
 use parser_base::fault::ReadFault;
 use parser_base::lists::{Separator, separator_before};
 use parser_base::path::read_path;
-use parser_base::signs::{expect_sign, expect_word, place_of_word, skip_sign, skip_word};
+use parser_base::signs::{expect_sign, expect_word, skip_sign, skip_word, span_of_word};
 use parser_base::types::read_type;
 use std::alloc::Global;
 use syntax_tree::member::{Paths, Visibility};
@@ -20,24 +20,24 @@ use syntax_tree::path::Path;
 use syntax_tree::types::SourceType;
 use tokens::token::{Punctuation, Token};
 
-/// Reads `friend` after its parenthesis, for a `public` at `place`.
+/// Reads `friend` after its parenthesis, for a `public` at `span`.
 #[tactic(auto, unfolding(crate::specs::HeaderReading::friends_at))]
-fn read_friends(place: Span, tokens: &[Token]) -> Result<(Visibility, &[Token]), ReadFault>
-    ensures { Reads result (λ read. (read.0, read.1.now)) (friends_at place tokens.now) }
+fn read_friends(span: Span, tokens: &[Token]) -> Result<(Visibility, &[Token]), ReadFault>
+    ensures { Reads result (λ read. (read.0, read.1.now)) (friends_at span tokens.now) }
 {
     let rest = expect_word(tokens, b"friend")?;
     let rest = expect_sign(rest, Punctuation::RightParenthesis)?;
-    Ok((Visibility::Friends(place), rest))
+    Ok((Visibility::Friends(span), rest))
 }
 
-/// Reads the visibility of a `public` at `place`, by what follows it.
+/// Reads the visibility of a `public` at `span`, by what follows it.
 #[tactic(auto, unfolding(crate::specs::HeaderReading::public_at))]
-fn read_public(place: Span, tokens: &[Token]) -> Result<(Visibility, &[Token]), ReadFault>
-    ensures { Reads result (λ read. (read.0, read.1.now)) (public_at place tokens.now) }
+fn read_public(span: Span, tokens: &[Token]) -> Result<(Visibility, &[Token]), ReadFault>
+    ensures { Reads result (λ read. (read.0, read.1.now)) (public_at span tokens.now) }
 {
     match skip_sign(tokens, Punctuation::LeftParenthesis) {
-        Some(inside) => read_friends(place, inside),
-        None => Ok((Visibility::Public(place), tokens)),
+        Some(inside) => read_friends(span, inside),
+        None => Ok((Visibility::Public(span), tokens)),
     }
 }
 
@@ -46,8 +46,8 @@ fn read_public(place: Span, tokens: &[Token]) -> Result<(Visibility, &[Token]), 
 pub fn read_visibility(tokens: &[Token]) -> Result<(Visibility, &[Token]), ReadFault>
     ensures { Reads result (λ read. (read.0, read.1.now)) (visibility_at tokens.now) }
 {
-    match place_of_word(tokens, b"public") {
-        Some((place, rest)) => read_public(place, rest),
+    match span_of_word(tokens, b"public") {
+        Some((span, rest)) => read_public(span, rest),
         None => Ok((Visibility::Module, tokens)),
     }
 }
@@ -57,8 +57,8 @@ pub fn read_visibility(tokens: &[Token]) -> Result<(Visibility, &[Token]), ReadF
 pub fn read_entry(tokens: &[Token]) -> (Option<Span>, &[Token])
     ensures { (result.0, result.1.now) ≡ entry_at tokens.now }
 {
-    match place_of_word(tokens, b"entry") {
-        Some((place, rest)) => (Some(place), rest),
+    match span_of_word(tokens, b"entry") {
+        Some((span, rest)) => (Some(span), rest),
         None => (None, tokens),
     }
 }

@@ -94,17 +94,17 @@ fn read_imported(alloc: Global, tokens: &[Token]) -> Result<(Imported, &[Token])
     Ok((Imported::Module(alias), rest))
 }
 
-/// Reads a use after its word at `place`. Returns it and the tokens after its semicolon.
+/// Reads a use after its word at `span`. Returns it and the tokens after its semicolon.
 #[tactic(auto, unfolding(crate::specs::ImportReading::use_at))]
-pub fn read_use(alloc: Global, place: Span, tokens: &[Token]) -> Result<(Use, &[Token]), ReadFault>
-    ensures { Reads result (λ read. (read.0, read.1.now)) (use_at place tokens.now) }
+pub fn read_use(alloc: Global, span: Span, tokens: &[Token]) -> Result<(Use, &[Token]), ReadFault>
+    ensures { Reads result (λ read. (read.0, read.1.now)) (use_at span tokens.now) }
 {
     let (owner, rest) = read_module_name(alloc, tokens)?;
     let (imported, rest) = read_imported(alloc, rest)?;
     let rest = expect_sign(rest, Punctuation::Semicolon)?;
     Ok((
         Use {
-            place,
+            span,
             owner,
             imported,
         },
@@ -112,16 +112,16 @@ pub fn read_use(alloc: Global, place: Span, tokens: &[Token]) -> Result<(Use, &[
     ))
 }
 
-/// Reads a friend after its word at `place`. Returns it and the tokens after its semicolon.
+/// Reads a friend after its word at `span`. Returns it and the tokens after its semicolon.
 #[tactic(auto, unfolding(crate::specs::ImportReading::friend_at))]
 pub fn read_friend(
     alloc: Global,
-    place: Span,
+    span: Span,
     tokens: &[Token],
 ) -> Result<(Friend, &[Token]), ReadFault>
-    ensures { Reads result (λ read. (read.0, read.1.now)) (friend_at place tokens.now) }
+    ensures { Reads result (λ read. (read.0, read.1.now)) (friend_at span tokens.now) }
 {
     let (owner, rest) = read_module_name(alloc, tokens)?;
     let rest = expect_sign(rest, Punctuation::Semicolon)?;
-    Ok((Friend { place, owner }, rest))
+    Ok((Friend { span, owner }, rest))
 }

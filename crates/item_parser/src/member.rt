@@ -10,7 +10,7 @@ use crate::imports::{read_friend, read_use};
 use crate::structs::read_struct;
 use parser_base::fault::ReadFault;
 use parser_base::kept::read_member_spec;
-use parser_base::signs::place_of_word;
+use parser_base::signs::span_of_word;
 use std::alloc::Global;
 use syntax_tree::member::{Member, MemberForm};
 use tokens::token::Token;
@@ -24,23 +24,23 @@ fn read_form(
 ) -> Result<(MemberForm, &[Token]), ReadFault>
     ensures { Reads result (λ read. (read.0, read.1.now)) (form_at budget tokens.now) }
 {
-    if let Some((place, rest)) = place_of_word(tokens, b"use") {
-        let (member, rest) = read_use(alloc, place, rest)?;
+    if let Some((span, rest)) = span_of_word(tokens, b"use") {
+        let (member, rest) = read_use(alloc, span, rest)?;
         return Ok((MemberForm::Use(member), rest));
     }
-    if let Some((place, rest)) = place_of_word(tokens, b"friend") {
-        let (member, rest) = read_friend(alloc, place, rest)?;
+    if let Some((span, rest)) = span_of_word(tokens, b"friend") {
+        let (member, rest) = read_friend(alloc, span, rest)?;
         return Ok((MemberForm::Friend(member), rest));
     }
-    if let Some((place, rest)) = place_of_word(tokens, b"struct") {
-        let (member, rest) = read_struct(alloc, place, rest, budget)?;
+    if let Some((span, rest)) = span_of_word(tokens, b"struct") {
+        let (member, rest) = read_struct(alloc, span, rest, budget)?;
         return Ok((MemberForm::Struct(member), rest));
     }
-    if let Some((place, rest)) = place_of_word(tokens, b"const") {
-        let (member, rest) = read_constant(alloc, place, rest, budget)?;
+    if let Some((span, rest)) = span_of_word(tokens, b"const") {
+        let (member, rest) = read_constant(alloc, span, rest, budget)?;
         return Ok((MemberForm::Constant(member), rest));
     }
-    if place_of_word(tokens, b"spec").is_some() {
+    if span_of_word(tokens, b"spec").is_some() {
         let (member, rest) = read_member_spec(alloc, tokens)?;
         return Ok((MemberForm::Spec(member), rest));
     }

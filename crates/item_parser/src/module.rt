@@ -8,7 +8,7 @@ use crate::attributes::read_attributes;
 use crate::member::read_member;
 use parser_base::fault::ReadFault;
 use parser_base::path::read_module_name;
-use parser_base::signs::{begins_with, expect_sign, place_of_word};
+use parser_base::signs::{begins_with, expect_sign, span_of_word};
 use std::alloc::Global;
 use syntax_tree::member::{File, Member, Module};
 use tokens::token::{Punctuation, Token};
@@ -44,7 +44,7 @@ fn read_module(
     ensures { Reads result (λ read. (read.0, read.1.now)) (module_behind budget tokens.now) }
 {
     let (attributes, rest) = read_attributes(alloc, tokens)?;
-    let Some((place, rest)) = place_of_word(rest, b"module") else {
+    let Some((span, rest)) = span_of_word(rest, b"module") else {
         return Err(ReadFault::NoTree { left: rest.len() });
     };
     let (name, rest) = read_module_name(alloc, rest)?;
@@ -53,7 +53,7 @@ fn read_module(
     let rest = expect_sign(rest, Punctuation::RightBrace)?;
     let module = Module {
         attributes,
-        place,
+        span,
         name,
         members,
     };

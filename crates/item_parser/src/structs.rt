@@ -19,12 +19,12 @@ use tokens::token::{Punctuation, Token};
 #[tactic(auto, unfolding(crate::specs::StructReading::struct_behind_name))]
 fn read_struct_behind_name(
     alloc: Global,
-    place: Span,
+    span: Span,
     name: Identifier,
     tokens: &[Token],
     budget: usize,
 ) -> Result<(Struct, &[Token]), ReadFault>
-    ensures { Reads result (λ read. (read.0, read.1.now)) (struct_behind_name (type_at budget) place name tokens.now) }
+    ensures { Reads result (λ read. (read.0, read.1.now)) (struct_behind_name (type_at budget) span name tokens.now) }
 {
     let (parameters, rest) = read_parameters(alloc, true, tokens)?;
     let (abilities, rest) = read_abilities(alloc, rest)?;
@@ -32,7 +32,7 @@ fn read_struct_behind_name(
     let (fields, rest) = read_fields(alloc, inside, budget)?;
     Ok((
         Struct {
-            place,
+            span,
             name,
             parameters,
             abilities,
@@ -42,20 +42,20 @@ fn read_struct_behind_name(
     ))
 }
 
-/// Reads a struct after its word at `place`. Returns it and the remaining tokens. The types of its fields are nested at
+/// Reads a struct after its word at `span`. Returns it and the remaining tokens. The types of its fields are nested at
 /// most `budget` deep.
 #[tactic(auto, unfolding(crate::specs::StructReading::struct_at))]
 pub fn read_struct(
     alloc: Global,
-    place: Span,
+    span: Span,
     tokens: &[Token],
     budget: usize,
 ) -> Result<(Struct, &[Token]), ReadFault>
-    ensures { Reads result (λ read. (read.0, read.1.now)) (struct_at (type_at budget) place tokens.now) }
+    ensures { Reads result (λ read. (read.0, read.1.now)) (struct_at (type_at budget) span tokens.now) }
 {
     let (name, rest) = read_identifier(alloc, tokens)?;
     if begins_capital(name.text.as_slice()) {
-        read_struct_behind_name(alloc, place, name, rest, budget)
+        read_struct_behind_name(alloc, span, name, rest, budget)
     } else {
         Err(ReadFault::NoTree { left: tokens.len() })
     }

@@ -62,9 +62,9 @@ on_side_nonzero Lower b h e = let z : pos 0 <ℤ pos 0 = subst (λ (c : ℤ). c 
 
 -- the tightest of the bounds of a side before an index
 pub record IsBest (side : Side) (bounds : List Bound) (i : ℕ) (t : Bound) : Type 0 where
-  pub place : ℕ
-  pub place_before : place < i
-  pub at_place : (d : Bound) → get_or bounds place d ≡ t
+  pub position : ℕ
+  pub position_before : position < i
+  pub at_position : (d : Bound) → get_or bounds position d ≡ t
   pub on_side : IsOn side t
   pub as_tight : (k : ℕ) (d : Bound) → k < i → IsOn side (get_or bounds k d) → IsAsTight t (get_or bounds k d)
 
@@ -75,16 +75,16 @@ IsBestBefore side bounds i best =
 pub best_with : (side : Side) (bounds : List Bound) (i : ℕ) (best : Option Bound) (now t : Bound) → ((d : Bound) → get_or bounds i d ≡ now) → IsBestBefore side bounds i best → (best ≡ Some t) ⊎ (t ≡ now) → IsOn side t → IfSome best (IsAsTight t) → IsAsTight t now → IsBestBefore side bounds (i + 1) (Some t)
 best_with side bounds i None now t at before (inl e) on old new = absurd (cc)
 best_with side bounds i None now t at before (inr e) on old new = record {
-  place = i;
-  place_before = omega arith;
-  at_place = λ d. at d ∙ sym e;
+  position = i;
+  position_before = omega arith;
+  at_position = λ d. at d ∙ sym e;
   on_side = on;
   as_tight = λ k d h. below_more (λ (k : ℕ). (d : Bound) → IsOn side (get_or bounds k d) → IsAsTight t (get_or bounds k d)) i (λ k l d o. absurd (before k d l o)) (λ d o. subst (λ (b : Bound). IsAsTight t b) (sym (at d)) new) k h d;
 }
 best_with side bounds i (Some b) now t at before one on old new = record {
-  place = elim one [ inl e ↦ before.place | inr e ↦ i ];
-  place_before = elim one as (λ o. (elim o as (λ _. ℕ) [ inl e ↦ before.place | inr e ↦ i ]) < i + 1) [ inl e ↦ omega (arith, before.place_before) | inr e ↦ omega arith ];
-  at_place = elim one as (λ o. (d : Bound) → get_or bounds (elim o as (λ _. ℕ) [ inl e ↦ before.place | inr e ↦ i ]) d ≡ t) [ inl e ↦ (λ d. before.at_place d ∙ some_same e) | inr e ↦ (λ d. at d ∙ sym e) ];
+  position = elim one [ inl e ↦ before.position | inr e ↦ i ];
+  position_before = elim one as (λ o. (elim o as (λ _. ℕ) [ inl e ↦ before.position | inr e ↦ i ]) < i + 1) [ inl e ↦ omega (arith, before.position_before) | inr e ↦ omega arith ];
+  at_position = elim one as (λ o. (d : Bound) → get_or bounds (elim o as (λ _. ℕ) [ inl e ↦ before.position | inr e ↦ i ]) d ≡ t) [ inl e ↦ (λ d. before.at_position d ∙ some_same e) | inr e ↦ (λ d. at d ∙ sym e) ];
   on_side = on;
   as_tight = λ k d h. below_more (λ (k : ℕ). (d : Bound) → IsOn side (get_or bounds k d) → IsAsTight t (get_or bounds k d)) i (λ k l d o. IsAsTight_trans t b (get_or bounds k d) (on_side_nonzero side b before.on_side) old (before.as_tight k d l o)) (λ d o. subst (λ (b : Bound). IsAsTight t b) (sym (at d)) new) k h d;
 }
@@ -96,9 +96,9 @@ pub best_without : (side : Side) (bounds : List Bound) (i : ℕ) (best : Option 
 best_without side bounds i None now at before off =
     λ k d h. below_more (λ (k : ℕ). (d : Bound) → ¬ (IsOn side (get_or bounds k d))) i (λ k l d. before k d l) (λ d o. off (subst (λ (b : Bound). IsOn side b) (at d) o)) k h d
 best_without side bounds i (Some b) now at before off = record {
-  place = before.place;
-  place_before = omega (arith, before.place_before);
-  at_place = before.at_place;
+  position = before.position;
+  position_before = omega (arith, before.position_before);
+  at_position = before.at_position;
   on_side = before.on_side;
   as_tight = λ k d h. below_more (λ (k : ℕ). (d : Bound) → IsOn side (get_or bounds k d) → IsAsTight b (get_or bounds k d)) i (λ k l d. before.as_tight k d l) (λ d o. absurd (off (subst (λ (b : Bound). IsOn side b) (at d) o))) k h d;
 }

@@ -12,7 +12,7 @@ use Rattle.linear_arith.specs.Inequality.{Inequality, coefficient}
 use Rattle.linear_arith.specs.Closure.{IsWithout}
 use Rattle.linear_arith.specs.Bounds.{IsMetAt, AreConsistent}
 use Rattle.linear_arith.specs.Choice.{left_of, IsBoundOf, HasBound, AreCompatible, MeetsStage}
-use Rattle.linear_arith.specs.Stages.{IsSound, StandsInStage, IsWhole}
+use Rattle.linear_arith.specs.Stages.{IsSound, IsRemovedFrom, IsWhole}
 use Rattle.linear_arith.specs.Substitution.{LinearForm, form_of, put_in, put_in_all, IsTrueForm, Meets, ArePositive}
 use Rattle.linear_arith.specs.declared.bounds.Bound.{Bound}
 use Rattle.linear_arith.specs.declared.elimination.Stage.{Stage}
@@ -219,7 +219,7 @@ consistent_numbers s t a r b m p q h =
 -- a bound of one of the stage's constraints
 pub record IsOfStageRow (stage : Stage) (values : List Fraction) (bound : Bound) : Type 0 where
   pub row : Inequality
-  pub stands : StandsInStage stage row
+  pub stands : IsRemovedFrom stage row
   pub is_bound_of : IsBoundOf (left_of values row) stage.unknown bound
 
 pub bounds_consistent : (stage : Stage) (values : List Fraction) (bounds : List Bound) → AreCompatible stage values → ((bound : Bound) → Contains bounds bound → IsOfStageRow stage values bound) → AreConsistent bounds

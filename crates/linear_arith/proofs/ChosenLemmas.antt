@@ -8,7 +8,7 @@ use Rattle.linear_arith.specs.declared.rows.Fraction.{Fraction}
 use Rattle.linear_arith.specs.Bounds.{IsMetAt, AreNonzero, AreMet, IsBetween}
 use Rattle.linear_arith.specs.Bounds.IsBetween.{whole as whole_between, bound as bound_between}
 use Rattle.linear_arith.specs.Choice.{left_of, HasBound, HaveBounds, IsOfRow}
-use Rattle.linear_arith.specs.Stages.{StandsInStage, IsWhole}
+use Rattle.linear_arith.specs.Stages.{IsRemovedFrom, IsWhole}
 use Rattle.linear_arith.specs.Substitution.{form_of, ArePositive}
 use Rattle.linear_arith.specs.Values.{IsBounding, MeetsBounds, IsChosen}
 use Rattle.linear_arith.specs.Values.IsChosen.{whole, bound}
@@ -35,7 +35,7 @@ record IsExact (found : List Inequality) (before : List ℕ) (values : List Frac
   same_coefficient : bound.coefficient ≡ coefficient unknown rest
   same_bound : bound.bound ≡ rest.bound
 
-exact_of_row : (found : List Inequality) (before : List ℕ) (stage : Stage) (part : List Derived) (values : List Fraction) (bound : Bound) → IsWhole found before stage → bound.coefficient ≢ pos 0 → (r : IsOfRow part values stage.unknown bound) → StandsInStage stage r.row → IsExact found before values stage.unknown bound
+exact_of_row : (found : List Inequality) (before : List ℕ) (stage : Stage) (part : List Derived) (values : List Fraction) (bound : Bound) → IsWhole found before stage → bound.coefficient ≢ pos 0 → (r : IsOfRow part values stage.unknown bound) → IsRemovedFrom stage r.row → IsExact found before values stage.unknown bound
 exact_of_row found before stage part values b w n r s = record {
   rest = r.rest;
   is_bounding = record { row = r.row; is_found = w.is_found r.row s; without = w.without r.row s; is_rest = r.is_rest; stands = λ e. n (r.same_coefficient ∙ e) };

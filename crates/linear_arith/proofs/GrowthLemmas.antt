@@ -14,7 +14,7 @@ use Rattle.linear_arith.specs.Inequality.{Inequality, coefficient, padded}
 use Rattle.linear_arith.specs.Closure.{IsWithout, HasSum, HasSums, IsClosed, IsElimination, IsBegun}
 use Rattle.linear_arith.specs.Elimination.{IsFound}
 use Rattle.linear_arith.specs.Closure.IsClosed.{none, next}
-use Rattle.linear_arith.specs.Stages.{IsDerived, AreBefore, IsStage, IsStageBefore, IsUnderWay, StandsIn, KeepsRows, AreParted, HasGrown, IsCaughtUp, IsLeft, NoneIsLeft}
+use Rattle.linear_arith.specs.Stages.{IsDerived, AreBefore, IsStage, IsStageBefore, IsUnderWay, StandsIn, KeepsRows, AreParted, IsExtended, IsCaughtUp, IsLeft, NoneIsLeft}
 use Rattle.linear_arith.specs.declared.elimination.Stage.{Stage}
 use Rattle.linear_arith.specs.declared.elimination.Derived.{Derived}
 use Rattle.linear_arith.specs.declared.elimination.Elimination.{Elimination}
@@ -23,8 +23,8 @@ use Rattle.base.proofs.WholeNumbers.{mul_positive, mul_negative, positive_of_mul
 use Rattle.linear_arith.proofs.ListLemmas.{get_or-past, below_or_past}
 
 -- the same constraints, the same unknowns
-pub grown_same : (old new : Elimination) → new.unknowns.items ≡ old.unknowns.items → new.found ≡ old.found → new.live.items ≡ old.live.items → new.stages.items ≡ old.stages.items → HasGrown old new
-grown_same old new unknowns found live stages = record {
+pub extended_same : (old new : Elimination) → new.unknowns.items ≡ old.unknowns.items → new.found ≡ old.found → new.live.items ≡ old.live.items → new.stages.items ≡ old.stages.items → IsExtended old new
+extended_same old new unknowns found live stages = record {
   stages = stages;
   unknowns = unknowns;
   found = λ row h. subst (λ (rs : List Inequality). Contains rs row) (sym found) h;
@@ -33,8 +33,8 @@ grown_same old new unknowns found live stages = record {
 }
 
 -- one more constraint
-pub grown_with : (width : ℕ) (rows : List Inequality) (old new : Elimination) (made : Derived) → IsDerived width rows old.unknowns.items made → new.unknowns.items ≡ old.unknowns.items → new.found ≡ old.found ++ made.row ∷ [] → new.live.items ≡ old.live.items ++ made ∷ [] → new.stages.items ≡ old.stages.items → HasGrown old new
-grown_with width rows old new made d unknowns found live stages = record {
+pub extended_with : (width : ℕ) (rows : List Inequality) (old new : Elimination) (made : Derived) → IsDerived width rows old.unknowns.items made → new.unknowns.items ≡ old.unknowns.items → new.found ≡ old.found ++ made.row ∷ [] → new.live.items ≡ old.live.items ++ made ∷ [] → new.stages.items ≡ old.stages.items → IsExtended old new
+extended_with width rows old new made d unknowns found live stages = record {
   stages = stages;
   unknowns = unknowns;
   found = λ row h. subst (λ (rs : List Inequality). Contains rs row) (sym found) (Contains-append_left old.found (made.row ∷ []) row h);
@@ -51,8 +51,8 @@ grown_with width rows old new made d unknowns found live stages = record {
 lives_on : (old new : Elimination) (row : Inequality) → ((made : Derived) → Contains old.live.items made → Contains new.live.items made) → StandsIn old.live.items row → StandsIn new.live.items row
 lives_on old new row live s = record { made = s.made; is_live = live s.made s.is_live; same = s.same }
 
-pub grown_twice : (old mid new : Elimination) → HasGrown old mid → HasGrown mid new → HasGrown old new
-grown_twice old mid new a b = record {
+pub extended_twice : (old mid new : Elimination) → IsExtended old mid → IsExtended mid new → IsExtended old new
+extended_twice old mid new a b = record {
   stages = b.stages ∙ a.stages;
   unknowns = b.unknowns ∙ a.unknowns;
   found = λ row h. b.found row (a.found row h);
@@ -69,8 +69,8 @@ grown_twice old mid new a b = record {
   ];
 }
 
-pub keeps_grown : (old new : Elimination) → HasGrown old new → KeepsRows old → KeepsRows new
-keeps_grown old new g k row h w = elim (g.fresh row h) [
+pub keeps_extended : (old new : Elimination) → IsExtended old new → KeepsRows old → KeepsRows new
+keeps_extended old new g k row h w = elim (g.fresh row h) [
   | inl o ↦ lives_on old new row g.live (k row o (subst (λ (us : List ℕ). IsWithout us row) g.unknowns w))
   | inr f ↦ f.is_live
 ]
@@ -108,8 +108,8 @@ stands_below width rows old unknown uppers lowers others u parted row s below = 
   same = s.same;
 }
 
-stands_still : (width : ℕ) (rows : List Inequality) (old : Elimination) (unknown : ℕ) (uppers lowers others : List Derived) → IsUnderWay width rows old → AreParted unknown old.live.items uppers lowers others → (row : Inequality) → StandsIn old.live.items row → coefficient unknown row ≡ pos 0 → StandsIn others row
-stands_still width rows old unknown uppers lowers others u parted row s gone = record {
+is_still_among : (width : ℕ) (rows : List Inequality) (old : Elimination) (unknown : ℕ) (uppers lowers others : List Derived) → IsUnderWay width rows old → AreParted unknown old.live.items uppers lowers others → (row : Inequality) → StandsIn old.live.items row → coefficient unknown row ≡ pos 0 → StandsIn others row
+is_still_among width rows old unknown uppers lowers others u parted row s gone = record {
   made = s.made;
   is_live = parted.other s.made s.is_live (total_zero width rows old.unknowns.items unknown s.made (live_derived width rows old row s u) (ap (λ (r : Inequality). coefficient unknown r) s.same ∙ gone));
   same = s.same;
@@ -125,20 +125,20 @@ not_left width rows old unknown u left k d l e =
     left.stands (subst (λ (n : ℕ). coefficient n left.made.row ≡ pos 0) e (derived.without k d l))
 
 -- the found constraints that the next stage keeps, and those that it adds
-pub next_keeps : (old mid new : Elimination) → mid.found ≡ old.found → HasGrown mid new → (row : Inequality) → Contains old.found row → Contains new.found row
+pub next_keeps : (old mid new : Elimination) → mid.found ≡ old.found → IsExtended mid new → (row : Inequality) → Contains old.found row → Contains new.found row
 next_keeps old mid new found g row h = g.found row (subst (λ (rs : List Inequality). Contains rs row) (sym found) h)
 
-pub next_fresh : (unknown : ℕ) (old mid new : Elimination) → mid.found ≡ old.found → mid.unknowns.items ≡ old.unknowns.items ++ unknown ∷ [] → HasGrown mid new → (row : Inequality) → Contains new.found row → Contains old.found row ⊎ IsWithout (old.unknowns.items ++ unknown ∷ []) row
+pub next_fresh : (unknown : ℕ) (old mid new : Elimination) → mid.found ≡ old.found → mid.unknowns.items ≡ old.unknowns.items ++ unknown ∷ [] → IsExtended mid new → (row : Inequality) → Contains new.found row → Contains old.found row ⊎ IsWithout (old.unknowns.items ++ unknown ∷ []) row
 next_fresh unknown old mid new found unknowns g row h = elim (g.fresh row h) [
   | inl m ↦ inl (subst (λ (rs : List Inequality). Contains rs row) found m)
   | inr f ↦ inr (subst (λ (ns : List ℕ). IsWithout ns row) (g.unknowns ∙ unknowns) f.without)
 ]
 
 -- a constraint with the unknown was found before
-pub next_old : (unknown : ℕ) (old mid new : Elimination) → mid.found ≡ old.found → mid.unknowns.items ≡ old.unknowns.items ++ unknown ∷ [] → HasGrown mid new → (row : Inequality) → Contains new.found row → coefficient unknown row ≢ pos 0 → Contains old.found row
+pub next_old : (unknown : ℕ) (old mid new : Elimination) → mid.found ≡ old.found → mid.unknowns.items ≡ old.unknowns.items ++ unknown ∷ [] → IsExtended mid new → (row : Inequality) → Contains new.found row → coefficient unknown row ≢ pos 0 → Contains old.found row
 next_old unknown old mid new found unknowns g row h n = elim (next_fresh unknown old mid new found unknowns g row h) [ inl o ↦ o | inr w ↦ absurd (n (without_last old.unknowns.items unknown row w)) ]
 
-pub next_sums : (width : ℕ) (rows : List Inequality) (unknown : ℕ) (uppers lowers : List Derived) (old mid new : Elimination) → IsUnderWay width rows old → IsCaughtUp width rows old → AreParted unknown old.live.items uppers lowers mid.live.items → mid.found ≡ old.found → mid.unknowns.items ≡ old.unknowns.items ++ unknown ∷ [] → HasGrown mid new → HaveSums new.found unknown uppers lowers → HasSums new.found old.unknowns.items unknown
+pub next_sums : (width : ℕ) (rows : List Inequality) (unknown : ℕ) (uppers lowers : List Derived) (old mid new : Elimination) → IsUnderWay width rows old → IsCaughtUp width rows old → AreParted unknown old.live.items uppers lowers mid.live.items → mid.found ≡ old.found → mid.unknowns.items ≡ old.unknowns.items ++ unknown ∷ [] → IsExtended mid new → HaveSums new.found unknown uppers lowers → HasSums new.found old.unknowns.items unknown
 next_sums width rows unknown uppers lowers old mid new u c parted found unknowns g sums = record {
   sums = λ upper lower a b wa wb above below. pair upper lower (next_old unknown old mid new found unknowns g upper a (λ z. not_zero_above _ z above)) (next_old unknown old mid new found unknowns g lower b (λ z. not_zero_below _ z below)) wa wb above below;
 }
@@ -152,10 +152,10 @@ next_sums width rows unknown uppers lowers old mid new u c parted found unknowns
         subst (λ (r : Inequality). HasSum new.found unknown upper r) t.same (subst (λ (r : Inequality). HasSum new.found unknown r t.made.row) s.same sum)
 
 -- the next stage of an elimination, after the sums that cancel its unknown are added
-pub caught_up_next : (width : ℕ) (rows : List Inequality) (unknown : ℕ) (uppers lowers : List Derived) (old mid new : Elimination) → IsUnderWay width rows old → IsCaughtUp width rows old → unknown < width → IsLeft old.live.items unknown → AreParted unknown old.live.items uppers lowers mid.live.items → mid.found ≡ old.found → mid.unknowns.items ≡ old.unknowns.items ++ unknown ∷ [] → HasGrown mid new → HaveSums new.found unknown uppers lowers → IsCaughtUp width rows new
+pub caught_up_next : (width : ℕ) (rows : List Inequality) (unknown : ℕ) (uppers lowers : List Derived) (old mid new : Elimination) → IsUnderWay width rows old → IsCaughtUp width rows old → unknown < width → IsLeft old.live.items unknown → AreParted unknown old.live.items uppers lowers mid.live.items → mid.found ≡ old.found → mid.unknowns.items ≡ old.unknowns.items ++ unknown ∷ [] → IsExtended mid new → HaveSums new.found unknown uppers lowers → IsCaughtUp width rows new
 caught_up_next width rows unknown uppers lowers old mid new u c below left parted found unknowns g sums = record {
   begins = λ k d l. next_keeps old mid new found g (padded width (get_or rows k d)) (c.begins k d l);
-  keeps = keeps_grown mid new g (λ row h w. let w' = subst (λ (us : List ℕ). IsWithout us row) unknowns w in stands_still width rows old unknown uppers lowers mid.live.items u parted row (c.keeps row (subst (λ (rs : List Inequality). Contains rs row) found h) (without_others us unknown row w')) (without_last us unknown row w'));
+  keeps = keeps_extended mid new g (λ row h w. let w' = subst (λ (us : List ℕ). IsWithout us row) unknowns w in is_still_among width rows old unknown uppers lowers mid.live.items u parted row (c.keeps row (subst (λ (rs : List Inequality). Contains rs row) found h) (without_others us unknown row w')) (without_last us unknown row w'));
   closed = subst (λ (us : List ℕ). IsClosed new.found us) (sym same) (next us unknown (closed_stays old.found new.found (next_keeps old mid new found g) us (λ row h. elim (next_fresh unknown old mid new found unknowns g row h) [ inl o ↦ inl o | inr w ↦ inr (without_others us unknown row w) ]) c.closed) (next_sums width rows unknown uppers lowers old mid new u c parted found unknowns g sums));
   below = subst (λ (us : List ℕ). All (λ u. u < width) us) (sym same) (All-push (λ (u : ℕ). u < width) us unknown c.below below);
   different = subst (λ (us : List ℕ). AllPairs (λ a b. a ≢ b) us) (sym same) (all_pairs_push (λ (a b : ℕ). a ≢ b) us unknown c.different (not_left width rows old unknown u left));
@@ -259,8 +259,8 @@ stage_left width rows unknown stage old mid u c v is_stage same parted found unk
     each part from k d l = subst (λ (rs : List Inequality). Contains rs (get_or part k d).row) (sym found) (All-contains (λ (m : Derived). Contains old.found m.row) old.live.items (get_or part k d) u.live_found (from (get_or part k d) (Contains-get_or part k d l)))
 
 -- the same after some of the sums
-pub stage_grown : (width : ℕ) (rows : List Inequality) (stage : Stage) (old new : Elimination) → IsUnderWay width rows new → HasGrown old new → IsStageBefore width rows old.found old.unknowns.items stage → IsStageBefore width rows new.found new.unknowns.items stage
-stage_grown width rows stage old new v g b = record {
+pub stage_extended : (width : ℕ) (rows : List Inequality) (stage : Stage) (old new : Elimination) → IsUnderWay width rows new → IsExtended old new → IsStageBefore width rows old.found old.unknowns.items stage → IsStageBefore width rows new.found new.unknowns.items stage
+stage_extended width rows stage old new v g b = record {
   before = b.before;
   is_last = b.is_last ∙ sym g.unknowns;
   is_stage = b.is_stage;

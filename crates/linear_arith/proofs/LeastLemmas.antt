@@ -21,7 +21,7 @@ one_is_within ms k e = elim (below_or_past k (length ms)) [
 
 -- what divides each number of a list with a 1 divides 1
 divides_one : (ms : List ℤ) (has : HasOne ms) (d : ℕ) → DividesRow d (as_row ms) → d ∣ 1
-divides_one ms has d h = subst (λ (z : ℤ). d ∣ unsigned_abs z) has.is_one (h.coefficients has.place (pos 0) (one_is_within ms has.place has.is_one))
+divides_one ms has d h = subst (λ (z : ℤ). d ∣ unsigned_abs z) has.is_one (h.coefficients has.position (pos 0) (one_is_within ms has.position has.is_one))
 
 -- such a list is in lowest terms
 pub reduced_with_one : (ms : List ℤ) → HasOne ms → IsReduced (as_row ms) (as_row ms)

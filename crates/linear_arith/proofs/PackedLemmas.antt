@@ -72,7 +72,7 @@ ahead_later n k entry rest e = sym (ap (λ (m : ℕ). number (k + 1) (ahead m (e
     later k = rw add-one refl
 
 -- each number other than 0 is at some index of the list
-pub spread_at : (entries : List Entry) (i : ℕ) (entry : Entry) → i < length entries → entry ≡ get_or entries i entry → (place : ℕ) × (number place (spread entries) ≡ entry.number)
+pub spread_at : (entries : List Entry) (i : ℕ) (entry : Entry) → i < length entries → entry ≡ get_or entries i entry → (position : ℕ) × (number position (spread entries) ≡ entry.number)
 spread_at [] i entry l e = absurd (omega (arith, l))
 spread_at (first ∷ entries) zero entry l e = (first.zeros, get_or_at (zeros first.zeros) first.number (spread entries) (pos 0) first.zeros (length-replicate first.zeros (pos 0)) ∙ sym (ap (λ (it : Entry). it.number) e))
 spread_at (first ∷ entries) (suc i) entry l e =

@@ -8,7 +8,7 @@ use Rattle.std.proofs.lemmas.List.{take-append-le, map-append, length-map}
 use Rattle.std.proofs.lemmas.List.Elements.{All-contains}
 use Rattle.linear_arith.specs.Inequality.{Inequality, coefficient}
 use Rattle.linear_arith.specs.Closure.{IsWithout, IsElimination}
-use Rattle.linear_arith.specs.Stages.{IsDerived, IsUnderWay, IsCaughtUp, StandsIn, AreParted, HasGrown, IsWhole, unknowns_of, AreWhole, KeepsStages, NoneIsLeft, HasAllStages}
+use Rattle.linear_arith.specs.Stages.{IsDerived, IsUnderWay, IsCaughtUp, StandsIn, AreParted, IsExtended, IsWhole, unknowns_of, AreWhole, KeepsStages, NoneIsLeft, HasAllStages}
 use Rattle.linear_arith.specs.declared.elimination.Stage.{Stage}
 use Rattle.linear_arith.specs.declared.elimination.Derived.{Derived}
 use Rattle.linear_arith.specs.declared.elimination.Elimination.{Elimination}
@@ -57,7 +57,7 @@ stands_without : (width : ℕ) (rows : List Inequality) (old : Elimination) (par
 stands_without width rows old part row u from s = subst (λ (r : Inequality). IsWithout old.unknowns.items r) s.same (All-contains (IsDerived width rows old.unknowns.items) old.live.items s.made u.live (from s.made s.is_live)).without
 
 -- the stage that is eliminated is whole after its sums are added
-stage_whole : (width : ℕ) (rows : List Inequality) (stage : Stage) (old mid new : Elimination) → IsUnderWay width rows old → IsCaughtUp width rows old → AreParted stage.unknown old.live.items stage.upper.items stage.lower.items mid.live.items → mid.found ≡ old.found → mid.unknowns.items ≡ old.unknowns.items ++ stage.unknown ∷ [] → HasGrown mid new → HaveSums new.found stage.unknown stage.upper.items stage.lower.items → IsWhole new.found old.unknowns.items stage
+stage_whole : (width : ℕ) (rows : List Inequality) (stage : Stage) (old mid new : Elimination) → IsUnderWay width rows old → IsCaughtUp width rows old → AreParted stage.unknown old.live.items stage.upper.items stage.lower.items mid.live.items → mid.found ≡ old.found → mid.unknowns.items ≡ old.unknowns.items ++ stage.unknown ∷ [] → IsExtended mid new → HaveSums new.found stage.unknown stage.upper.items stage.lower.items → IsWhole new.found old.unknowns.items stage
 stage_whole width rows stage old mid new u c parted found unknowns g sums = record {
   is_found = λ row s. next_keeps old mid new found g row (elim s [
     | inl a ↦ stands_found width rows old stage.upper.items row u parted.upper_from a
@@ -77,7 +77,7 @@ stage_whole width rows stage old mid new u c parted found unknowns g sums = reco
 }
 
 -- the stages with the one that is eliminated
-pub stages_next : (width : ℕ) (rows : List Inequality) (stage : Stage) (old mid new : Elimination) → IsUnderWay width rows old → IsCaughtUp width rows old → KeepsStages old → AreParted stage.unknown old.live.items stage.upper.items stage.lower.items mid.live.items → mid.found ≡ old.found → mid.unknowns.items ≡ old.unknowns.items ++ stage.unknown ∷ [] → new.stages.items ≡ old.stages.items → HasGrown mid new → HaveSums new.found stage.unknown stage.upper.items stage.lower.items → AreWhole new.found (new.stages.items ++ stage ∷ []) × (unknowns_of (new.stages.items ++ stage ∷ []) ≡ new.unknowns.items)
+pub stages_next : (width : ℕ) (rows : List Inequality) (stage : Stage) (old mid new : Elimination) → IsUnderWay width rows old → IsCaughtUp width rows old → KeepsStages old → AreParted stage.unknown old.live.items stage.upper.items stage.lower.items mid.live.items → mid.found ≡ old.found → mid.unknowns.items ≡ old.unknowns.items ++ stage.unknown ∷ [] → new.stages.items ≡ old.stages.items → IsExtended mid new → HaveSums new.found stage.unknown stage.upper.items stage.lower.items → AreWhole new.found (new.stages.items ++ stage ∷ []) × (unknowns_of (new.stages.items ++ stage ∷ []) ≡ new.unknowns.items)
 stages_next width rows stage old mid new u c k parted found unknowns stages g sums =
     let us = unknowns_of old.stages.items in
     let here = subst (λ (ns : List ℕ). IsWhole new.found ns stage) (sym k.unknowns) (stage_whole width rows stage old mid new u c parted found unknowns g sums) in

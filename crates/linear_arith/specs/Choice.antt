@@ -3,7 +3,7 @@ use Rattle.std.specs.Prelude.{◌≡◌, ◌≢◌, ℕ, List, pos, ◌*ℤ◌, 
 use Rattle.std.proofs.Common.{ℤ, ◌<ℤ◌}
 use Rattle.linear_arith.specs.Inequality.{Inequality, coefficient}
 use Rattle.linear_arith.specs.Rest.{IsRest}
-use Rattle.linear_arith.specs.Stages.{StandsIn, StandsInStage}
+use Rattle.linear_arith.specs.Stages.{StandsIn, IsRemovedFrom}
 use Rattle.linear_arith.specs.Substitution.{LinearForm, form_of, put_in, put_in_all}
 use Rattle.linear_arith.specs.declared.bounds.Bound.{Bound}
 use Rattle.linear_arith.specs.declared.elimination.Derived.{Derived}
@@ -42,8 +42,8 @@ pub record IsOfRow (rows : List Derived) (values : List Fraction) (unknown : ℕ
 
 -- after the substitution in the stage's constraints, each upper bound of its unknown is at least each lower one
 abbrev pub AreCompatible : Stage → List Fraction → Type 0
-AreCompatible stage values = (upper lower : Inequality) → StandsInStage stage upper → StandsInStage stage lower → pos 0 <ℤ (left_of values upper).at stage.unknown → (left_of values lower).at stage.unknown <ℤ pos 0 → ((left_of values lower).at stage.unknown *ℤ (left_of values upper).bound) ≤ℤ ((left_of values upper).at stage.unknown *ℤ (left_of values lower).bound)
+AreCompatible stage values = (upper lower : Inequality) → IsRemovedFrom stage upper → IsRemovedFrom stage lower → pos 0 <ℤ (left_of values upper).at stage.unknown → (left_of values lower).at stage.unknown <ℤ pos 0 → ((left_of values lower).at stage.unknown *ℤ (left_of values upper).bound) ≤ℤ ((left_of values upper).at stage.unknown *ℤ (left_of values lower).bound)
 
 -- the value meets the stage's constraints after the substitution
 abbrev pub MeetsStage : Stage → List Fraction → Fraction → Type 0
-MeetsStage stage values value = (row : Inequality) → StandsInStage stage row → (left_of values row).at stage.unknown ≢ pos 0 → pos 0 ≤ℤ (put_in (left_of values row) value).bound
+MeetsStage stage values value = (row : Inequality) → IsRemovedFrom stage row → (left_of values row).at stage.unknown ≢ pos 0 → pos 0 ≤ℤ (put_in (left_of values row) value).bound

@@ -40,9 +40,9 @@ pub record MixFits (x y : ℕ) (a b : ℤ) : Type 0 where
 
 -- some number of the sum is not in 128 bits
 pub record MixLeaves (x y : ℕ) (first second : List ℤ) : Type 0 where
-  pub place : ℕ
-  pub is_within : place < length first
-  pub leaves : ¬ (MixFits x y (number place first) (number place second))
+  pub position : ℕ
+  pub is_within : position < length first
+  pub leaves : ¬ (MixFits x y (number position first) (number position second))
 
 -- multipliers as a constraint with bound 0
 abbrev pub as_row : List ℤ → Inequality

@@ -16,5 +16,5 @@ ahead count (entry ∷ entries) = replicate count (pos 0) ++ entry.number ∷ sp
 
 -- 1 is in the list
 pub record HasOne (numbers : List ℤ) : Type 0 where
-  pub place : ℕ
-  pub is_one : number place numbers ≡ pos 1
+  pub position : ℕ
+  pub is_one : number position numbers ≡ pos 1

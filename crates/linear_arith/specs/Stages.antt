@@ -125,7 +125,7 @@ pub record IsFresh (elimination : Elimination) (row : Inequality) : Type 0 where
   pub without : IsWithout elimination.unknowns.items row
 
 -- constraints were added to the current stage, and none was removed
-pub record HasGrown (old new : Elimination) : Type 0 where
+pub record IsExtended (old new : Elimination) : Type 0 where
   pub unknowns : new.unknowns.items ≡ old.unknowns.items
   pub found : (row : Inequality) → Contains old.found row → Contains new.found row
   pub live : (made : Derived) → Contains old.live.items made → Contains new.live.items made
@@ -133,15 +133,15 @@ pub record HasGrown (old new : Elimination) : Type 0 where
   pub stages : new.stages.items ≡ old.stages.items
 
 -- the constraint is one of those that were removed from the stage
-abbrev pub StandsInStage : Stage → Inequality → Type 0
-StandsInStage stage row = StandsIn stage.upper.items row ⊎ StandsIn stage.lower.items row
+abbrev pub IsRemovedFrom : Stage → Inequality → Type 0
+IsRemovedFrom stage row = StandsIn stage.upper.items row ⊎ StandsIn stage.lower.items row
 
 -- the found constraints on the unknown of the stage after these unknowns were removed from it, and each sum that
 -- cancels it is found
 pub record IsWhole (found : List Inequality) (unknowns : List ℕ) (stage : Stage) : Type 0 where
-  pub is_found : (row : Inequality) → StandsInStage stage row → Contains found row
-  pub without : (row : Inequality) → StandsInStage stage row → IsWithout unknowns row
-  pub whole : (row : Inequality) → Contains found row → IsWithout unknowns row → coefficient stage.unknown row ≢ pos 0 → StandsInStage stage row
+  pub is_found : (row : Inequality) → IsRemovedFrom stage row → Contains found row
+  pub without : (row : Inequality) → IsRemovedFrom stage row → IsWithout unknowns row
+  pub whole : (row : Inequality) → Contains found row → IsWithout unknowns row → coefficient stage.unknown row ≢ pos 0 → IsRemovedFrom stage row
   pub sums : HasSums found unknowns stage.unknown
 
 abbrev pub unknowns_of : List Stage → List ℕ

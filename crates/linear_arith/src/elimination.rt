@@ -7,7 +7,7 @@ ghost use Rattle.linear_arith.specs.Closure.{IsSumOf, HasSum, IsBegun, IsDue};
 ghost use Rattle.linear_arith.specs.declared.elimination.Derived.{Derived};
 ghost use Rattle.linear_arith.specs.Combination.{combination, CombinesWithin};
 ghost use Rattle.linear_arith.specs.Elimination.{IsUnit};
-ghost use Rattle.linear_arith.specs.Stages.{AreMultipliers, IsDerived, AreBefore, IsStage, IsStageBefore, IsUnderWay, HasKey, AreParted, HasGrown, IsCaughtUp, IsLeft, NoneIsLeft, IsSound, KeepsStages, HasAllStages};
+ghost use Rattle.linear_arith.specs.Stages.{AreMultipliers, IsDerived, AreBefore, IsStage, IsStageBefore, IsUnderWay, HasKey, AreParted, IsExtended, IsCaughtUp, IsLeft, NoneIsLeft, IsSound, KeepsStages, HasAllStages};
 ghost use Rattle.linear_arith.specs.Answer.{StopShows};
 
 use crate::combination::combined;
@@ -109,7 +109,7 @@ impl Elimination {
         ensures ok { (width : ℕ) (rows : List Inequality) → IsUnderWay width rows self.old → IsDerived width rows self.old.unknowns.items made → OnOk result (IsUnderWay width rows self.new) }
         ensures err { (width : ℕ) (rows : List Inequality) → IsUnderWay width rows self.old → IsDerived width rows self.old.unknowns.items made → IfErr result (StopShows rows) }
         ensures unknowns { OnOk result (self.new.unknowns.items ≡ self.old.unknowns.items) }
-        ensures grown { (width : ℕ) (rows : List Inequality) → IsUnderWay width rows self.old → IsDerived width rows self.old.unknowns.items made → OnOk result (HasGrown self.old self.new) }
+        ensures grown { (width : ℕ) (rows : List Inequality) → IsUnderWay width rows self.old → IsDerived width rows self.old.unknowns.items made → OnOk result (IsExtended self.old self.new) }
         ensures added { (width : ℕ) (rows : List Inequality) → IsUnderWay width rows self.old → OnOk result (Contains self.new.found made.row) }
     {
         if self.keys.insert(key_of(self.alloc, &made.row)?)? {
@@ -203,7 +203,7 @@ impl Elimination {
         requires under_way { IsUnderWay system.now.width system.now.rows.now self.old }
         requires before { IsStageBefore system.now.width system.now.rows.now self.old.found self.old.unknowns.items stage.now }
         ensures ok { OnOk result (IsUnderWay system.now.width system.now.rows.now self.new) }
-        ensures grown { OnOk result (HasGrown self.old self.new) }
+        ensures grown { OnOk result (IsExtended self.old self.new) }
         ensures sums { OnOk result (All (λ (upper : Derived). All (λ (lower : Derived). HasSum self.new.found stage.now.unknown upper.row lower.row) stage.now.lower.items) stage.now.upper.items) }
         ensures err { IfErr result (StopShows system.now.rows.now) }
     {
@@ -226,7 +226,7 @@ impl Elimination {
         requires under_way { IsUnderWay system.now.width system.now.rows.now self.old }
         requires before { AreBefore system.now.width system.now.rows.now self.old.found self.old.unknowns.items unknown upper.now lower.now }
         ensures ok { OnOk result (IsUnderWay system.now.width system.now.rows.now self.new) }
-        ensures grown { OnOk result (HasGrown self.old self.new) }
+        ensures grown { OnOk result (IsExtended self.old self.new) }
         ensures sum { OnOk result (HasSum self.new.found unknown upper.now.row lower.now.row) }
         ensures err { IfErr result (StopShows system.now.rows.now) }
         ensures unknowns { OnOk result (self.new.unknowns.items ≡ self.old.unknowns.items) }

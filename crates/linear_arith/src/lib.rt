@@ -10,7 +10,7 @@ pub mod reduction;
 pub mod rows;
 mod solver;
 mod stop;
-mod substitution;
+pub mod substitution;
 pub mod sums;
 mod system;
 

@@ -19,7 +19,7 @@ use std::alloc::Global;
 
 /// Returns the constraint after the substitution of the value for its unknown: the sum of the constraint and of the
 /// value as a constraint. None where it is not in 128 bits.
-fn put_in(alloc: Global, row: &LinRow, value: &Fraction) -> Result<Option<LinRow>, NoMemory>
+pub fn put_in(alloc: Global, row: &LinRow, value: &Fraction) -> Result<Option<LinRow>, NoMemory>
     requires { pos 0 <ℤ value.now.denominator }
     ensures some { IfOk result (λ made. IfSome made (IsPut row.now value.now)) }
     ensures none { IfOk result (λ made. IfNone made (PutInLeaves row.now value.now)) }
@@ -78,7 +78,7 @@ fn scaled_without(
 }
 
 /// Returns the constraint after the substitution of all values, one after another.
-pub fn put_in_all(alloc: Global, row: &LinRow, values: &[Fraction]) -> Result<LinRow, Stop>
+pub(crate) fn put_in_all(alloc: Global, row: &LinRow, values: &[Fraction]) -> Result<LinRow, Stop>
     requires { ArePositive values.now }
     ensures ok { IfOk result (IsRest row.now values.now) }
     ensures err { (rows : List Inequality) (choosing : IsChoosing rows values.now) → Contains choosing.complete.found row.now → IfErr result (StopShows rows) }

@@ -5,7 +5,7 @@ ghost use Rattle.report.specs.Outside.{OnTooLong, OnWhole};
 
 use base::lists::Bytes;
 use base::name::Name;
-use report::outside::handed::HandedLog;
+use report::outside::provided::ProvidedLog;
 use report::outside::{FILE_LIMIT, Fetched, Sources};
 use std::fs::File;
 use std::io::Read;
@@ -20,7 +20,7 @@ pub struct FileSources<'a, R> {
     files: &'a R,
     faults: u64,
     taken: usize,
-    handed: HandedLog,
+    provided: ProvidedLog,
 }
 
 impl<'a, R> FileSources<'a, R> {
@@ -33,7 +33,7 @@ impl<'a, R> FileSources<'a, R> {
             files,
             faults: 0,
             taken: 0,
-            handed: HandedLog::new(),
+            provided: ProvidedLog::new(),
         }
     }
 }
@@ -43,7 +43,7 @@ impl<R: Files> Sources for FileSources<'_, R> {
 
     ghost taken = { λ s. s.taken };
 
-    ghost handed = { λ s. s.handed.files };
+    ghost provided = { λ s. s.provided.files };
 
     /// Reads a file. It fails if the name is not UTF-8, or if the file cannot be opened or read.
     fn fetch(&mut self, name: &Name, into: &mut Bytes) -> Fetched {
@@ -57,7 +57,7 @@ impl<R: Files> Sources for FileSources<'_, R> {
             self.faults = self.faults.saturating_add(1);
         }
         if fetched == Fetched::Whole {
-            self.handed.note(name.as_slice(), into.as_slice());
+            self.provided.note(name.as_slice(), into.as_slice());
         } else {
             into.clear();
         }

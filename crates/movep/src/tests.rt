@@ -169,7 +169,7 @@ fn a_device_that_takes_nothing_has_failed(rt: HostRuntime) {
 }
 
 #[test]
-fn want_of_memory_is_told(rt: HostRuntime) -> Result<(), Fail> {
+fn want_of_memory_is_known(rt: HostRuntime) -> Result<(), Fail> {
     let mut sink = VecSink::new(rt.alloc(), 100, Calls::new(rt.alloc()))?;
     assert!(rt; give_up(&mut sink) == Status::NoMemory);
     assert_eq!(rt; sink.bytes(), b"no memory\n".as_slice());

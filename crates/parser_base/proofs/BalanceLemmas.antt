@@ -10,7 +10,7 @@ use Rattle.tokens.specs.declared.token.Punctuation.{Punctuation as Sign}
 use Rattle.syntax_tree.specs.declared.lexeme.Lexeme.{Lexeme}
 use Rattle.syntax_tree.specs.Lexemes.{sign, IsToken}
 use Rattle.syntax_tree.specs.SpecTokenSpelling.{kept}
-use Rattle.syntax_tree.specs.Balance.{wanted_behind, wanted_after}
+use Rattle.syntax_tree.specs.Balance.{expected_after, wanted_after}
 use Rattle.parser_base.specs.Beginnings.{Begins}
 use Rattle.parser_base.specs.TokenReading.{is_sign}
 use Rattle.parser_base.specs.BalanceReading.{ends_here, balanced_end, balanced_at}
@@ -54,7 +54,7 @@ balanced_end-sound close wanted (t ∷ ts) rest e =
           let c = ends_here-sound close wanted t.kind h.0 in
           record { inside = []; spelled = (record { kind = c.1; placed = tt; glued = tt }, some_one ts rest h.1); balanced = ap Some c.0 }
       | inr h ↦
-          let w = step (wanted_behind (Some wanted) t.kind) _ rest h.1 in
+          let w = step (expected_after (Some wanted) t.kind) _ rest h.1 in
           let more = balanced_end-sound close w.value ts rest w.then in
           record {
             inside = t ∷ more.inside;
@@ -89,7 +89,7 @@ pub nothing_after : (ks : List Token) → wanted_after None ks ≡ None
 nothing_after [] = refl
 nothing_after (k ∷ ks) = nothing_after ks
 
-no_end : (close : Sign) (wanted : List Sign) (kind : TokenKind) (ks : List Token) → wanted_behind (Some []) (Punctuation close) ≡ None → wanted_after (wanted_behind (Some wanted) kind) ks ≡ Some [] → ends_here close wanted kind ≡ false
+no_end : (close : Sign) (wanted : List Sign) (kind : TokenKind) (ks : List Token) → expected_after (Some []) (Punctuation close) ≡ None → wanted_after (expected_after (Some wanted) kind) ks ≡ Some [] → ends_here close wanted kind ≡ false
 no_end close wanted kind ks c e = go (ends_here close wanted kind) refl
   where
     differs : {A : Type 0} (x : A) → ◌≡◌ {A = Option A} None (Some x) → ⊥
@@ -98,31 +98,31 @@ no_end close wanted kind ks c e = go (ends_here close wanted kind) refl
     go : (b : Bool) → ends_here close wanted kind ≡ b → ends_here close wanted kind ≡ false
     go true is =
         let h = ends_here-sound close wanted kind is in
-        absurd (differs [] (sym (ap (λ w. wanted_after (wanted_behind (Some w) kind) ks) h.0 ∙ ap (λ k. wanted_after (wanted_behind (Some []) k) ks) h.1 ∙ ap (λ o. wanted_after o ks) c ∙ nothing_after ks) ∙ e))
+        absurd (differs [] (sym (ap (λ w. wanted_after (expected_after (Some w) kind) ks) h.0 ∙ ap (λ k. wanted_after (expected_after (Some []) k) ks) h.1 ∙ ap (λ o. wanted_after o ks) c ∙ nothing_after ks) ∙ e))
     go false is = is
 
-pub some_wanted : (wanted : List Sign) (kind : TokenKind) (ks : List Token) → wanted_after (wanted_behind (Some wanted) kind) ks ≡ Some [] → (more : Option (List Sign)) → wanted_behind (Some wanted) kind ≡ more → (P : Type 0) → ((w : List Sign) → wanted_behind (Some wanted) kind ≡ Some w → P) → P
+pub some_wanted : (wanted : List Sign) (kind : TokenKind) (ks : List Token) → wanted_after (expected_after (Some wanted) kind) ks ≡ Some [] → (more : Option (List Sign)) → expected_after (Some wanted) kind ≡ more → (P : Type 0) → ((w : List Sign) → expected_after (Some wanted) kind ≡ Some w → P) → P
 some_wanted wanted kind ks e None is P f = absurd (differs [] (sym (ap (λ o. wanted_after o ks) is ∙ nothing_after ks) ∙ e))
   where
     differs : {A : Type 0} (x : A) → ◌≡◌ {A = Option A} None (Some x) → ⊥
     differs x h = cc
 some_wanted wanted kind ks e (Some w) is P f = f w is
 
-pub balanced_end-complete : (close : Sign) (wanted : List Sign) (inside ts rest : List Token) → wanted_behind (Some []) (Punctuation close) ≡ None → Begins (map kept inside ++ sign close ∷ []) ts rest → wanted_after (Some wanted) inside ≡ Some [] → balanced_end close wanted ts ≡ Some rest
+pub balanced_end-complete : (close : Sign) (wanted : List Sign) (inside ts rest : List Token) → expected_after (Some []) (Punctuation close) ≡ None → Begins (map kept inside ++ sign close ∷ []) ts rest → wanted_after (Some wanted) inside ≡ Some [] → balanced_end close wanted ts ≡ Some rest
 unfolding balanced_end
 balanced_end-complete close wanted [] [] rest c b e = absurd b
 balanced_end-complete close wanted [] (t ∷ ts) rest c b e =
-    ap (λ w. cond (ends_here close w t.kind) (Some ts) (option_and_then (λ more. balanced_end close more ts) (wanted_behind (Some wanted) t.kind))) (some_one wanted [] e)
+    ap (λ w. cond (ends_here close w t.kind) (Some ts) (option_and_then (λ more. balanced_end close more ts) (expected_after (Some wanted) t.kind))) (some_one wanted [] e)
     ∙ cond_true (is_sign close t.kind) _ _ (ap (is_sign close) b.0.kind ∙ is_sign-same close) ∙ ap Some b.1
 balanced_end-complete close wanted (k ∷ ks) [] rest c b e = absurd b
 balanced_end-complete close wanted (k ∷ ks) (t ∷ ts) rest c b e =
-    let e2 = ap (λ kind. wanted_after (wanted_behind (Some wanted) kind) ks) b.0.kind ∙ e in
+    let e2 = ap (λ kind. wanted_after (expected_after (Some wanted) kind) ks) b.0.kind ∙ e in
     cond_false (ends_here close wanted t.kind) _ _ (no_end close wanted t.kind ks c e2)
-    ∙ some_wanted wanted t.kind ks e2 (wanted_behind (Some wanted) t.kind) refl _ (λ w is.
-    bind_some (wanted_behind (Some wanted) t.kind) _ w is
+    ∙ some_wanted wanted t.kind ks e2 (expected_after (Some wanted) t.kind) refl _ (λ w is.
+    bind_some (expected_after (Some wanted) t.kind) _ w is
     ∙ balanced_end-complete close w ks ts rest c b.1 (sym (ap (λ o. wanted_after o ks) is) ∙ e2))
 
-pub balanced_at-complete : (close : Sign) (inside ts rest : List Token) → wanted_behind (Some []) (Punctuation close) ≡ None → Begins (map kept inside ++ sign close ∷ []) ts rest → wanted_after (Some []) inside ≡ Some [] → balanced_at close ts ≡ Some (inside, rest)
+pub balanced_at-complete : (close : Sign) (inside ts rest : List Token) → expected_after (Some []) (Punctuation close) ≡ None → Begins (map kept inside ++ sign close ∷ []) ts rest → wanted_after (Some []) inside ≡ Some [] → balanced_at close ts ≡ Some (inside, rest)
 unfolding balanced_at
 balanced_at-complete close inside ts rest c b e =
     map_some (balanced_end close [] ts) (λ rest. (take (length ts - length rest - 1) ts, rest)) rest (balanced_end-complete close [] inside ts rest c b e)
@@ -142,21 +142,21 @@ end_by_length close (x ∷ xs) kind = ap (λ ys. ends_here close ys kind) (rever
 turn : Sign → List Token → Bool → Option (List Sign) → Option (List Token)
 turn close rest ends more = cond ends (Some rest) (option_and_then (λ w. balanced_end close w rest) more)
 
-balanced_end-turn : (close : Sign) (wanted : List Sign) (ts : List Token) (t : Token) (rest : List Token) (ends : Bool) (more : Option (List Sign)) → ts ≡ t ∷ rest → ends_here close wanted t.kind ≡ ends → wanted_behind (Some wanted) t.kind ≡ more → balanced_end close wanted ts ≡ turn close rest ends more
+balanced_end-turn : (close : Sign) (wanted : List Sign) (ts : List Token) (t : Token) (rest : List Token) (ends : Bool) (more : Option (List Sign)) → ts ≡ t ∷ rest → ends_here close wanted t.kind ≡ ends → expected_after (Some wanted) t.kind ≡ more → balanced_end close wanted ts ≡ turn close rest ends more
 unfolding balanced_end turn
-balanced_end-turn close wanted ts t rest ends more e h m = ap (balanced_end close wanted) e ∙ ap (λ b. cond b (Some rest) (option_and_then (λ w. balanced_end close w rest) (wanted_behind (Some wanted) t.kind))) h
+balanced_end-turn close wanted ts t rest ends more e h m = ap (balanced_end close wanted) e ∙ ap (λ b. cond b (Some rest) (option_and_then (λ w. balanced_end close w rest) (expected_after (Some wanted) t.kind))) h
     ∙ ap (λ o. cond ends (Some rest) (option_and_then (λ w. balanced_end close w rest) o)) m
 
 pub skipping_ends : (all : Option (List Token)) (close : Sign) (wanted : List Sign) (ts : List Token) (t : Token) (rest : List Token) → all ≡ balanced_end close wanted ts → ts ≡ t ∷ rest → ends_here close wanted t.kind ≡ true → all ≡ Some rest
 unfolding turn
-skipping_ends all close wanted ts t rest before e h = before ∙ balanced_end-turn close wanted ts t rest true (wanted_behind (Some wanted) t.kind) e h refl
+skipping_ends all close wanted ts t rest before e h = before ∙ balanced_end-turn close wanted ts t rest true (expected_after (Some wanted) t.kind) e h refl
 
-pub skipping_fails : (all : Option (List Token)) (close : Sign) (wanted : List Sign) (ts : List Token) (t : Token) (rest : List Token) → all ≡ balanced_end close wanted ts → ts ≡ t ∷ rest → ends_here close wanted t.kind ≡ false → wanted_behind (Some wanted) t.kind ≡ None → all ≡ None
+pub skipping_fails : (all : Option (List Token)) (close : Sign) (wanted : List Sign) (ts : List Token) (t : Token) (rest : List Token) → all ≡ balanced_end close wanted ts → ts ≡ t ∷ rest → ends_here close wanted t.kind ≡ false → expected_after (Some wanted) t.kind ≡ None → all ≡ None
 unfolding turn
 skipping_fails all close wanted ts t rest before e h m = before ∙ balanced_end-turn close wanted ts t rest false None e h m
 
 pub skipping_goes_on : (all : Option (List Token)) (close : Sign) (wanted next : List Sign) (ts : List Token) (t : Token) (rest : List Token) → all ≡ balanced_end close wanted ts → ts ≡ t ∷ rest → ends_here close wanted t.kind ≡ false
-    → wanted_behind (Some wanted) t.kind ≡ Some next → all ≡ balanced_end close next rest
+    → expected_after (Some wanted) t.kind ≡ Some next → all ≡ balanced_end close next rest
 unfolding turn
 skipping_goes_on all close wanted next ts t rest before e h m = before ∙ balanced_end-turn close wanted ts t rest false (Some next) e h m
 

@@ -15,7 +15,7 @@ use Rattle.syntax_tree.specs.Lexemes.{lexeme, word, sign}
 use Rattle.syntax_tree.specs.OperatorSpelling.{apart_from_path, operator_spelling}
 use Rattle.syntax_tree.specs.ExpressionData.{ExpressionData, BinaryExpression}
 use Rattle.syntax_tree.specs.ExpressionSpelling.{ends_in_path}
-use Rattle.syntax_tree.specs.ProperExpressions.{operator_level, right_level, MayStandBefore, IsProperExpression, takes_else, level}
+use Rattle.syntax_tree.specs.ProperExpressions.{operator_level, right_level, MayPrecede, IsProperExpression, takes_else, level}
 use Rattle.parser_base.specs.Beginnings.{Begins}
 use Rattle.parser_base.specs.TokenReading.{is_sign, is_keyword, after_sign, after_word}
 use Rattle.parser_base.specs.ChainReading.{next_operator}
@@ -174,11 +174,11 @@ closes_end = record {
 abbrev IsOperator : TokenKind → Type 0
 IsOperator k = is_some (binary_of k) ≡ true
 
-operator_first : (o : BinaryOperator) (place : Span) (path : Bool) → First IsOperator (operator_spelling o place path)
-operator_first Less place path = refl
-operator_first ShiftLeft place path = refl
-operator_first ShiftRight place path = refl
-operator_first _ place path = refl
+operator_first : (o : BinaryOperator) (span : Span) (path : Bool) → First IsOperator (operator_spelling o span path)
+operator_first Less span path = refl
+operator_first ShiftLeft span path = refl
+operator_first ShiftRight span path = refl
+operator_first _ span path = refl
 
 operator_no_sign : (s : Sign) → binary_of_sign s ≡ None → (k : TokenKind) → IsOperator k → is_sign s k ≡ false
 operator_no_sign s e k o = go (is_sign s k) refl
@@ -187,75 +187,75 @@ operator_no_sign s e k o = go (is_sign s k) refl
     go true h = differs (sym o ∙ ap (λ k. is_some (binary_of k)) (is_sign-sound s k h) ∙ ap (λ x. is_some {T = BinaryOperator} x) e)
     go false h = h
 
-module _ (e : ExpressionData) (o : BinaryOperator) (place : Span) (ts us : List Token) (begins : Begins (operator_spelling o place (ends_in_path e)) ts us) where
+module _ (e : ExpressionData) (o : BinaryOperator) (span : Span) (ts us : List Token) (begins : Begins (operator_spelling o span (ends_in_path e)) ts us) where
   pub no_such_sign : (s : Sign) → binary_of_sign s ≡ None → after_sign s ts ≡ None
-  no_such_sign s h = after_sign-first s (operator_spelling o place (ends_in_path e)) ts us (First-weaker IsOperator (λ k. is_sign s k ≡ false) (operator_no_sign s h) (operator_spelling o place (ends_in_path e)) (operator_first o place (ends_in_path e))) begins
+  no_such_sign s h = after_sign-first s (operator_spelling o span (ends_in_path e)) ts us (First-weaker IsOperator (λ k. is_sign s k ≡ false) (operator_no_sign s h) (operator_spelling o span (ends_in_path e)) (operator_first o span (ends_in_path e))) begins
 
 -- a `<` after a path is not glued to it
-glue_less : (e : ExpressionData) (o : BinaryOperator) (place : Span) (ts us : List Token) → Begins (operator_spelling o place (ends_in_path e)) ts us → ends_in_path e ≡ true → after_glued less_sign ts ≡ None
-glue_less e Less place ts us b h = after_glued-apart less_sign (lexeme (Punctuation less_sign) (Some place) (apart_from_path (ends_in_path e))) [] ts us (ap apart_from_path h) b
-glue_less e ShiftLeft place ts us b h = after_glued-none less_sign ts (after_sign-first less_sign (operator_spelling ShiftLeft place (ends_in_path e)) ts us refl b)
-glue_less e ShiftRight place ts us b h = after_glued-none less_sign ts (after_sign-first less_sign (operator_spelling ShiftRight place (ends_in_path e)) ts us refl b)
-glue_less e Or place ts us b h = after_glued-none less_sign ts (after_sign-first less_sign (operator_spelling Or place (ends_in_path e)) ts us refl b)
-glue_less e And place ts us b h = after_glued-none less_sign ts (after_sign-first less_sign (operator_spelling And place (ends_in_path e)) ts us refl b)
-glue_less e equal_operator place ts us b h = after_glued-none less_sign ts (after_sign-first less_sign (operator_spelling equal_operator place (ends_in_path e)) ts us refl b)
-glue_less e NotEqual place ts us b h = after_glued-none less_sign ts (after_sign-first less_sign (operator_spelling NotEqual place (ends_in_path e)) ts us refl b)
-glue_less e LessEqual place ts us b h = after_glued-none less_sign ts (after_sign-first less_sign (operator_spelling LessEqual place (ends_in_path e)) ts us refl b)
-glue_less e Greater place ts us b h = after_glued-none less_sign ts (after_sign-first less_sign (operator_spelling Greater place (ends_in_path e)) ts us refl b)
-glue_less e GreaterEqual place ts us b h = after_glued-none less_sign ts (after_sign-first less_sign (operator_spelling GreaterEqual place (ends_in_path e)) ts us refl b)
-glue_less e BitOr place ts us b h = after_glued-none less_sign ts (after_sign-first less_sign (operator_spelling BitOr place (ends_in_path e)) ts us refl b)
-glue_less e BitXor place ts us b h = after_glued-none less_sign ts (after_sign-first less_sign (operator_spelling BitXor place (ends_in_path e)) ts us refl b)
-glue_less e BitAnd place ts us b h = after_glued-none less_sign ts (after_sign-first less_sign (operator_spelling BitAnd place (ends_in_path e)) ts us refl b)
-glue_less e Add place ts us b h = after_glued-none less_sign ts (after_sign-first less_sign (operator_spelling Add place (ends_in_path e)) ts us refl b)
-glue_less e Subtract place ts us b h = after_glued-none less_sign ts (after_sign-first less_sign (operator_spelling Subtract place (ends_in_path e)) ts us refl b)
-glue_less e Multiply place ts us b h = after_glued-none less_sign ts (after_sign-first less_sign (operator_spelling Multiply place (ends_in_path e)) ts us refl b)
-glue_less e Divide place ts us b h = after_glued-none less_sign ts (after_sign-first less_sign (operator_spelling Divide place (ends_in_path e)) ts us refl b)
-glue_less e Remainder place ts us b h = after_glued-none less_sign ts (after_sign-first less_sign (operator_spelling Remainder place (ends_in_path e)) ts us refl b)
+glue_less : (e : ExpressionData) (o : BinaryOperator) (span : Span) (ts us : List Token) → Begins (operator_spelling o span (ends_in_path e)) ts us → ends_in_path e ≡ true → after_glued less_sign ts ≡ None
+glue_less e Less span ts us b h = after_glued-apart less_sign (lexeme (Punctuation less_sign) (Some span) (apart_from_path (ends_in_path e))) [] ts us (ap apart_from_path h) b
+glue_less e ShiftLeft span ts us b h = after_glued-none less_sign ts (after_sign-first less_sign (operator_spelling ShiftLeft span (ends_in_path e)) ts us refl b)
+glue_less e ShiftRight span ts us b h = after_glued-none less_sign ts (after_sign-first less_sign (operator_spelling ShiftRight span (ends_in_path e)) ts us refl b)
+glue_less e Or span ts us b h = after_glued-none less_sign ts (after_sign-first less_sign (operator_spelling Or span (ends_in_path e)) ts us refl b)
+glue_less e And span ts us b h = after_glued-none less_sign ts (after_sign-first less_sign (operator_spelling And span (ends_in_path e)) ts us refl b)
+glue_less e equal_operator span ts us b h = after_glued-none less_sign ts (after_sign-first less_sign (operator_spelling equal_operator span (ends_in_path e)) ts us refl b)
+glue_less e NotEqual span ts us b h = after_glued-none less_sign ts (after_sign-first less_sign (operator_spelling NotEqual span (ends_in_path e)) ts us refl b)
+glue_less e LessEqual span ts us b h = after_glued-none less_sign ts (after_sign-first less_sign (operator_spelling LessEqual span (ends_in_path e)) ts us refl b)
+glue_less e Greater span ts us b h = after_glued-none less_sign ts (after_sign-first less_sign (operator_spelling Greater span (ends_in_path e)) ts us refl b)
+glue_less e GreaterEqual span ts us b h = after_glued-none less_sign ts (after_sign-first less_sign (operator_spelling GreaterEqual span (ends_in_path e)) ts us refl b)
+glue_less e BitOr span ts us b h = after_glued-none less_sign ts (after_sign-first less_sign (operator_spelling BitOr span (ends_in_path e)) ts us refl b)
+glue_less e BitXor span ts us b h = after_glued-none less_sign ts (after_sign-first less_sign (operator_spelling BitXor span (ends_in_path e)) ts us refl b)
+glue_less e BitAnd span ts us b h = after_glued-none less_sign ts (after_sign-first less_sign (operator_spelling BitAnd span (ends_in_path e)) ts us refl b)
+glue_less e Add span ts us b h = after_glued-none less_sign ts (after_sign-first less_sign (operator_spelling Add span (ends_in_path e)) ts us refl b)
+glue_less e Subtract span ts us b h = after_glued-none less_sign ts (after_sign-first less_sign (operator_spelling Subtract span (ends_in_path e)) ts us refl b)
+glue_less e Multiply span ts us b h = after_glued-none less_sign ts (after_sign-first less_sign (operator_spelling Multiply span (ends_in_path e)) ts us refl b)
+glue_less e Divide span ts us b h = after_glued-none less_sign ts (after_sign-first less_sign (operator_spelling Divide span (ends_in_path e)) ts us refl b)
+glue_less e Remainder span ts us b h = after_glued-none less_sign ts (after_sign-first less_sign (operator_spelling Remainder span (ends_in_path e)) ts us refl b)
 
 -- no `<` follows the word `vector`
-vector_less : (e : ExpressionData) (o : BinaryOperator) (place : Span) (ts us : List Token) → Begins (operator_spelling o place (ends_in_path e)) ts us → MayStandBefore o e → ends_in_vector e ≡ true → after_sign less_sign ts ≡ None
-vector_less e Less place ts us b m h = differs (sym h ∙ ends_in_vector-complete e m)
-vector_less e ShiftLeft place ts us b m h = after_sign-first less_sign (operator_spelling ShiftLeft place (ends_in_path e)) ts us refl b
-vector_less e ShiftRight place ts us b m h = after_sign-first less_sign (operator_spelling ShiftRight place (ends_in_path e)) ts us refl b
-vector_less e Or place ts us b m h = after_sign-first less_sign (operator_spelling Or place (ends_in_path e)) ts us refl b
-vector_less e And place ts us b m h = after_sign-first less_sign (operator_spelling And place (ends_in_path e)) ts us refl b
-vector_less e equal_operator place ts us b m h = after_sign-first less_sign (operator_spelling equal_operator place (ends_in_path e)) ts us refl b
-vector_less e NotEqual place ts us b m h = after_sign-first less_sign (operator_spelling NotEqual place (ends_in_path e)) ts us refl b
-vector_less e LessEqual place ts us b m h = after_sign-first less_sign (operator_spelling LessEqual place (ends_in_path e)) ts us refl b
-vector_less e Greater place ts us b m h = after_sign-first less_sign (operator_spelling Greater place (ends_in_path e)) ts us refl b
-vector_less e GreaterEqual place ts us b m h = after_sign-first less_sign (operator_spelling GreaterEqual place (ends_in_path e)) ts us refl b
-vector_less e BitOr place ts us b m h = after_sign-first less_sign (operator_spelling BitOr place (ends_in_path e)) ts us refl b
-vector_less e BitXor place ts us b m h = after_sign-first less_sign (operator_spelling BitXor place (ends_in_path e)) ts us refl b
-vector_less e BitAnd place ts us b m h = after_sign-first less_sign (operator_spelling BitAnd place (ends_in_path e)) ts us refl b
-vector_less e Add place ts us b m h = after_sign-first less_sign (operator_spelling Add place (ends_in_path e)) ts us refl b
-vector_less e Subtract place ts us b m h = after_sign-first less_sign (operator_spelling Subtract place (ends_in_path e)) ts us refl b
-vector_less e Multiply place ts us b m h = after_sign-first less_sign (operator_spelling Multiply place (ends_in_path e)) ts us refl b
-vector_less e Divide place ts us b m h = after_sign-first less_sign (operator_spelling Divide place (ends_in_path e)) ts us refl b
-vector_less e Remainder place ts us b m h = after_sign-first less_sign (operator_spelling Remainder place (ends_in_path e)) ts us refl b
+vector_less : (e : ExpressionData) (o : BinaryOperator) (span : Span) (ts us : List Token) → Begins (operator_spelling o span (ends_in_path e)) ts us → MayPrecede o e → ends_in_vector e ≡ true → after_sign less_sign ts ≡ None
+vector_less e Less span ts us b m h = differs (sym h ∙ ends_in_vector-complete e m)
+vector_less e ShiftLeft span ts us b m h = after_sign-first less_sign (operator_spelling ShiftLeft span (ends_in_path e)) ts us refl b
+vector_less e ShiftRight span ts us b m h = after_sign-first less_sign (operator_spelling ShiftRight span (ends_in_path e)) ts us refl b
+vector_less e Or span ts us b m h = after_sign-first less_sign (operator_spelling Or span (ends_in_path e)) ts us refl b
+vector_less e And span ts us b m h = after_sign-first less_sign (operator_spelling And span (ends_in_path e)) ts us refl b
+vector_less e equal_operator span ts us b m h = after_sign-first less_sign (operator_spelling equal_operator span (ends_in_path e)) ts us refl b
+vector_less e NotEqual span ts us b m h = after_sign-first less_sign (operator_spelling NotEqual span (ends_in_path e)) ts us refl b
+vector_less e LessEqual span ts us b m h = after_sign-first less_sign (operator_spelling LessEqual span (ends_in_path e)) ts us refl b
+vector_less e Greater span ts us b m h = after_sign-first less_sign (operator_spelling Greater span (ends_in_path e)) ts us refl b
+vector_less e GreaterEqual span ts us b m h = after_sign-first less_sign (operator_spelling GreaterEqual span (ends_in_path e)) ts us refl b
+vector_less e BitOr span ts us b m h = after_sign-first less_sign (operator_spelling BitOr span (ends_in_path e)) ts us refl b
+vector_less e BitXor span ts us b m h = after_sign-first less_sign (operator_spelling BitXor span (ends_in_path e)) ts us refl b
+vector_less e BitAnd span ts us b m h = after_sign-first less_sign (operator_spelling BitAnd span (ends_in_path e)) ts us refl b
+vector_less e Add span ts us b m h = after_sign-first less_sign (operator_spelling Add span (ends_in_path e)) ts us refl b
+vector_less e Subtract span ts us b m h = after_sign-first less_sign (operator_spelling Subtract span (ends_in_path e)) ts us refl b
+vector_less e Multiply span ts us b m h = after_sign-first less_sign (operator_spelling Multiply span (ends_in_path e)) ts us refl b
+vector_less e Divide span ts us b m h = after_sign-first less_sign (operator_spelling Divide span (ends_in_path e)) ts us refl b
+vector_less e Remainder span ts us b m h = after_sign-first less_sign (operator_spelling Remainder span (ends_in_path e)) ts us refl b
 
 -- an operand ends before an operator that can follow it
-pub operator_ends : (e : ExpressionData) (o : BinaryOperator) (place : Span) (ts us : List Token) → Begins (operator_spelling o place (ends_in_path e)) ts us → MayStandBefore o e → OperandEnds e ts
-operator_ends e o place ts us b m = record {
+pub operator_ends : (e : ExpressionData) (o : BinaryOperator) (span : Span) (ts us : List Token) → Begins (operator_spelling o span (ends_in_path e)) ts us → MayPrecede o e → OperandEnds e ts
+operator_ends e o span ts us b m = record {
   term = record {
     quiet = record {
-      colons = no_such_sign e o place ts us b ColonColon refl;
-      parenthesis = no_such_sign e o place ts us b LeftParenthesis refl;
-      brace = no_such_sign e o place ts us b LeftBrace refl;
-      bracket = no_such_sign e o place ts us b LeftBracket refl;
-      exclaim = no_such_sign e o place ts us b Exclaim refl;
+      colons = no_such_sign e o span ts us b ColonColon refl;
+      parenthesis = no_such_sign e o span ts us b LeftParenthesis refl;
+      brace = no_such_sign e o span ts us b LeftBrace refl;
+      bracket = no_such_sign e o span ts us b LeftBracket refl;
+      exclaim = no_such_sign e o span ts us b Exclaim refl;
     };
-    glue = glue_less e o place ts us b;
-    vector = vector_less e o place ts us b m;
+    glue = glue_less e o span ts us b;
+    vector = vector_less e o span ts us b m;
   };
-  period = no_such_sign e o place ts us b Period refl;
+  period = no_such_sign e o span ts us b Period refl;
 }
 
-may_stand_right : (o : BinaryOperator) (l : ExpressionData) (p : BinaryOperator) (place : Span) (r : ExpressionData) → MayStandBefore o (BinaryExpression l p place r) → MayStandBefore o r
-may_stand_right Less l p place r m = m
-may_stand_right _ l p place r m = tt
+may_stand_right : (o : BinaryOperator) (l : ExpressionData) (p : BinaryOperator) (span : Span) (r : ExpressionData) → MayPrecede o (BinaryExpression l p span r) → MayPrecede o r
+may_stand_right Less l p span r m = m
+may_stand_right _ l p span r m = tt
 
 -- the right operand of an operator ends before a looser one
-pub operator_follows : (l : ExpressionData) (o : BinaryOperator × Span) (r : ExpressionData) (p : BinaryOperator × Span) (ts us : List Token) → Begins (operator_spelling p.0 p.1 (ends_in_path (BinaryExpression l o.0 o.1 r))) ts us → MayStandBefore p.0 (BinaryExpression l o.0 o.1 r)
+pub operator_follows : (l : ExpressionData) (o : BinaryOperator × Span) (r : ExpressionData) (p : BinaryOperator × Span) (ts us : List Token) → Begins (operator_spelling p.0 p.1 (ends_in_path (BinaryExpression l o.0 o.1 r))) ts us → MayPrecede p.0 (BinaryExpression l o.0 o.1 r)
     → after_glued greater_sign us ≡ None → operator_level p.0 < right_level o.0 → IsProperExpression r → right_level o.0 ≤ level r → Follows (right_level o.0) r ts
 unfolding next_operator
 operator_follows l o r p ts us b m g h e k = record {

@@ -5,8 +5,8 @@ use Rattle.tokens.specs.declared.token.TokenKind.{TokenKind}
 use Rattle.tokens.specs.declared.token.Punctuation.{Punctuation as Sign}
 use Rattle.syntax_tree.specs.declared.lexeme.Lexeme.{Lexeme}
 use Rattle.parser_base.specs.Beginnings.{Begins}
-use Rattle.parser_base.specs.TokenReading.{is_sign, is_word, after_sign, sign_place_at, after_word, word_place_at, name_of, identifier_at}
-use Rattle.parser_base.proofs.TokenLemmas.{after_sign-other, sign_place_at-other, after_word-other, word_place_at-other, identifier_at-other}
+use Rattle.parser_base.specs.TokenReading.{is_sign, is_word, after_sign, sign_span_at, after_word, word_span_at, name_of, identifier_at}
+use Rattle.parser_base.proofs.TokenLemmas.{after_sign-other, sign_span_at-other, after_word-other, word_span_at-other, identifier_at-other}
 
 -- there is a first token, and it satisfies the condition
 abbrev pub First : (TokenKind → Type 0) → List Lexeme → Type 0
@@ -29,17 +29,17 @@ pub after_sign-first : (s : Sign) (ls : List Lexeme) (ts rest : List Token) → 
 after_sign-first s [] ts rest f b = absurd f
 after_sign-first s (l ∷ ls) ts rest f b = after_sign-other s l ls ts rest f b
 
-pub sign_place_at-first : (s : Sign) (ls : List Lexeme) (ts rest : List Token) → First (λ k. is_sign s k ≡ false) ls → Begins ls ts rest → sign_place_at s ts ≡ None
-sign_place_at-first s [] ts rest f b = absurd f
-sign_place_at-first s (l ∷ ls) ts rest f b = sign_place_at-other s l ls ts rest f b
+pub sign_span_at-first : (s : Sign) (ls : List Lexeme) (ts rest : List Token) → First (λ k. is_sign s k ≡ false) ls → Begins ls ts rest → sign_span_at s ts ≡ None
+sign_span_at-first s [] ts rest f b = absurd f
+sign_span_at-first s (l ∷ ls) ts rest f b = sign_span_at-other s l ls ts rest f b
 
 pub after_word-first : (w : List ℕ) (ls : List Lexeme) (ts rest : List Token) → First (λ k. is_word w k ≡ false) ls → Begins ls ts rest → after_word w ts ≡ None
 after_word-first w [] ts rest f b = absurd f
 after_word-first w (l ∷ ls) ts rest f b = after_word-other w l ls ts rest f b
 
-pub word_place_at-first : (w : List ℕ) (ls : List Lexeme) (ts rest : List Token) → First (λ k. is_word w k ≡ false) ls → Begins ls ts rest → word_place_at w ts ≡ None
-word_place_at-first w [] ts rest f b = absurd f
-word_place_at-first w (l ∷ ls) ts rest f b = word_place_at-other w l ls ts rest f b
+pub word_span_at-first : (w : List ℕ) (ls : List Lexeme) (ts rest : List Token) → First (λ k. is_word w k ≡ false) ls → Begins ls ts rest → word_span_at w ts ≡ None
+word_span_at-first w [] ts rest f b = absurd f
+word_span_at-first w (l ∷ ls) ts rest f b = word_span_at-other w l ls ts rest f b
 
 pub identifier_at-first : (ls : List Lexeme) (ts rest : List Token) → First (λ k. name_of k ≡ None) ls → Begins ls ts rest → identifier_at ts ≡ None
 identifier_at-first [] ts rest f b = absurd f

@@ -15,7 +15,7 @@ use Rattle.syntax_tree.specs.declared.spec_tokens.KeptSpec.{KeptSpec}
 use Rattle.syntax_tree.specs.Lexemes.{AreTokens, IsToken, sign, word}
 use Rattle.syntax_tree.specs.SpecTokenSpelling.{kept, kept_spelling}
 use Rattle.syntax_tree.specs.KeptSpecs.{block_form, IsNoBrace, IsMemberSpec, IsLoopSpec}
-use Rattle.syntax_tree.specs.Balance.{wanted_behind, wanted_after}
+use Rattle.syntax_tree.specs.Balance.{expected_after, wanted_after}
 use Rattle.parser_base.specs.Beginnings.{Begins}
 use Rattle.parser_base.specs.TokenReading.{is_sign, after_sign, after_word}
 use Rattle.parser_base.specs.BalanceReading.{balanced_end}
@@ -55,7 +55,7 @@ head_end-sound wanted (t ∷ ts) rest e =
           let o = if_read (is_none_open wanted) _ rest h.1 in
           record { head = []; spelled = (record { kind = is_sign-sound LeftBrace t.kind h.0; placed = tt; glued = tt }, some_one ts rest o.1); balanced = ap Some (none_open-sound wanted o.0); no_brace = tt }
       | inr h ↦
-          let w = step (wanted_behind (Some wanted) t.kind) _ rest h.1 in
+          let w = step (expected_after (Some wanted) t.kind) _ rest h.1 in
           let more = head_end-sound w.value ts rest w.then in
           record {
             head = t ∷ more.head;
@@ -84,10 +84,10 @@ head_end-complete wanted [] (t ∷ ts) rest b e n =
     cond_true (is_sign LeftBrace t.kind) _ _ (ap (is_sign LeftBrace) b.0.kind ∙ is_sign-same LeftBrace) ∙ cond_true (is_none_open wanted) (Some ts) None (ap is_none_open (some_one wanted [] e)) ∙ ap Some b.1
 head_end-complete wanted (k ∷ ks) [] rest b e n = absurd b
 head_end-complete wanted (k ∷ ks) (t ∷ ts) rest b e n =
-    let e2 = ap (λ kind. wanted_after (wanted_behind (Some wanted) kind) ks) b.0.kind ∙ e in
+    let e2 = ap (λ kind. wanted_after (expected_after (Some wanted) kind) ks) b.0.kind ∙ e in
     cond_false (is_sign LeftBrace t.kind) _ _ (ap (is_sign LeftBrace) b.0.kind ∙ no_brace-complete k.kind n.0)
-    ∙ some_wanted wanted t.kind ks e2 (wanted_behind (Some wanted) t.kind) refl _ (λ w is.
-    bind_some (wanted_behind (Some wanted) t.kind) _ w is
+    ∙ some_wanted wanted t.kind ks e2 (expected_after (Some wanted) t.kind) refl _ (λ w is.
+    bind_some (expected_after (Some wanted) t.kind) _ w is
     ∙ head_end-complete w ks ts rest b.1 (sym (ap (λ o. wanted_after o ks) is) ∙ e2) n.1)
 
 -- ---- the tokens before the remaining ones
@@ -195,17 +195,17 @@ loop_spec_at-complete spec ts rest b p =
 
 -- a kept block begins with the word `spec`, at some span
 pub record WordFirst (ts rest : List Token) : Type 0 where
-  pub place : Span
+  pub span : Span
   pub behind : List Token
   pub more : List Lexeme
-  pub first : Begins (word (codes "spec") (Some place) ∷ []) ts behind
-  pub whole : Begins (word (codes "spec") (Some place) ∷ more) ts rest
+  pub first : Begins (word (codes "spec") (Some span) ∷ []) ts behind
+  pub whole : Begins (word (codes "spec") (Some span) ∷ more) ts rest
 
 word_first : (ls : List Lexeme) (ts rest : List Token) → Begins (word (codes "spec") None ∷ ls) ts rest → WordFirst ts rest
 word_first ls [] rest b = absurd b
 word_first ls (t ∷ ts) rest b =
     let i : IsToken t (word (codes "spec") (Some t.span)) = record { kind = b.0.kind; placed = refl; glued = tt } in
-    record { place = t.span; behind = ts; more = ls; first = (i, refl); whole = (i, b.1) }
+    record { span = t.span; behind = ts; more = ls; first = (i, refl); whole = (i, b.1) }
 
 pub member_spec_first : (spec : KeptSpec) (ts rest : List Token) → Begins (kept_spelling spec) ts rest → IsMemberSpec spec → WordFirst ts rest
 member_spec_first spec ts rest b p = word_first ((map kept p.head ++ sign LeftBrace ∷ []) ++ (map kept p.body ++ sign RightBrace ∷ [])) ts rest (kept_begins (block_form p.head p.body) spec.tokens ts rest p.tokens b)
@@ -236,27 +236,27 @@ loop_spec_shorter ts head body rest a h b =
 turn : List Token → Bool → Bool → Option (List Sign) → Option (List Token)
 turn rest brace none more = cond brace (cond none (Some rest) None) (option_and_then (λ w. head_end w rest) more)
 
-head_end-turn : (wanted : List Sign) (ts : List Token) (t : Token) (rest : List Token) (brace none : Bool) (more : Option (List Sign)) → ts ≡ t ∷ rest → is_sign LeftBrace t.kind ≡ brace → is_none_open wanted ≡ none → wanted_behind (Some wanted) t.kind ≡ more → head_end wanted ts ≡ turn rest brace none more
+head_end-turn : (wanted : List Sign) (ts : List Token) (t : Token) (rest : List Token) (brace none : Bool) (more : Option (List Sign)) → ts ≡ t ∷ rest → is_sign LeftBrace t.kind ≡ brace → is_none_open wanted ≡ none → expected_after (Some wanted) t.kind ≡ more → head_end wanted ts ≡ turn rest brace none more
 unfolding head_end turn
 head_end-turn wanted ts t rest brace none more e h n m =
-    ap (head_end wanted) e ∙ ap (λ b. cond b (cond (is_none_open wanted) (Some rest) None) (option_and_then (λ w. head_end w rest) (wanted_behind (Some wanted) t.kind))) h
-    ∙ ap (λ b. cond brace (cond b (Some rest) None) (option_and_then (λ w. head_end w rest) (wanted_behind (Some wanted) t.kind))) n
+    ap (head_end wanted) e ∙ ap (λ b. cond b (cond (is_none_open wanted) (Some rest) None) (option_and_then (λ w. head_end w rest) (expected_after (Some wanted) t.kind))) h
+    ∙ ap (λ b. cond brace (cond b (Some rest) None) (option_and_then (λ w. head_end w rest) (expected_after (Some wanted) t.kind))) n
     ∙ ap (λ o. cond brace (cond none (Some rest) None) (option_and_then (λ w. head_end w rest) o)) m
 
 pub heading_ends : (all : Option (List Token)) (wanted : List Sign) (ts : List Token) (t : Token) (rest : List Token) → all ≡ head_end wanted ts → ts ≡ t ∷ rest → is_sign LeftBrace t.kind ≡ true → is_none_open wanted ≡ true → all ≡ Some rest
 unfolding turn
-heading_ends all wanted ts t rest before e h n = before ∙ head_end-turn wanted ts t rest true true (wanted_behind (Some wanted) t.kind) e h n refl
+heading_ends all wanted ts t rest before e h n = before ∙ head_end-turn wanted ts t rest true true (expected_after (Some wanted) t.kind) e h n refl
 
 pub heading_is_open : (all : Option (List Token)) (wanted : List Sign) (ts : List Token) (t : Token) (rest : List Token) → all ≡ head_end wanted ts → ts ≡ t ∷ rest → is_sign LeftBrace t.kind ≡ true → is_none_open wanted ≡ false → all ≡ None
 unfolding turn
-heading_is_open all wanted ts t rest before e h n = before ∙ head_end-turn wanted ts t rest true false (wanted_behind (Some wanted) t.kind) e h n refl
+heading_is_open all wanted ts t rest before e h n = before ∙ head_end-turn wanted ts t rest true false (expected_after (Some wanted) t.kind) e h n refl
 
-pub heading_fails : (all : Option (List Token)) (wanted : List Sign) (ts : List Token) (t : Token) (rest : List Token) → all ≡ head_end wanted ts → ts ≡ t ∷ rest → is_sign LeftBrace t.kind ≡ false → wanted_behind (Some wanted) t.kind ≡ None → all ≡ None
+pub heading_fails : (all : Option (List Token)) (wanted : List Sign) (ts : List Token) (t : Token) (rest : List Token) → all ≡ head_end wanted ts → ts ≡ t ∷ rest → is_sign LeftBrace t.kind ≡ false → expected_after (Some wanted) t.kind ≡ None → all ≡ None
 unfolding turn
 heading_fails all wanted ts t rest before e h m = before ∙ head_end-turn wanted ts t rest false (is_none_open wanted) None e h refl m
 
 pub heading_goes_on : (all : Option (List Token)) (wanted next : List Sign) (ts : List Token) (t : Token) (rest : List Token) → all ≡ head_end wanted ts → ts ≡ t ∷ rest → is_sign LeftBrace t.kind ≡ false
-    → wanted_behind (Some wanted) t.kind ≡ Some next → all ≡ head_end next rest
+    → expected_after (Some wanted) t.kind ≡ Some next → all ≡ head_end next rest
 unfolding turn
 heading_goes_on all wanted next ts t rest before e h m = before ∙ head_end-turn wanted ts t rest false (is_none_open wanted) (Some next) e h refl m
 

@@ -76,21 +76,21 @@ BeginsExpression k = begins_expression k ≡ true
 
 literal_first : (l : Literal) → First BeginsExpression (literal_spelling l)
 literal_first (number_literal n) = refl
-literal_first (truth_literal place true) = refl
-literal_first (truth_literal place false) = refl
-literal_first (address_literal place a) = refl
+literal_first (truth_literal span true) = refl
+literal_first (truth_literal span false) = refl
+literal_first (address_literal span a) = refl
 
 pub expression_first : (role : Role) (e : ExpressionData) → IsProperAs role e → First BeginsExpression (expression_spelling e)
-expression_first role (BinaryExpression l o place r) p =
-    First-append BeginsExpression (expression_spelling l ++ operator_spelling o place (ends_in_path l)) (expression_spelling r)
-    (First-append BeginsExpression (expression_spelling l) (operator_spelling o place (ends_in_path l)) (expression_first _ l p.0))
-expression_first role (AssignExpression target place value) p = First-append BeginsExpression (expression_spelling target) _ (expression_first _ target p.0)
-expression_first role (UnaryExpression Not place e) p = refl
-expression_first role (UnaryExpression Dereference place e) p = refl
-expression_first role (UnaryExpression Borrow place e) p = refl
-expression_first role (UnaryExpression BorrowMutable place e) p = refl
-expression_first role (UseExpression Move place local) p = refl
-expression_first role (UseExpression Copy place local) p = refl
+expression_first role (BinaryExpression l o span r) p =
+    First-append BeginsExpression (expression_spelling l ++ operator_spelling o span (ends_in_path l)) (expression_spelling r)
+    (First-append BeginsExpression (expression_spelling l) (operator_spelling o span (ends_in_path l)) (expression_first _ l p.0))
+expression_first role (AssignExpression target span value) p = First-append BeginsExpression (expression_spelling target) _ (expression_first _ target p.0)
+expression_first role (UnaryExpression Not span e) p = refl
+expression_first role (UnaryExpression Dereference span e) p = refl
+expression_first role (UnaryExpression Borrow span e) p = refl
+expression_first role (UnaryExpression BorrowMutable span e) p = refl
+expression_first role (UseExpression Move span local) p = refl
+expression_first role (UseExpression Copy span local) p = refl
 expression_first role (FieldExpression base field) p = First-append BeginsExpression (expression_spelling base) _ (expression_first _ base p.0)
 expression_first role (LiteralExpression l) p = literal_first l
 expression_first role (PathExpression path) p = path_first BeginsExpression path (λ literal. refl) name_begins p
@@ -102,9 +102,9 @@ expression_first role (PackExpression path given fields last) p =
     First-append BeginsExpression ((path_spelling path ++ maybe_arguments_spelling (Some true) given) ++ sign LeftBrace ∷ comma_list (field_value_spellings fields) last) (sign RightBrace ∷ [])
     (First-append BeginsExpression (path_spelling path ++ maybe_arguments_spelling (Some true) given) (sign LeftBrace ∷ comma_list (field_value_spellings fields) last)
     (First-append BeginsExpression (path_spelling path) (maybe_arguments_spelling (Some true) given) (path_first BeginsExpression path (λ literal. refl) name_begins p.0)))
-expression_first role (VectorExpression place given items last) p = vector_begins
-expression_first role (AssertExpression place condition code) p = assert_begins
-expression_first role (BlockExpression (BlockOf place spec items value)) p = refl
+expression_first role (VectorExpression span given items last) p = vector_begins
+expression_first role (AssertExpression span condition code) p = assert_begins
+expression_first role (BlockExpression (BlockOf span spec items value)) p = refl
 expression_first role _ p = refl
 
 -- ---- tokens that begin no expression
@@ -131,12 +131,12 @@ expression_no_sign s e role x ts rest b p = after_sign-first s (expression_spell
 
 -- an expression of a level above 0 takes no `else`
 pub high_no_else : (e : ExpressionData) → 1 ≤ level e → takes_else e ≡ false
-high_no_else (AssignExpression target place value) h = absurd (omega (arith, h))
-high_no_else (IfExpression place x y z) h = absurd (omega (arith, h))
-high_no_else (WhileExpression place x y) h = absurd (omega (arith, h))
-high_no_else (LoopExpression place x) h = absurd (omega (arith, h))
-high_no_else (ReturnExpression place x) h = absurd (omega (arith, h))
-high_no_else (AbortExpression place x) h = absurd (omega (arith, h))
+high_no_else (AssignExpression target span value) h = absurd (omega (arith, h))
+high_no_else (IfExpression span x y z) h = absurd (omega (arith, h))
+high_no_else (WhileExpression span x y) h = absurd (omega (arith, h))
+high_no_else (LoopExpression span x) h = absurd (omega (arith, h))
+high_no_else (ReturnExpression span x) h = absurd (omega (arith, h))
+high_no_else (AbortExpression span x) h = absurd (omega (arith, h))
 high_no_else _ h = refl
 
 -- ---- the first tokens of terms and operands
@@ -162,22 +162,22 @@ assert_begins_term = refl
 
 literal_first_term : (l : Literal) → First BeginsTerm (literal_spelling l)
 literal_first_term (number_literal n) = refl
-literal_first_term (truth_literal place true) = refl
-literal_first_term (truth_literal place false) = refl
-literal_first_term (address_literal place a) = refl
+literal_first_term (truth_literal span true) = refl
+literal_first_term (truth_literal span false) = refl
+literal_first_term (address_literal span a) = refl
 
 pub term_first : (e : ExpressionData) → term_level ≤ level e → IsProperExpression e → First BeginsTerm (expression_spelling e)
-term_first (AssignExpression target place value) h p = absurd (omega (arith, h))
-term_first (IfExpression place x y z) h p = absurd (omega (arith, h))
-term_first (WhileExpression place x y) h p = absurd (omega (arith, h))
-term_first (LoopExpression place x) h p = absurd (omega (arith, h))
-term_first (ReturnExpression place x) h p = absurd (omega (arith, h))
-term_first (AbortExpression place x) h p = absurd (omega (arith, h))
-term_first (BreakExpression place) h p = absurd (omega (arith, h))
-term_first (ContinueExpression place) h p = absurd (omega (arith, h))
-term_first (UnaryExpression o place x) h p = absurd (omega (arith, h))
-term_first (UseExpression k place local) h p = absurd (omega (arith, h))
-term_first (BinaryExpression l o place r) h p = absurd (omega (arith, h, level_small o))
+term_first (AssignExpression target span value) h p = absurd (omega (arith, h))
+term_first (IfExpression span x y z) h p = absurd (omega (arith, h))
+term_first (WhileExpression span x y) h p = absurd (omega (arith, h))
+term_first (LoopExpression span x) h p = absurd (omega (arith, h))
+term_first (ReturnExpression span x) h p = absurd (omega (arith, h))
+term_first (AbortExpression span x) h p = absurd (omega (arith, h))
+term_first (BreakExpression span) h p = absurd (omega (arith, h))
+term_first (ContinueExpression span) h p = absurd (omega (arith, h))
+term_first (UnaryExpression o span x) h p = absurd (omega (arith, h))
+term_first (UseExpression k span local) h p = absurd (omega (arith, h))
+term_first (BinaryExpression l o span r) h p = absurd (omega (arith, h, level_small o))
 term_first (FieldExpression base field) h p = First-append BeginsTerm (expression_spelling base) (sign Period ∷ identifier field ∷ []) (term_first base p.1 p.0)
 term_first (LiteralExpression l) h p = literal_first_term l
 term_first (PathExpression path) h p = path_first BeginsTerm path (λ literal. refl) name_begins_term p
@@ -189,11 +189,11 @@ term_first (PackExpression path given fields last) h p =
     First-append BeginsTerm ((path_spelling path ++ maybe_arguments_spelling (Some true) given) ++ sign LeftBrace ∷ comma_list (field_value_spellings fields) last) (sign RightBrace ∷ [])
     (First-append BeginsTerm (path_spelling path ++ maybe_arguments_spelling (Some true) given) (sign LeftBrace ∷ comma_list (field_value_spellings fields) last)
     (First-append BeginsTerm (path_spelling path) (maybe_arguments_spelling (Some true) given) (path_first BeginsTerm path (λ literal. refl) name_begins_term p.0)))
-term_first (VectorExpression place given items last) h p = vector_begins_term
-term_first (AssertExpression place condition code) h p = assert_begins_term
-term_first (TupleExpression place items last) h p = refl
-term_first (CastExpression place value target) h p = refl
-term_first (BlockExpression (BlockOf place spec items value)) h p = refl
+term_first (VectorExpression span given items last) h p = vector_begins_term
+term_first (AssertExpression span condition code) h p = assert_begins_term
+term_first (TupleExpression span items last) h p = refl
+term_first (CastExpression span value target) h p = refl
+term_first (BlockExpression (BlockOf span spec items value)) h p = refl
 
 pub term_no_sign : (s : Sign) → begins_term (Punctuation s) ≡ false → (k : TokenKind) → BeginsTerm k → is_sign s k ≡ false
 term_no_sign s e k b = go (is_sign s k) refl

@@ -15,7 +15,7 @@ use Rattle.syntax_tree.specs.Lexemes.{Says}
 use Rattle.syntax_tree.specs.OperatorSpelling.{sign_of, apart_from_path, operator_spelling}
 use Rattle.syntax_tree.specs.ExpressionData.{ExpressionData, BinaryExpression, UnaryExpression, PathExpression}
 use Rattle.syntax_tree.specs.ExpressionSpelling.{expression_spelling, ends_in_path}
-use Rattle.syntax_tree.specs.ProperExpressions.{operator_level, left_level, right_level, level, unary_level, EndsInOther, MayStandBefore, IsProperExpression}
+use Rattle.syntax_tree.specs.ProperExpressions.{operator_level, left_level, right_level, level, unary_level, EndsInOther, MayPrecede, IsProperExpression}
 use Rattle.parser_base.specs.Beginnings.{Begins}
 use Rattle.parser_base.specs.TokenReading.{Read}
 use Rattle.parser_base.specs.ChainReading.{next_operator}
@@ -30,14 +30,14 @@ use Rattle.parser_base.proofs.LeafLemmas.{after_glued-sound, after_glued-complet
 
 pub ends_in_vector-sound : (e : ExpressionData) → ends_in_vector e ≡ false → EndsInOther e
 ends_in_vector-sound (PathExpression path) h = is_single-sound (codes "vector") path h
-ends_in_vector-sound (BinaryExpression left operator place right) h = ends_in_vector-sound right h
-ends_in_vector-sound (UnaryExpression operator place operand) h = ends_in_vector-sound operand h
+ends_in_vector-sound (BinaryExpression left operator span right) h = ends_in_vector-sound right h
+ends_in_vector-sound (UnaryExpression operator span operand) h = ends_in_vector-sound operand h
 ends_in_vector-sound _ h = tt
 
 pub ends_in_vector-complete : (e : ExpressionData) → EndsInOther e → ends_in_vector e ≡ false
 ends_in_vector-complete (PathExpression path) h = is_single-complete (codes "vector") path h
-ends_in_vector-complete (BinaryExpression left operator place right) h = ends_in_vector-complete right h
-ends_in_vector-complete (UnaryExpression operator place operand) h = ends_in_vector-complete operand h
+ends_in_vector-complete (BinaryExpression left operator span right) h = ends_in_vector-complete right h
+ends_in_vector-complete (UnaryExpression operator span operand) h = ends_in_vector-complete operand h
 ends_in_vector-complete _ h = refl
 
 -- ---- the operator that a sign begins
@@ -88,25 +88,25 @@ apart true glued e = e
 apart false glued e = tt
 
 by_operator : (l : ExpressionData) (o : BinaryOperator) (t : Token) (ts : List Token) → FirstOf t.kind o → opens_arguments o l t.glued ≡ false → (q : (BinaryOperator × Span) × List Token) → whole_operator o t.span ts ≡ q
-    → Begins (operator_spelling q.0.0 q.0.1 (ends_in_path l)) (t ∷ ts) q.1 × MayStandBefore q.0.0 l
+    → Begins (operator_spelling q.0.0 q.0.1 (ends_in_path l)) (t ∷ ts) q.1 × MayPrecede q.0.0 l
 by_operator l Less t ts f h q e =
     let n = neither (ends_in_path l && t.glued) (ends_in_vector l) h in
-    subst (λ q. Begins (operator_spelling q.0.0 q.0.1 (ends_in_path l)) (t ∷ ts) q.1 × MayStandBefore q.0.0 l) e
+    subst (λ q. Begins (operator_spelling q.0.0 q.0.1 (ends_in_path l)) (t ∷ ts) q.1 × MayPrecede q.0.0 l) e
     ((record { kind = f.is; placed = refl; glued = apart (ends_in_path l) t.glued n.0 }, refl), ends_in_vector-sound l n.1)
 by_operator l ShiftLeft t ts f h q e =
-    subst (λ q. Begins (operator_spelling q.0.0 q.0.1 (ends_in_path l)) (t ∷ ts) q.1 × MayStandBefore q.0.0 l) e
+    subst (λ q. Begins (operator_spelling q.0.0 q.0.1 (ends_in_path l)) (t ∷ ts) q.1 × MayPrecede q.0.0 l) e
     ((record { kind = f.is; placed = refl; glued = apart (ends_in_path l) t.glued h }, refl), tt)
 by_operator l ShiftRight t ts f h q e = absurd f.first
 by_operator l Greater t ts f h q e = go (after_glued greater_sign ts) refl e
   where
-    go : (o : Option (List Token)) → after_glued greater_sign ts ≡ o → option_map_or (λ rest. ((ShiftRight, t.span), rest)) o ((Greater, t.span), ts) ≡ q → Begins (operator_spelling q.0.0 q.0.1 (ends_in_path l)) (t ∷ ts) q.1 × MayStandBefore q.0.0 l
+    go : (o : Option (List Token)) → after_glued greater_sign ts ≡ o → option_map_or (λ rest. ((ShiftRight, t.span), rest)) o ((Greater, t.span), ts) ≡ q → Begins (operator_spelling q.0.0 q.0.1 (ends_in_path l)) (t ∷ ts) q.1 × MayPrecede q.0.0 l
     go (Some rest) is e =
-        subst (λ q. Begins (operator_spelling q.0.0 q.0.1 (ends_in_path l)) (t ∷ ts) q.1 × MayStandBefore q.0.0 l) e
+        subst (λ q. Begins (operator_spelling q.0.0 q.0.1 (ends_in_path l)) (t ∷ ts) q.1 × MayPrecede q.0.0 l) e
         ((record { kind = f.is; placed = refl; glued = tt }, after_glued-sound greater_sign ts rest is), tt)
-    go None is e = subst (λ q. Begins (operator_spelling q.0.0 q.0.1 (ends_in_path l)) (t ∷ ts) q.1 × MayStandBefore q.0.0 l) e ((record { kind = f.is; placed = refl; glued = tt }, refl), tt)
-by_operator l _ t ts f h q e = subst (λ q. Begins (operator_spelling q.0.0 q.0.1 (ends_in_path l)) (t ∷ ts) q.1 × MayStandBefore q.0.0 l) e ((record { kind = f.is; placed = refl; glued = tt }, refl), tt)
+    go None is e = subst (λ q. Begins (operator_spelling q.0.0 q.0.1 (ends_in_path l)) (t ∷ ts) q.1 × MayPrecede q.0.0 l) e ((record { kind = f.is; placed = refl; glued = tt }, refl), tt)
+by_operator l _ t ts f h q e = subst (λ q. Begins (operator_spelling q.0.0 q.0.1 (ends_in_path l)) (t ∷ ts) q.1 × MayPrecede q.0.0 l) e ((record { kind = f.is; placed = refl; glued = tt }, refl), tt)
 
-pub operator_behind-sound : (l : ExpressionData) (ts : List Token) (q : (BinaryOperator × Span) × List Token) → operator_behind l ts ≡ Some q → Begins (operator_spelling q.0.0 q.0.1 (ends_in_path l)) ts q.1 × MayStandBefore q.0.0 l
+pub operator_behind-sound : (l : ExpressionData) (ts : List Token) (q : (BinaryOperator × Span) × List Token) → operator_behind l ts ≡ Some q → Begins (operator_spelling q.0.0 q.0.1 (ends_in_path l)) ts q.1 × MayPrecede q.0.0 l
 unfolding operator_behind
 operator_behind-sound l [] q e = absurd (cc)
 operator_behind-sound l (t ∷ ts) q e =
@@ -130,36 +130,36 @@ glued_path : (path glued : Bool) → Says (apart_from_path path) glued → (path
 glued_path true glued s = s
 glued_path false glued s = refl
 
-pub operator_behind-complete : (l : ExpressionData) (o : BinaryOperator) (place : Span) (ts us : List Token) → Begins (operator_spelling o place (ends_in_path l)) ts us → MayStandBefore o l → after_glued greater_sign us ≡ None → operator_behind l ts ≡ Some ((o, place), us)
-operator_behind-complete l Less place [] us b m e = absurd b
-operator_behind-complete l ShiftLeft place [] us b m e = absurd b
-operator_behind-complete l ShiftRight place [] us b m e = absurd b
-operator_behind-complete l Greater place [] us b m e = absurd b
-operator_behind-complete l _ place [] us b m e = absurd b
-operator_behind-complete l Less place (t ∷ ts) us b m e =
-    behind l Less t ts b.0.kind tt (ap (λ c. c || ends_in_vector l) (glued_path (ends_in_path l) t.glued b.0.glued) ∙ ends_in_vector-complete l m) ∙ ap (λ p. Some ((Less, p), ts)) b.0.placed ∙ ap (λ vs. Some ((Less, place), vs)) b.1
-operator_behind-complete l ShiftLeft place (t ∷ ts) us b m e =
-    behind l ShiftLeft t ts b.0.kind tt (glued_path (ends_in_path l) t.glued b.0.glued) ∙ ap (λ p. Some ((ShiftLeft, p), ts)) b.0.placed ∙ ap (λ vs. Some ((ShiftLeft, place), vs)) b.1
-operator_behind-complete l ShiftRight place (t ∷ ts) us b m e =
+pub operator_behind-complete : (l : ExpressionData) (o : BinaryOperator) (span : Span) (ts us : List Token) → Begins (operator_spelling o span (ends_in_path l)) ts us → MayPrecede o l → after_glued greater_sign us ≡ None → operator_behind l ts ≡ Some ((o, span), us)
+operator_behind-complete l Less span [] us b m e = absurd b
+operator_behind-complete l ShiftLeft span [] us b m e = absurd b
+operator_behind-complete l ShiftRight span [] us b m e = absurd b
+operator_behind-complete l Greater span [] us b m e = absurd b
+operator_behind-complete l _ span [] us b m e = absurd b
+operator_behind-complete l Less span (t ∷ ts) us b m e =
+    behind l Less t ts b.0.kind tt (ap (λ c. c || ends_in_vector l) (glued_path (ends_in_path l) t.glued b.0.glued) ∙ ends_in_vector-complete l m) ∙ ap (λ p. Some ((Less, p), ts)) b.0.placed ∙ ap (λ vs. Some ((Less, span), vs)) b.1
+operator_behind-complete l ShiftLeft span (t ∷ ts) us b m e =
+    behind l ShiftLeft t ts b.0.kind tt (glued_path (ends_in_path l) t.glued b.0.glued) ∙ ap (λ p. Some ((ShiftLeft, p), ts)) b.0.placed ∙ ap (λ vs. Some ((ShiftLeft, span), vs)) b.1
+operator_behind-complete l ShiftRight span (t ∷ ts) us b m e =
     behind l Greater t ts b.0.kind tt refl ∙ ap Some (map_or_some (after_glued greater_sign ts) (λ rest. ((ShiftRight, t.span), rest)) ((Greater, t.span), ts) us (after_glued-complete greater_sign ts us b.1))
     ∙ ap (λ p. Some ((ShiftRight, p), us)) b.0.placed
-operator_behind-complete l Greater place (t ∷ ts) us b m e =
+operator_behind-complete l Greater span (t ∷ ts) us b m e =
     behind l Greater t ts b.0.kind tt refl ∙ ap Some (map_or_none (after_glued greater_sign ts) (λ rest. ((ShiftRight, t.span), rest)) ((Greater, t.span), ts) (ap (after_glued greater_sign) b.1 ∙ e))
-    ∙ ap (λ p. Some ((Greater, p), ts)) b.0.placed ∙ ap (λ vs. Some ((Greater, place), vs)) b.1
-operator_behind-complete l Or place (t ∷ ts) us b m e = behind l Or t ts b.0.kind tt refl ∙ ap (λ p. Some ((Or, p), ts)) b.0.placed ∙ ap (λ vs. Some ((Or, place), vs)) b.1
-operator_behind-complete l And place (t ∷ ts) us b m e = behind l And t ts b.0.kind tt refl ∙ ap (λ p. Some ((And, p), ts)) b.0.placed ∙ ap (λ vs. Some ((And, place), vs)) b.1
-operator_behind-complete l Equal place (t ∷ ts) us b m e = behind l Equal t ts b.0.kind tt refl ∙ ap (λ p. Some ((Equal, p), ts)) b.0.placed ∙ ap (λ vs. Some ((Equal, place), vs)) b.1
-operator_behind-complete l NotEqual place (t ∷ ts) us b m e = behind l NotEqual t ts b.0.kind tt refl ∙ ap (λ p. Some ((NotEqual, p), ts)) b.0.placed ∙ ap (λ vs. Some ((NotEqual, place), vs)) b.1
-operator_behind-complete l LessEqual place (t ∷ ts) us b m e = behind l LessEqual t ts b.0.kind tt refl ∙ ap (λ p. Some ((LessEqual, p), ts)) b.0.placed ∙ ap (λ vs. Some ((LessEqual, place), vs)) b.1
-operator_behind-complete l GreaterEqual place (t ∷ ts) us b m e = behind l GreaterEqual t ts b.0.kind tt refl ∙ ap (λ p. Some ((GreaterEqual, p), ts)) b.0.placed ∙ ap (λ vs. Some ((GreaterEqual, place), vs)) b.1
-operator_behind-complete l BitOr place (t ∷ ts) us b m e = behind l BitOr t ts b.0.kind tt refl ∙ ap (λ p. Some ((BitOr, p), ts)) b.0.placed ∙ ap (λ vs. Some ((BitOr, place), vs)) b.1
-operator_behind-complete l BitXor place (t ∷ ts) us b m e = behind l BitXor t ts b.0.kind tt refl ∙ ap (λ p. Some ((BitXor, p), ts)) b.0.placed ∙ ap (λ vs. Some ((BitXor, place), vs)) b.1
-operator_behind-complete l BitAnd place (t ∷ ts) us b m e = behind l BitAnd t ts b.0.kind tt refl ∙ ap (λ p. Some ((BitAnd, p), ts)) b.0.placed ∙ ap (λ vs. Some ((BitAnd, place), vs)) b.1
-operator_behind-complete l Add place (t ∷ ts) us b m e = behind l Add t ts b.0.kind tt refl ∙ ap (λ p. Some ((Add, p), ts)) b.0.placed ∙ ap (λ vs. Some ((Add, place), vs)) b.1
-operator_behind-complete l Subtract place (t ∷ ts) us b m e = behind l Subtract t ts b.0.kind tt refl ∙ ap (λ p. Some ((Subtract, p), ts)) b.0.placed ∙ ap (λ vs. Some ((Subtract, place), vs)) b.1
-operator_behind-complete l Multiply place (t ∷ ts) us b m e = behind l Multiply t ts b.0.kind tt refl ∙ ap (λ p. Some ((Multiply, p), ts)) b.0.placed ∙ ap (λ vs. Some ((Multiply, place), vs)) b.1
-operator_behind-complete l Divide place (t ∷ ts) us b m e = behind l Divide t ts b.0.kind tt refl ∙ ap (λ p. Some ((Divide, p), ts)) b.0.placed ∙ ap (λ vs. Some ((Divide, place), vs)) b.1
-operator_behind-complete l Remainder place (t ∷ ts) us b m e = behind l Remainder t ts b.0.kind tt refl ∙ ap (λ p. Some ((Remainder, p), ts)) b.0.placed ∙ ap (λ vs. Some ((Remainder, place), vs)) b.1
+    ∙ ap (λ p. Some ((Greater, p), ts)) b.0.placed ∙ ap (λ vs. Some ((Greater, span), vs)) b.1
+operator_behind-complete l Or span (t ∷ ts) us b m e = behind l Or t ts b.0.kind tt refl ∙ ap (λ p. Some ((Or, p), ts)) b.0.placed ∙ ap (λ vs. Some ((Or, span), vs)) b.1
+operator_behind-complete l And span (t ∷ ts) us b m e = behind l And t ts b.0.kind tt refl ∙ ap (λ p. Some ((And, p), ts)) b.0.placed ∙ ap (λ vs. Some ((And, span), vs)) b.1
+operator_behind-complete l Equal span (t ∷ ts) us b m e = behind l Equal t ts b.0.kind tt refl ∙ ap (λ p. Some ((Equal, p), ts)) b.0.placed ∙ ap (λ vs. Some ((Equal, span), vs)) b.1
+operator_behind-complete l NotEqual span (t ∷ ts) us b m e = behind l NotEqual t ts b.0.kind tt refl ∙ ap (λ p. Some ((NotEqual, p), ts)) b.0.placed ∙ ap (λ vs. Some ((NotEqual, span), vs)) b.1
+operator_behind-complete l LessEqual span (t ∷ ts) us b m e = behind l LessEqual t ts b.0.kind tt refl ∙ ap (λ p. Some ((LessEqual, p), ts)) b.0.placed ∙ ap (λ vs. Some ((LessEqual, span), vs)) b.1
+operator_behind-complete l GreaterEqual span (t ∷ ts) us b m e = behind l GreaterEqual t ts b.0.kind tt refl ∙ ap (λ p. Some ((GreaterEqual, p), ts)) b.0.placed ∙ ap (λ vs. Some ((GreaterEqual, span), vs)) b.1
+operator_behind-complete l BitOr span (t ∷ ts) us b m e = behind l BitOr t ts b.0.kind tt refl ∙ ap (λ p. Some ((BitOr, p), ts)) b.0.placed ∙ ap (λ vs. Some ((BitOr, span), vs)) b.1
+operator_behind-complete l BitXor span (t ∷ ts) us b m e = behind l BitXor t ts b.0.kind tt refl ∙ ap (λ p. Some ((BitXor, p), ts)) b.0.placed ∙ ap (λ vs. Some ((BitXor, span), vs)) b.1
+operator_behind-complete l BitAnd span (t ∷ ts) us b m e = behind l BitAnd t ts b.0.kind tt refl ∙ ap (λ p. Some ((BitAnd, p), ts)) b.0.placed ∙ ap (λ vs. Some ((BitAnd, span), vs)) b.1
+operator_behind-complete l Add span (t ∷ ts) us b m e = behind l Add t ts b.0.kind tt refl ∙ ap (λ p. Some ((Add, p), ts)) b.0.placed ∙ ap (λ vs. Some ((Add, span), vs)) b.1
+operator_behind-complete l Subtract span (t ∷ ts) us b m e = behind l Subtract t ts b.0.kind tt refl ∙ ap (λ p. Some ((Subtract, p), ts)) b.0.placed ∙ ap (λ vs. Some ((Subtract, span), vs)) b.1
+operator_behind-complete l Multiply span (t ∷ ts) us b m e = behind l Multiply t ts b.0.kind tt refl ∙ ap (λ p. Some ((Multiply, p), ts)) b.0.placed ∙ ap (λ vs. Some ((Multiply, span), vs)) b.1
+operator_behind-complete l Divide span (t ∷ ts) us b m e = behind l Divide t ts b.0.kind tt refl ∙ ap (λ p. Some ((Divide, p), ts)) b.0.placed ∙ ap (λ vs. Some ((Divide, span), vs)) b.1
+operator_behind-complete l Remainder span (t ∷ ts) us b m e = behind l Remainder t ts b.0.kind tt refl ∙ ap (λ p. Some ((Remainder, p), ts)) b.0.placed ∙ ap (λ vs. Some ((Remainder, span), vs)) b.1
 
 -- ---- levels
 
@@ -208,28 +208,28 @@ none_as_tight l ts = go (operator_behind l ts)
     go None = refl
     go (Some q) = ap (λ c. cond c (Some (q.0, q.1)) None) (lt-leb unary_level (operator_level q.0.0) (omega (arith, level_small q.0.0)))
 
-pub operator_some : (o : BinaryOperator) (place : Span) (path : Bool) → 0 < length (operator_spelling o place path)
-operator_some Less place path = omega arith
-operator_some ShiftLeft place path = omega arith
-operator_some ShiftRight place path = omega arith
-operator_some _ place path = omega arith
+pub operator_some : (o : BinaryOperator) (span : Span) (path : Bool) → 0 < length (operator_spelling o span path)
+operator_some Less span path = omega arith
+operator_some ShiftLeft span path = omega arith
+operator_some ShiftRight span path = omega arith
+operator_some _ span path = omega arith
 
 -- ---- an operator after a joined tree follows its right operand
 
-opens_same : (o : BinaryOperator) (l : ExpressionData) (p : BinaryOperator) (place : Span) (r : ExpressionData) (glued : Bool) → opens_arguments o (BinaryExpression l p place r) glued ≡ opens_arguments o r glued
-opens_same Less l p place r glued = refl
-opens_same ShiftLeft l p place r glued = refl
-opens_same _ l p place r glued = refl
+opens_same : (o : BinaryOperator) (l : ExpressionData) (p : BinaryOperator) (span : Span) (r : ExpressionData) (glued : Bool) → opens_arguments o (BinaryExpression l p span r) glued ≡ opens_arguments o r glued
+opens_same Less l p span r glued = refl
+opens_same ShiftLeft l p span r glued = refl
+opens_same _ l p span r glued = refl
 
-pub join_operator : (l : ExpressionData) (p : BinaryOperator) (place : Span) (r : ExpressionData) (ts : List Token) → operator_behind (BinaryExpression l p place r) ts ≡ operator_behind r ts
+pub join_operator : (l : ExpressionData) (p : BinaryOperator) (span : Span) (r : ExpressionData) (ts : List Token) → operator_behind (BinaryExpression l p span r) ts ≡ operator_behind r ts
 unfolding operator_behind
-join_operator l p place r [] = refl
-join_operator l p place r (t ∷ ts) = go (binary_of t.kind)
+join_operator l p span r [] = refl
+join_operator l p span r (t ∷ ts) = go (binary_of t.kind)
   where
-    go : (o : Option BinaryOperator) → option_and_then (λ operator. cond (opens_arguments operator (BinaryExpression l p place r) t.glued) None (Some (whole_operator operator t.span ts))) o
+    go : (o : Option BinaryOperator) → option_and_then (λ operator. cond (opens_arguments operator (BinaryExpression l p span r) t.glued) None (Some (whole_operator operator t.span ts))) o
         ≡ option_and_then (λ operator. cond (opens_arguments operator r t.glued) None (Some (whole_operator operator t.span ts))) o
     go None = refl
-    go (Some o) = ap (λ c. cond c None (Some (whole_operator o t.span ts))) (opens_same o l p place r t.glued)
+    go (Some o) = ap (λ c. cond c None (Some (whole_operator o t.span ts))) (opens_same o l p span r t.glued)
 
 -- ---- the assumptions of the generic lemmas on operators
 
@@ -239,7 +239,7 @@ levels-looser o p h = omega (arith, h)
 pub levels-tighter : (o p : BinaryOperator) → left_level p ≤ operator_level o → operator_level p < right_level o
 levels-tighter o p h = omega (arith, h)
 
-pub join_parts : (l : ExpressionData) (o : BinaryOperator × Span) (r : ExpressionData) → IsProperExpression (BinaryExpression l o.0 o.1 r) → Parts joints IsProperExpression (λ l o. MayStandBefore o.0 l) level (λ o. left_level o.0) l o r
+pub join_parts : (l : ExpressionData) (o : BinaryOperator × Span) (r : ExpressionData) → IsProperExpression (BinaryExpression l o.0 o.1 r) → Parts joints IsProperExpression (λ l o. MayPrecede o.0 l) level (λ o. left_level o.0) l o r
 join_parts l o r p = record { left_proper = p.0; right_proper = p.1; left_level = p.2; right_level = p.3; suited = p.4 }
 
 -- the sign after an operator does not belong to it
@@ -251,7 +251,7 @@ rules sides = record {
   spelling = expression_spelling;
   between = λ l o. operator_spelling o.0 o.1 (ends_in_path l);
   proper = IsProperExpression;
-  suits = λ l o. MayStandBefore o.0 l;
+  suits = λ l o. MayPrecede o.0 l;
   level_of = level;
   left = λ o. left_level o.0;
   join_spelled = λ l o r. append_assoc (expression_spelling l) (operator_spelling o.0 o.1 (ends_in_path l)) (expression_spelling r);

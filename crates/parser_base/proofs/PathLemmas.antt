@@ -53,7 +53,7 @@ pub address_number_at-sound : (ts : List Token) (r : Numeral × List Token) → 
 unfolding address_number_at
 address_number_at-sound [] r e = absurd (cc)
 address_number_at-sound (t ∷ ts) r e =
-    let l = last (address_number_of t.kind) (λ literal. (record { literal = literal; place = t.span }, ts)) r e in
+    let l = last (address_number_of t.kind) (λ literal. (record { literal = literal; span = t.span }, ts)) r e in
     let s = address_number_of-sound t.kind l.value l.first in
     subst (λ q. Begins (numeral q.0 ∷ []) (t ∷ ts) q.1 × (q.0.literal.suffix ≡ Absent)) l.then ((record { kind = s.0; placed = refl; glued = tt }, refl), s.1)
 
@@ -61,16 +61,16 @@ pub address_number_at-complete : (n : Numeral) (ts rest : List Token) → Begins
 unfolding address_number_at
 address_number_at-complete n [] rest b p = absurd b
 address_number_at-complete n (t ∷ ts) rest b p =
-    ap (λ k. option_map (λ literal. (record { literal = literal; place = t.span }, ts)) (address_number_of k)) b.0.kind
-    ∙ ap (λ s. option_map (λ literal. (record { literal = literal; place = t.span }, ts)) (unsuffixed n.literal s)) p
-    ∙ ap (λ place. Some (record { literal = n.literal; place = place }, ts)) b.0.placed ∙ ap (λ us. Some (n, us)) b.1
+    ap (λ k. option_map (λ literal. (record { literal = literal; span = t.span }, ts)) (address_number_of k)) b.0.kind
+    ∙ ap (λ s. option_map (λ literal. (record { literal = literal; span = t.span }, ts)) (unsuffixed n.literal s)) p
+    ∙ ap (λ span. Some (record { literal = n.literal; span = span }, ts)) b.0.placed ∙ ap (λ us. Some (n, us)) b.1
 
 pub address_number_at-other : (l : Lexeme) (ls : List Lexeme) (ts rest : List Token) → address_number_of l.kind ≡ None → Begins (l ∷ ls) ts rest → address_number_at ts ≡ None
 unfolding address_number_at
 address_number_at-other l ls [] rest e b = absurd b
 address_number_at-other l ls (t ∷ ts) rest e b =
-    ap (λ k. option_map (λ literal. (record { literal = literal; place = t.span }, ts)) (address_number_of k)) b.0.kind
-    ∙ ap (option_map (λ literal. (record { literal = literal; place = t.span }, ts))) e
+    ap (λ k. option_map (λ literal. (record { literal = literal; span = t.span }, ts)) (address_number_of k)) b.0.kind
+    ∙ ap (option_map (λ literal. (record { literal = literal; span = t.span }, ts))) e
 
 pub address_at-sound : (ts : List Token) (r : Address × List Token) → address_at ts ≡ Some r → Begins (address_spelling r.0) ts r.1 × IsProperAddress r.0
 unfolding address_at

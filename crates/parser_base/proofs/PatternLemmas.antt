@@ -22,12 +22,12 @@ use Rattle.syntax_tree.specs.PatternData.{PatternData, BindPattern, IgnorePatter
 use Rattle.syntax_tree.specs.PatternSpelling.{pattern_spelling, pattern_spellings, field_pattern_spelling, field_pattern_spellings}
 use Rattle.syntax_tree.specs.ProperPatterns.{IsProperPattern, IsProperFieldPattern, AreProperPatterns, AreProperFieldPatterns, AreSomePatterns, AreSomeFields}
 use Rattle.parser_base.specs.Beginnings.{Begins}
-use Rattle.parser_base.specs.TokenReading.{Read, is_sign, is_keyword, after_sign, sign_place_at, identifier_at, begins_small}
+use Rattle.parser_base.specs.TokenReading.{Read, is_sign, is_keyword, after_sign, sign_span_at, identifier_at, begins_small}
 use Rattle.base.specs.Names.{same_name}
 use Rattle.parser_base.specs.ListReading.{some_items_at, comma_list_at}
 use Rattle.parser_base.proofs.Steps.{step, last, some_one, either, either_read, if_some, bind_some, map_some, map_or_none, map_or_some, cond_true, cond_false}
 use Rattle.parser_base.proofs.BeginLemmas.{Begins-append, Begins-split, Begins-first, Begins-same, length-Begins}
-use Rattle.parser_base.proofs.TokenLemmas.{after_sign-sound, after_sign-complete, after_sign-other, sign_place_at-sound, sign_place_at-complete, sign_place_at-none, identifier_at-sound, identifier_at-complete, begins_small-sound, begins_small-complete, is_keyword-sound}
+use Rattle.parser_base.proofs.TokenLemmas.{after_sign-sound, after_sign-complete, after_sign-other, sign_span_at-sound, sign_span_at-complete, sign_span_at-none, identifier_at-sound, identifier_at-complete, begins_small-sound, begins_small-complete, is_keyword-sound}
 use Rattle.base.proofs.NameLaws.{same_name-other}
 use Rattle.parser_base.proofs.ListLemmas.{Filled, some_items_at-sound, comma_list_at-sound, some_items_at-complete, comma_list_at-complete}
 use Rattle.parser_base.specs.PathReading.{path_at}
@@ -105,14 +105,14 @@ unpack_spelled path a fields last = regroup (path_spelling path) (maybe_argument
 abbrev pub ReadsPatterns : (List Token → Read PatternData) → Type 0
 ReadsPatterns inner = (ts : List Token) (r : PatternData × List Token) → inner ts ≡ Some r → Begins (pattern_spelling r.0) ts r.1 × IsProperPattern r.0
 
-tuple_pattern_at-sound : (inner : List Token → Read PatternData) → ReadsPatterns inner → (place : Span) (whole ts : List Token) (r : PatternData × List Token) → Begins (sign_at place LeftParenthesis ∷ []) whole ts
-    → tuple_pattern_at inner place ts ≡ Some r → Begins (pattern_spelling r.0) whole r.1 × IsProperPattern r.0
+tuple_pattern_at-sound : (inner : List Token → Read PatternData) → ReadsPatterns inner → (span : Span) (whole ts : List Token) (r : PatternData × List Token) → Begins (sign_at span LeftParenthesis ∷ []) whole ts
+    → tuple_pattern_at inner span ts ≡ Some r → Begins (pattern_spelling r.0) whole r.1 × IsProperPattern r.0
 unfolding tuple_pattern_at
-tuple_pattern_at-sound inner sound place whole ts r front e =
+tuple_pattern_at-sound inner sound span whole ts r front e =
     let l = last (some_items_at (after_sign RightParenthesis) inner ts) _ r e in
     let s = some_items_at-sound RightParenthesis inner pattern_spelling IsProperPattern sound ts l.value l.first in
     subst (λ q. Begins (pattern_spelling q.0) whole q.1 × IsProperPattern q.0) l.then (
-      Begins-append (sign_at place LeftParenthesis ∷ []) (comma_list (pattern_spellings (patterns_of l.value.0.0)) l.value.0.1 ++ sign RightParenthesis ∷ []) whole ts l.value.1 front
+      Begins-append (sign_at span LeftParenthesis ∷ []) (comma_list (pattern_spellings (patterns_of l.value.0.0)) l.value.0.1 ++ sign RightParenthesis ∷ []) whole ts l.value.1 front
           (subst (λ ls. Begins (comma_list ls l.value.0.1 ++ sign RightParenthesis ∷ []) ts l.value.1) (sym (patterns_spelled l.value.0.0)) s.0.spelled),
       (proper_patterns l.value.0.0 s.0.all_proper, some_patterns l.value.0.0 s.1),
     )
@@ -120,8 +120,8 @@ tuple_pattern_at-sound inner sound place whole ts r front e =
 bound_by-sound : (path : Path) (p : PatternData) (ts rest : List Token) → bound_by path ≡ Some p → Begins (path_spelling path) ts rest → IsProperPath path → Begins (pattern_spelling p) ts rest × IsProperPattern p
 bound_by-sound (name_path n) p ts rest e b q = go (same_name n.text (codes "_")) refl e
   where
-    go : (c : Bool) → same_name n.text (codes "_") ≡ c → cond c (Some (IgnorePattern n.place)) (cond (begins_small n.text) (Some (BindPattern n)) None) ≡ Some p → Begins (pattern_spelling p) ts rest × IsProperPattern p
-    go true is e = subst (λ p. Begins (pattern_spelling p) ts rest × IsProperPattern p) (some_one (IgnorePattern n.place) p e) (subst (λ w. Begins (word w (Some n.place) ∷ []) ts rest) (same_text n.text (codes "_") (sym is)) b, tt)
+    go : (c : Bool) → same_name n.text (codes "_") ≡ c → cond c (Some (IgnorePattern n.span)) (cond (begins_small n.text) (Some (BindPattern n)) None) ≡ Some p → Begins (pattern_spelling p) ts rest × IsProperPattern p
+    go true is e = subst (λ p. Begins (pattern_spelling p) ts rest × IsProperPattern p) (some_one (IgnorePattern n.span) p e) (subst (λ w. Begins (word w (Some n.span) ∷ []) ts rest) (same_text n.text (codes "_") (sym is)) b, tt)
     go false is e =
         let c = if_some (begins_small n.text) (BindPattern n) p e in
         subst (λ p. Begins (pattern_spelling p) ts rest × IsProperPattern p) c.1 (b, (q, begins_small-sound n.text c.0, λ h. differs (sym (ap (λ w. same_name w (codes "_")) h) ∙ is)))
@@ -172,8 +172,8 @@ unpack_at-sound types inner types_sound sound path whole ts r front p e =
 pattern_form-sound : (types : List Token → Read SourceTypeData) (inner : List Token → Read PatternData) → ReadsTypes types → ReadsPatterns inner → ReadsPatterns (pattern_form types inner)
 unfolding pattern_form pattern_behind
 pattern_form-sound types inner types_sound sound ts r e =
-    elim (either (sign_place_at LeftParenthesis ts) (λ p. tuple_pattern_at inner p.0 p.1) _ r e) [
-      | inl s ↦ tuple_pattern_at-sound inner sound s.value.0 ts s.value.1 r (sign_place_at-sound LeftParenthesis ts s.value s.first) s.then
+    elim (either (sign_span_at LeftParenthesis ts) (λ p. tuple_pattern_at inner p.0 p.1) _ r e) [
+      | inl s ↦ tuple_pattern_at-sound inner sound s.value.0 ts s.value.1 r (sign_span_at-sound LeftParenthesis ts s.value s.first) s.then
       | inr n ↦
           let p = step (path_at ts) _ r n.1 in
           let path = path_at-sound ts p.value p.first in
@@ -232,8 +232,8 @@ underscore_is_name = is_keyword-sound (codes "_") underscore_is_no_keyword
 -- a pattern begins with a parenthesis or a path
 pattern_no_sign : (s : Sign) → is_sign s (Punctuation LeftParenthesis) ≡ false → (p : PatternData) (ts rest : List Token) → Begins (pattern_spelling p) ts rest → IsProperPattern p → after_sign s ts ≡ None
 pattern_no_sign s e (BindPattern name) ts rest b p = after_sign-other s (identifier name) [] ts rest refl b
-pattern_no_sign s e (IgnorePattern place) ts rest b p = after_sign-other s (word (codes "_") (Some place)) [] ts rest refl b
-pattern_no_sign s e (TuplePattern place items last) ts rest b p = after_sign-other s (sign_at place LeftParenthesis) (comma_list (pattern_spellings items) last ++ sign RightParenthesis ∷ []) ts rest e b
+pattern_no_sign s e (IgnorePattern span) ts rest b p = after_sign-other s (word (codes "_") (Some span)) [] ts rest refl b
+pattern_no_sign s e (TuplePattern span items last) ts rest b p = after_sign-other s (sign_at span LeftParenthesis) (comma_list (pattern_spellings items) last ++ sign RightParenthesis ∷ []) ts rest e b
 pattern_no_sign s e (UnpackPattern path arguments fields last) ts rest b p =
     path_no_sign s path (maybe_arguments_spelling None arguments ++ sign LeftBrace ∷ fields_inside fields last) ts rest (Begins-same _ _ ts rest (unpack_spelled path arguments fields last) b) p.0
 
@@ -286,7 +286,7 @@ module _ (bound : ℕ) (types : List Token → Read SourceTypeData) (types_compl
   alone : (i : Identifier) (p : PatternData) (ts rest : List Token) → Begins (identifier i ∷ []) ts rest → IsName i.text → PatternEnds rest → bound_by (name_path i) ≡ Some p → pattern_form types inner ts ≡ Some (p, rest)
   unfolding pattern_form pattern_behind
   alone i p ts rest b n d e =
-      map_or_none (sign_place_at LeftParenthesis ts) (λ p. tuple_pattern_at inner p.0 p.1) _ (sign_place_at-none LeftParenthesis ts (after_sign-other LeftParenthesis (identifier i) [] ts rest refl b))
+      map_or_none (sign_span_at LeftParenthesis ts) (λ p. tuple_pattern_at inner p.0 p.1) _ (sign_span_at-none LeftParenthesis ts (after_sign-other LeftParenthesis (identifier i) [] ts rest refl b))
       ∙ bind_some (path_at ts) (λ path. pattern_behind types inner path.0 path.1) (name_path i, rest) (path_at-complete (name_path i) ts rest b n d.0)
       ∙ cond_false (opens_fields rest) _ _ (opens_fields-none rest d) ∙ map_some (bound_by (name_path i)) (λ p. (p, rest)) p e
 
@@ -294,23 +294,23 @@ module _ (bound : ℕ) (types : List Token → Read SourceTypeData) (types_compl
   unfolding pattern_form pattern_behind tuple_pattern_at
   pattern_form-complete (BindPattern name) ts rest h b p d =
       alone name (BindPattern name) ts rest b p.0 d (cond_false (same_name name.text (codes "_")) _ _ (same_name-other name.text (codes "_") p.2) ∙ cond_true (begins_small name.text) (Some (BindPattern name)) None (begins_small-complete name.text p.1))
-  pattern_form-complete (IgnorePattern place) ts rest h b p d =
-      alone (record { text = codes "_"; place = place }) (IgnorePattern place) ts rest b underscore_is_name d refl
-  pattern_form-complete (TuplePattern place NoPatterns last) ts rest h b p d = absurd p.1
-  pattern_form-complete (TuplePattern place (MorePatterns x xs) last) ts rest h b p d =
-      let s = Begins-first (sign_at place LeftParenthesis) (comma_list (pattern_spelling x ∷ pattern_spellings xs) last ++ sign RightParenthesis ∷ []) ts rest b in
-      map_or_some (sign_place_at LeftParenthesis ts) (λ p. tuple_pattern_at inner p.0 p.1) _ (place, s.mid) (sign_place_at-complete LeftParenthesis place ts s.mid s.front)
-      ∙ map_some (some_items_at (after_sign RightParenthesis) inner s.mid) (λ items. (TuplePattern place (patterns_of items.0.0) items.0.1, items.1)) ((x ∷ list_of_patterns xs, last), rest)
+  pattern_form-complete (IgnorePattern span) ts rest h b p d =
+      alone (record { text = codes "_"; span = span }) (IgnorePattern span) ts rest b underscore_is_name d refl
+  pattern_form-complete (TuplePattern span NoPatterns last) ts rest h b p d = absurd p.1
+  pattern_form-complete (TuplePattern span (MorePatterns x xs) last) ts rest h b p d =
+      let s = Begins-first (sign_at span LeftParenthesis) (comma_list (pattern_spelling x ∷ pattern_spellings xs) last ++ sign RightParenthesis ∷ []) ts rest b in
+      map_or_some (sign_span_at LeftParenthesis ts) (λ p. tuple_pattern_at inner p.0 p.1) _ (span, s.mid) (sign_span_at-complete LeftParenthesis span ts s.mid s.front)
+      ∙ map_some (some_items_at (after_sign RightParenthesis) inner s.mid) (λ items. (TuplePattern span (patterns_of items.0.0) items.0.1, items.1)) ((x ∷ list_of_patterns xs, last), rest)
       (some_items_at-complete RightParenthesis inner pattern_spelling IsProperPattern PatternEnds bound complete (pattern_no_sign RightParenthesis refl)
-      (ends_at RightParenthesis refl refl refl) (ends_at Comma refl refl refl) refl x (list_of_patterns xs) last s.mid rest (omega (arith, h, length-Begins (sign_at place LeftParenthesis ∷ []) ts s.mid s.front))
+      (ends_at RightParenthesis refl refl refl) (ends_at Comma refl refl refl) refl x (list_of_patterns xs) last s.mid rest (omega (arith, h, length-Begins (sign_at span LeftParenthesis ∷ []) ts s.mid s.front))
       (subst (λ ls. Begins (comma_list (pattern_spelling x ∷ ls) last ++ sign RightParenthesis ∷ []) s.mid rest) (patterns_spelled_from xs) s.back)
       (p.0.0, each_proper_pattern xs p.0.1))
-      ∙ ap (λ ys. Some (TuplePattern place (MorePatterns x ys) last, rest)) (listed_patterns xs)
+      ∙ ap (λ ys. Some (TuplePattern span (MorePatterns x ys) last, rest)) (listed_patterns xs)
   pattern_form-complete (UnpackPattern path a fields last) ts rest h b p d =
       let inside = sign LeftBrace ∷ fields_inside fields last in
       let whole = Begins-same _ (path_spelling path ++ (maybe_arguments_spelling None a ++ inside)) ts rest (unpack_spelled path a fields last) b in
       let s = Begins-split (path_spelling path) (maybe_arguments_spelling None a ++ inside) ts rest whole in
-      map_or_none (sign_place_at LeftParenthesis ts) (λ p. tuple_pattern_at inner p.0 p.1) _ (sign_place_at-none LeftParenthesis ts (path_no_sign LeftParenthesis path (maybe_arguments_spelling None a ++ inside) ts rest whole p.0))
+      map_or_none (sign_span_at LeftParenthesis ts) (λ p. tuple_pattern_at inner p.0 p.1) _ (sign_span_at-none LeftParenthesis ts (path_no_sign LeftParenthesis path (maybe_arguments_spelling None a ++ inside) ts rest whole p.0))
       ∙ bind_some (path_at ts) (λ path. pattern_behind types inner path.0 path.1) (path, s.mid) (path_at-complete path ts s.mid s.front p.0 (fields_no_colons a (fields_inside fields last) s.mid rest s.back))
       ∙ cond_true (opens_fields s.mid) _ _ (fields_open a (fields_inside fields last) s.mid rest s.back)
       ∙ unpack_at-complete path a fields last s.mid rest (omega (arith, h, length-Begins (path_spelling path) ts s.mid s.front, path_some path)) s.back p.1 p.2 p.3
@@ -318,8 +318,8 @@ module _ (bound : ℕ) (types : List Token → Read SourceTypeData) (types_compl
 -- no pattern has an empty spelling
 nothing_spells : (p : PatternData) (rest : List Token) → Begins (pattern_spelling p) [] rest → IsProperPattern p → ⊥
 nothing_spells (BindPattern name) rest b p = b
-nothing_spells (IgnorePattern place) rest b p = b
-nothing_spells (TuplePattern place items last) rest b p = b
+nothing_spells (IgnorePattern span) rest b p = b
+nothing_spells (TuplePattern span items last) rest b p = b
 nothing_spells (UnpackPattern path a fields last) rest b p =
     let o = path_opens path (maybe_arguments_spelling None a ++ sign LeftBrace ∷ fields_inside fields last) [] rest (Begins-same _ _ [] rest (unpack_spelled path a fields last) b) p.0 in o.begins
 

@@ -15,7 +15,7 @@ says x None = tt
 says x (Some y) = refl
 
 token_for : Lexeme → Token
-token_for l = record { kind = l.kind; span = said_or (record { file = 0; start = 0; end = 0 }) l.place; glued = said_or false l.glued }
+token_for l = record { kind = l.kind; span = said_or (record { file = 0; start = 0; end = 0 }) l.span; glued = said_or false l.glued }
 
 pub tokens_for : List Lexeme → List Token
 tokens_for [] = []
@@ -24,4 +24,4 @@ tokens_for (l ∷ ls) = token_for l ∷ tokens_for ls
 pub are_tokens_for : (ls : List Lexeme) → AreTokens (tokens_for ls) ls
 unfolding tokens_for token_for
 are_tokens_for [] = tt
-are_tokens_for (l ∷ ls) = (record { kind = refl; placed = says (record { file = 0; start = 0; end = 0 }) l.place; glued = says false l.glued }, are_tokens_for ls)
+are_tokens_for (l ∷ ls) = (record { kind = refl; placed = says (record { file = 0; start = 0; end = 0 }) l.span; glued = says false l.glued }, are_tokens_for ls)

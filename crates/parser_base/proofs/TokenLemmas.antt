@@ -17,7 +17,7 @@ use Rattle.syntax_tree.specs.declared.lexeme.Lexeme.{Lexeme}
 use Rattle.syntax_tree.specs.Lexemes.{word, sign, sign_at, identifier}
 use Rattle.syntax_tree.specs.NameRules.{keywords, IsName, IsCapital, IsSmall}
 use Rattle.parser_base.specs.Beginnings.{Begins}
-use Rattle.parser_base.specs.TokenReading.{Read, is_sign, is_word, is_keyword, after_sign, sign_place_at, before_sign, after_word, word_place_at, name_of, identifier_at, begins_capital, begins_small}
+use Rattle.parser_base.specs.TokenReading.{Read, is_sign, is_word, is_keyword, after_sign, sign_span_at, before_sign, after_word, word_span_at, name_of, identifier_at, begins_capital, begins_small}
 use Rattle.base.specs.Names.{same_name}
 use Rattle.base.proofs.NameLaws.{none_of-complete, none_of-sound, same_name-same, same_name-other}
 use Rattle.base.proofs.TruthValues.{both_true, either_true}
@@ -105,30 +105,30 @@ unfolding after_sign
 after_sign-other s l ls [] rest e a = absurd a
 after_sign-other s l ls (t ∷ ts) rest e a = ap (λ k. cond (is_sign s k) (Some ts) None) a.0.kind ∙ ap (λ b. cond b (Some ts) None) e
 
-pub sign_place_at-sound : (s : Sign) (ts : List Token) (r : Span × List Token) → sign_place_at s ts ≡ Some r → Begins (sign_at r.0 s ∷ []) ts r.1
-unfolding sign_place_at
-sign_place_at-sound s [] r e = absurd (cc)
-sign_place_at-sound s (t ∷ ts) r e =
+pub sign_span_at-sound : (s : Sign) (ts : List Token) (r : Span × List Token) → sign_span_at s ts ≡ Some r → Begins (sign_at r.0 s ∷ []) ts r.1
+unfolding sign_span_at
+sign_span_at-sound s [] r e = absurd (cc)
+sign_span_at-sound s (t ∷ ts) r e =
     let c = if_some (is_sign s t.kind) (t.span, ts) r e in
     subst (λ q. Begins (sign_at q.0 s ∷ []) (t ∷ ts) q.1) c.1 (record { kind = is_sign-sound s t.kind c.0; placed = refl; glued = tt }, refl)
 
-pub sign_place_at-complete : (s : Sign) (place : Span) (ts rest : List Token) → Begins (sign_at place s ∷ []) ts rest → sign_place_at s ts ≡ Some (place, rest)
-unfolding sign_place_at
-sign_place_at-complete s place [] rest a = absurd a
-sign_place_at-complete s place (t ∷ ts) rest a =
+pub sign_span_at-complete : (s : Sign) (span : Span) (ts rest : List Token) → Begins (sign_at span s ∷ []) ts rest → sign_span_at s ts ≡ Some (span, rest)
+unfolding sign_span_at
+sign_span_at-complete s span [] rest a = absurd a
+sign_span_at-complete s span (t ∷ ts) rest a =
     ap (λ k. cond (is_sign s k) (Some (t.span, ts)) None) a.0.kind ∙ ap (λ b. cond b (Some (t.span, ts)) None) (is_sign-same s)
-    ∙ ap (λ p. Some (p, ts)) a.0.placed ∙ ap (λ us. Some (place, us)) a.1
+    ∙ ap (λ p. Some (p, ts)) a.0.placed ∙ ap (λ us. Some (span, us)) a.1
 
-pub sign_place_at-other : (s : Sign) (l : Lexeme) (ls : List Lexeme) (ts rest : List Token) → is_sign s l.kind ≡ false → Begins (l ∷ ls) ts rest → sign_place_at s ts ≡ None
-unfolding sign_place_at
-sign_place_at-other s l ls [] rest e a = absurd a
-sign_place_at-other s l ls (t ∷ ts) rest e a = ap (λ k. cond (is_sign s k) (Some (t.span, ts)) None) a.0.kind ∙ ap (λ b. cond b (Some (t.span, ts)) None) e
+pub sign_span_at-other : (s : Sign) (l : Lexeme) (ls : List Lexeme) (ts rest : List Token) → is_sign s l.kind ≡ false → Begins (l ∷ ls) ts rest → sign_span_at s ts ≡ None
+unfolding sign_span_at
+sign_span_at-other s l ls [] rest e a = absurd a
+sign_span_at-other s l ls (t ∷ ts) rest e a = ap (λ k. cond (is_sign s k) (Some (t.span, ts)) None) a.0.kind ∙ ap (λ b. cond b (Some (t.span, ts)) None) e
 
 -- where there is no such sign, it has no span
-pub sign_place_at-none : (s : Sign) (ts : List Token) → after_sign s ts ≡ None → sign_place_at s ts ≡ None
-unfolding after_sign sign_place_at
-sign_place_at-none s [] e = refl
-sign_place_at-none s (t ∷ ts) e = go (is_sign s t.kind) e
+pub sign_span_at-none : (s : Sign) (ts : List Token) → after_sign s ts ≡ None → sign_span_at s ts ≡ None
+unfolding after_sign sign_span_at
+sign_span_at-none s [] e = refl
+sign_span_at-none s (t ∷ ts) e = go (is_sign s t.kind) e
   where
     go : (b : Bool) → cond b (Some ts) None ≡ None → ◌≡◌ {A = Read Span} (cond b (Some (t.span, ts)) None) None
     go true e = absurd (cc)
@@ -163,24 +163,24 @@ unfolding after_word
 after_word-other w l ls [] rest e a = absurd a
 after_word-other w l ls (t ∷ ts) rest e a = ap (λ k. cond (is_word w k) (Some ts) None) a.0.kind ∙ ap (λ b. cond b (Some ts) None) e
 
-pub word_place_at-sound : (w : List ℕ) (ts : List Token) (r : Span × List Token) → word_place_at w ts ≡ Some r → Begins (word w (Some r.0) ∷ []) ts r.1
-unfolding word_place_at
-word_place_at-sound w [] r e = absurd (cc)
-word_place_at-sound w (t ∷ ts) r e =
+pub word_span_at-sound : (w : List ℕ) (ts : List Token) (r : Span × List Token) → word_span_at w ts ≡ Some r → Begins (word w (Some r.0) ∷ []) ts r.1
+unfolding word_span_at
+word_span_at-sound w [] r e = absurd (cc)
+word_span_at-sound w (t ∷ ts) r e =
     let c = if_some (is_word w t.kind) (t.span, ts) r e in
     subst (λ q. Begins (word w (Some q.0) ∷ []) (t ∷ ts) q.1) c.1 (record { kind = is_word-sound w t.kind c.0; placed = refl; glued = tt }, refl)
 
-pub word_place_at-complete : (w : List ℕ) (place : Span) (ts rest : List Token) → Begins (word w (Some place) ∷ []) ts rest → word_place_at w ts ≡ Some (place, rest)
-unfolding word_place_at
-word_place_at-complete w place [] rest a = absurd a
-word_place_at-complete w place (t ∷ ts) rest a =
+pub word_span_at-complete : (w : List ℕ) (span : Span) (ts rest : List Token) → Begins (word w (Some span) ∷ []) ts rest → word_span_at w ts ≡ Some (span, rest)
+unfolding word_span_at
+word_span_at-complete w span [] rest a = absurd a
+word_span_at-complete w span (t ∷ ts) rest a =
     ap (λ k. cond (is_word w k) (Some (t.span, ts)) None) a.0.kind ∙ ap (λ b. cond b (Some (t.span, ts)) None) (same_name-same w)
-    ∙ ap (λ p. Some (p, ts)) a.0.placed ∙ ap (λ us. Some (place, us)) a.1
+    ∙ ap (λ p. Some (p, ts)) a.0.placed ∙ ap (λ us. Some (span, us)) a.1
 
-pub word_place_at-other : (w : List ℕ) (l : Lexeme) (ls : List Lexeme) (ts rest : List Token) → is_word w l.kind ≡ false → Begins (l ∷ ls) ts rest → word_place_at w ts ≡ None
-unfolding word_place_at
-word_place_at-other w l ls [] rest e a = absurd a
-word_place_at-other w l ls (t ∷ ts) rest e a = ap (λ k. cond (is_word w k) (Some (t.span, ts)) None) a.0.kind ∙ ap (λ b. cond b (Some (t.span, ts)) None) e
+pub word_span_at-other : (w : List ℕ) (l : Lexeme) (ls : List Lexeme) (ts rest : List Token) → is_word w l.kind ≡ false → Begins (l ∷ ls) ts rest → word_span_at w ts ≡ None
+unfolding word_span_at
+word_span_at-other w l ls [] rest e a = absurd a
+word_span_at-other w l ls (t ∷ ts) rest e a = ap (λ k. cond (is_word w k) (Some (t.span, ts)) None) a.0.kind ∙ ap (λ b. cond b (Some (t.span, ts)) None) e
 
 -- ---- names
 
@@ -194,7 +194,7 @@ pub identifier_at-sound : (ts : List Token) (r : Identifier × List Token) → i
 unfolding identifier_at
 identifier_at-sound [] r e = absurd (cc)
 identifier_at-sound (t ∷ ts) r e =
-    let l = last (name_of t.kind) (λ n. (record { text = n; place = t.span }, ts)) r e in
+    let l = last (name_of t.kind) (λ n. (record { text = n; span = t.span }, ts)) r e in
     let s = name_of-sound t.kind l.value l.first in
     subst (λ q. Begins (identifier q.0 ∷ []) (t ∷ ts) q.1 × IsName q.0.text) l.then ((record { kind = s.0; placed = refl; glued = tt }, refl), s.1)
 
@@ -202,12 +202,12 @@ pub identifier_at-complete : (i : Identifier) (ts rest : List Token) → Begins 
 unfolding identifier_at
 identifier_at-complete i [] rest a n = absurd a
 identifier_at-complete i (t ∷ ts) rest a n =
-    ap (λ k. option_map (λ w. (record { text = w; place = t.span }, ts)) (name_of k)) a.0.kind
-    ∙ ap (λ b. option_map (λ w. (record { text = w; place = t.span }, ts)) (cond b None (Some i.text))) (is_keyword-complete i.text n)
-    ∙ ap (λ p. Some (record { text = i.text; place = p }, ts)) a.0.placed ∙ ap (λ us. Some (i, us)) a.1
+    ap (λ k. option_map (λ w. (record { text = w; span = t.span }, ts)) (name_of k)) a.0.kind
+    ∙ ap (λ b. option_map (λ w. (record { text = w; span = t.span }, ts)) (cond b None (Some i.text))) (is_keyword-complete i.text n)
+    ∙ ap (λ p. Some (record { text = i.text; span = p }, ts)) a.0.placed ∙ ap (λ us. Some (i, us)) a.1
 
 -- what is not a name is not read as one
 pub identifier_at-other : (l : Lexeme) (ls : List Lexeme) (ts rest : List Token) → name_of l.kind ≡ None → Begins (l ∷ ls) ts rest → identifier_at ts ≡ None
 unfolding identifier_at
 identifier_at-other l ls [] rest e a = absurd a
-identifier_at-other l ls (t ∷ ts) rest e a = ap (λ k. option_map (λ w. (record { text = w; place = t.span }, ts)) (name_of k)) a.0.kind ∙ ap (option_map (λ w. (record { text = w; place = t.span }, ts))) e
+identifier_at-other l ls (t ∷ ts) rest e a = ap (λ k. option_map (λ w. (record { text = w; span = t.span }, ts)) (name_of k)) a.0.kind ∙ ap (option_map (λ w. (record { text = w; span = t.span }, ts))) e

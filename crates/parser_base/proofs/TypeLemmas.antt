@@ -15,11 +15,11 @@ use Rattle.syntax_tree.specs.TypeTreeData.{SourceTypeData, SharedSourceType, Mut
 use Rattle.syntax_tree.specs.TypeSpelling.{type_spelling, type_spellings, arguments_spelling, maybe_arguments_spelling}
 use Rattle.syntax_tree.specs.ProperTypes.{IsProperType, AreProperTypes, AreProperArguments, AreProperMaybeArguments, AreSome}
 use Rattle.parser_base.specs.Beginnings.{Begins}
-use Rattle.parser_base.specs.TokenReading.{Read, is_sign, is_keyword, after_sign, sign_place_at, after_word}
+use Rattle.parser_base.specs.TokenReading.{Read, is_sign, is_keyword, after_sign, sign_span_at, after_word}
 use Rattle.parser_base.specs.ListReading.{some_items_at, comma_list_at}
 use Rattle.parser_base.proofs.Steps.{step, last, some_one, either, not_read, bind_some, map_some, map_or_none, map_or_some, cond_false}
 use Rattle.parser_base.proofs.BeginLemmas.{Begins-append, Begins-split, Begins-first, Begins-same, length-Begins}
-use Rattle.parser_base.proofs.TokenLemmas.{after_sign-sound, after_sign-complete, after_sign-other, sign_place_at-sound, sign_place_at-complete, sign_place_at-other, sign_place_at-none, after_word-sound, after_word-complete, after_word-other}
+use Rattle.parser_base.proofs.TokenLemmas.{after_sign-sound, after_sign-complete, after_sign-other, sign_span_at-sound, sign_span_at-complete, sign_span_at-other, sign_span_at-none, after_word-sound, after_word-complete, after_word-other}
 use Rattle.parser_base.proofs.ListLemmas.{Filled, some_items_at-sound, comma_list_at-sound, some_items_at-complete, comma_list_at-complete}
 use Rattle.parser_base.specs.PathReading.{path_at, is_single}
 use Rattle.parser_base.specs.TypeReading.{arguments_at, maybe_arguments_at, named_at, reference_at, tuple_at, type_form, type_at}
@@ -105,34 +105,34 @@ named_at-sound inner sound ts r e =
       (path.1, is_single-sound (codes "u256") p.value.0 n.0, arguments.1),
     )
 
-reference_at-sound : (inner : List Token → Read SourceTypeData) → ReadsTypes inner → (place : Span) (whole ts : List Token) (r : SourceTypeData × List Token) → Begins (sign_at place Ampersand ∷ []) whole ts
-    → reference_at inner place ts ≡ Some r → Begins (type_spelling r.0) whole r.1 × IsProperType r.0
+reference_at-sound : (inner : List Token → Read SourceTypeData) → ReadsTypes inner → (span : Span) (whole ts : List Token) (r : SourceTypeData × List Token) → Begins (sign_at span Ampersand ∷ []) whole ts
+    → reference_at inner span ts ≡ Some r → Begins (type_spelling r.0) whole r.1 × IsProperType r.0
 unfolding reference_at
-reference_at-sound inner sound place whole ts r front e =
-    elim (either (after_word (codes "mut") ts) (λ rest. option_map (λ t. (MutableSourceType place t.0, t.1)) (inner rest)) _ r e) [
+reference_at-sound inner sound span whole ts r front e =
+    elim (either (after_word (codes "mut") ts) (λ rest. option_map (λ t. (MutableSourceType span t.0, t.1)) (inner rest)) _ r e) [
       | inl s ↦
-          let t = last (inner s.value) (λ t. (MutableSourceType place t.0, t.1)) r s.then in
+          let t = last (inner s.value) (λ t. (MutableSourceType span t.0, t.1)) r s.then in
           let read = sound s.value t.value t.first in
           subst (λ q. Begins (type_spelling q.0) whole q.1 × IsProperType q.0) t.then (
-            Begins-append (sign_at place Ampersand ∷ []) (word (codes "mut") None ∷ type_spelling t.value.0) whole ts t.value.1 front
+            Begins-append (sign_at span Ampersand ∷ []) (word (codes "mut") None ∷ type_spelling t.value.0) whole ts t.value.1 front
                 (Begins-append (word (codes "mut") None ∷ []) (type_spelling t.value.0) ts s.value t.value.1 (after_word-sound (codes "mut") ts s.value s.first) read.0),
             read.1,
           )
       | inr n ↦
-          let t = last (inner ts) (λ t. (SharedSourceType place t.0, t.1)) r n.1 in
+          let t = last (inner ts) (λ t. (SharedSourceType span t.0, t.1)) r n.1 in
           let read = sound ts t.value t.first in
           subst (λ q. Begins (type_spelling q.0) whole q.1 × IsProperType q.0) t.then
-          (Begins-append (sign_at place Ampersand ∷ []) (type_spelling t.value.0) whole ts t.value.1 front read.0, read.1)
+          (Begins-append (sign_at span Ampersand ∷ []) (type_spelling t.value.0) whole ts t.value.1 front read.0, read.1)
     ]
 
-tuple_at-sound : (inner : List Token → Read SourceTypeData) → ReadsTypes inner → (place : Span) (whole ts : List Token) (r : SourceTypeData × List Token) → Begins (sign_at place LeftParenthesis ∷ []) whole ts
-    → tuple_at inner place ts ≡ Some r → Begins (type_spelling r.0) whole r.1 × IsProperType r.0
+tuple_at-sound : (inner : List Token → Read SourceTypeData) → ReadsTypes inner → (span : Span) (whole ts : List Token) (r : SourceTypeData × List Token) → Begins (sign_at span LeftParenthesis ∷ []) whole ts
+    → tuple_at inner span ts ≡ Some r → Begins (type_spelling r.0) whole r.1 × IsProperType r.0
 unfolding tuple_at
-tuple_at-sound inner sound place whole ts r front e =
+tuple_at-sound inner sound span whole ts r front e =
     let l = last (comma_list_at (after_sign RightParenthesis) inner ts) _ r e in
     let s = comma_list_at-sound RightParenthesis inner type_spelling IsProperType sound ts l.value l.first in
     subst (λ q. Begins (type_spelling q.0) whole q.1 × IsProperType q.0) l.then (
-      Begins-append (sign_at place LeftParenthesis ∷ []) (comma_list (type_spellings (source_types_of l.value.0.0)) l.value.0.1 ++ sign RightParenthesis ∷ []) whole ts l.value.1 front
+      Begins-append (sign_at span LeftParenthesis ∷ []) (comma_list (type_spellings (source_types_of l.value.0.0)) l.value.0.1 ++ sign RightParenthesis ∷ []) whole ts l.value.1 front
           (subst (λ ls. Begins (comma_list ls l.value.0.1 ++ sign RightParenthesis ∷ []) ts l.value.1) (sym (types_spelled l.value.0.0)) s.0.spelled),
       (proper_types l.value.0.0 s.0.all_proper, λ h. some_types l.value.0.0 (s.1 h)),
     )
@@ -140,10 +140,10 @@ tuple_at-sound inner sound place whole ts r front e =
 type_form-sound : (inner : List Token → Read SourceTypeData) → ReadsTypes inner → ReadsTypes (type_form inner)
 unfolding type_form
 type_form-sound inner sound ts r e =
-    elim (either (sign_place_at Ampersand ts) (λ p. reference_at inner p.0 p.1) _ r e) [
-      | inl s ↦ reference_at-sound inner sound s.value.0 ts s.value.1 r (sign_place_at-sound Ampersand ts s.value s.first) s.then
-      | inr n ↦ elim (either (sign_place_at LeftParenthesis ts) (λ p. tuple_at inner p.0 p.1) _ r n.1) [
-        | inl s ↦ tuple_at-sound inner sound s.value.0 ts s.value.1 r (sign_place_at-sound LeftParenthesis ts s.value s.first) s.then
+    elim (either (sign_span_at Ampersand ts) (λ p. reference_at inner p.0 p.1) _ r e) [
+      | inl s ↦ reference_at-sound inner sound s.value.0 ts s.value.1 r (sign_span_at-sound Ampersand ts s.value s.first) s.then
+      | inr n ↦ elim (either (sign_span_at LeftParenthesis ts) (λ p. tuple_at inner p.0 p.1) _ r n.1) [
+        | inl s ↦ tuple_at-sound inner sound s.value.0 ts s.value.1 r (sign_span_at-sound LeftParenthesis ts s.value s.first) s.then
         | inr m ↦ named_at-sound inner sound ts r m.1
       ]
     ]
@@ -170,10 +170,10 @@ ReadsBackTypes bound inner = (t : SourceTypeData) (ts rest : List Token) → len
 -- a type begins with `&`, a parenthesis or a path
 pub type_no_sign : (s : Sign) → is_sign s (Punctuation Ampersand) ≡ false → is_sign s (Punctuation LeftParenthesis) ≡ false → (t : SourceTypeData) (ls : List Lexeme) (ts rest : List Token)
     → Begins (type_spelling t ++ ls) ts rest → IsProperType t → after_sign s ts ≡ None
-type_no_sign s a b (SharedSourceType place t) ls ts rest h p = after_sign-other s (sign_at place Ampersand) (type_spelling t ++ ls) ts rest a h
-type_no_sign s a b (MutableSourceType place t) ls ts rest h p = after_sign-other s (sign_at place Ampersand) (word (codes "mut") None ∷ type_spelling t ++ ls) ts rest a h
-type_no_sign s a b (TupleSourceType place items last) ls ts rest h p =
-    after_sign-other s (sign_at place LeftParenthesis) ((comma_list (type_spellings items) last ++ sign RightParenthesis ∷ []) ++ ls) ts rest b h
+type_no_sign s a b (SharedSourceType span t) ls ts rest h p = after_sign-other s (sign_at span Ampersand) (type_spelling t ++ ls) ts rest a h
+type_no_sign s a b (MutableSourceType span t) ls ts rest h p = after_sign-other s (sign_at span Ampersand) (word (codes "mut") None ∷ type_spelling t ++ ls) ts rest a h
+type_no_sign s a b (TupleSourceType span items last) ls ts rest h p =
+    after_sign-other s (sign_at span LeftParenthesis) ((comma_list (type_spellings items) last ++ sign RightParenthesis ∷ []) ++ ls) ts rest b h
 type_no_sign s a b (NamedSourceType path arguments) ls ts rest h p =
     path_no_sign s path (maybe_arguments_spelling None arguments ++ ls) ts rest (Begins-same _ _ ts rest (append_assoc (path_spelling path) (maybe_arguments_spelling None arguments) ls) h) p.0
 
@@ -182,9 +182,9 @@ unfolding is_keyword
 mut_is_keyword = refl
 
 type_no_mut : (t : SourceTypeData) (ts rest : List Token) → Begins (type_spelling t) ts rest → IsProperType t → after_word (codes "mut") ts ≡ None
-type_no_mut (SharedSourceType place t) ts rest h p = after_word-other (codes "mut") (sign_at place Ampersand) (type_spelling t) ts rest refl h
-type_no_mut (MutableSourceType place t) ts rest h p = after_word-other (codes "mut") (sign_at place Ampersand) (word (codes "mut") None ∷ type_spelling t) ts rest refl h
-type_no_mut (TupleSourceType place items last) ts rest h p = after_word-other (codes "mut") (sign_at place LeftParenthesis) (comma_list (type_spellings items) last ++ sign RightParenthesis ∷ []) ts rest refl h
+type_no_mut (SharedSourceType span t) ts rest h p = after_word-other (codes "mut") (sign_at span Ampersand) (type_spelling t) ts rest refl h
+type_no_mut (MutableSourceType span t) ts rest h p = after_word-other (codes "mut") (sign_at span Ampersand) (word (codes "mut") None ∷ type_spelling t) ts rest refl h
+type_no_mut (TupleSourceType span items last) ts rest h p = after_word-other (codes "mut") (sign_at span LeftParenthesis) (comma_list (type_spellings items) last ++ sign RightParenthesis ∷ []) ts rest refl h
 type_no_mut (NamedSourceType path arguments) ts rest h p = path_no_word (codes "mut") path (maybe_arguments_spelling None arguments) ts rest mut_is_keyword h p.0
 
 ends_at : (s : Sign) → is_sign ColonColon (Punctuation s) ≡ false → is_sign Less (Punctuation s) ≡ false → (ts rest : List Token) → Begins (sign s ∷ []) ts rest → TypeEnds ts
@@ -215,42 +215,42 @@ module _ (bound : ℕ) (inner : List Token → Read SourceTypeData) (complete : 
 
   type_form-complete : (t : SourceTypeData) (ts rest : List Token) → length ts ≤ suc bound → Begins (type_spelling t) ts rest → IsProperType t → TypeEnds rest → type_form inner ts ≡ Some (t, rest)
   unfolding type_form reference_at tuple_at named_at
-  type_form-complete (SharedSourceType place t) ts rest h b p d =
-      let s = Begins-first (sign_at place Ampersand) (type_spelling t) ts rest b in
-      map_or_some (sign_place_at Ampersand ts) (λ p. reference_at inner p.0 p.1) _ (place, s.mid) (sign_place_at-complete Ampersand place ts s.mid s.front)
+  type_form-complete (SharedSourceType span t) ts rest h b p d =
+      let s = Begins-first (sign_at span Ampersand) (type_spelling t) ts rest b in
+      map_or_some (sign_span_at Ampersand ts) (λ p. reference_at inner p.0 p.1) _ (span, s.mid) (sign_span_at-complete Ampersand span ts s.mid s.front)
       ∙ map_or_none (after_word (codes "mut") s.mid) _ _ (type_no_mut t s.mid rest s.back p)
-      ∙ map_some (inner s.mid) (λ t. (SharedSourceType place t.0, t.1)) (t, rest) (complete t s.mid rest (omega (arith, length-Begins (sign_at place Ampersand ∷ []) ts s.mid s.front)) s.back p d)
-  type_form-complete (MutableSourceType place t) ts rest h b p d =
-      let s = Begins-first (sign_at place Ampersand) (word (codes "mut") None ∷ type_spelling t) ts rest b in
+      ∙ map_some (inner s.mid) (λ t. (SharedSourceType span t.0, t.1)) (t, rest) (complete t s.mid rest (omega (arith, length-Begins (sign_at span Ampersand ∷ []) ts s.mid s.front)) s.back p d)
+  type_form-complete (MutableSourceType span t) ts rest h b p d =
+      let s = Begins-first (sign_at span Ampersand) (word (codes "mut") None ∷ type_spelling t) ts rest b in
       let m = Begins-first (word (codes "mut") None) (type_spelling t) s.mid rest s.back in
-      map_or_some (sign_place_at Ampersand ts) (λ p. reference_at inner p.0 p.1) _ (place, s.mid) (sign_place_at-complete Ampersand place ts s.mid s.front)
+      map_or_some (sign_span_at Ampersand ts) (λ p. reference_at inner p.0 p.1) _ (span, s.mid) (sign_span_at-complete Ampersand span ts s.mid s.front)
       ∙ map_or_some (after_word (codes "mut") s.mid) _ _ m.mid (after_word-complete (codes "mut") s.mid m.mid m.front)
-      ∙ map_some (inner m.mid) (λ t. (MutableSourceType place t.0, t.1)) (t, rest)
-      (complete t m.mid rest (omega (arith, length-Begins (sign_at place Ampersand ∷ []) ts s.mid s.front, length-Begins (word (codes "mut") None ∷ []) s.mid m.mid m.front)) m.back p d)
-  type_form-complete (TupleSourceType place items last) ts rest h b p d =
-      let s = Begins-first (sign_at place LeftParenthesis) (comma_list (type_spellings items) last ++ sign RightParenthesis ∷ []) ts rest b in
-      map_or_none (sign_place_at Ampersand ts) (λ p. reference_at inner p.0 p.1) _ (sign_place_at-other Ampersand (sign_at place LeftParenthesis) (comma_list (type_spellings items) last ++ sign RightParenthesis ∷ []) ts rest refl b)
-      ∙ map_or_some (sign_place_at LeftParenthesis ts) (λ p. tuple_at inner p.0 p.1) _ (place, s.mid) (sign_place_at-complete LeftParenthesis place ts s.mid s.front)
-      ∙ map_some (comma_list_at (after_sign RightParenthesis) inner s.mid) (λ items. (TupleSourceType place (source_types_of items.0.0) items.0.1, items.1)) ((list_of_source_types items, last), rest)
+      ∙ map_some (inner m.mid) (λ t. (MutableSourceType span t.0, t.1)) (t, rest)
+      (complete t m.mid rest (omega (arith, length-Begins (sign_at span Ampersand ∷ []) ts s.mid s.front, length-Begins (word (codes "mut") None ∷ []) s.mid m.mid m.front)) m.back p d)
+  type_form-complete (TupleSourceType span items last) ts rest h b p d =
+      let s = Begins-first (sign_at span LeftParenthesis) (comma_list (type_spellings items) last ++ sign RightParenthesis ∷ []) ts rest b in
+      map_or_none (sign_span_at Ampersand ts) (λ p. reference_at inner p.0 p.1) _ (sign_span_at-other Ampersand (sign_at span LeftParenthesis) (comma_list (type_spellings items) last ++ sign RightParenthesis ∷ []) ts rest refl b)
+      ∙ map_or_some (sign_span_at LeftParenthesis ts) (λ p. tuple_at inner p.0 p.1) _ (span, s.mid) (sign_span_at-complete LeftParenthesis span ts s.mid s.front)
+      ∙ map_some (comma_list_at (after_sign RightParenthesis) inner s.mid) (λ items. (TupleSourceType span (source_types_of items.0.0) items.0.1, items.1)) ((list_of_source_types items, last), rest)
       (comma_list_at-complete RightParenthesis inner type_spelling IsProperType TypeEnds bound complete
       (λ t ts rest b p. type_no_sign RightParenthesis refl refl t [] ts rest (Begins-same _ _ ts rest (sym (append-nil (type_spelling t))) b) p)
-      (ends_at RightParenthesis refl refl) (ends_at Comma refl refl) refl (list_of_source_types items) last s.mid rest (omega (arith, length-Begins (sign_at place LeftParenthesis ∷ []) ts s.mid s.front))
+      (ends_at RightParenthesis refl refl) (ends_at Comma refl refl) refl (list_of_source_types items) last s.mid rest (omega (arith, length-Begins (sign_at span LeftParenthesis ∷ []) ts s.mid s.front))
       (subst (λ ls. Begins (comma_list ls last ++ sign RightParenthesis ∷ []) s.mid rest) (types_spelled_from items) s.back)
       (each_proper_type (list_of_source_types items) (subst AreProperTypes (sym (listed_types items)) p.0)) (λ l. filled_types (list_of_source_types items) (subst AreSome (sym (listed_types items)) (p.1 l))))
-      ∙ ap (λ ys. Some (TupleSourceType place ys last, rest)) (listed_types items)
+      ∙ ap (λ ys. Some (TupleSourceType span ys last, rest)) (listed_types items)
   type_form-complete (NamedSourceType path a) ts rest h b p d =
       let s = Begins-split (path_spelling path) (maybe_arguments_spelling None a) ts rest b in
-      map_or_none (sign_place_at Ampersand ts) (λ p. reference_at inner p.0 p.1) _ (sign_place_at-none Ampersand ts (path_no_sign Ampersand path (maybe_arguments_spelling None a) ts rest b p.0))
-      ∙ map_or_none (sign_place_at LeftParenthesis ts) (λ p. tuple_at inner p.0 p.1) _ (sign_place_at-none LeftParenthesis ts (path_no_sign LeftParenthesis path (maybe_arguments_spelling None a) ts rest b p.0))
+      map_or_none (sign_span_at Ampersand ts) (λ p. reference_at inner p.0 p.1) _ (sign_span_at-none Ampersand ts (path_no_sign Ampersand path (maybe_arguments_spelling None a) ts rest b p.0))
+      ∙ map_or_none (sign_span_at LeftParenthesis ts) (λ p. tuple_at inner p.0 p.1) _ (sign_span_at-none LeftParenthesis ts (path_no_sign LeftParenthesis path (maybe_arguments_spelling None a) ts rest b p.0))
       ∙ bind_some (path_at ts) (λ path. cond (is_single (codes "u256") path.0) None (option_map (λ a. (NamedSourceType path.0 a.0, a.1)) (maybe_arguments_at inner path.1))) (path, s.mid) (path_at-complete path ts s.mid s.front p.0 (no_colons a s.mid rest s.back d.0))
       ∙ cond_false (is_single (codes "u256") path) None _ (is_single-complete (codes "u256") path p.1)
       ∙ map_some (maybe_arguments_at inner s.mid) (λ a. (NamedSourceType path a.0, a.1)) (a, rest) (maybe_arguments_at-complete a s.mid rest (omega (arith, length-Begins (path_spelling path) ts s.mid s.front)) s.back p.2 d.1)
 
 -- no type has an empty spelling
 nothing_spells : (t : SourceTypeData) (rest : List Token) → Begins (type_spelling t) [] rest → IsProperType t → ⊥
-nothing_spells (SharedSourceType place t) rest b p = b
-nothing_spells (MutableSourceType place t) rest b p = b
-nothing_spells (TupleSourceType place items last) rest b p = b
+nothing_spells (SharedSourceType span t) rest b p = b
+nothing_spells (MutableSourceType span t) rest b p = b
+nothing_spells (TupleSourceType span items last) rest b p = b
 nothing_spells (NamedSourceType path a) rest b p = let o = path_opens path (maybe_arguments_spelling None a) [] rest b p.0 in o.begins
 
 pub type_at-complete : (n : ℕ) → ReadsBackTypes n (type_at (suc n))

@@ -4,7 +4,7 @@ use Rattle.std.specs.Option.{option_map}
 use Rattle.tokens.specs.declared.token.Token.{Token}
 use Rattle.tokens.specs.declared.token.TokenKind.{TokenKind}
 use Rattle.tokens.specs.declared.token.Punctuation.{Punctuation as Sign}
-use Rattle.syntax_tree.specs.Balance.{wanted_behind}
+use Rattle.syntax_tree.specs.Balance.{expected_after}
 use Rattle.parser_base.specs.TokenReading.{Read, is_sign}
 
 -- decides whether the token closes the whole: no bracket is open
@@ -17,7 +17,7 @@ unfoldable pub balanced_end : Sign → List Sign → List Token → Option (List
 balanced_end close wanted [] = None
 balanced_end close wanted (t ∷ ts) =
     if ends_here close wanted t.kind then Some ts
-    else option_and_then (λ more. balanced_end close more ts) (wanted_behind (Some wanted) t.kind)
+    else option_and_then (λ more. balanced_end close more ts) (expected_after (Some wanted) t.kind)
 
 -- the tokens before the sign, and those after it
 unfoldable pub balanced_at : Sign → List Token → Read (List Token)

@@ -5,7 +5,7 @@ use Rattle.tokens.specs.declared.token.Token.{Token}
 use Rattle.tokens.specs.declared.token.Punctuation.{Punctuation as Sign}
 use Rattle.tokens.specs.declared.token.Punctuation.TheVariants.{LeftBrace, RightBrace}
 use Rattle.syntax_tree.specs.declared.spec_tokens.KeptSpec.{KeptSpec}
-use Rattle.syntax_tree.specs.Balance.{wanted_behind}
+use Rattle.syntax_tree.specs.Balance.{expected_after}
 use Rattle.parser_base.specs.TokenReading.{Read, is_sign, after_sign, after_word}
 use Rattle.parser_base.specs.BalanceReading.{balanced_end}
 
@@ -19,7 +19,7 @@ unfoldable pub head_end : List Sign → List Token → Option (List Token)
 head_end wanted [] = None
 head_end wanted (t ∷ ts) =
     if is_sign LeftBrace t.kind then (if is_none_open wanted then Some ts else None)
-    else option_and_then (λ more. head_end more ts) (wanted_behind (Some wanted) t.kind)
+    else option_and_then (λ more. head_end more ts) (expected_after (Some wanted) t.kind)
 
 -- the tokens after a block whose head `heads` skips
 unfoldable pub spec_end : (List Token → Option (List Token)) → List Token → Option (List Token)

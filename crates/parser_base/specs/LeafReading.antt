@@ -16,7 +16,7 @@ use Rattle.syntax_tree.specs.declared.operator.UnaryOperator.{UnaryOperator}
 use Rattle.syntax_tree.specs.declared.operator.UnaryOperator.TheVariants.{Not, Dereference, Borrow, BorrowMutable}
 use Rattle.syntax_tree.specs.declared.operator.UseKind.{UseKind}
 use Rattle.syntax_tree.specs.declared.operator.UseKind.TheVariants.{Move, Copy}
-use Rattle.parser_base.specs.TokenReading.{Read, is_keyword, is_sign, after_sign, sign_place_at, after_word, word_place_at, begins_capital}
+use Rattle.parser_base.specs.TokenReading.{Read, is_keyword, is_sign, after_sign, sign_span_at, after_word, word_span_at, begins_capital}
 use Rattle.base.specs.Names.{same_name}
 use Rattle.parser_base.specs.KeptReading.{loop_spec_at}
 use Rattle.syntax_tree.specs.declared.path.Path.{Path}
@@ -50,12 +50,12 @@ unfoldable pub number_at : List Token → Read Literal
 number_at [] = None
 number_at (t ∷ ts) =
     if is_some (after_sign ColonColon ts) then None
-    else option_map (λ literal. (number_literal (record { literal = literal; place = t.span }), ts)) (fitting_number_of t.kind)
+    else option_map (λ literal. (number_literal (record { literal = literal; span = t.span }), ts)) (fitting_number_of t.kind)
 
 unfoldable pub truth_at : List Token → Read Literal
 truth_at ts =
-    option_map_or (λ p. Some (truth_literal p.0 true, p.1)) (word_place_at (codes "true") ts)
-    (option_map (λ p. (truth_literal p.0 false, p.1)) (word_place_at (codes "false") ts))
+    option_map_or (λ p. Some (truth_literal p.0 true, p.1)) (word_span_at (codes "true") ts)
+    (option_map (λ p. (truth_literal p.0 false, p.1)) (word_span_at (codes "false") ts))
 
 -- a number or a boolean
 unfoldable pub plain_literal_at : List Token → Read Literal
@@ -64,12 +64,12 @@ plain_literal_at ts = option_map_or (λ l. Some (l.0, l.1)) (number_at ts) (trut
 -- ---- words with a special meaning before certain tokens
 
 -- `vector` before type arguments or a bracket
-unfoldable pub vector_place_at : List Token → Read Span
-vector_place_at ts = option_and_then (λ p. if is_some (after_sign Less p.1) || is_some (after_sign LeftBracket p.1) then Some (p.0, p.1) else None) (word_place_at (codes "vector") ts)
+unfoldable pub vector_span_at : List Token → Read Span
+vector_span_at ts = option_and_then (λ p. if is_some (after_sign Less p.1) || is_some (after_sign LeftBracket p.1) then Some (p.0, p.1) else None) (word_span_at (codes "vector") ts)
 
 -- `assert` and its `!`
-unfoldable pub assert_place_at : List Token → Read Span
-assert_place_at ts = option_and_then (λ p. option_map (λ rest. (p.0, rest)) (after_sign Exclaim p.1)) (word_place_at (codes "assert") ts)
+unfoldable pub assert_span_at : List Token → Read Span
+assert_span_at ts = option_and_then (λ p. option_map (λ rest. (p.0, rest)) (after_sign Exclaim p.1)) (word_span_at (codes "assert") ts)
 
 -- the tokens after a sign that is glued to the token before it
 unfoldable pub after_glued : Sign → List Token → Option (List Token)
@@ -79,19 +79,19 @@ after_glued sign (t ∷ ts) = if is_sign sign t.kind && t.glued then Some ts els
 -- ---- unary operators
 
 unfoldable pub borrow_behind : Span → List Token → Read (UnaryOperator × Span)
-borrow_behind place ts = option_map_or (λ rest. Some ((BorrowMutable, place), rest)) (after_word (codes "mut") ts) (Some ((Borrow, place), ts))
+borrow_behind span ts = option_map_or (λ rest. Some ((BorrowMutable, span), rest)) (after_word (codes "mut") ts) (Some ((Borrow, span), ts))
 
 unfoldable pub prefix_at : List Token → Read (UnaryOperator × Span)
 prefix_at ts =
-    option_map_or (λ p. Some ((Not, p.0), p.1)) (sign_place_at Exclaim ts)
-    (option_map_or (λ p. Some ((Dereference, p.0), p.1)) (sign_place_at Star ts)
-    (option_and_then (λ p. borrow_behind p.0 p.1) (sign_place_at Ampersand ts)))
+    option_map_or (λ p. Some ((Not, p.0), p.1)) (sign_span_at Exclaim ts)
+    (option_map_or (λ p. Some ((Dereference, p.0), p.1)) (sign_span_at Star ts)
+    (option_and_then (λ p. borrow_behind p.0 p.1) (sign_span_at Ampersand ts)))
 
 -- `move` or `copy`
 unfoldable pub use_at : List Token → Read (UseKind × Span)
 use_at ts =
-    option_map_or (λ p. Some ((Move, p.0), p.1)) (word_place_at (codes "move") ts)
-    (option_map (λ p. ((Copy, p.0), p.1)) (word_place_at (codes "copy") ts))
+    option_map_or (λ p. Some ((Move, p.0), p.1)) (word_span_at (codes "move") ts)
+    (option_map (λ p. ((Copy, p.0), p.1)) (word_span_at (codes "copy") ts))
 
 -- ---- control forms
 
@@ -143,7 +143,7 @@ may_begin (t ∷ ts) = begins_expression t.kind
 
 -- `{` with its span, and the tokens after it, the first of which is `spec`: the block of a loop's spec
 unfoldable pub spec_opening_at : List Token → Read Span
-spec_opening_at ts = option_and_then (λ p. if is_some (after_word (codes "spec") p.1) then Some p else None) (sign_place_at LeftBrace ts)
+spec_opening_at ts = option_and_then (λ p. if is_some (after_word (codes "spec") p.1) then Some p else None) (sign_span_at LeftBrace ts)
 
 -- ---- what follows the path of a term
 

@@ -46,8 +46,8 @@ binary_of (ByteString text) = None
 -- decides whether the expression ends in the path `vector`
 abbrev pub ends_in_vector : ExpressionData → Bool
 ends_in_vector (PathExpression path) = is_single (codes "vector") path
-ends_in_vector (BinaryExpression left operator place right) = ends_in_vector right
-ends_in_vector (UnaryExpression operator place operand) = ends_in_vector operand
+ends_in_vector (BinaryExpression left operator span right) = ends_in_vector right
+ends_in_vector (UnaryExpression operator span operand) = ends_in_vector operand
 ends_in_vector _ = false
 
 -- a `<` or `<<` glued to a path opens type arguments, and a `<` after `vector` always does
@@ -58,8 +58,8 @@ opens_arguments _ left glued = false
 
 -- two `>`, the second of which is glued, are one operator
 abbrev pub whole_operator : BinaryOperator → Span → List Token → (BinaryOperator × Span) × List Token
-whole_operator Greater place ts = option_map_or (λ rest. ((ShiftRight, place), rest)) (after_glued greater_sign ts) ((Greater, place), ts)
-whole_operator operator place ts = ((operator, place), ts)
+whole_operator Greater span ts = option_map_or (λ rest. ((ShiftRight, span), rest)) (after_glued greater_sign ts) ((Greater, span), ts)
+whole_operator operator span ts = ((operator, span), ts)
 
 unfoldable pub operator_behind : ExpressionData → List Token → Read (BinaryOperator × Span)
 operator_behind left [] = None

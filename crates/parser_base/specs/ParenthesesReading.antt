@@ -8,5 +8,5 @@ use Rattle.parser_base.specs.ListReading.{Items}
 
 -- two or more expressions, after the first one
 abbrev pub several : Span → ExpressionData → Items ExpressionData → List Token → Read ExpressionData
-several place first ([], last) rest = None
-several place first (x ∷ xs, last) rest = Some (TupleExpression place (expressions_of (first ∷ x ∷ xs)) last, rest)
+several span first ([], last) rest = None
+several span first (x ∷ xs, last) rest = Some (TupleExpression span (expressions_of (first ∷ x ∷ xs)) last, rest)

@@ -18,9 +18,9 @@ at_least_one (suc n) = suc n
 
 -- the reason why no tree was read, if reading ended at this byte offset
 abbrev pub ExplainsAt : List Token → ℕ → ParseFault → Type 0
-ExplainsAt tokens place (Grammar other) = HoldNone tokens × (other ≡ place)
-ExplainsAt tokens place (LeftOut index) = IsFirstMarker tokens index
-ExplainsAt tokens place NoMemory = ⊥
+ExplainsAt tokens span (Grammar other) = HoldNone tokens × (other ≡ span)
+ExplainsAt tokens span (LeftOut index) = IsFirstMarker tokens index
+ExplainsAt tokens span NoMemory = ⊥
 
 -- the first of the last `left` tokens, where reading ended, is impossible there
 abbrev pub Explains : List Token → ReadFault → ParseFault → Type 0

@@ -31,7 +31,7 @@ address_number_of (Punctuation sign) = None
 
 unfoldable pub address_number_at : List Token → Read Numeral
 address_number_at [] = None
-address_number_at (t ∷ ts) = option_map (λ literal. (record { literal = literal; place = t.span }, ts)) (address_number_of t.kind)
+address_number_at (t ∷ ts) = option_map (λ literal. (record { literal = literal; span = t.span }, ts)) (address_number_of t.kind)
 
 unfoldable pub address_at : List Token → Read Address
 address_at ts = option_map_or (λ n. Some (number_address n.0, n.1)) (address_number_at ts) (option_map (λ i. (name_address i.0, i.1)) (identifier_at ts))

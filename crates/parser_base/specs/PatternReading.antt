@@ -9,7 +9,7 @@ use Rattle.syntax_tree.specs.declared.path.Path.{Path}
 use Rattle.syntax_tree.specs.declared.path.Path.TheVariants.{Name as name_path, Member as member_path, Full as full_path}
 use Rattle.syntax_tree.specs.TypeTreeData.{SourceTypeData}
 use Rattle.syntax_tree.specs.PatternData.{PatternData, BindPattern, IgnorePattern, UnpackPattern, TuplePattern, FieldPatternData, ShortFieldPattern, LongFieldPattern, patterns_of, field_patterns_of}
-use Rattle.parser_base.specs.TokenReading.{Read, after_sign, sign_place_at, identifier_at, begins_small}
+use Rattle.parser_base.specs.TokenReading.{Read, after_sign, sign_span_at, identifier_at, begins_small}
 use Rattle.base.specs.Names.{same_name}
 use Rattle.parser_base.specs.ListReading.{some_items_at, comma_list_at}
 use Rattle.parser_base.specs.PathReading.{path_at}
@@ -17,12 +17,12 @@ use Rattle.parser_base.specs.TypeReading.{maybe_arguments_at, type_at}
 
 -- patterns after an opening parenthesis
 unfoldable pub tuple_pattern_at : (List Token → Read PatternData) → Span → List Token → Read PatternData
-tuple_pattern_at inner place ts = option_map (λ items. (TuplePattern place (patterns_of items.0.0) items.0.1, items.1)) (some_items_at (after_sign RightParenthesis) inner ts)
+tuple_pattern_at inner span ts = option_map (λ items. (TuplePattern span (patterns_of items.0.0) items.0.1, items.1)) (some_items_at (after_sign RightParenthesis) inner ts)
 
 -- the pattern that a path alone is
 abbrev pub bound_by : Path → Option PatternData
 bound_by (name_path name) =
-    if same_name name.text (codes "_") then Some (IgnorePattern name.place)
+    if same_name name.text (codes "_") then Some (IgnorePattern name.span)
     else (if begins_small name.text then Some (BindPattern name) else None)
 bound_by (member_path owner name) = None
 bound_by (full_path owner name) = None
@@ -52,7 +52,7 @@ pattern_behind types inner path ts = if opens_fields ts then unpack_at types inn
 
 unfoldable pub pattern_form : (List Token → Read SourceTypeData) → (List Token → Read PatternData) → List Token → Read PatternData
 pattern_form types inner ts =
-    option_map_or (λ p. tuple_pattern_at inner p.0 p.1) (sign_place_at LeftParenthesis ts)
+    option_map_or (λ p. tuple_pattern_at inner p.0 p.1) (sign_span_at LeftParenthesis ts)
     (option_and_then (λ path. pattern_behind types inner path.0 path.1) (path_at ts))
 
 -- a pattern nested at most this deep

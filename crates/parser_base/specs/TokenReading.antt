@@ -42,9 +42,9 @@ after_sign sign [] = None
 after_sign sign (t ∷ ts) = if is_sign sign t.kind then Some ts else None
 
 -- the span of this sign
-unfoldable pub sign_place_at : Sign → List Token → Read Span
-sign_place_at sign [] = None
-sign_place_at sign (t ∷ ts) = if is_sign sign t.kind then Some (t.span, ts) else None
+unfoldable pub sign_span_at : Sign → List Token → Read Span
+sign_span_at sign [] = None
+sign_span_at sign (t ∷ ts) = if is_sign sign t.kind then Some (t.span, ts) else None
 
 -- the same tokens, if they begin with this sign
 unfoldable pub before_sign : Sign → List Token → Option (List Token)
@@ -56,9 +56,9 @@ after_word word [] = None
 after_word word (t ∷ ts) = if is_word word t.kind then Some ts else None
 
 -- the span of this word
-unfoldable pub word_place_at : List ℕ → List Token → Read Span
-word_place_at word [] = None
-word_place_at word (t ∷ ts) = if is_word word t.kind then Some (t.span, ts) else None
+unfoldable pub word_span_at : List ℕ → List Token → Read Span
+word_span_at word [] = None
+word_span_at word (t ∷ ts) = if is_word word t.kind then Some (t.span, ts) else None
 
 abbrev pub name_of : TokenKind → Option (List ℕ)
 name_of (Word name) = if is_keyword name then None else Some name
@@ -69,7 +69,7 @@ name_of (Punctuation sign) = None
 -- a name with its span
 unfoldable pub identifier_at : List Token → Read Identifier
 identifier_at [] = None
-identifier_at (t ∷ ts) = option_map (λ name. (record { text = name; place = t.span }, ts)) (name_of t.kind)
+identifier_at (t ∷ ts) = option_map (λ name. (record { text = name; span = t.span }, ts)) (name_of t.kind)
 
 -- how names of each kind begin
 abbrev pub begins_capital : List ℕ → Bool

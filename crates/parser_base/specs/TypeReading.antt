@@ -5,7 +5,7 @@ use Rattle.base.specs.declared.span.Span.{Span}
 use Rattle.tokens.specs.declared.token.Token.{Token}
 use Rattle.tokens.specs.declared.token.Punctuation.TheVariants.{Ampersand, LeftParenthesis, RightParenthesis, Less, Greater}
 use Rattle.syntax_tree.specs.TypeTreeData.{SourceTypeData, SharedSourceType, MutableSourceType, NamedSourceType, TupleSourceType, ArgumentsData, Arguments, MaybeArgumentsData, NoArguments, SomeArguments, source_types_of}
-use Rattle.parser_base.specs.TokenReading.{Read, after_sign, sign_place_at, after_word}
+use Rattle.parser_base.specs.TokenReading.{Read, after_sign, sign_span_at, after_word}
 use Rattle.parser_base.specs.ListReading.{some_items_at, comma_list_at}
 use Rattle.parser_base.specs.PathReading.{path_at, is_single}
 
@@ -23,18 +23,18 @@ named_at inner ts =
 
 -- a reference after its `&`
 unfoldable pub reference_at : (List Token → Read SourceTypeData) → Span → List Token → Read SourceTypeData
-reference_at inner place ts =
-    option_map_or (λ rest. option_map (λ t. (MutableSourceType place t.0, t.1)) (inner rest)) (after_word (codes "mut") ts)
-    (option_map (λ t. (SharedSourceType place t.0, t.1)) (inner ts))
+reference_at inner span ts =
+    option_map_or (λ rest. option_map (λ t. (MutableSourceType span t.0, t.1)) (inner rest)) (after_word (codes "mut") ts)
+    (option_map (λ t. (SharedSourceType span t.0, t.1)) (inner ts))
 
 -- types after an opening parenthesis
 unfoldable pub tuple_at : (List Token → Read SourceTypeData) → Span → List Token → Read SourceTypeData
-tuple_at inner place ts = option_map (λ items. (TupleSourceType place (source_types_of items.0.0) items.0.1, items.1)) (comma_list_at (after_sign RightParenthesis) inner ts)
+tuple_at inner span ts = option_map (λ items. (TupleSourceType span (source_types_of items.0.0) items.0.1, items.1)) (comma_list_at (after_sign RightParenthesis) inner ts)
 
 unfoldable pub type_form : (List Token → Read SourceTypeData) → List Token → Read SourceTypeData
 type_form inner ts =
-    option_map_or (λ p. reference_at inner p.0 p.1) (sign_place_at Ampersand ts)
-    (option_map_or (λ p. tuple_at inner p.0 p.1) (sign_place_at LeftParenthesis ts) (named_at inner ts))
+    option_map_or (λ p. reference_at inner p.0 p.1) (sign_span_at Ampersand ts)
+    (option_map_or (λ p. tuple_at inner p.0 p.1) (sign_span_at LeftParenthesis ts) (named_at inner ts))
 
 -- a type nested at most this deep
 unfoldable pub type_at : ℕ → List Token → Read SourceTypeData

@@ -1,7 +1,7 @@
 //! Readers of tokens with balanced brackets.
 
 ghost use Rattle.std.specs.Prelude.{◌≡◌, [], None, Some, reverse, IfOk, MatchResult};
-ghost use Rattle.syntax_tree.specs.Balance.{wanted_behind};
+ghost use Rattle.syntax_tree.specs.Balance.{expected_after};
 ghost use Rattle.parser_base.specs.ReadFault.{IfNoTree, Reads};
 ghost use Rattle.parser_base.specs.BalanceReading.{balanced_at, balanced_end, ends_here, Follows};
 
@@ -45,7 +45,7 @@ fn is_end(close: Punctuation, wanted: &[Punctuation], kind: &TokenKind) -> bool
 /// Updates the expected brackets after one more token. `wanted` holds the closing brackets still expected, the next one
 /// last. Returns false if the token closes another bracket than the expected one.
 pub fn follow(wanted: &mut Vec<Punctuation>, kind: &TokenKind) -> Result<bool, NoMemory>
-    ensures { IfOk result (λ fits. Follows fits (wanted_behind (Some (reverse wanted.old.items)) kind.now) (reverse wanted.new.items)) }
+    ensures { IfOk result (λ fits. Follows fits (expected_after (Some (reverse wanted.old.items)) kind.now) (reverse wanted.new.items)) }
 {
     let TokenKind::Punctuation(sign) = kind else {
         return Ok(true);

@@ -61,12 +61,12 @@ fn start_of_left(tokens: &[Token], left: usize) -> u32
 
 /// Returns the reason why no tree was read from the tokens, if reading ended at this byte offset. A marker of a form
 /// that is left out takes precedence over the position, wherever it occurs.
-pub fn explain_at(tokens: &[Token], place: u32) -> ParseFault
-    ensures { ExplainsAt tokens.now place result }
+pub fn explain_at(tokens: &[Token], offset: u32) -> ParseFault
+    ensures { ExplainsAt tokens.now offset result }
 {
     match first_marker(tokens) {
         Some(index) => ParseFault::LeftOut(index),
-        None => ParseFault::Grammar(place),
+        None => ParseFault::Grammar(offset),
     }
 }
 

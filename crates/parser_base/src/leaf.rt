@@ -6,14 +6,14 @@ ghost use Rattle.syntax_tree.specs.TypeTreeData.{maybe_arguments_of};
 ghost use Rattle.parser_base.specs.ReadFault.{Reads};
 ghost use Rattle.parser_base.specs.TokenReading.{after_word};
 ghost use Rattle.parser_base.specs.TypeReading.{type_at};
-ghost use Rattle.parser_base.specs.LeafReading.{after_glued, annotation_at, assert_place_at, behind_first_at, cast_target_at, glued_arguments_at, spec_statement_at, path_form_at, begins_by_keyword, begins_expression, begins_operand, borrow_behind, control_at, control_of, control_of_word, fitting_number_of, may_begin, number_at, plain_literal_at, prefix_at, spec_opening_at, truth_at, use_at, vector_place_at};
+ghost use Rattle.parser_base.specs.LeafReading.{after_glued, annotation_at, assert_span_at, behind_first_at, cast_target_at, glued_arguments_at, spec_statement_at, path_form_at, begins_by_keyword, begins_expression, begins_operand, borrow_behind, control_at, control_of, control_of_word, fitting_number_of, may_begin, number_at, plain_literal_at, prefix_at, spec_opening_at, truth_at, use_at, vector_span_at};
 
 use crate::fault::ReadFault;
 use crate::kept::read_loop_spec;
 use crate::path::{copy_number, is_single, last_name};
 use crate::signs::{
-    begins_capital, begins_with, expect_sign, is_keyword, is_sign, place_of_sign, place_of_word,
-    skip_sign, skip_word,
+    begins_capital, begins_with, expect_sign, is_keyword, is_sign, skip_sign, skip_word,
+    span_of_sign, span_of_word,
 };
 use crate::types::{read_arguments, read_type};
 use base::memory::NoMemory;
@@ -67,7 +67,7 @@ fn read_number(alloc: Global, tokens: &[Token]) -> Result<Option<(Literal, &[Tok
         Some(literal) => {
             let number = Numeral {
                 literal: copy_number(alloc, literal)?,
-                place: token.span,
+                span: token.span,
             };
             Ok(Some((Literal::Number(number), rest)))
         }
@@ -80,17 +80,11 @@ fn read_number(alloc: Global, tokens: &[Token]) -> Result<Option<(Literal, &[Tok
 fn read_truth(tokens: &[Token]) -> Option<(Literal, &[Token])>
     ensures { option_map (λ r. (r.0, r.1.now)) result ≡ truth_at tokens.now }
 {
-    if let Some((place, rest)) = place_of_word(tokens, b"true") {
-        return Some((Literal::Truth { place, value: true }, rest));
+    if let Some((span, rest)) = span_of_word(tokens, b"true") {
+        return Some((Literal::Truth { span, value: true }, rest));
     }
-    let (place, rest) = place_of_word(tokens, b"false")?;
-    Some((
-        Literal::Truth {
-            place,
-            value: false,
-        },
-        rest,
-    ))
+    let (span, rest) = span_of_word(tokens, b"false")?;
+    Some((Literal::Truth { span, value: false }, rest))
 }
 
 /// Reads a number or a boolean, if one is here. Returns it and the remaining tokens.
@@ -108,26 +102,26 @@ pub fn read_plain_literal(
 }
 
 /// Reads the word `vector` if it begins a vector. Returns its span and the remaining tokens.
-#[tactic(auto, unfolding(crate::specs::LeafReading::vector_place_at))]
-pub fn place_of_vector(tokens: &[Token]) -> Option<(Span, &[Token])>
-    ensures { option_map (λ r. (r.0, r.1.now)) result ≡ vector_place_at tokens.now }
+#[tactic(auto, unfolding(crate::specs::LeafReading::vector_span_at))]
+pub fn span_of_vector(tokens: &[Token]) -> Option<(Span, &[Token])>
+    ensures { option_map (λ r. (r.0, r.1.now)) result ≡ vector_span_at tokens.now }
 {
-    let (place, rest) = place_of_word(tokens, b"vector")?;
+    let (span, rest) = span_of_word(tokens, b"vector")?;
     if begins_with(rest, Punctuation::Less) || begins_with(rest, Punctuation::LeftBracket) {
-        Some((place, rest))
+        Some((span, rest))
     } else {
         None
     }
 }
 
 /// Reads the word `assert` and its `!`, if they are here. Returns the span of `assert` and the remaining tokens.
-#[tactic(auto, unfolding(crate::specs::LeafReading::assert_place_at))]
-pub fn place_of_assert(tokens: &[Token]) -> Option<(Span, &[Token])>
-    ensures { option_map (λ r. (r.0, r.1.now)) result ≡ assert_place_at tokens.now }
+#[tactic(auto, unfolding(crate::specs::LeafReading::assert_span_at))]
+pub fn span_of_assert(tokens: &[Token]) -> Option<(Span, &[Token])>
+    ensures { option_map (λ r. (r.0, r.1.now)) result ≡ assert_span_at tokens.now }
 {
-    let (place, rest) = place_of_word(tokens, b"assert")?;
+    let (span, rest) = span_of_word(tokens, b"assert")?;
     let rest = skip_sign(rest, Punctuation::Exclaim)?;
-    Some((place, rest))
+    Some((span, rest))
 }
 
 /// Skips this sign, if it is here and glued to the token before it.
@@ -145,12 +139,12 @@ pub fn skip_glued(tokens: &[Token], sign: Punctuation) -> Option<&[Token]>
 
 /// Reads the operator that begins with a `&` at this span. Returns the operator, its span and the remaining tokens.
 #[tactic(auto, unfolding(crate::specs::LeafReading::borrow_behind))]
-fn borrow_behind(place: Span, tokens: &[Token]) -> (UnaryOperator, Span, &[Token])
-    ensures { Some ((result.0, result.1), result.2.now) ≡ borrow_behind place tokens.now }
+fn borrow_behind(span: Span, tokens: &[Token]) -> (UnaryOperator, Span, &[Token])
+    ensures { Some ((result.0, result.1), result.2.now) ≡ borrow_behind span tokens.now }
 {
     match skip_word(tokens, b"mut") {
-        Some(rest) => (UnaryOperator::BorrowMutable, place, rest),
-        None => (UnaryOperator::Borrow, place, tokens),
+        Some(rest) => (UnaryOperator::BorrowMutable, span, rest),
+        None => (UnaryOperator::Borrow, span, tokens),
     }
 }
 
@@ -159,14 +153,14 @@ fn borrow_behind(place: Span, tokens: &[Token]) -> (UnaryOperator, Span, &[Token
 pub fn read_prefix(tokens: &[Token]) -> Option<(UnaryOperator, Span, &[Token])>
     ensures { option_map (λ r. ((r.0, r.1), r.2.now)) result ≡ prefix_at tokens.now }
 {
-    if let Some((place, rest)) = place_of_sign(tokens, Punctuation::Exclaim) {
-        return Some((UnaryOperator::Not, place, rest));
+    if let Some((span, rest)) = span_of_sign(tokens, Punctuation::Exclaim) {
+        return Some((UnaryOperator::Not, span, rest));
     }
-    if let Some((place, rest)) = place_of_sign(tokens, Punctuation::Star) {
-        return Some((UnaryOperator::Dereference, place, rest));
+    if let Some((span, rest)) = span_of_sign(tokens, Punctuation::Star) {
+        return Some((UnaryOperator::Dereference, span, rest));
     }
-    let (place, rest) = place_of_sign(tokens, Punctuation::Ampersand)?;
-    Some(borrow_behind(place, rest))
+    let (span, rest) = span_of_sign(tokens, Punctuation::Ampersand)?;
+    Some(borrow_behind(span, rest))
 }
 
 /// Reads the word `move` or `copy`. Returns it, its span and the remaining tokens.
@@ -174,11 +168,11 @@ pub fn read_prefix(tokens: &[Token]) -> Option<(UnaryOperator, Span, &[Token])>
 pub fn read_use(tokens: &[Token]) -> Option<(UseKind, Span, &[Token])>
     ensures { option_map (λ r. ((r.0, r.1), r.2.now)) result ≡ use_at tokens.now }
 {
-    if let Some((place, rest)) = place_of_word(tokens, b"move") {
-        return Some((UseKind::Move, place, rest));
+    if let Some((span, rest)) = span_of_word(tokens, b"move") {
+        return Some((UseKind::Move, span, rest));
     }
-    let (place, rest) = place_of_word(tokens, b"copy")?;
-    Some((UseKind::Copy, place, rest))
+    let (span, rest) = span_of_word(tokens, b"copy")?;
+    Some((UseKind::Copy, span, rest))
 }
 
 /// Returns the control form that a word begins.
@@ -288,9 +282,9 @@ pub fn skip_else(tokens: &[Token]) -> Option<&[Token]>
 pub fn read_spec_opening(tokens: &[Token]) -> Option<(Span, &[Token])>
     ensures { option_map (λ r. (r.0, r.1.now)) result ≡ spec_opening_at tokens.now }
 {
-    let (place, rest) = place_of_sign(tokens, Punctuation::LeftBrace)?;
+    let (span, rest) = span_of_sign(tokens, Punctuation::LeftBrace)?;
     if skip_word(rest, b"spec").is_some() {
-        Some((place, rest))
+        Some((span, rest))
     } else {
         None
     }

@@ -101,17 +101,17 @@ fn opens_arguments(operator: BinaryOperator, left: &Expression, glued: bool) -> 
 /// Completes an operator after its first sign. Returns the operator, its span and the remaining tokens.
 fn whole_operator(
     operator: BinaryOperator,
-    place: Span,
+    span: Span,
     tokens: &[Token],
 ) -> (BinaryOperator, Span, &[Token])
-    ensures { ((result.0, result.1), result.2.now) ≡ whole_operator operator place tokens.now }
+    ensures { ((result.0, result.1), result.2.now) ≡ whole_operator operator span tokens.now }
 {
     match operator {
         BinaryOperator::Greater => match skip_glued(tokens, Punctuation::Greater) {
-            Some(rest) => (BinaryOperator::ShiftRight, place, rest),
-            None => (operator, place, tokens),
+            Some(rest) => (BinaryOperator::ShiftRight, span, rest),
+            None => (operator, span, tokens),
         },
-        _ => (operator, place, tokens),
+        _ => (operator, span, tokens),
     }
 }
 
@@ -141,9 +141,9 @@ pub fn next_operator<'a>(
 ) -> Option<(BinaryOperator, Span, &'a [Token])>
     ensures { option_map (λ r. ((r.0, r.1), r.2.now)) result ≡ next_operator joints minimum left.now tokens.now }
 {
-    let (operator, place, rest) = operator_behind(left, tokens)?;
+    let (operator, span, rest) = operator_behind(left, tokens)?;
     if minimum <= operator_level(operator) {
-        Some((operator, place, rest))
+        Some((operator, span, rest))
     } else {
         None
     }

@@ -11,13 +11,13 @@ use tokens::token::Token;
 /// Reads two or more expressions in parentheses, after the first.
 #[tactic(auto, using(crate::proofs::SeveralLemmas::several_none, crate::proofs::SeveralLemmas::several_some))]
 pub fn several(
-    place: Span,
+    span: Span,
     first: Box<Expression>,
     more: Vec<Expression>,
     last_comma: bool,
     rest: &[Token],
 ) -> Result<(Expression, &[Token]), ReadFault>
-    ensures { Reads result (λ read. (read.0, read.1.now)) (several place first.value (more.items, last_comma) rest.now) }
+    ensures { Reads result (λ read. (read.0, read.1.now)) (several span first.value (more.items, last_comma) rest.now) }
 {
     if more.is_empty() {
         return Err(ReadFault::NoTree { left: rest.len() });
@@ -25,7 +25,7 @@ pub fn several(
     let mut items = more;
     items.insert(0, Box::into_inner(first))?;
     let node = ExpressionNode::Tuple {
-        place,
+        span,
         items,
         last_comma,
     };

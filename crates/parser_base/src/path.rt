@@ -51,7 +51,7 @@ fn read_address_number(
         Some(literal) => {
             let number = Numeral {
                 literal: copy_number(alloc, literal)?,
-                place: token.span,
+                span: token.span,
             };
             Ok(Some((number, rest)))
         }

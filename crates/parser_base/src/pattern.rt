@@ -12,7 +12,7 @@ use crate::fault::ReadFault;
 use crate::lists::{Separator, separator_behind};
 use crate::path::read_path;
 use crate::signs::{
-    begins_small, begins_with, expect_sign, place_of_sign, read_identifier, skip_sign,
+    begins_small, begins_with, expect_sign, read_identifier, skip_sign, span_of_sign,
 };
 use crate::types::read_maybe_arguments;
 use base::span::Span;
@@ -48,8 +48,8 @@ fn read_pattern_form(
 ) -> Result<(Pattern, &[Token]), ReadFault>
     ensures { Reads result (λ read. (read.0, read.1.now)) (pattern_form (type_at budget) (pattern_at budget) tokens.now) }
 {
-    if let Some((place, rest)) = place_of_sign(tokens, Punctuation::LeftParenthesis) {
-        return read_tuple_pattern(alloc, place, rest, budget);
+    if let Some((span, rest)) = span_of_sign(tokens, Punctuation::LeftParenthesis) {
+        return read_tuple_pattern(alloc, span, rest, budget);
     }
     let (path, rest) = read_path(alloc, tokens)?;
     read_pattern_behind(alloc, path, rest, budget)
@@ -92,7 +92,7 @@ fn bound_by(path: Path) -> Option<Pattern>
     };
     if name.text.as_slice() == b"_".as_slice() {
         Some(Pattern {
-            node: PatternNode::Ignore(name.place),
+            node: PatternNode::Ignore(name.span),
         })
     } else if begins_small(name.text.as_slice()) {
         Some(Pattern {
@@ -108,15 +108,15 @@ fn bound_by(path: Path) -> Option<Pattern>
 #[tactic(auto, unfolding(crate::specs::PatternReading::tuple_pattern_at))]
 fn read_tuple_pattern(
     alloc: Global,
-    place: Span,
+    span: Span,
     tokens: &[Token],
     budget: usize,
 ) -> Result<(Pattern, &[Token]), ReadFault>
-    ensures { Reads result (λ read. (read.0, read.1.now)) (tuple_pattern_at (pattern_at budget) place tokens.now) }
+    ensures { Reads result (λ read. (read.0, read.1.now)) (tuple_pattern_at (pattern_at budget) span tokens.now) }
 {
     let (items, last_comma, rest) = read_patterns(alloc, tokens, budget)?;
     let node = PatternNode::Tuple {
-        place,
+        span,
         items,
         last_comma,
     };

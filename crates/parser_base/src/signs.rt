@@ -4,7 +4,7 @@ ghost use Rattle.std.specs.Prelude.{◌≡◌, None, Some, is_some, MatchResult}
 ghost use Rattle.std.specs.Option.{option_map};
 ghost use Rattle.std.specs.List.{list_any};
 ghost use Rattle.parser_base.specs.ReadFault.{Reads};
-ghost use Rattle.parser_base.specs.TokenReading.{after_sign, after_word, begins_capital, begins_small, identifier_at, is_keyword, is_sign, is_word, sign_place_at, word_place_at};
+ghost use Rattle.parser_base.specs.TokenReading.{after_sign, after_word, begins_capital, begins_small, identifier_at, is_keyword, is_sign, is_word, sign_span_at, word_span_at};
 ghost use Rattle.base.specs.Names.{same_name};
 
 use crate::fault::ReadFault;
@@ -120,9 +120,9 @@ pub fn begins_with(tokens: &[Token], sign: Punctuation) -> bool
 }
 
 /// Reads this sign, if it is here. Returns its span and the remaining tokens.
-#[tactic(auto, unfolding(crate::specs::TokenReading::sign_place_at))]
-pub fn place_of_sign(tokens: &[Token], sign: Punctuation) -> Option<(Span, &[Token])>
-    ensures { option_map (λ read. (read.0, read.1.now)) result ≡ sign_place_at sign tokens.now }
+#[tactic(auto, unfolding(crate::specs::TokenReading::sign_span_at))]
+pub fn span_of_sign(tokens: &[Token], sign: Punctuation) -> Option<(Span, &[Token])>
+    ensures { option_map (λ read. (read.0, read.1.now)) result ≡ sign_span_at sign tokens.now }
 {
     let (token, rest) = tokens.split_first()?;
     if is_sign(&token.kind, sign) {
@@ -146,9 +146,9 @@ pub fn skip_word<'a>(tokens: &'a [Token], word: &[u8]) -> Option<&'a [Token]>
 }
 
 /// Reads this word, if it is here. Returns its span and the remaining tokens.
-#[tactic(auto, unfolding(crate::specs::TokenReading::word_place_at))]
-pub fn place_of_word<'a>(tokens: &'a [Token], word: &[u8]) -> Option<(Span, &'a [Token])>
-    ensures { option_map (λ read. (read.0, read.1.now)) result ≡ word_place_at word.now tokens.now }
+#[tactic(auto, unfolding(crate::specs::TokenReading::word_span_at))]
+pub fn span_of_word<'a>(tokens: &'a [Token], word: &[u8]) -> Option<(Span, &'a [Token])>
+    ensures { option_map (λ read. (read.0, read.1.now)) result ≡ word_span_at word.now tokens.now }
 {
     let (token, rest) = tokens.split_first()?;
     if is_word(&token.kind, word) {
@@ -182,7 +182,7 @@ pub fn read_identifier(alloc: Global, tokens: &[Token]) -> Result<(Identifier, &
             TokenKind::Word(name) if !is_keyword(name.as_slice()) => {
                 let identifier = Identifier {
                     text: name.try_clone(alloc)?,
-                    place: token.span,
+                    span: token.span,
                 };
                 Ok((identifier, rest))
             }

@@ -10,7 +10,7 @@ ghost use Rattle.parser_base.specs.TypeReading.{arguments_at, maybe_arguments_at
 use crate::fault::ReadFault;
 use crate::lists::{Separator, separator_behind};
 use crate::path::{is_single, read_path};
-use crate::signs::{place_of_sign, skip_sign, skip_word};
+use crate::signs::{skip_sign, skip_word, span_of_sign};
 use base::span::Span;
 use std::alloc::Global;
 use syntax_tree::types::{SourceType, SourceTypeNode, TypeArguments};
@@ -42,11 +42,11 @@ fn read_type_form(
 ) -> Result<(SourceType, &[Token]), ReadFault>
     ensures { Reads result (λ read. (read.0, read.1.now)) (type_form (type_at budget) tokens.now) }
 {
-    if let Some((place, rest)) = place_of_sign(tokens, Punctuation::Ampersand) {
-        return read_reference(alloc, place, rest, budget);
+    if let Some((span, rest)) = span_of_sign(tokens, Punctuation::Ampersand) {
+        return read_reference(alloc, span, rest, budget);
     }
-    if let Some((place, rest)) = place_of_sign(tokens, Punctuation::LeftParenthesis) {
-        return read_tuple(alloc, place, rest, budget);
+    if let Some((span, rest)) = span_of_sign(tokens, Punctuation::LeftParenthesis) {
+        return read_tuple(alloc, span, rest, budget);
     }
     read_named(alloc, tokens, budget)
 }
@@ -56,23 +56,23 @@ fn read_type_form(
 #[tactic(auto, unfolding(crate::specs::TypeReading::reference_at))]
 fn read_reference(
     alloc: Global,
-    place: Span,
+    span: Span,
     tokens: &[Token],
     budget: usize,
 ) -> Result<(SourceType, &[Token]), ReadFault>
-    ensures { Reads result (λ read. (read.0, read.1.now)) (reference_at (type_at budget) place tokens.now) }
+    ensures { Reads result (λ read. (read.0, read.1.now)) (reference_at (type_at budget) span tokens.now) }
 {
     if let Some(rest) = skip_word(tokens, b"mut") {
         let (target, rest) = read_type(alloc, rest, budget)?;
         let node = SourceTypeNode::Mutable {
-            place,
+            span,
             target: Box::new(alloc, target)?,
         };
         return Ok((SourceType { node }, rest));
     }
     let (target, rest) = read_type(alloc, tokens, budget)?;
     let node = SourceTypeNode::Shared {
-        place,
+        span,
         target: Box::new(alloc, target)?,
     };
     Ok((SourceType { node }, rest))
@@ -83,15 +83,15 @@ fn read_reference(
 #[tactic(auto, unfolding(crate::specs::TypeReading::tuple_at, crate::specs::ListReading::comma_list_at))]
 fn read_tuple(
     alloc: Global,
-    place: Span,
+    span: Span,
     tokens: &[Token],
     budget: usize,
 ) -> Result<(SourceType, &[Token]), ReadFault>
-    ensures { Reads result (λ read. (read.0, read.1.now)) (tuple_at (type_at budget) place tokens.now) }
+    ensures { Reads result (λ read. (read.0, read.1.now)) (tuple_at (type_at budget) span tokens.now) }
 {
     if let Some(rest) = skip_sign(tokens, Punctuation::RightParenthesis) {
         let node = SourceTypeNode::Tuple {
-            place,
+            span,
             items: Vec::new(alloc),
             last_comma: false,
         };
@@ -104,7 +104,7 @@ fn read_tuple(
         budget,
     )?;
     let node = SourceTypeNode::Tuple {
-        place,
+        span,
         items,
         last_comma,
     };

@@ -1,5 +1,5 @@
 pub mod ListedLaws
-pub mod Standing
+pub mod Present
 pub mod Firsts
 pub mod NumberLemmas
 pub mod Common

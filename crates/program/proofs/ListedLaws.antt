@@ -4,7 +4,7 @@ use Rattle.std.proofs.Math.Seq.{get_or-append_seam}
 use Rattle.program.specs.declared.arena.Node.{Node}
 use Rattle.program.specs.declared.arena.Node.TheVariants.{Unary, Binary, If, Many}
 use Rattle.program.specs.Trees.{Tree, LeafTree, UnaryTree, BinaryTree, IfTree, ManyTree, BadTree, Trees, NoTrees, MoreTrees, at, tree_of, trees_of, trees_in, trees}
-use Rattle.program.specs.Listed.{IsSound, AreSound, inner, inner_all, subtrees, before, places, nodes_from, nodes_from_all, nodes_of}
+use Rattle.program.specs.Listed.{IsSound, AreSound, inner, inner_all, subtrees, before, indices, nodes_from, nodes_from_all, nodes_of}
 
 module _ {L U B M : Type 0} where
   trees_in-append : (done : List (Tree L U B M)) (xs ys : List (Node L U B M)) → trees_in done (xs ++ ys) ≡ trees_in (trees_in done xs) ys
@@ -14,9 +14,9 @@ module _ {L U B M : Type 0} where
   -- the index of a tree after its proper subtrees
   seat : (done rest : List (Tree L U B M)) (t : Tree L U B M) (i : ℕ) → i ≡ length done + before t → at ((done ++ subtrees t) ++ rest) i ≡ t
   seat done rest t i e =
-      let place : i ≡ length (done ++ inner t) = omega (arith, length-append done (inner t)) in
+      let index : i ≡ length (done ++ inner t) = omega (arith, length-append done (inner t)) in
       let list : (done ++ subtrees t) ++ rest ≡ (done ++ inner t) ++ t ∷ rest = ap (λ xs. xs ++ rest) (sym (append_assoc done (inner t) (t ∷ []))) ∙ append_assoc (done ++ inner t) (t ∷ []) rest in
-      ap (λ xs. at xs i) list ∙ ap (at ((done ++ inner t) ++ t ∷ rest)) place ∙ get_or-append_seam (done ++ inner t) t rest BadTree
+      ap (λ xs. at xs i) list ∙ ap (at ((done ++ inner t) ++ t ∷ rest)) index ∙ get_or-append_seam (done ++ inner t) t rest BadTree
 
   -- the index of the last tree
   last_seat : (done : List (Tree L U B M)) (t : Tree L U B M) (i : ℕ) → i ≡ length done + before t → at (done ++ subtrees t) i ≡ t
@@ -26,13 +26,13 @@ module _ {L U B M : Type 0} where
   longer : (done : List (Tree L U B M)) (t : Tree L U B M) (n : ℕ) → n ≡ length done → n + (before t + 1) ≡ length (done ++ subtrees t)
   longer done t n e = omega (arith, length-append done (subtrees t), length-append (inner t) (t ∷ []))
 
-  seats : (done rest : List (Tree L U B M)) (ts : Trees L U B M) (n : ℕ) → n ≡ length done → trees_of (map (at ((done ++ inner_all ts) ++ rest)) (places n ts)) ≡ ts
+  seats : (done rest : List (Tree L U B M)) (ts : Trees L U B M) (n : ℕ) → n ≡ length done → trees_of (map (at ((done ++ inner_all ts) ++ rest)) (indices n ts)) ≡ ts
   seats done rest NoTrees n e = refl
   seats done rest (MoreTrees t ts) n e =
       let here : (done ++ (subtrees t ++ inner_all ts)) ++ rest ≡ (done ++ subtrees t) ++ (inner_all ts ++ rest) = ap (λ xs. xs ++ rest) (sym (append_assoc done (subtrees t) (inner_all ts))) ∙ append_assoc (done ++ subtrees t) (inner_all ts) rest in
       let there : (done ++ (subtrees t ++ inner_all ts)) ++ rest ≡ ((done ++ subtrees t) ++ inner_all ts) ++ rest = ap (λ xs. xs ++ rest) (sym (append_assoc done (subtrees t) (inner_all ts))) in
       let first : at ((done ++ (subtrees t ++ inner_all ts)) ++ rest) (n + before t) ≡ t = ap (λ xs. at xs (n + before t)) here ∙ seat done (inner_all ts ++ rest) t (n + before t) (omega arith) in
-      let others : trees_of (map (at ((done ++ (subtrees t ++ inner_all ts)) ++ rest)) (places (n + (before t + 1)) ts)) ≡ ts = ap (λ xs. trees_of (map (at xs) (places (n + (before t + 1)) ts))) there ∙ seats (done ++ subtrees t) rest ts (n + (before t + 1)) (longer done t n e) in
+      let others : trees_of (map (at ((done ++ (subtrees t ++ inner_all ts)) ++ rest)) (indices (n + (before t + 1)) ts)) ≡ ts = ap (λ xs. trees_of (map (at xs) (indices (n + (before t + 1)) ts))) there ∙ seats (done ++ subtrees t) rest ts (n + (before t + 1)) (longer done t n e) in
       λ i. MoreTrees (first i) (others i)
 
   -- one more node after nodes whose trees are known
@@ -70,15 +70,15 @@ module _ {L U B M : Type 0} where
         one_more done (((done ++ subtrees c) ++ subtrees a) ++ subtrees b) ((nodes_from n c ++ nodes_from m a) ++ nodes_from k b) (If (n + before c) (m + before a) (k + before b)) (IfTree c a b) all (λ i. IfTree (first i) (left i) (right i))
         ∙ ap (λ xs. (xs ++ subtrees b) ++ IfTree c a b ∷ []) (append_assoc done (subtrees c) (subtrees a)) ∙ ap (λ xs. xs ++ IfTree c a b ∷ []) (append_assoc done (subtrees c ++ subtrees a) (subtrees b)) ∙ append_assoc done ((subtrees c ++ subtrees a) ++ subtrees b) (IfTree c a b ∷ [])
     stand done (ManyTree m ts) n e s =
-        let all : trees_in done (nodes_from_all n ts) ≡ done ++ inner_all ts = stand_all done ts n e s in
-        let parts : trees_of (map (at (done ++ inner_all ts)) (places n ts)) ≡ ts = ap (λ xs. trees_of (map (at xs) (places n ts))) (sym (append-nil (done ++ inner_all ts))) ∙ seats done [] ts n e in
-        one_more done (done ++ inner_all ts) (nodes_from_all n ts) (Many m (places n ts)) (ManyTree m ts) all (ap (ManyTree m) parts) ∙ append_assoc done (inner_all ts) (ManyTree m ts ∷ [])
+        let all : trees_in done (nodes_from_all n ts) ≡ done ++ inner_all ts = subtrees_all done ts n e s in
+        let parts : trees_of (map (at (done ++ inner_all ts)) (indices n ts)) ≡ ts = ap (λ xs. trees_of (map (at xs) (indices n ts))) (sym (append-nil (done ++ inner_all ts))) ∙ seats done [] ts n e in
+        one_more done (done ++ inner_all ts) (nodes_from_all n ts) (Many m (indices n ts)) (ManyTree m ts) all (ap (ManyTree m) parts) ∙ append_assoc done (inner_all ts) (ManyTree m ts ∷ [])
     stand done BadTree n e s = absurd s
 
-    stand_all : (done : List (Tree L U B M)) (ts : Trees L U B M) (n : ℕ) → n ≡ length done → AreSound ts → trees_in done (nodes_from_all n ts) ≡ done ++ inner_all ts
-    stand_all done NoTrees n e s = sym (append-nil done)
-    stand_all done (MoreTrees t ts) n e s =
-        let rest : trees_in (done ++ subtrees t) (nodes_from_all (n + (before t + 1)) ts) ≡ (done ++ subtrees t) ++ inner_all ts = stand_all (done ++ subtrees t) ts (n + (before t + 1)) (longer done t n e) s.1 in
+    subtrees_all : (done : List (Tree L U B M)) (ts : Trees L U B M) (n : ℕ) → n ≡ length done → AreSound ts → trees_in done (nodes_from_all n ts) ≡ done ++ inner_all ts
+    subtrees_all done NoTrees n e s = sym (append-nil done)
+    subtrees_all done (MoreTrees t ts) n e s =
+        let rest : trees_in (done ++ subtrees t) (nodes_from_all (n + (before t + 1)) ts) ≡ (done ++ subtrees t) ++ inner_all ts = subtrees_all (done ++ subtrees t) ts (n + (before t + 1)) (longer done t n e) s.1 in
         then done (done ++ subtrees t) (inner_all ts) (nodes_from n t) (nodes_from_all (n + (before t + 1)) ts) (stand done t n e s.0) rest ∙ append_assoc done (subtrees t) (inner_all ts)
 
   pub trees-nodes_of : (t : Tree L U B M) → IsSound t → trees (nodes_of t) ≡ subtrees t

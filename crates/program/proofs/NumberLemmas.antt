@@ -51,12 +51,12 @@ first_stays (Some x) other some = refl
 first_stays None other some = absurd (some refl)
 
 -- one more field, whose name is added if it is new
-pub put_next : (fields : List TypedName) (field : TypedName) (es fs : List (List ℕ × ℕ)) (name : List ℕ) (is_new : Bool) (place : ℕ) → AreNumbers fields es → place ≡ length fields → name ≡ field.name → IsTrue is_new ↔ (lookup (same_name name) es ≡ None)
-    → fs ≡ (if is_new then es ++ (name, place) ∷ [] else es) → AreNumbers (fields ++ field ∷ []) fs
-put_next fields field es fs name true place are at same new is = record {
-  each = λ q. ap (lookup (same_name q)) is ∙ lookup_next (same_name q) es name place ∙ (λ i. first_of (are.each q i) (cond (same_name q (same i)) (Some (at i)) None)) ∙ sym (number_next fields field q);
+pub put_next : (fields : List TypedName) (field : TypedName) (es fs : List (List ℕ × ℕ)) (name : List ℕ) (is_new : Bool) (index : ℕ) → AreNumbers fields es → index ≡ length fields → name ≡ field.name → IsTrue is_new ↔ (lookup (same_name name) es ≡ None)
+    → fs ≡ (if is_new then es ++ (name, index) ∷ [] else es) → AreNumbers (fields ++ field ∷ []) fs
+put_next fields field es fs name true index are at same new is = record {
+  each = λ q. ap (lookup (same_name q)) is ∙ lookup_next (same_name q) es name index ∙ (λ i. first_of (are.each q i) (cond (same_name q (same i)) (Some (at i)) None)) ∙ sym (number_next fields field q);
 }
-put_next fields field es fs name false place are at same new is = record {
+put_next fields field es fs name false index are at same new is = record {
   each = λ q. ap (lookup (same_name q)) is ∙ are.each q ∙ sym (stays q (same_name q field.name) refl) ∙ sym (number_next fields field q);
 }
   where

@@ -41,9 +41,9 @@ abbrev pub before : {L U B M : Type 0} → Tree L U B M → ℕ
 before t = length (inner t)
 
 -- the indices of the roots of trees, whose nodes follow one another, from the index n on
-abbrev pub places : {L U B M : Type 0} → ℕ → Trees L U B M → List ℕ
-places n NoTrees = []
-places n (MoreTrees t ts) = (n + before t) ∷ places (n + (before t + 1)) ts
+abbrev pub indices : {L U B M : Type 0} → ℕ → Trees L U B M → List ℕ
+indices n NoTrees = []
+indices n (MoreTrees t ts) = (n + before t) ∷ indices (n + (before t + 1)) ts
 
 -- the nodes of a tree, from the index n on
 abbrev mutual
@@ -57,7 +57,7 @@ abbrev mutual
       let m = n + (before c + 1) in
       let k = m + (before a + 1) in
       ((nodes_from n c ++ nodes_from m a) ++ nodes_from k b) ++ If (n + before c) (m + before a) (k + before b) ∷ []
-  nodes_from n (ManyTree m ts) = nodes_from_all n ts ++ Many m (places n ts) ∷ []
+  nodes_from n (ManyTree m ts) = nodes_from_all n ts ++ Many m (indices n ts) ∷ []
   nodes_from n BadTree = []
 
   pub nodes_from_all : {L U B M : Type 0} → ℕ → Trees L U B M → List (Node L U B M)

@@ -8,14 +8,14 @@ abbrev pub IsBefore : Span → Span → Type 0
 IsBefore p q = (p.file < q.file) ⊎ ((p.file ≡ q.file) × (p.start < q.start))
 
 -- this span has the property, and no span with the property is before it
-pub record IsFirst (IsSo : Span → Type 0) (place : Span) : Type 0 where
-  pub one : IsSo place
-  pub first : (other : Span) → IsSo other → ¬ IsBefore other place
+pub record IsFirst (IsSo : Span → Type 0) (span : Span) : Type 0 where
+  pub one : IsSo span
+  pub first : (other : Span) → IsSo other → ¬ IsBefore other span
 
 -- the first span with the property, or none where no span has it
 abbrev pub IsFirstOrNone : (Span → Type 0) → Option Span → Type 0
-IsFirstOrNone IsSo None = (place : Span) → ¬ IsSo place
-IsFirstOrNone IsSo (Some place) = IsFirst IsSo place
+IsFirstOrNone IsSo None = (span : Span) → ¬ IsSo span
+IsFirstOrNone IsSo (Some span) = IsFirst IsSo span
 
 -- of two optional spans, the earlier one
 abbrev pub IsEarlier : Option Span → Option Span → Option Span → Type 0

@@ -78,46 +78,53 @@ impl<L: Drop, U: Drop, B: Drop, M: Drop> Arena<L, U, B, M> {
         self.nodes.len()
     }
 
-    fn stored(&self, place: usize) -> &Node<L, U, B, M>
-        requires { place < length self.now.nodes }
-        ensures node { slice_get self.now.nodes place ≡ Some result.now }
-        ensures below { IsBelow place result.now }
+    /// Law: each node has a span.
+    pub fn has_spans(&self)
+        ensures { length self.now.spans ≡ length self.now.nodes }
     {
-        &self.nodes[place]
+        let _ = &self.nodes;
+    }
+
+    fn stored(&self, index: usize) -> &Node<L, U, B, M>
+        requires { index < length self.now.nodes }
+        ensures node { slice_get self.now.nodes index ≡ Some result.now }
+        ensures below { IsBelow index result.now }
+    {
+        &self.nodes[index]
     }
 
     /// Returns the node at an index.
-    pub fn node(&self, place: usize) -> &Node<L, U, B, M>
-        requires { place < length self.now.nodes }
-        ensures node { slice_get self.now.nodes place ≡ Some result.now }
-        ensures below { IsBelow place result.now }
-        ensures tree { at (trees self.now.nodes) place ≡ tree_of (trees self.now.nodes) result.now }
+    pub fn node(&self, index: usize) -> &Node<L, U, B, M>
+        requires { index < length self.now.nodes }
+        ensures node { slice_get self.now.nodes index ≡ Some result.now }
+        ensures below { IsBelow index result.now }
+        ensures tree { at (trees self.now.nodes) index ≡ tree_of (trees self.now.nodes) result.now }
     {
-        self.stored(place)
+        self.stored(index)
     }
 
     /// Adds a node, whose children are in the arena, with its span, and returns its index. After `NoMemory` the nodes
     /// are unchanged.
     pub fn add(&mut self, node: Node<L, U, B, M>, span: Span) -> Result<usize, NoMemory>
         requires { IsBelow (length self.old.nodes) node }
-        ensures place { IfOk result (λ place. place ≡ length self.old.nodes) }
+        ensures index { IfOk result (λ index. index ≡ length self.old.nodes) }
         ensures nodes { OnOk result (self.new.nodes ≡ self.old.nodes ++ node ∷ []) }
         ensures trees { OnOk result (trees self.new.nodes ≡ trees self.old.nodes ++ tree_of (trees self.old.nodes) node ∷ []) }
         ensures stays { OnOk result (Stays self.old.nodes self.new.nodes) }
         ensures spans { OnOk result (self.new.spans ≡ self.old.spans ++ span ∷ []) }
         ensures err { OnErr result (self.new ≡ self.old) }
     {
-        let place = self.nodes.len();
+        let index = self.nodes.len();
         push_both(&mut self.nodes, &mut self.spans, node, span)?;
-        Ok(place)
+        Ok(index)
     }
 
     /// Returns the span of the node at an index.
-    pub fn span(&self, place: usize) -> Span
-        requires { place < length self.now.nodes }
-        ensures { slice_get self.now.spans place ≡ Some result }
+    pub fn span(&self, index: usize) -> Span
+        requires { index < length self.now.nodes }
+        ensures { slice_get self.now.spans index ≡ Some result }
     {
-        self.spans[place]
+        self.spans[index]
     }
 }
 

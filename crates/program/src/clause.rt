@@ -41,7 +41,7 @@ pub enum ClauseForm {
 #[derive(Drop)]
 pub struct Clause {
     pub block: Span,
-    pub place: Span,
+    pub span: Span,
     pub form: ClauseForm,
     /// The nodes of its expressions.
     pub body: SpecBody,

@@ -36,7 +36,7 @@ pub struct TypedName {
 /// A module. Its declarations are in the tables of its program.
 #[derive(Drop)]
 pub struct Module {
-    pub place: Span,
+    pub span: Span,
     pub friends: Sequence<ModuleId>,
     /// The clauses of its `spec module` blocks.
     pub clauses: Sequence<Clause>,
@@ -45,7 +45,7 @@ pub struct Module {
 /// A struct.
 #[derive(Drop)]
 pub struct Struct {
-    pub place: Span,
+    pub span: Span,
     pub type_parameters: Sequence<TypeParameter>,
     pub abilities: AbilitySet,
     pub fields: Sequence<TypedName>,
@@ -55,7 +55,7 @@ pub struct Struct {
 /// A constant.
 #[derive(Drop)]
 pub struct Constant {
-    pub place: Span,
+    pub span: Span,
     pub annotation: TypeTerm,
     pub value: Body,
 }
@@ -80,7 +80,7 @@ pub struct Pragmas {
 /// A function. Its parameters are its first locals.
 #[derive(Drop)]
 pub struct Function {
-    pub place: Span,
+    pub span: Span,
     pub visibility: Visibility,
     pub type_parameters: Sequence<TypeParameter>,
     pub parameters: Sequence<TypedName>,
@@ -99,7 +99,7 @@ pub struct Function {
 /// A spec function. The last node of its body is the root.
 #[derive(Drop)]
 pub struct SpecFunction {
-    pub place: Span,
+    pub span: Span,
     pub type_parameters: Sequence<TypeParameter>,
     pub parameters: Sequence<TypedName>,
     pub result: TypeTerm,
@@ -109,7 +109,7 @@ pub struct SpecFunction {
 /// A schema.
 #[derive(Drop)]
 pub struct Schema {
-    pub place: Span,
+    pub span: Span,
     pub type_parameters: Sequence<TypeParameter>,
     pub variables: Sequence<TypedName>,
     pub clauses: Sequence<Clause>,

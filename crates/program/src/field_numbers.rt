@@ -22,8 +22,8 @@ fn numbers_of(alloc: Global, fields: &[TypedName]) -> Result<Table<Name, usize>,
     ensures { IfOk result (AreNumbers fields.now) }
 {
     let mut numbers = Table::new(alloc);
-    for place in 0..fields.len() {
-        numbers.put(fields[place].name.try_clone(alloc)?, place)?;
+    for index in 0..fields.len() {
+        numbers.put(fields[index].name.try_clone(alloc)?, index)?;
     }
     Ok(numbers)
 }
@@ -59,7 +59,7 @@ impl FieldNumbers {
         ensures { result ≡ field_number_in structs.now owner.now name.now }
     {
         match structs.number(owner) {
-            Some(place) => match self.structs.get(place) {
+            Some(index) => match self.structs.get(index) {
                 Some(numbers) => numbers.get(name).copied(),
                 None => None,
             },

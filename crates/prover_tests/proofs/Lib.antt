@@ -1,1 +1,1 @@
-pub mod StandingLemmas
+pub mod PresentLemmas

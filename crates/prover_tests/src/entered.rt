@@ -311,6 +311,6 @@ pub(crate) fn found_of(
     enter(rt, alloc, &mut pool, &mut branch, &zero, 1, Origin::Other);
     branch.truncate(kept);
     let triggered = holds(rt, alloc, variable);
-    let place = first(rt, &mut pool, &branch, &triggered);
-    (place, generation(rt, &mut pool, &branch, variable))
+    let position = first(rt, &mut pool, &branch, &triggered);
+    (position, generation(rt, &mut pool, &branch, variable))
 }

@@ -74,8 +74,8 @@ fn formulas_are_read_off_by_number(rt: HostRuntime) -> Result<(), Fail> {
     let mut pool = Pool::new(rt.alloc());
     for number in [7, -7, i128::MAX, i128::MIN] {
         let given = formula(&rt, rt.alloc(), number);
-        let place = intern_formula(&mut pool, &given).expect(&rt, "memory");
-        let read = read_formula(rt.alloc(), &pool, place).expect(&rt, "memory");
+        let position = intern_formula(&mut pool, &given).expect(&rt, "memory");
+        let read = read_formula(rt.alloc(), &pool, position).expect(&rt, "memory");
         assert!(rt; same_formula(&read, &given));
     }
     Ok(())
@@ -85,7 +85,7 @@ fn formulas_are_read_off_by_number(rt: HostRuntime) -> Result<(), Fail> {
 fn depths_are_counted(rt: HostRuntime) -> Result<(), Fail> {
     let mut pool = Pool::new(rt.alloc());
     // Quantifier, disjunction, comparison, sum, number.
-    let place = intern_formula(&mut pool, &formula(&rt, rt.alloc(), 7)).expect(&rt, "memory");
-    assert_eq!(rt; pool.depth(place), 5);
+    let position = intern_formula(&mut pool, &formula(&rt, rt.alloc(), 7)).expect(&rt, "memory");
+    assert_eq!(rt; pool.depth(position), 5);
     Ok(())
 }

@@ -31,7 +31,7 @@ fn fields(alloc: Global, count: u8) -> Result<TypeList, NoMemory>
     ensures { IfOk result (λ list. length (list_of_types list) ≤ 255) }
 {
     let mut items = Vec::new(alloc);
-    for place in 0..count {
+    for position in 0..count {
         items.push(whole())?;
     }
     Ok(TypeList { items })

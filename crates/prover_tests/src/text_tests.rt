@@ -35,8 +35,8 @@ fn texts_are_partial_trees(rt: HostRuntime) -> Result<(), Fail> {
                 &rt, "memory",
             );
             let mut search = search_of(formula, answer).expect(&rt, "a search");
-            let told = is_tree(alloc, &mut search, change).expect(&rt, "memory");
-            assert_eq!(rt; told, wanted, "{words} {change:?}");
+            let known = is_tree(alloc, &mut search, change).expect(&rt, "memory");
+            assert_eq!(rt; known, wanted, "{words} {change:?}");
         }
     }
     Ok(())
@@ -64,8 +64,8 @@ fn values_leave_a_branch_open(rt: HostRuntime) -> Result<(), Fail> {
             );
             let mut search = search_of(formula, answer).expect(&rt, "a search");
             assert_eq!(rt; answer_of(&search), "open", "{words}");
-            let told = is_open(alloc, &mut search, change).expect(&rt, "memory");
-            assert_eq!(rt; told, wanted, "{words} {change:?}");
+            let known = is_open(alloc, &mut search, change).expect(&rt, "memory");
+            assert_eq!(rt; known, wanted, "{words} {change:?}");
         }
     }
     Ok(())
@@ -107,9 +107,9 @@ fn budgets_are_spent(rt: HostRuntime) -> Result<(), Fail> {
             );
             let mut search = search_of(formula, answer).expect(&rt, "a search");
             assert_eq!(rt; answer_of(&search), wanted, "{words} {budget}");
-            let told = is_spent(alloc, &mut search, budget, change).expect(&rt, "memory");
+            let known = is_spent(alloc, &mut search, budget, change).expect(&rt, "memory");
             let is_whole = change == Change::Nothing || budget == 0;
-            assert_eq!(rt; told, is_whole, "{words} {budget} {change:?}");
+            assert_eq!(rt; known, is_whole, "{words} {budget} {change:?}");
         }
     }
     Ok(())

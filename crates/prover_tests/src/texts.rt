@@ -200,8 +200,8 @@ pub(crate) fn is_tree(alloc: Global, search: &mut Searched, change: Change) -> R
         steps = steps.saturating_add(1);
     }
     let denial = search.denial;
-    let told = is_partial_text(alloc, &mut search.pool, &shapes, denial, text, &None, steps)?;
-    Ok(told)
+    let known = is_partial_text(alloc, &mut search.pool, &shapes, denial, text, &None, steps)?;
+    Ok(known)
 }
 
 /// Whether the search's text is seen to show that its budget is spent.
@@ -220,7 +220,7 @@ pub(crate) fn is_spent(
         End::SpentInChain(closing, links) => Some(GivenChain { closing, links }),
         _ => None,
     };
-    let told = is_partial_text(
+    let known = is_partial_text(
         alloc,
         &mut search.pool,
         &shapes,
@@ -229,7 +229,7 @@ pub(crate) fn is_spent(
         &chain,
         budget,
     )?;
-    Ok(told)
+    Ok(known)
 }
 
 /// Whether the search's text is seen to show that a branch is open with its values.
@@ -243,6 +243,6 @@ pub(crate) fn is_open(alloc: Global, search: &mut Searched, change: Change) -> R
         return Err(Fault::Word);
     };
     let values = change_values(alloc, values, change)?;
-    let told = is_open_text(alloc, &mut search.pool, &shapes, denial, text, &values)?;
-    Ok(told)
+    let known = is_open_text(alloc, &mut search.pool, &shapes, denial, text, &values)?;
+    Ok(known)
 }

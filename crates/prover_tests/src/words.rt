@@ -218,9 +218,9 @@ fn take_ternary(
     operator: Ternary,
     value: Box<Term>,
 ) -> Result<(), Fault> {
-    let place = term(alloc, stacks)?;
+    let position = term(alloc, stacks)?;
     let whole = term(alloc, stacks)?;
-    put(stacks, TermNode::Ternary(operator, whole, place, value))
+    put(stacks, TermNode::Ternary(operator, whole, position, value))
 }
 
 fn struct_type(alloc: Global, arity: u8) -> Result<TypeTerm, NoMemory> {
@@ -233,7 +233,7 @@ fn struct_type(alloc: Global, arity: u8) -> Result<TypeTerm, NoMemory> {
 
 fn take_struct(alloc: Global, stacks: &mut Stacks, word: Word<'_>) -> Result<(), Fault> {
     let fields = arity(word.first)?;
-    let place = variable(word.second)?;
+    let position = variable(word.second)?;
     let of = struct_type(alloc, fields)?;
     match word.head {
         "pack" => {
@@ -242,12 +242,12 @@ fn take_struct(alloc: Global, stacks: &mut Stacks, word: Word<'_>) -> Result<(),
         }
         "field" => {
             let whole = term(alloc, stacks)?;
-            put(stacks, TermNode::Field(of, place, whole))
+            put(stacks, TermNode::Field(of, position, whole))
         }
         _ => {
             let value = term(alloc, stacks)?;
             let whole = term(alloc, stacks)?;
-            put(stacks, TermNode::SetField(of, place, whole, value))
+            put(stacks, TermNode::SetField(of, position, whole, value))
         }
     }
 }

@@ -292,7 +292,7 @@ fn is_instance(alloc: Global, shapes: &Shapes, name: Axiom, text: &str) -> Optio
 }
 
 #[test]
-fn each_axiom_is_told(rt: HostRuntime) -> Result<(), Fail> {
+fn each_axiom_is_known(rt: HostRuntime) -> Result<(), Fail> {
     let alloc = rt.alloc();
     let shapes = pair_shapes(alloc).expect(&rt, "memory");
     for (name, accepted, refused) in [

@@ -20,7 +20,7 @@ fn holds(rt: &impl Abort, alloc: Global, term: Term) -> Formula {
 
 // Where the numeral stands in a formula.
 #[derive(Clone, Copy, Debug)]
-enum Place {
+enum Position {
     Side,
     Trigger,
     Body,
@@ -40,21 +40,21 @@ fn quantified(rt: &impl Abort, alloc: Global, trigger: Term, body: Formula) -> F
 }
 
 // The formula with a numeral at the place.
-fn formula_with(rt: &impl Abort, alloc: Global, place: Place, numeral: Term) -> Formula {
-    match place {
-        Place::Side => Formula::at_most(
+fn formula_with(rt: &impl Abort, alloc: Global, position: Position, numeral: Term) -> Formula {
+    match position {
+        Position::Side => Formula::at_most(
             Box::new(alloc, Term::variable(0)).expect(rt, "memory"),
             Box::new(alloc, numeral).expect(rt, "memory"),
         ),
-        Place::Trigger => {
+        Position::Trigger => {
             let body = holds(rt, alloc, Term::variable(0));
             quantified(rt, alloc, numeral, body)
         }
-        Place::Body => {
+        Position::Body => {
             let body = holds(rt, alloc, numeral);
             quantified(rt, alloc, Term::variable(0), body)
         }
-        Place::Condition => {
+        Position::Condition => {
             let condition = holds(rt, alloc, numeral);
             let choice = TermNode::If(
                 Box::new(alloc, condition).expect(rt, "memory"),
@@ -67,9 +67,14 @@ fn formula_with(rt: &impl Abort, alloc: Global, place: Place, numeral: Term) -> 
 }
 
 #[test]
-fn great_numerals_are_found_at_each_place(rt: HostRuntime) -> Result<(), Fail> {
+fn great_numerals_are_found_at_each_position(rt: HostRuntime) -> Result<(), Fail> {
     let alloc = rt.alloc();
-    for place in [Place::Side, Place::Trigger, Place::Body, Place::Condition] {
+    for position in [
+        Position::Side,
+        Position::Trigger,
+        Position::Body,
+        Position::Condition,
+    ] {
         for (value, found) in [
             (1 << 127, Some(1 << 127)),
             (u128::MAX - 1, Some(u128::MAX - 1)),
@@ -77,8 +82,8 @@ fn great_numerals_are_found_at_each_place(rt: HostRuntime) -> Result<(), Fail> {
             ((1 << 127) - 1, None),
             (5, None),
         ] {
-            let formula = formula_with(&rt, alloc, place, wide(value));
-            assert_eq!(rt; wide_numeral(&formula), found, "{place:?} {value}");
+            let formula = formula_with(&rt, alloc, position, wide(value));
+            assert_eq!(rt; wide_numeral(&formula), found, "{position:?} {value}");
         }
     }
     Ok(())
@@ -88,7 +93,7 @@ fn great_numerals_are_found_at_each_place(rt: HostRuntime) -> Result<(), Fail> {
 fn numbers_with_a_sign_are_not_too_great(rt: HostRuntime) -> Result<(), Fail> {
     let alloc = rt.alloc();
     for value in [i128::MIN, -1, 0, i128::MAX] {
-        let formula = formula_with(&rt, alloc, Place::Side, Term::number(value));
+        let formula = formula_with(&rt, alloc, Position::Side, Term::number(value));
         assert_eq!(rt; wide_numeral(&formula), None, "{value}");
     }
     Ok(())

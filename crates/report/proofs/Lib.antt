@@ -3,5 +3,5 @@ pub mod LineLemmas
 pub mod ReportLemmas
 pub mod TakenLemmas
 mod TextLines
-mod ToldLemmas
+mod VerdictLemmas
 pub mod SinkTakenLemmas

@@ -91,7 +91,7 @@ count-partition p (x ∷ xs) (suc i) h passed failed =
     omega (arith, one_more p x xs true i (passed 0 x (omega arith)) rest)
 
 -- the line of an offset, by the search among the feeds
-pub line_from_partition : (bytes : List ℕ) (place i : ℕ) → i ≤ length (line_feeds bytes) → IsPartitionPoint (λ y. ltb y place ≡ true) (λ y. ltb y place ≡ false) (line_feeds bytes) i → i + 1 ≡ line_of bytes place
-line_from_partition bytes place i h point =
-    let found : count_by (λ f. ltb f place) (line_feeds bytes) ≡ i = count-partition (λ f. ltb f place) (line_feeds bytes) i h (λ k d l. point.0 k d (omega arith) l) point.1 in
-    omega (arith, found, count-feeds 0 place place bytes (omega arith))
+pub line_from_partition : (bytes : List ℕ) (position i : ℕ) → i ≤ length (line_feeds bytes) → IsPartitionPoint (λ y. ltb y position ≡ true) (λ y. ltb y position ≡ false) (line_feeds bytes) i → i + 1 ≡ line_of bytes position
+line_from_partition bytes position i h point =
+    let found : count_by (λ f. ltb f position) (line_feeds bytes) ≡ i = count-partition (λ f. ltb f position) (line_feeds bytes) i h (λ k d l. point.0 k d (omega arith) l) point.1 in
+    omega (arith, found, count-feeds 0 position position bytes (omega arith))

@@ -6,7 +6,7 @@ use Rattle.std.specs.Prelude.{nat_lt}
 use Rattle.std.proofs.lemmas.Bool.{ne_eqb}
 use Rattle.base.proofs.ListEnds.{head_is, tail_is}
 use Rattle.base.proofs.TruthValues.{both_true, true_both}
-use Rattle.report.specs.Told.{HoldsNoFeed}
+use Rattle.report.specs.Known.{HoldsNoFeed}
 use Rattle.report.specs.Writing.{joined}
 
 -- ---- texts without a line feed

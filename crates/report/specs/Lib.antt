@@ -2,11 +2,11 @@ pub mod Lines
 pub mod ReportData
 pub mod ReportText
 pub mod Writing
-pub mod Told
+pub mod Known
 pub mod Status
 pub mod Writes
 pub mod Outside
-pub mod Handed
+pub mod Provided
 pub mod MemorySink
 pub mod MemorySources
 pub mod SinkWriting

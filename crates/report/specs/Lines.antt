@@ -3,7 +3,7 @@ use Rattle.std.specs.Prelude.{ℕ, ◌+◌, ◌==◌, if◌then◌else◌, List,
 
 -- the line of a byte offset: one more than the number of line feeds before it
 abbrev pub line_of : List ℕ → ℕ → ℕ
-line_of bytes place = count_by (λ b. b == 10) (take place bytes) + 1
+line_of bytes position = count_by (λ b. b == 10) (take position bytes) + 1
 
 -- the offsets of the line feeds, where the first byte has the offset `at`
 abbrev pub feeds_from : ℕ → List ℕ → List ℕ

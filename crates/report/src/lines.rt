@@ -11,7 +11,7 @@ use std::marker::Model;
 /// The line feeds of a file, for finding the line of a byte offset by binary search.
 #[derive(Drop)]
 pub struct LineFeeds {
-    places: Vec<u32>,
+    positions: Vec<u32>,
 }
 
 impl Model for LineFeeds {
@@ -19,9 +19,9 @@ impl Model for LineFeeds {
 
     ghost Value = { List ℕ };
 
-    ghost view = { λ feeds. feeds.places.items };
+    ghost view = { λ feeds. feeds.positions.items };
 
-    ghost invariant = { λ feeds. vec_len feeds.places ≤ 1048576 };
+    ghost invariant = { λ feeds. vec_len feeds.positions ≤ 1048576 };
 }
 
 impl LineFeeds {
@@ -30,19 +30,19 @@ impl LineFeeds {
         requires { length bytes.now ≤ FILE_LIMIT }
         ensures { IfOk result (λ feeds. feeds ≡ line_feeds bytes.now) }
     {
-        let mut places = Vec::new(alloc);
-        for (place, byte) in bytes.iter().enumerate() {
+        let mut positions = Vec::new(alloc);
+        for (position, byte) in bytes.iter().enumerate() {
             if *byte == b'\n' {
-                places.push(place as u32)?;
+                positions.push(position as u32)?;
             }
         }
-        Ok(LineFeeds { places })
+        Ok(LineFeeds { positions })
     }
 
     /// The line, counted from 1, of a byte offset in the file, counted from 0.
-    pub fn line(&self, place: u32) -> u32
-        ensures { (bytes : List ℕ) → self.now ≡ line_feeds bytes → result ≡ line_of bytes place }
+    pub fn line(&self, position: u32) -> u32
+        ensures { (bytes : List ℕ) → self.now ≡ line_feeds bytes → result ≡ line_of bytes position }
     {
-        self.places.partition_point(|feed| *feed < place) as u32 + 1
+        self.positions.partition_point(|feed| *feed < position) as u32 + 1
     }
 }

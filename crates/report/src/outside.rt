@@ -1,14 +1,14 @@
 //! The environment of the verifier: where files come from, and where the report goes.
 
-pub mod handed;
 pub mod memory_sink;
 pub mod memory_sources;
+pub mod provided;
 pub mod writing;
 
 ghost use Rattle.std.specs.Prelude.{◌≡◌, ℕ, ◌<◌, ◌≤◌, ◌↔◌, List, [], ◌∷◌, ◌++◌, length, take, IfSome, Option};
 ghost use Rattle.std.specs.FinMap as map;
 ghost use Rattle.std.specs.Io.KnownBytes.{append_known};
-ghost use Rattle.report.specs.Handed.{HandedFiles};
+ghost use Rattle.report.specs.Provided.{ProvidedFiles};
 ghost use Rattle.report.specs.Outside.{HasFaulted, Files, IsLongFile, OnWhole, OnTooLong, OnFetchFailed, SaysTooLong, UnlessWhole, UnlessFetchFailed, IfTaken, OnWriteFailed};
 
 use base::lists::Bytes;
@@ -42,7 +42,7 @@ pub trait Sources {
     ghost taken: { Self → ℕ };
 
     /// The names and the bytes of the files fetched so far, in order.
-    ghost handed: { Self → HandedFiles };
+    ghost provided: { Self → ProvidedFiles };
 
     /// Fetches a whole file; its bytes replace the contents of `into`.
     fn fetch(&mut self, name: &Name, into: &mut Bytes) -> Fetched
@@ -50,8 +50,8 @@ pub trait Sources {
         ensures bytes { OnWhole result (IfSome (holds self.old) (λ files. map.get files name.now ≡ Some into.new)) }
         ensures within { OnWhole result (length into.new ≤ FILE_LIMIT) }
         ensures emptied { UnlessWhole result (into.new ≡ []) }
-        ensures hands_over { OnWhole result (handed self.new ≡ handed self.old ++ (name.now, into.new) ∷ []) }
-        ensures hands_nothing { UnlessWhole result (handed self.new ≡ handed self.old) }
+        ensures hands_over { OnWhole result (provided self.new ≡ provided self.old ++ (name.now, into.new) ∷ []) }
+        ensures hands_nothing { UnlessWhole result (provided self.new ≡ provided self.old) }
         ensures failed { OnFetchFailed result (HasFaulted (faults self.old) (faults self.new)) }
         ensures no_fault { UnlessFetchFailed result (faults self.new ≡ faults self.old) }
         ensures never_falls { faults self.old ≤ faults self.new }

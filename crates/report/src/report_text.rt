@@ -3,7 +3,7 @@
 ghost use Rattle.std.specs.Prelude.{◌≡◌, ◌++◌, [], slice_index_or, IfOk, OnOk};
 ghost use Rattle.report.specs.ReportText.{check_text, condition_line, condition_lines, condition_verdict_text, value_line, count_line, function_line, function_lines, function_verdict_text, kind_text, lines_of_report, report_text};
 ghost use Rattle.report.specs.ReportData.{ReportData};
-ghost use Rattle.report.specs.Told.{IsPrintedReport, told_of_report};
+ghost use Rattle.report.specs.Known.{IsPrintedReport, verdicts_of_report};
 
 use crate::report::{
     ConditionRecord, ConditionVerdict, FunctionRecord, FunctionVerdict, ParameterValue, Report,
@@ -195,5 +195,5 @@ pub fn one_reading()
     ensures lines { (one other : ReportData) → IsPrintedReport one → IsPrintedReport other
         → report_text one ≡ report_text other → lines_of_report one ≡ lines_of_report other }
     ensures verdicts { (one other : ReportData) → IsPrintedReport one → IsPrintedReport other
-        → report_text one ≡ report_text other → told_of_report one ≡ told_of_report other }
+        → report_text one ≡ report_text other → verdicts_of_report one ≡ verdicts_of_report other }
 {}

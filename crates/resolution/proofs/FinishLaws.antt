@@ -55,7 +55,7 @@ clauses_of_owner w scope n o after = subst (λ cs. AreClausesOf scope.scope scop
 finished_struct : (w : Here) (n : ℕ) (s : StructTree) (form : DeclaredForm) (o : Owner) (of_module : Settings) → IsBare (StructOf w n s) form → IsOwnerAfter (owner_scope w.environment w.schemas (Struct s)) (blocks_of w.members n) o → IsDeclared (StructOf w n s) (finished form o.target.clauses o.settings of_module)
 finished_struct w n s (struct_form id r) o of_module b after = record {
   id_is = b.id_is;
-  is_struct = record { place = b.is_struct.place; type_parameters = b.is_struct.type_parameters; abilities = b.is_struct.abilities; fields = b.is_struct.fields; clauses = refl };
+  is_struct = record { span = b.is_struct.span; type_parameters = b.is_struct.type_parameters; abilities = b.is_struct.abilities; fields = b.is_struct.fields; clauses = refl };
   clauses = clauses_of_owner w (owner_scope w.environment w.schemas (Struct s)) n o after;
 }
 finished_struct w n s (Module id r) o of_module b after = absurd b
@@ -67,7 +67,7 @@ finished_struct w n s (schema_form id r) o of_module b after = absurd b
 finished_function : (w : Here) (n : ℕ) (f : FunctionTree) (loops : List SpecTree) (form : DeclaredForm) (o : Owner) (of_module : Settings) → IsBare (FunctionOf w n f loops) form → IsOwnerAfter (owner_scope w.environment w.schemas (Function f)) (blocks_of w.members n) o → of_module ≡ settings_in (blocks_of w.members (length w.members)) → IsDeclared (FunctionOf w n f loops) (finished form o.target.clauses o.settings of_module)
 finished_function w n f loops (function_form id r) o of_module b after e = record {
   id_is = b.id_is;
-  place_is = b.place_is;
+  span_is = b.span_is;
   head = b.head;
   body = b.body;
   pragmas = λ i. pragmas_of (after.settings i) (e i);
@@ -106,11 +106,11 @@ finished_spec_function w f (schema_form id r) cs own of_module b = absurd b
 
 -- the declaration of a spec block
 finished_spec : (w : Here) (s : SpecTree) (d e : Declared) (cs : List Clause) (own of_module : Settings) → e.form ≡ finished d.form cs own of_module → Paired IsBareAs (spec_declaration w s) (d ∷ []) → Paired IsDeclaredAs (spec_declaration w s) (e ∷ [])
-finished_spec w (module_spec place clauses) d e cs own of_module g p = absurd p
-finished_spec w (named_spec place name clauses) d e cs own of_module g p = absurd p
+finished_spec w (module_spec span clauses) d e cs own of_module g p = absurd p
+finished_spec w (named_spec span name clauses) d e cs own of_module g p = absurd p
 finished_spec w (schema_spec s) d e cs own of_module g p = (subst (λ form. IsDeclared (SchemaOf w s) form) (sym g) (finished_schema w s d.form cs own of_module p.0), tt)
 finished_spec w (function_spec f) d e cs own of_module g p = (subst (λ form. IsDeclared (SpecFunctionOf w f) form) (sym g) (finished_spec_function w f d.form cs own of_module p.0), tt)
-finished_spec w (loop_spec place clauses) d e cs own of_module g p = absurd p
+finished_spec w (loop_spec span clauses) d e cs own of_module g p = absurd p
 
 -- the declaration of a member
 finished_form : (w : Here) (n : ℕ) (form : SourceForm) (loops : List SpecTree) (d e : Declared) (o : Owner) (of_module : Settings) → e.form ≡ finished d.form o.target.clauses o.settings of_module → IsOwnerAfter (owner_scope w.environment w.schemas form) (blocks_of w.members n) o → of_module ≡ settings_in (blocks_of w.members (length w.members)) → Paired IsBareAs (form_declaration w n form loops) (d ∷ []) → Paired IsDeclaredAs (form_declaration w n form loops) (e ∷ [])

@@ -3,43 +3,43 @@ use Rattle.std.proofs.Common.{◌≡◌, inl, inr, ℕ, suc, ◌+◌, ◌<◌, L
 use Rattle.std.proofs.lemmas.List.{take_more}
 use Rattle.base.specs.declared.span.Span.{Span}
 use Rattle.syntax_tree.specs.SourceData.{SourceMemberData}
-use Rattle.resolution.specs.declared.fault.PlaceFault.{PlaceFault}
-use Rattle.resolution.specs.declared.fault.PlaceFault.TheVariants.{Unknown, NoMemory}
+use Rattle.resolution.specs.declared.fault.DeclarationFault.{DeclarationFault}
+use Rattle.resolution.specs.declared.fault.DeclarationFault.TheVariants.{Unknown, NoMemory}
 use Rattle.scopes.specs.Meanings.{IfUnknown}
 use Rattle.scopes.specs.declared.fault.NameFault.{NameFault}
 use Rattle.scopes.specs.declared.fault.NameFault.TheVariants.{Unknown as name_unknown, NoMemory as name_memory}
 use Rattle.resolution.specs.Faults.{IsFaultAmong, fault_at}
-use Rattle.resolution.specs.Items.{AreKnown, HasUnknown, Here, IsFirstUnknown, Item, item_place, items_behind, member_items}
+use Rattle.resolution.specs.Items.{AreKnown, HasUnknown, Here, IsFirstUnknown, Item, item_span, items_behind, member_items}
 
 pub known_append : (xs ys : List Item) → AreKnown xs → AreKnown ys → AreKnown (xs ++ ys)
 known_append [] ys a b = b
 known_append (x ∷ xs) ys a b = (a.0, known_append xs ys a.1 b)
 
-first_behind : (xs ys : List Item) (place : Span) → AreKnown xs → IsFirstUnknown ys place → IsFirstUnknown (xs ++ ys) place
-first_behind [] ys place a h = h
-first_behind (x ∷ xs) ys place a h = inr (a.0, first_behind xs ys place a.1 h)
+first_behind : (xs ys : List Item) (span : Span) → AreKnown xs → IsFirstUnknown ys span → IsFirstUnknown (xs ++ ys) span
+first_behind [] ys span a h = h
+first_behind (x ∷ xs) ys span a h = inr (a.0, first_behind xs ys span a.1 h)
 
-first_before : (xs ys : List Item) (place : Span) → IsFirstUnknown xs place → IsFirstUnknown (xs ++ ys) place
-first_before [] ys place h = absurd h
-first_before (x ∷ xs) ys place (inl h) = inl h
-first_before (x ∷ xs) ys place (inr h) = inr (h.0, first_before xs ys place h.1)
+first_before : (xs ys : List Item) (span : Span) → IsFirstUnknown xs span → IsFirstUnknown (xs ++ ys) span
+first_before [] ys span h = absurd h
+first_before (x ∷ xs) ys span (inl h) = inl h
+first_before (x ∷ xs) ys span (inr h) = inr (h.0, first_before xs ys span h.1)
 
-pub fault_behind : (xs ys : List Item) (fault : PlaceFault) → AreKnown xs → IsFaultAmong ys fault → IsFaultAmong (xs ++ ys) fault
-fault_behind xs ys (Unknown place) a h = first_behind xs ys place a h
+pub fault_behind : (xs ys : List Item) (fault : DeclarationFault) → AreKnown xs → IsFaultAmong ys fault → IsFaultAmong (xs ++ ys) fault
+fault_behind xs ys (Unknown span) a h = first_behind xs ys span a h
 fault_behind xs ys NoMemory a h = tt
 
-pub fault_before : (xs ys : List Item) (fault : PlaceFault) → IsFaultAmong xs fault → IsFaultAmong (xs ++ ys) fault
-fault_before xs ys (Unknown place) h = first_before xs ys place h
+pub fault_before : (xs ys : List Item) (fault : DeclarationFault) → IsFaultAmong xs fault → IsFaultAmong (xs ++ ys) fault
+fault_before xs ys (Unknown span) h = first_before xs ys span h
 fault_before xs ys NoMemory h = tt
 
 -- one declaration between others
-pub fault_between : (xs ys zs : List Item) (fault : PlaceFault) → AreKnown xs → IsFaultAmong ys fault → IsFaultAmong (xs ++ (ys ++ zs)) fault
+pub fault_between : (xs ys zs : List Item) (fault : DeclarationFault) → AreKnown xs → IsFaultAmong ys fault → IsFaultAmong (xs ++ (ys ++ zs)) fault
 fault_between xs ys zs fault a h = fault_behind xs (ys ++ zs) fault a (fault_before ys zs fault h)
 
 -- one declaration, in which a use has no meaning or for which memory ran out
-pub item_fault : (x : Item) (fault : NameFault) (place : Span) → place ≡ item_place x → IfUnknown fault (HasUnknown x) → IsFaultAmong (x ∷ []) (fault_at fault place)
-item_fault x name_unknown place e h = inl (h, e)
-item_fault x name_memory place e h = tt
+pub item_fault : (x : Item) (fault : NameFault) (span : Span) → span ≡ item_span x → IfUnknown fault (HasUnknown x) → IsFaultAmong (x ∷ []) (fault_at fault span)
+item_fault x name_unknown span e h = inl (h, e)
+item_fault x name_memory span e h = tt
 
 -- ---- members
 
@@ -50,12 +50,12 @@ items-append w before (m ∷ ms) ns =
     ∙ sym (append_assoc (member_items w before m) (items_behind w (before ++ m ∷ []) ms) (items_behind w (before ++ m ∷ ms) ns))
 
 -- the list is the items before an index, the item at it, and those after it
-pub around_place : {A : Type 0} (xs : List A) (i : ℕ) (x : A) → i < length xs → x ≡ get_or xs i x → take i xs ++ x ∷ drop (i + 1) xs ≡ xs
-around_place [] i x h e = absurd (omega (arith, h))
-around_place (y ∷ ys) zero x h e = ap (λ z. z ∷ ys) e
-around_place (y ∷ ys) (suc i) x h e =
+pub around_span : {A : Type 0} (xs : List A) (i : ℕ) (x : A) → i < length xs → x ≡ get_or xs i x → take i xs ++ x ∷ drop (i + 1) xs ≡ xs
+around_span [] i x h e = absurd (omega (arith, h))
+around_span (y ∷ ys) zero x h e = ap (λ z. z ∷ ys) e
+around_span (y ∷ ys) (suc i) x h e =
     let n : suc i + 1 ≡ suc (i + 1) = omega arith in
-    ap (λ k. y ∷ (take i ys ++ x ∷ drop k (y ∷ ys))) n ∙ ap (λ zs. y ∷ zs) (around_place ys i x (omega (arith, h)) e)
+    ap (λ k. y ∷ (take i ys ++ x ∷ drop k (y ∷ ys))) n ∙ ap (λ zs. y ∷ zs) (around_span ys i x (omega (arith, h)) e)
 
 pub drop_one : {A : Type 0} (xs : List A) (i : ℕ) (x : A) → i < length xs → x ≡ get_or xs i x → drop i xs ≡ x ∷ drop (i + 1) xs
 drop_one xs i x h e =
@@ -73,7 +73,7 @@ known_member w ms i m h e a b =
     subst (λ is. AreKnown is) (sym (ap (λ xs. items_behind w [] xs) (taken_one ms i m h e) ∙ items-append w [] (take i ms) (m ∷ []))) all
 
 -- the first members are known, and the next one has a fault
-pub fault_member : (w : Here) (ms : List SourceMemberData) (i : ℕ) (m : SourceMemberData) (fault : PlaceFault) → i < length ms → m ≡ get_or ms i m → AreKnown (items_behind w [] (take i ms)) → IsFaultAmong (member_items w (take i ms) m) fault → IsFaultAmong (items_behind w [] ms) fault
+pub fault_member : (w : Here) (ms : List SourceMemberData) (i : ℕ) (m : SourceMemberData) (fault : DeclarationFault) → i < length ms → m ≡ get_or ms i m → AreKnown (items_behind w [] (take i ms)) → IsFaultAmong (member_items w (take i ms) m) fault → IsFaultAmong (items_behind w [] ms) fault
 fault_member w ms i m fault h e a b =
     let there = fault_between (items_behind w [] (take i ms)) (member_items w (take i ms) m) (items_behind w (take i ms ++ m ∷ []) (drop (i + 1) ms)) fault a b in
-    subst (λ is. IsFaultAmong is fault) (sym (items-append w [] (take i ms) (m ∷ drop (i + 1) ms)) ∙ ap (λ xs. items_behind w [] xs) (around_place ms i m h e)) there
+    subst (λ is. IsFaultAmong is fault) (sym (items-append w [] (take i ms) (m ∷ drop (i + 1) ms)) ∙ ap (λ xs. items_behind w [] xs) (around_span ms i m h e)) there

@@ -26,9 +26,9 @@ use Rattle.resolution.specs.Programs.{StructOf, SchemaOf}
 some_none : {A : Type 0} (o : Option A) (x : A) → o ≡ Some x → o ≡ None → ⊥
 some_none o x e f = cc
 
-pub known_made : {trees : SpecTrees} {spans : List Span} {form : Option ClauseForm} {block place : Span} {clause : Clause} → IsMadeOf trees spans form block place clause → IsUnknown trees form → ⊥
+pub known_made : {trees : SpecTrees} {spans : List Span} {form : Option ClauseForm} {block span : Span} {clause : Clause} → IsMadeOf trees spans form block span clause → IsUnknown trees form → ⊥
 known_made made (inl f) = f made.sound
-known_made {trees} {spans} {form} {block} {place} {clause} made (inr e) = some_none form clause.form made.form_is e
+known_made {trees} {spans} {form} {block} {span} {clause} made (inr e) = some_none form clause.form made.form_is e
 
 pub known_clauses : (w : ClauseScope) (outer : List OuterName) (n : ℕ) (ts : List PlacedClause) (cs : List Clause) → AreClausesOf w outer n ts cs → HasUnknownAmong w outer n ts → ⊥
 known_clauses w outer n [] cs a h = h
@@ -52,7 +52,7 @@ bare_struct_known w n s (schema_form id r) b h = b
 
 schema_known : (env : EnvironmentData) (schemas : Schemas) (s : SchemaTree) (r : SchemaData) → IsSchemaOf env schemas s r → HasUnknownInSchema env schemas s → ⊥
 schema_known env schemas s r is (inl e) = some_none (typed_names (spec_types env s.parameters) (variables_in s.clauses)) r.variables is.variables e
-schema_known env schemas s r is (inr h) = known_clauses (schema_scope env schemas s) (around_schema (schema_variables s.clauses)) 0 (placed s.place s.clauses) r.clauses is.clauses h
+schema_known env schemas s r is (inr h) = known_clauses (schema_scope env schemas s) (around_schema (schema_variables s.clauses)) 0 (placed s.span s.clauses) r.clauses is.clauses h
 
 pub bare_schema_known : (w : Here) (s : SchemaTree) (form : DeclaredForm) → IsBare (SchemaOf w s) form → HasUnknownInSchema w.environment w.schemas s → ⊥
 bare_schema_known w s (schema_form id r) b h = schema_known w.environment w.schemas s r b.is_schema h

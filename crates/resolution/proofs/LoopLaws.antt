@@ -15,17 +15,17 @@ use Rattle.resolution.specs.Around.{around_loop}
 use Rattle.resolution.specs.ClauseForms.{HasUnknown, IsClauseOf, is_clause}
 use Rattle.resolution.specs.Clauses.{PlacedClause, placed, placed_one}
 use Rattle.resolution.specs.Setting.{ClauseScope}
-use Rattle.body_names.specs.declared.loop_scopes.loop_scope.LoopScope.{LoopScope}
+use Rattle.body_names.specs.declared.code.loops.LoopScope.{LoopScope}
 use Rattle.resolution.specs.Faults.{IsFaultAmong, fault_at}
 use Rattle.resolution.specs.Items.{AreKnown, Here, HasUnknownInOne, LoopItem, around_loop_of, function_scope}
 use Rattle.resolution.specs.LoopParts.{AddedLoops, AddedOne}
 use Rattle.resolution.specs.Owners.{outcome_of, placed_in}
 use Rattle.resolution.specs.Programs.{IsClauseAt, IsLoopClauseOf, loop_source, sources_of_loop}
 use Rattle.std.proofs.Math.ListN.{drop_of_length-le}
-use Rattle.syntax_tree.specs.Places.{spec_place}
+use Rattle.syntax_tree.specs.Spans.{spec_span}
 use Rattle.scopes.specs.Meanings.{IfUnknown}
 use Rattle.scopes.specs.declared.fault.NameFault.{NameFault}
-use Rattle.resolution.proofs.ItemLaws.{around_place, drop_one, fault_between, item_fault, known_append, taken_one}
+use Rattle.resolution.proofs.ItemLaws.{around_span, drop_one, fault_between, item_fault, known_append, taken_one}
 use Rattle.resolution.proofs.KnownLaws.{known_made}
 use Rattle.resolution.proofs.TableLaws.{paired_append}
 
@@ -92,7 +92,7 @@ block_unknown scope outer block trees i tree h e u =
     let all = unknown_right scope outer (placed block (take i trees)) (placed block (tree ∷ []) ++ placed block (drop (i + 1) trees)) behind in
     subst (λ ts. HasUnknownInOne scope outer ts)
     (ap (λ ts. placed block (take i trees) ++ ts) (sym (flat_map-append (placed_one block) (tree ∷ []) (drop (i + 1) trees)))
-    ∙ sym (flat_map-append (placed_one block) (take i trees) (tree ∷ drop (i + 1) trees)) ∙ ap (placed block) (around_place trees i tree h e)) all
+    ∙ sym (flat_map-append (placed_one block) (take i trees) (tree ∷ drop (i + 1) trees)) ∙ ap (placed block) (around_span trees i tree h e)) all
 
 -- ---- all blocks
 
@@ -137,10 +137,6 @@ zip_none : {A B : Type 0} (xs : List A) → zip xs (let none : List B = [] in no
 zip_none [] = refl
 zip_none (x ∷ xs) = refl
 
-pub nothing_zipped : {A B : Type 0} (xs zs : List A) (ys : List B) → length ys ≡ 0 → zip xs ys ≡ zip zs ys
-nothing_zipped xs zs [] h = zip_none xs ∙ sym (zip_none zs)
-nothing_zipped xs zs (y ∷ ys) h = absurd (omega (arith, h))
-
 -- the loop at an index, and its spec block
 pub zip_one : {A B : Type 0} (xs : List A) (ys : List B) (i : ℕ) (x : A) (y : B) → i < length xs → i < length ys → x ≡ get_or xs i x → y ≡ get_or ys i y → zip (drop i xs) (drop i ys) ≡ (x, y) ∷ zip (drop (i + 1) xs) (drop (i + 1) ys)
 zip_one xs ys i x y h k e g = λ j. zip (drop_one xs i x h e j) (drop_one ys i y k g j)
@@ -157,9 +153,9 @@ loops_end scope outcome all rest a b so_far none w f e g =
     subst (λ ls. AddedLoops w f ls a b) (sym (so_far.whole ∙ ap (λ ls. so_far.done ++ ls) none ∙ append-nil so_far.done)) (so_far.added w f e g)
 
 -- a use in the first remaining loop has no meaning
-pub loops_fault : (scope : ClauseScope) (outcome : TypeData) (all rest more : List (LoopScope × SpecTree)) (loop : LoopScope) (spec : SpecTree) (a b : List LoopClause) (fault : NameFault) (place : Span) → LoopsSoFar scope outcome all rest a b → rest ≡ (loop, spec) ∷ more → place ≡ spec_place spec → IfUnknown fault (HasUnknownInOne scope (around_loop outcome loop.names) (placed_in spec)) → (w : Here) (f : FunctionTree) → scope ≡ function_scope w f → outcome ≡ outcome_of w.environment f → IsFaultAmong (map (LoopItem w f) all) (fault_at fault place)
-loops_fault scope outcome all rest more loop spec a b fault place so_far split at u w f e g =
+pub loops_fault : (scope : ClauseScope) (outcome : TypeData) (all rest more : List (LoopScope × SpecTree)) (loop : LoopScope) (spec : SpecTree) (a b : List LoopClause) (fault : NameFault) (span : Span) → LoopsSoFar scope outcome all rest a b → rest ≡ (loop, spec) ∷ more → span ≡ spec_span spec → IfUnknown fault (HasUnknownInOne scope (around_loop outcome loop.names) (placed_in spec)) → (w : Here) (f : FunctionTree) → scope ≡ function_scope w f → outcome ≡ outcome_of w.environment f → IsFaultAmong (map (LoopItem w f) all) (fault_at fault span)
+loops_fault scope outcome all rest more loop spec a b fault span so_far split at u w f e g =
     let there : IfUnknown fault (HasUnknownInOne (function_scope w f) (around_loop_of w f loop) (placed_in spec)) = subst (λ o. IfUnknown fault (HasUnknownInOne (function_scope w f) (around_loop o loop.names) (placed_in spec))) g (subst (λ s. IfUnknown fault (HasUnknownInOne s (around_loop outcome loop.names) (placed_in spec))) e u) in
-    let one = item_fault (LoopItem w f (loop, spec)) fault place at there in
-    let between = fault_between (map (LoopItem w f) so_far.done) (LoopItem w f (loop, spec) ∷ []) (map (LoopItem w f) more) (fault_at fault place) (so_far.added w f e g).known one in
-    subst (λ is. IsFaultAmong is (fault_at fault place)) (sym (map-append (LoopItem w f) so_far.done ((loop, spec) ∷ more)) ∙ ap (map (LoopItem w f)) (sym (so_far.whole ∙ ap (λ ls. so_far.done ++ ls) split))) between
+    let one = item_fault (LoopItem w f (loop, spec)) fault span at there in
+    let between = fault_between (map (LoopItem w f) so_far.done) (LoopItem w f (loop, spec) ∷ []) (map (LoopItem w f) more) (fault_at fault span) (so_far.added w f e g).known one in
+    subst (λ is. IsFaultAmong is (fault_at fault span)) (sym (map-append (LoopItem w f) so_far.done ((loop, spec) ∷ more)) ∙ ap (map (LoopItem w f)) (sym (so_far.whole ∙ ap (λ ls. so_far.done ++ ls) split))) between

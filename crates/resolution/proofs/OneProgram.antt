@@ -26,7 +26,7 @@ use Rattle.program.specs.declared.program.Program.{Program}
 use Rattle.program.specs.declared.program.SchemaId.{SchemaId}
 use Rattle.body_names.specs.SpecForms.{SpecTrees}
 use Rattle.body_names.specs.declared.spec.outer.OuterName.{OuterName}
-use Rattle.resolution.specs.ClauseForms.{IsMadeOf, clause_trees, clause_spans, clause_place, form_of}
+use Rattle.resolution.specs.ClauseForms.{IsMadeOf, clause_trees, clause_spans, clause_span, form_of}
 use Rattle.resolution.specs.Clauses.{AreClausesOf, PlacedClause, entered}
 use Rattle.resolution.specs.Setting.{ClauseScope}
 use Rattle.resolution.specs.declared.declared.DeclaredForm.{DeclaredForm}
@@ -41,14 +41,14 @@ one_some e f = cc
 
 -- ---- clauses
 
-one_made : (trees : SpecTrees) (spans : List Span) (form : Option ClauseForm) (block place : Span) (c d : Clause) → IsMadeOf trees spans form block place c → IsMadeOf trees spans form block place d → c ≡ d
-one_made trees spans form block place c d p q =
+one_made : (trees : SpecTrees) (spans : List Span) (form : Option ClauseForm) (block span : Span) (c d : Clause) → IsMadeOf trees spans form block span c → IsMadeOf trees spans form block span d → c ≡ d
+one_made trees spans form block span c d p q =
     let block_is : c.block ≡ d.block = p.block_is ∙ sym q.block_is in
-    let place_is : c.place ≡ d.place = p.place_is ∙ sym q.place_is in
+    let span_is : c.span ≡ d.span = p.span_is ∙ sym q.span_is in
     let form_is : c.form ≡ d.form = one_some p.form_is q.form_is in
     let nodes : c.body.nodes ≡ d.body.nodes = p.nodes ∙ sym q.nodes in
     let spans_are : c.body.spans ≡ d.body.spans = p.spans_are ∙ sym q.spans_are in
-    λ i. record { block = block_is i; place = place_is i; form = form_is i; body = record { nodes = nodes i; spans = spans_are i } }
+    λ i. record { block = block_is i; span = span_is i; form = form_is i; body = record { nodes = nodes i; spans = spans_are i } }
 
 pub one_clauses : (w : ClauseScope) (outer : List OuterName) (n : ℕ) (sources : List PlacedClause) (cs ds : List Clause) → AreClausesOf w outer n sources cs → AreClausesOf w outer n sources ds → cs ≡ ds
 one_clauses w outer n [] [] [] p q = refl
@@ -57,7 +57,7 @@ one_clauses w outer n [] (c ∷ cs) ds p q = absurd p
 one_clauses w outer n (one ∷ more) [] ds p q = absurd p
 one_clauses w outer n (one ∷ more) (c ∷ cs) [] p q = absurd q
 one_clauses w outer n (one ∷ more) (c ∷ cs) (d ∷ ds) p q =
-    ap (λ x. x ∷ cs) (one_made (clause_trees w outer one.tree) (clause_spans w one.tree) (form_of w outer one.tree) one.block (clause_place one.tree) c d p.0 q.0)
+    ap (λ x. x ∷ cs) (one_made (clause_trees w outer one.tree) (clause_spans w one.tree) (form_of w outer one.tree) one.block (clause_span one.tree) c d p.0 q.0)
     ∙ ap (λ xs. d ∷ xs) (one_clauses w (outer ++ entered n one.tree) (1 + n) more cs ds p.1 q.1)
 
 one_loop_clause : (w : Here) (f : FunctionTree) (s : LoopSource) (c d : LoopClause) → IsLoopClauseOf w f s c → IsLoopClauseOf w f s d → c ≡ d
@@ -65,42 +65,42 @@ one_loop_clause w f s c d p q =
     let at_is : c.at ≡ d.at = p.at_is ∙ sym q.at_is in
     let outer = around_loop_of w f s.loop in
     let scope = function_scope w f in
-    let clause_is : c.clause ≡ d.clause = one_made (clause_trees scope outer s.source.tree) (clause_spans scope s.source.tree) (form_of scope outer s.source.tree) s.source.block (clause_place s.source.tree) c.clause d.clause p.is_clause q.is_clause in
+    let clause_is : c.clause ≡ d.clause = one_made (clause_trees scope outer s.source.tree) (clause_spans scope s.source.tree) (form_of scope outer s.source.tree) s.source.block (clause_span s.source.tree) c.clause d.clause p.is_clause q.is_clause in
     λ i. record { at = at_is i; clause = clause_is i }
 
 -- ---- declarations
 
-one_module : (w : Here) (place : Span) (i j : ModuleId) (x y : ModuleData) → IsModuleOf w place i x → IsModuleOf w place j y → Module i x ≡ Module j y
-one_module w place i j x y p q =
+one_module : (w : Here) (span : Span) (i j : ModuleId) (x y : ModuleData) → IsModuleOf w span i x → IsModuleOf w span j y → Module i x ≡ Module j y
+one_module w span i j x y p q =
     let id_is : i ≡ j = p.id_is ∙ sym q.id_is in
-    let place_is : x.place ≡ y.place = p.place_is ∙ sym q.place_is in
+    let span_is : x.span ≡ y.span = p.span_is ∙ sym q.span_is in
     let friends : x.friends ≡ y.friends = p.friends ∙ sym q.friends in
     let clauses : x.clauses ≡ y.clauses = one_clauses _ _ _ _ _ _ p.clauses q.clauses in
-    λ k. Module (id_is k) (record { place = place_is k; friends = friends k; clauses = clauses k })
+    λ k. Module (id_is k) (record { span = span_is k; friends = friends k; clauses = clauses k })
 
 one_struct : (w : Here) (n : ℕ) (tree : StructTree) (i j : StructId) (x y : StructData) → IsOwnStruct w n tree i x → IsOwnStruct w n tree j y → struct_form i x ≡ struct_form j y
 one_struct w n tree i j x y p q =
     let id_is : i ≡ j = p.id_is ∙ sym q.id_is in
-    let place_is : x.place ≡ y.place = p.is_struct.place ∙ sym q.is_struct.place in
+    let span_is : x.span ≡ y.span = p.is_struct.span ∙ sym q.is_struct.span in
     let types : x.type_parameters ≡ y.type_parameters = p.is_struct.type_parameters ∙ sym q.is_struct.type_parameters in
     let abilities : x.abilities ≡ y.abilities = p.is_struct.abilities ∙ sym q.is_struct.abilities in
     let fields : x.fields ≡ y.fields = one_some p.is_struct.fields q.is_struct.fields in
     let clauses : x.clauses ≡ y.clauses = one_clauses _ _ _ _ _ _ p.clauses q.clauses in
-    λ k. struct_form (id_is k) (record { place = place_is k; type_parameters = types k; abilities = abilities k; fields = fields k; clauses = clauses k })
+    λ k. struct_form (id_is k) (record { span = span_is k; type_parameters = types k; abilities = abilities k; fields = fields k; clauses = clauses k })
 
 one_constant : (w : Here) (tree : ConstantTree) (i j : ConstantId) (x y : ConstantData) → IsOwnConstant w tree i x → IsOwnConstant w tree j y → constant_form i x ≡ constant_form j y
 one_constant w tree i j x y p q =
     let id_is : i ≡ j = p.id_is ∙ sym q.id_is in
-    let place_is : x.place ≡ y.place = p.is_constant.place ∙ sym q.is_constant.place in
+    let span_is : x.span ≡ y.span = p.is_constant.span ∙ sym q.is_constant.span in
     let annotation : x.annotation ≡ y.annotation = one_some p.is_constant.annotation q.is_constant.annotation in
     let nodes : x.value.nodes ≡ y.value.nodes = p.is_constant.value_nodes ∙ sym q.is_constant.value_nodes in
     let spans : x.value.spans ≡ y.value.spans = p.is_constant.value_spans ∙ sym q.is_constant.value_spans in
-    λ k. constant_form (id_is k) (record { place = place_is k; annotation = annotation k; value = record { nodes = nodes k; spans = spans k } })
+    λ k. constant_form (id_is k) (record { span = span_is k; annotation = annotation k; value = record { nodes = nodes k; spans = spans k } })
 
 one_function : (w : Here) (n : ℕ) (tree : FunctionTree) (loops : List SpecTree) (i j : FunctionId) (x y : FunctionData) → IsOwnFunction w n tree loops i x → IsOwnFunction w n tree loops j y → function_form i x ≡ function_form j y
 one_function w n tree loops i j x y p q =
     let id_is : i ≡ j = p.id_is ∙ sym q.id_is in
-    let place_is : x.place ≡ y.place = p.place_is ∙ sym q.place_is in
+    let span_is : x.span ≡ y.span = p.span_is ∙ sym q.span_is in
     let visibility : x.visibility ≡ y.visibility = p.head.visibility ∙ sym q.head.visibility in
     let types : x.type_parameters ≡ y.type_parameters = p.head.type_parameters ∙ sym q.head.type_parameters in
     let parameters : x.parameters ≡ y.parameters = one_some p.head.parameters q.head.parameters in
@@ -113,7 +113,7 @@ one_function w n tree loops i j x y p q =
     let clauses : x.clauses ≡ y.clauses = one_clauses _ _ _ _ _ _ p.clauses q.clauses in
     let loop_clauses : x.loop_clauses ≡ y.loop_clauses = one_list (IsLoopClauseOf w tree) _ x.loop_clauses y.loop_clauses (one_loop_clause w tree) p.loop_clauses q.loop_clauses in
     λ k. function_form (id_is k) (record {
-      place = place_is k;
+      span = span_is k;
       visibility = visibility k;
       type_parameters = types k;
       parameters = parameters k;
@@ -129,35 +129,35 @@ one_function w n tree loops i j x y p q =
 one_spec_function : (w : Here) (tree : SpecFunctionTree) (i j : FunctionId) (x y : SpecFunctionData) → IsOwnSpecFunction w tree i x → IsOwnSpecFunction w tree j y → spec_function_form i x ≡ spec_function_form j y
 one_spec_function w tree i j x y p q =
     let id_is : i ≡ j = p.id_is ∙ sym q.id_is in
-    let place_is : x.place ≡ y.place = p.is_function.place ∙ sym q.is_function.place in
+    let span_is : x.span ≡ y.span = p.is_function.span ∙ sym q.is_function.span in
     let types : x.type_parameters ≡ y.type_parameters = p.is_function.type_parameters ∙ sym q.is_function.type_parameters in
     let parameters : x.parameters ≡ y.parameters = one_some p.is_function.parameters q.is_function.parameters in
     let result_is : x.result ≡ y.result = one_some p.is_function.result_is q.is_function.result_is in
     let nodes : x.body.nodes ≡ y.body.nodes = p.is_function.nodes ∙ sym q.is_function.nodes in
     let spans : x.body.spans ≡ y.body.spans = p.is_function.spans ∙ sym q.is_function.spans in
-    λ k. spec_function_form (id_is k) (record { place = place_is k; type_parameters = types k; parameters = parameters k; result = result_is k; body = record { nodes = nodes k; spans = spans k } })
+    λ k. spec_function_form (id_is k) (record { span = span_is k; type_parameters = types k; parameters = parameters k; result = result_is k; body = record { nodes = nodes k; spans = spans k } })
 
 one_schema : (w : Here) (tree : SchemaTree) (i j : SchemaId) (x y : SchemaData) → IsOwnSchema w tree i x → IsOwnSchema w tree j y → schema_form i x ≡ schema_form j y
 one_schema w tree i j x y p q =
     let id_is : i ≡ j = p.id_is ∙ sym q.id_is in
-    let place_is : x.place ≡ y.place = p.is_schema.place ∙ sym q.is_schema.place in
+    let span_is : x.span ≡ y.span = p.is_schema.span ∙ sym q.is_schema.span in
     let types : x.type_parameters ≡ y.type_parameters = p.is_schema.type_parameters ∙ sym q.is_schema.type_parameters in
     let variables : x.variables ≡ y.variables = one_some p.is_schema.variables q.is_schema.variables in
     let clauses : x.clauses ≡ y.clauses = one_clauses _ _ _ _ _ _ p.is_schema.clauses q.is_schema.clauses in
-    λ k. schema_form (id_is k) (record { place = place_is k; type_parameters = types k; variables = variables k; clauses = clauses k })
+    λ k. schema_form (id_is k) (record { span = span_is k; type_parameters = types k; variables = variables k; clauses = clauses k })
 
 one_form : (tree : DeclarationTree) (x y : DeclaredForm) → IsDeclared tree x → IsDeclared tree y → x ≡ y
-one_form (ModuleTree w place) (Module i x) (Module j y) p q = one_module w place i j x y p q
-one_form (ModuleTree w place) (Module i x) (struct_form j y) p q = absurd q
-one_form (ModuleTree w place) (Module i x) (constant_form j y) p q = absurd q
-one_form (ModuleTree w place) (Module i x) (function_form j y) p q = absurd q
-one_form (ModuleTree w place) (Module i x) (spec_function_form j y) p q = absurd q
-one_form (ModuleTree w place) (Module i x) (schema_form j y) p q = absurd q
-one_form (ModuleTree w place) (struct_form i x) y p q = absurd p
-one_form (ModuleTree w place) (constant_form i x) y p q = absurd p
-one_form (ModuleTree w place) (function_form i x) y p q = absurd p
-one_form (ModuleTree w place) (spec_function_form i x) y p q = absurd p
-one_form (ModuleTree w place) (schema_form i x) y p q = absurd p
+one_form (ModuleTree w span) (Module i x) (Module j y) p q = one_module w span i j x y p q
+one_form (ModuleTree w span) (Module i x) (struct_form j y) p q = absurd q
+one_form (ModuleTree w span) (Module i x) (constant_form j y) p q = absurd q
+one_form (ModuleTree w span) (Module i x) (function_form j y) p q = absurd q
+one_form (ModuleTree w span) (Module i x) (spec_function_form j y) p q = absurd q
+one_form (ModuleTree w span) (Module i x) (schema_form j y) p q = absurd q
+one_form (ModuleTree w span) (struct_form i x) y p q = absurd p
+one_form (ModuleTree w span) (constant_form i x) y p q = absurd p
+one_form (ModuleTree w span) (function_form i x) y p q = absurd p
+one_form (ModuleTree w span) (spec_function_form i x) y p q = absurd p
+one_form (ModuleTree w span) (schema_form i x) y p q = absurd p
 one_form (StructOf w n s) (Module i x) y p q = absurd p
 one_form (StructOf w n s) (struct_form i x) (Module j y) p q = absurd q
 one_form (StructOf w n s) (struct_form i x) (struct_form j y) p q = one_struct w n s i j x y p q

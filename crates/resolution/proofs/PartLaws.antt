@@ -64,13 +64,13 @@ numbered_below numbers count n name within e =
     subst P e (either (numbered_as numbers a_function name) (numbered_as numbers a_struct name) one two)
 
 pub owner_below : (ms : List SourceMemberData) (spec : SpecTree) (n : ℕ) → owner_of (member_numbers ms) (length ms) spec ≡ Some n → n < length ms + 1
-owner_below ms (module_spec place clauses) n e = let f : length ms ≡ n = some_same (length ms) n e in omega arith
-owner_below ms (named_spec place name clauses) n e =
+owner_below ms (module_spec span clauses) n e = let f : length ms ≡ n = some_same (length ms) n e in omega arith
+owner_below ms (named_spec span name clauses) n e =
     let within = numbers_within (length ms) 0 ms [] (omega arith) (All-nil (λ e. e.1 < length ms)) in
     let h : n < length ms = numbered_below (member_numbers ms) (length ms) n name.text within e in omega arith
 owner_below ms (schema_spec s) n e = absurd (none_some n e)
 owner_below ms (function_spec f) n e = absurd (none_some n e)
-owner_below ms (loop_spec place clauses) n e = absurd (none_some n e)
+owner_below ms (loop_spec span clauses) n e = absurd (none_some n e)
 
 -- ---- one more member
 

@@ -16,8 +16,8 @@ use Rattle.scopes.specs.Meanings.{address_meaning, module_meaning}
 use Rattle.scopes.specs.Brings.{environment_of, firsts}
 use Rattle.scopes.specs.Program.{declaring}
 use Rattle.resolution.specs.Setting.{same_schema}
-use Rattle.resolution.specs.declared.fault.PlaceFault.{PlaceFault}
-use Rattle.resolution.specs.declared.fault.PlaceFault.TheVariants.{Unknown, NoMemory}
+use Rattle.resolution.specs.declared.fault.DeclarationFault.{DeclarationFault}
+use Rattle.resolution.specs.declared.fault.DeclarationFault.TheVariants.{Unknown, NoMemory}
 use Rattle.resolution.specs.declared.known.Known.{Known}
 use Rattle.resolution.specs.Faults.{IsFaultAmong, IsFaultFrom, fault_in}
 use Rattle.resolution.specs.Items.{AreKnown, AreKnownIn, Here, IsFirstUnknown, IsFirstUnknownIn, here, module_items, source_items}
@@ -25,7 +25,7 @@ use Rattle.resolution.specs.Known.{KnownData, all_modules, all_schemas, inside, 
 use Rattle.resolution.specs.Modules.{IsKnown, IsWithin}
 use Rattle.resolution.specs.Parts.{EnteredOf}
 use Rattle.resolution.specs.Programs.{IsProgramOf, constant_in, declarations_of, function_in, module_declarations, module_in, same_constant, same_function, same_struct, schema_in, source_declarations, spec_function_in, struct_in}
-use Rattle.resolution.proofs.ItemLaws.{around_place, fault_between, known_append, taken_one}
+use Rattle.resolution.proofs.ItemLaws.{around_span, fault_between, known_append, taken_one}
 use Rattle.resolution.proofs.TableLaws.{both_entered}
 
 -- ---- the modules of a source
@@ -42,10 +42,10 @@ module_known k ms i m h e before one =
     subst (λ is. AreKnown is) (sym (flat_map-append (module_items k) (take i ms) (m ∷ [])) ∙ ap (source_items k) (sym (taken_one ms i m h e)))
     (known_append (source_items k (take i ms)) (source_items k (m ∷ [])) before last)
 
-pub module_fault : (k : KnownData) (ms : List SourceModuleData) (i : ℕ) (m : SourceModuleData) (fault : PlaceFault) → i < length ms → m ≡ get_or ms i m → AreKnown (source_items k (take i ms)) → IsFaultAmong (module_items k m) fault → IsFaultAmong (source_items k ms) fault
+pub module_fault : (k : KnownData) (ms : List SourceModuleData) (i : ℕ) (m : SourceModuleData) (fault : DeclarationFault) → i < length ms → m ≡ get_or ms i m → AreKnown (source_items k (take i ms)) → IsFaultAmong (module_items k m) fault → IsFaultAmong (source_items k ms) fault
 module_fault k ms i m fault h e before one =
     subst (λ is. IsFaultAmong is fault)
-    (sym (flat_map-append (module_items k) (take i ms) (m ∷ drop (i + 1) ms)) ∙ ap (source_items k) (around_place ms i m h e))
+    (sym (flat_map-append (module_items k) (take i ms) (m ∷ drop (i + 1) ms)) ∙ ap (source_items k) (around_span ms i m h e))
     (fault_between (source_items k (take i ms)) (module_items k m) (source_items k (drop (i + 1) ms)) fault before one)
 
 -- ---- sources
@@ -63,19 +63,19 @@ known_snoc k (x ∷ ss) s a b = (a.0, known_snoc k ss s a.1 b)
 pub source_known : (k : KnownData) (ss : List (List SourceModuleData)) (i : ℕ) (s : List SourceModuleData) → i < length ss → s ≡ get_or ss i s → AreKnownIn k (take i ss) → AreKnown (source_items k s) → AreKnownIn k (take (i + 1) ss)
 source_known k ss i s h e before one = subst (λ xs. AreKnownIn k xs) (sym (taken_one ss i s h e)) (known_snoc k (take i ss) s before one)
 
-first_of_all : (k : KnownData) (n : ℕ) (ss : List (List SourceModuleData)) (i : ℕ) (s : List SourceModuleData) (place : Span) → i < length ss → s ≡ get_or ss i s → AreKnownIn k (take i ss) → IsFirstUnknown (source_items k s) place → IsFirstUnknownIn k n ss (n + i) place
-first_of_all k n [] i s place h e before one = absurd (omega (arith, h))
-first_of_all k n (x ∷ ss) zero s place h e before one =
+first_of_all : (k : KnownData) (n : ℕ) (ss : List (List SourceModuleData)) (i : ℕ) (s : List SourceModuleData) (span : Span) → i < length ss → s ≡ get_or ss i s → AreKnownIn k (take i ss) → IsFirstUnknown (source_items k s) span → IsFirstUnknownIn k n ss (n + i) span
+first_of_all k n [] i s span h e before one = absurd (omega (arith, h))
+first_of_all k n (x ∷ ss) zero s span h e before one =
     let z : n + 0 ≡ n = omega arith in
-    inl (z, subst (λ y. IsFirstUnknown (source_items k y) place) e one)
-first_of_all k n (x ∷ ss) (suc i) s place h e before one =
+    inl (z, subst (λ y. IsFirstUnknown (source_items k y) span) e one)
+first_of_all k n (x ∷ ss) (suc i) s span h e before one =
     let z : (n + 1) + i ≡ n + suc i = omega arith in
-    inr (before.0, subst (λ f. IsFirstUnknownIn k (n + 1) ss f place) z (first_of_all k (n + 1) ss i s place (omega (arith, h)) e before.1 one))
+    inr (before.0, subst (λ f. IsFirstUnknownIn k (n + 1) ss f span) z (first_of_all k (n + 1) ss i s span (omega (arith, h)) e before.1 one))
 
-pub source_fault : (k : KnownData) (ss : List (List SourceModuleData)) (i : ℕ) (s : List SourceModuleData) (fault : PlaceFault) → i < length ss → s ≡ get_or ss i s → AreKnownIn k (take i ss) → IsFaultAmong (source_items k s) fault → IsFaultFrom k ss (fault_in fault i)
-source_fault k ss i s (Unknown place) h e before one =
+pub source_fault : (k : KnownData) (ss : List (List SourceModuleData)) (i : ℕ) (s : List SourceModuleData) (fault : DeclarationFault) → i < length ss → s ≡ get_or ss i s → AreKnownIn k (take i ss) → IsFaultAmong (source_items k s) fault → IsFaultFrom k ss (fault_in fault i)
+source_fault k ss i s (Unknown span) h e before one =
     let z : 0 + i ≡ i = omega arith in
-    subst (λ f. IsFirstUnknownIn k 0 ss f place) z (first_of_all k 0 ss i s place h e before one)
+    subst (λ f. IsFirstUnknownIn k 0 ss f span) z (first_of_all k 0 ss i s span h e before one)
 source_fault k ss i s NoMemory h e before one = tt
 
 -- ---- entering a module

@@ -27,13 +27,13 @@ placed block trees = flat_map (placed_one block) trees
 
 -- the name that a clause brings into scope after it, if it has index n among the clauses of its target
 abbrev pub entered : ℕ → ClauseTree → List OuterName
-entered n (pragma_clause place pragmas) = []
-entered n (requires_clause place e) = []
-entered n (ensures_clause place e) = []
-entered n (aborts_if_clause place e code) = []
-entered n (modifies_clause place targets) = []
-entered n (invariant_clause place is_update e) = []
-entered n (let_clause place is_post name e) = record { name = name.text; meaning = let_name n } ∷ []
+entered n (pragma_clause span pragmas) = []
+entered n (requires_clause span e) = []
+entered n (ensures_clause span e) = []
+entered n (aborts_if_clause span e code) = []
+entered n (modifies_clause span targets) = []
+entered n (invariant_clause span is_update e) = []
+entered n (let_clause span is_post name e) = record { name = name.text; meaning = let_name n } ∷ []
 entered n (include_clause i) = []
 entered n (variable_clause name) = []
 

@@ -25,13 +25,14 @@ use Rattle.resolution.specs.declared.declarations.functions.Head.{Head}
 use Rattle.resolution.specs.declared.declarations.functions.ResolvedFunction.{ResolvedFunction}
 use Rattle.body_names.specs.CodeSpans.{spans_of, spans_of_block}
 use Rattle.body_names.specs.CodeResolved.{IsResolved, body_tree, constant_tree}
+use Rattle.body_names.specs.LoopScopes.{loops_of_body}
 use Rattle.resolution.specs.Parameters.{abilities_of, among, listed_abilities, type_parameters_of, typed_names}
 
 -- ---- structs
 
 -- the struct of this source: its fields with the meanings of their types
 pub record IsStructOf (env : EnvironmentData) (tree : StructTree) (resolved : Struct) : Type 0 where
-  pub place : resolved.place ≡ tree.place
+  pub span : resolved.span ≡ tree.span
   pub type_parameters : resolved.type_parameters ≡ type_parameters_of tree.parameters
   pub abilities : resolved.abilities ≡ abilities_of (listed_abilities tree.abilities)
   pub fields : typed_names (among env tree.parameters) tree.fields.items ≡ Some resolved.fields
@@ -47,7 +48,7 @@ abbrev pub alone : EnvironmentData → TypeScope
 alone env = record { environment = env; parameters = []; is_spec = false }
 
 pub record IsConstantOf (env : EnvironmentData) (tree : ConstantTree) (resolved : Constant) : Type 0 where
-  pub place : resolved.place ≡ tree.place
+  pub span : resolved.span ≡ tree.span
   pub annotation : type_meaning (alone env) tree.annotation ≡ Some resolved.annotation
   pub value_sound : IsSound (constant_tree (alone env) tree.value)
   pub value_nodes : resolved.value.nodes ≡ nodes_of (constant_tree (alone env) tree.value)
@@ -60,8 +61,8 @@ HasUnknownInConstant env tree = (type_meaning (alone env) tree.annotation ≡ No
 
 abbrev pub visibility_of : VisibilityTree → Visibility
 visibility_of in_module = Private
-visibility_of (to_all place) = Public
-visibility_of (to_friends place) = Friend
+visibility_of (to_all span) = Public
+visibility_of (to_friends span) = Friend
 
 -- the empty tuple if none is written
 abbrev pub result_meaning : TypeScope → Option SourceTypeData → Option TypeData
@@ -97,7 +98,8 @@ HasUnknownInHead env f =
 
 pub record IsFunctionOf (env : EnvironmentData) (tree : FunctionTree) (resolved : ResolvedFunction) : Type 0 where
   pub head : IsHeadOf env tree resolved.head
-  pub body : IsResolved (body_of env tree) (spans_of_block tree.body) (parameter_names_of tree ++ names_of_block tree.body) resolved.body
+  pub body : IsResolved (body_of env tree) (spans_of_block tree.body) (parameter_names_of tree ++ names_of_block tree.body) resolved.body.code
+  pub loops : resolved.body.loops.items ≡ loops_of_body (parameter_names_of tree) tree.body
 
 abbrev pub HasUnknownInFunction : EnvironmentData → FunctionTree → Type 0
 HasUnknownInFunction env f = HasUnknownInHead env f ⊎ (IsSound (body_of env f) → ⊥)

@@ -9,7 +9,7 @@ use Rattle.syntax_tree.specs.declared.clause.Spec.{Spec as SpecTree}
 use Rattle.syntax_tree.specs.declared.clause.Spec.TheVariants.{Module as module_spec, Named as named_spec, Schema as schema_spec, Function as function_spec, Loop as loop_spec}
 use Rattle.syntax_tree.specs.SourceData.{SourceMemberData}
 use Rattle.syntax_tree.specs.SourceModuleData.{SourceModuleData}
-use Rattle.syntax_tree.specs.Places.{form_place, spec_place}
+use Rattle.syntax_tree.specs.Spans.{form_span, spec_span}
 use Rattle.syntax_tree.specs.declared.source.SourceForm.{SourceForm}
 use Rattle.syntax_tree.specs.declared.source.SourceForm.TheVariants.{Use, Friend, Struct, Constant, Function, Spec}
 use Rattle.program.specs.declared.program.ModuleId.{ModuleId}
@@ -23,7 +23,7 @@ use Rattle.resolution.specs.ClauseForms.{HasUnknown as ClauseUnknown}
 use Rattle.resolution.specs.Clauses.{PlacedClause}
 use Rattle.resolution.specs.Setting.{ClauseScope}
 use Rattle.resolution.specs.SpecDeclarations.{HasUnknownInSchema, HasUnknownInSpecFunction}
-use Rattle.body_names.specs.declared.loop_scopes.loop_scope.LoopScope.{LoopScope}
+use Rattle.body_names.specs.declared.code.loops.LoopScope.{LoopScope}
 use Rattle.body_names.specs.LoopScopes.{loops_of_body}
 use Rattle.resolution.specs.Known.{KnownData, Schemas, inside}
 use Rattle.resolution.specs.Owners.{HasUnknownInBlock, blocks_among, clause_scope, member_numbers, module_scope, outcome_of, owner_of, owner_scopes, placed_in}
@@ -78,11 +78,11 @@ HasUnknownInOwned w before block = HasUnknownOf w before block (owner_of (member
 
 -- a named block without an owner has no meaning; a loop's block is not a member
 abbrev pub HasUnknownInSpec : Here → List SourceMemberData → SpecTree → Type 0
-HasUnknownInSpec w before (module_spec place clauses) = HasUnknownInOwned w before (module_spec place clauses)
-HasUnknownInSpec w before (named_spec place name clauses) = HasUnknownInOwned w before (named_spec place name clauses)
+HasUnknownInSpec w before (module_spec span clauses) = HasUnknownInOwned w before (module_spec span clauses)
+HasUnknownInSpec w before (named_spec span name clauses) = HasUnknownInOwned w before (named_spec span name clauses)
 HasUnknownInSpec w before (schema_spec s) = HasUnknownInSchema w.environment w.schemas s
 HasUnknownInSpec w before (function_spec f) = HasUnknownInSpecFunction w.environment f
-HasUnknownInSpec w before (loop_spec place clauses) = ⊥
+HasUnknownInSpec w before (loop_spec span clauses) = ⊥
 
 -- some use in a member after these has no meaning, apart from those in its loops
 abbrev pub HasUnknownInForm : Here → List SourceMemberData → SourceForm → Type 0
@@ -103,13 +103,13 @@ pub data Item : Type 0 where
   -- a loop of a function
   LoopItem : Here → FunctionTree → LoopScope × SpecTree → Item
 
-abbrev pub item_place : Item → Span
-item_place (NoModule place) = place
-item_place (MemberItem w before form) = form_place form
-item_place (LoopItem w f loop) = spec_place loop.1
+abbrev pub item_span : Item → Span
+item_span (NoModule span) = span
+item_span (MemberItem w before form) = form_span form
+item_span (LoopItem w f loop) = spec_span loop.1
 
 abbrev pub HasUnknown : Item → Type 0
-HasUnknown (NoModule place) = Unit {0}
+HasUnknown (NoModule span) = Unit {0}
 HasUnknown (MemberItem w before form) = HasUnknownInForm w before form
 HasUnknown (LoopItem w f loop) = HasUnknownInLoop w f loop
 
@@ -130,7 +130,7 @@ items_behind w before [] = []
 items_behind w before (m ∷ ms) = member_items w before m ++ items_behind w (before ++ m ∷ []) ms
 
 abbrev pub items_in : KnownData → SourceModuleData → Option ModuleId → List Item
-items_in known m None = NoModule m.place ∷ []
+items_in known m None = NoModule m.span ∷ []
 items_in known m (Some own) = items_behind (here known own m.members) [] m.members
 
 abbrev pub module_items : KnownData → SourceModuleData → List Item
@@ -148,8 +148,8 @@ AreKnown (x ∷ xs) = (HasUnknown x → ⊥) × AreKnown xs
 
 -- the first one in which some use has no meaning begins here
 abbrev pub IsFirstUnknown : List Item → Span → Type 0
-IsFirstUnknown [] place = ⊥
-IsFirstUnknown (x ∷ xs) place = (HasUnknown x × (place ≡ item_place x)) ⊎ ((HasUnknown x → ⊥) × IsFirstUnknown xs place)
+IsFirstUnknown [] span = ⊥
+IsFirstUnknown (x ∷ xs) span = (HasUnknown x × (span ≡ item_span x)) ⊎ ((HasUnknown x → ⊥) × IsFirstUnknown xs span)
 
 -- in each of these sources each use has a meaning
 abbrev pub AreKnownIn : KnownData → List (List SourceModuleData) → Type 0
@@ -159,7 +159,7 @@ AreKnownIn known (s ∷ ss) = AreKnown (source_items known s) × AreKnownIn know
 -- for sources the first of which has index n: the index of the file, and the span where the first declaration begins in
 -- which some use has no meaning
 abbrev pub IsFirstUnknownIn : KnownData → ℕ → List (List SourceModuleData) → ℕ → Span → Type 0
-IsFirstUnknownIn known n [] file place = ⊥
-IsFirstUnknownIn known n (s ∷ ss) file place =
-    ((file ≡ n) × IsFirstUnknown (source_items known s) place)
-    ⊎ (AreKnown (source_items known s) × IsFirstUnknownIn known (n + 1) ss file place)
+IsFirstUnknownIn known n [] file span = ⊥
+IsFirstUnknownIn known n (s ∷ ss) file span =
+    ((file ≡ n) × IsFirstUnknown (source_items known s) span)
+    ⊎ (AreKnown (source_items known s) × IsFirstUnknownIn known (n + 1) ss file span)

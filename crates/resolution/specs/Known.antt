@@ -33,11 +33,11 @@ pub record KnownData : Type 0 where
 -- ---- schemas
 
 abbrev pub schema_of_spec : ModuleId → SpecTree → Schemas
-schema_of_spec own (module_spec place clauses) = []
-schema_of_spec own (named_spec place name clauses) = []
+schema_of_spec own (module_spec span clauses) = []
+schema_of_spec own (named_spec span name clauses) = []
 schema_of_spec own (schema_spec s) = (schema_of (record { owner = own; name = s.name.text }), schema_variables s.clauses) ∷ []
 schema_of_spec own (function_spec f) = []
-schema_of_spec own (loop_spec place clauses) = []
+schema_of_spec own (loop_spec span clauses) = []
 
 abbrev pub schema_of_form : ModuleId → SourceForm → Schemas
 schema_of_form own (Spec s) = schema_of_spec own s

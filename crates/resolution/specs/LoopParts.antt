@@ -8,7 +8,7 @@ use Rattle.program.specs.declared.clause.LoopClause.{LoopClause}
 use Rattle.body_names.specs.declared.spec.outer.OuterName.{OuterName}
 use Rattle.resolution.specs.Clauses.{PlacedClause}
 use Rattle.resolution.specs.Setting.{ClauseScope}
-use Rattle.body_names.specs.declared.loop_scopes.loop_scope.LoopScope.{LoopScope}
+use Rattle.body_names.specs.declared.code.loops.LoopScope.{LoopScope}
 use Rattle.resolution.specs.Items.{AreKnown, Here, HasUnknownInOne, LoopItem}
 use Rattle.resolution.specs.Programs.{IsClauseAt, IsLoopClauseOf, sources_of_loop}
 

@@ -11,7 +11,7 @@ use Rattle.syntax_tree.specs.declared.clause.Clause.{Clause as ClauseTree}
 use Rattle.syntax_tree.specs.declared.clause.Spec.{Spec as SpecTree}
 use Rattle.syntax_tree.specs.declared.clause.Spec.TheVariants.{Module as module_spec, Named as named_spec, Schema as schema_spec, Function as function_spec, Loop as loop_spec}
 use Rattle.syntax_tree.specs.SourceData.{SourceMemberData}
-use Rattle.syntax_tree.specs.Places.{spec_place}
+use Rattle.syntax_tree.specs.Spans.{spec_span}
 use Rattle.syntax_tree.specs.declared.source.SourceForm.{SourceForm}
 use Rattle.syntax_tree.specs.declared.source.SourceForm.TheVariants.{Use, Friend, Struct, Constant, Function, Spec}
 use Rattle.scopes.specs.declared.member.MemberKind.{MemberKind}
@@ -56,20 +56,20 @@ owner_named numbers name = option_or (numbered_as numbers a_function name) (numb
 
 -- the owner of a spec block, given the indices and the number of the members
 abbrev pub owner_of : List (NameOfKind × ℕ) → ℕ → SpecTree → Option ℕ
-owner_of numbers count (module_spec place clauses) = Some count
-owner_of numbers count (named_spec place name clauses) = owner_named numbers name.text
+owner_of numbers count (module_spec span clauses) = Some count
+owner_of numbers count (named_spec span name clauses) = owner_named numbers name.text
 owner_of numbers count (schema_spec s) = None
 owner_of numbers count (function_spec f) = None
-owner_of numbers count (loop_spec place clauses) = None
+owner_of numbers count (loop_spec span clauses) = None
 
 -- ---- the blocks of an owner
 
 abbrev pub clauses_of_spec : SpecTree → List ClauseTree
-clauses_of_spec (module_spec place clauses) = clauses
-clauses_of_spec (named_spec place name clauses) = clauses
+clauses_of_spec (module_spec span clauses) = clauses
+clauses_of_spec (named_spec span name clauses) = clauses
 clauses_of_spec (schema_spec s) = s.clauses
 clauses_of_spec (function_spec f) = []
-clauses_of_spec (loop_spec place clauses) = clauses
+clauses_of_spec (loop_spec span clauses) = clauses
 
 abbrev pub if_number : ℕ → Option ℕ → SpecTree → List SpecTree
 if_number n None s = []
@@ -89,7 +89,7 @@ abbrev pub blocks_of : List SourceMemberData → ℕ → List SpecTree
 blocks_of members n = blocks_among (member_numbers members) (length members) n members
 
 abbrev pub placed_in : SpecTree → List PlacedClause
-placed_in s = placed (spec_place s) (clauses_of_spec s)
+placed_in s = placed (spec_span s) (clauses_of_spec s)
 
 -- the clauses in blocks, with the spans of the blocks
 abbrev pub sources_in : List SpecTree → List PlacedClause

@@ -10,7 +10,7 @@ use Rattle.syntax_tree.specs.declared.clause.Spec.{Spec as SpecTree}
 use Rattle.syntax_tree.specs.SourceData.{SourceMemberData}
 use Rattle.syntax_tree.specs.declared.source.SourceForm.{SourceForm}
 use Rattle.syntax_tree.specs.declared.source.SourceForm.TheVariants.{Use, Friend, Struct, Constant, Function, Spec}
-use Rattle.syntax_tree.specs.Places.{function_place}
+use Rattle.syntax_tree.specs.Spans.{function_span}
 use Rattle.program.specs.declared.declaration.Function.{Function as FunctionData}
 use Rattle.program.specs.declared.declaration.Struct.{Struct as StructData}
 use Rattle.program.specs.declared.program.ModuleId.{ModuleId}
@@ -31,12 +31,12 @@ use Rattle.program.specs.declared.declaration.Pragmas.{Pragmas}
 use Rattle.resolution.specs.declared.declared.Declared.{Declared}
 use Rattle.resolution.specs.declared.declared.DeclaredForm.{DeclaredForm}
 use Rattle.resolution.specs.declared.declared.DeclaredForm.TheVariants.{Module, Struct as struct_form, Constant as constant_form, Function as function_form, SpecFunction as spec_function_form, Schema as schema_form}
-use Rattle.resolution.specs.declared.members.ModulePlace.{ModulePlace}
+use Rattle.resolution.specs.declared.members.ModuleContext.{ModuleContext}
 use Rattle.resolution.specs.Items.{AreKnown, Here, form_items}
 use Rattle.resolution.specs.Programs.{AreLoopsOf, DeclarationTree, StructOf, ConstantOf, FunctionOf, SpecFunctionOf, SchemaOf, IsDeclaredAs, IsOwnConstant, IsOwnSchema, IsOwnSpecFunction, constant_in, form_declaration, friend_of_form, function_in, module_in, own_member, same_constant, same_function, same_struct, schema_in, spec_function_in, struct_in}
 
 -- the module in which the code resolves names
-abbrev pub here_of : ModulePlace → Here
+abbrev pub here_of : ModuleContext → Here
 here_of p = record { environment = p.environment.now; modules = p.modules.now.keys; schemas = p.schemas.now; members = p.members.now }
 
 -- ---- without the clauses of their blocks
@@ -47,7 +47,7 @@ pub record IsBareStruct (w : Here) (tree : StructTree) (id : StructId) (resolved
 
 pub record IsBareFunction (w : Here) (tree : FunctionTree) (loops : List SpecTree) (id : FunctionId) (resolved : FunctionData) : Type 0 where
   pub id_is : id ≡ function_of (own_member w tree.name.text)
-  pub place_is : resolved.place ≡ function_place tree
+  pub span_is : resolved.span ≡ function_span tree
   pub head : IsHeadOf w.environment tree (record { visibility = resolved.visibility; type_parameters = resolved.type_parameters; parameters = resolved.parameters; result_type = resolved.result; acquires = resolved.acquires })
   pub body : IsResolved (body_of w.environment tree) (spans_of_block tree.body) (parameter_names_of tree ++ names_of_block tree.body) (record { body = resolved.body; locals = resolved.locals })
   pub loop_clauses : AreLoopsOf w tree loops resolved.loop_clauses
@@ -77,10 +77,10 @@ ArePartsFrom w n (m ∷ ms) (p ∷ ps) = IsPartOf w n m p × ArePartsFrom w (n +
 -- ---- with the clauses of their blocks
 
 abbrev pub struct_with : StructData → List Clause → StructData
-struct_with s clauses = record { place = s.place; type_parameters = s.type_parameters; abilities = s.abilities; fields = s.fields; clauses = clauses }
+struct_with s clauses = record { span = s.span; type_parameters = s.type_parameters; abilities = s.abilities; fields = s.fields; clauses = clauses }
 
 abbrev pub function_with : FunctionData → Pragmas → List Clause → FunctionData
-function_with f pragmas clauses = record { place = f.place; visibility = f.visibility; type_parameters = f.type_parameters; parameters = f.parameters; result = f.result; acquires = f.acquires; locals = f.locals; body = f.body; pragmas = pragmas; clauses = clauses; loop_clauses = f.loop_clauses }
+function_with f pragmas clauses = record { span = f.span; visibility = f.visibility; type_parameters = f.type_parameters; parameters = f.parameters; result = f.result; acquires = f.acquires; locals = f.locals; body = f.body; pragmas = pragmas; clauses = clauses; loop_clauses = f.loop_clauses }
 
 -- a declaration with the clauses of its owner, the settings of its pragmas and those of its module
 abbrev pub finished : DeclaredForm → List Clause → Settings → Settings → DeclaredForm

@@ -13,13 +13,13 @@ use Rattle.program.specs.declared.declaration.Pragmas.{Pragmas}
 use Rattle.resolution.specs.declared.clauses.pragmas.Settings.{Settings}
 
 abbrev pub pragmas_of_clause : ClauseTree → List Pragma
-pragmas_of_clause (pragma_clause place pragmas) = pragmas.items
-pragmas_of_clause (requires_clause place e) = []
-pragmas_of_clause (ensures_clause place e) = []
-pragmas_of_clause (aborts_if_clause place e code) = []
-pragmas_of_clause (modifies_clause place targets) = []
-pragmas_of_clause (invariant_clause place is_update e) = []
-pragmas_of_clause (let_clause place is_post name e) = []
+pragmas_of_clause (pragma_clause span pragmas) = pragmas.items
+pragmas_of_clause (requires_clause span e) = []
+pragmas_of_clause (ensures_clause span e) = []
+pragmas_of_clause (aborts_if_clause span e code) = []
+pragmas_of_clause (modifies_clause span targets) = []
+pragmas_of_clause (invariant_clause span is_update e) = []
+pragmas_of_clause (let_clause span is_post name e) = []
 pragmas_of_clause (include_clause i) = []
 pragmas_of_clause (variable_clause n) = []
 
@@ -30,7 +30,7 @@ pragmas_in clauses = flat_map pragmas_of_clause clauses
 -- the value that a pragma sets; a number sets no value, since no supported pragma has one
 abbrev pub value_of : Option PragmaValue → Option Bool
 value_of None = Some true
-value_of (Some (Truth place value)) = Some value
+value_of (Some (Truth span value)) = Some value
 value_of (Some (Number n)) = None
 
 -- the value that this pragma sets, if it has this name

@@ -14,7 +14,7 @@ use Rattle.syntax_tree.specs.declared.clause.Spec.{Spec as SpecTree}
 use Rattle.syntax_tree.specs.declared.clause.Spec.TheVariants.{Module as module_spec, Named as named_spec, Schema as schema_spec, Function as function_spec, Loop as loop_spec}
 use Rattle.syntax_tree.specs.SourceData.{SourceMemberData}
 use Rattle.syntax_tree.specs.SourceModuleData.{SourceModuleData}
-use Rattle.syntax_tree.specs.Places.{function_place}
+use Rattle.syntax_tree.specs.Spans.{function_span}
 use Rattle.syntax_tree.specs.declared.source.SourceForm.{SourceForm}
 use Rattle.syntax_tree.specs.declared.source.SourceForm.TheVariants.{Use, Friend, Struct, Constant, Function, Spec}
 use Rattle.program.specs.declared.clause.Clause.{Clause}
@@ -46,7 +46,7 @@ use Rattle.resolution.specs.Clauses.{AreClausesOf, PlacedClause}
 use Rattle.resolution.specs.Pragmas.{pragmas_of}
 use Rattle.resolution.specs.Setting.{ClauseScope, same_schema}
 use Rattle.resolution.specs.SpecDeclarations.{IsSchemaOf, IsSpecFunctionOf}
-use Rattle.body_names.specs.declared.loop_scopes.loop_scope.LoopScope.{LoopScope}
+use Rattle.body_names.specs.declared.code.loops.LoopScope.{LoopScope}
 use Rattle.resolution.specs.declared.declared.DeclaredForm.{DeclaredForm}
 use Rattle.resolution.specs.declared.declared.DeclaredForm.TheVariants.{Module, Struct as struct_form, Constant as constant_form, Function as function_form, SpecFunction as spec_function_form, Schema as schema_form}
 use Rattle.resolution.specs.declared.declared.Declared.{Declared}
@@ -66,11 +66,11 @@ pub data DeclarationTree : Type 0 where
   SchemaOf : Here → SchemaTree → DeclarationTree
 
 abbrev pub spec_declaration : Here → SpecTree → List DeclarationTree
-spec_declaration w (module_spec place clauses) = []
-spec_declaration w (named_spec place name clauses) = []
+spec_declaration w (module_spec span clauses) = []
+spec_declaration w (named_spec span name clauses) = []
 spec_declaration w (schema_spec s) = SchemaOf w s ∷ []
 spec_declaration w (function_spec f) = SpecFunctionOf w f ∷ []
-spec_declaration w (loop_spec place clauses) = []
+spec_declaration w (loop_spec span clauses) = []
 
 abbrev pub form_declaration : Here → ℕ → SourceForm → List SpecTree → List DeclarationTree
 form_declaration w n (Use u) loops = []
@@ -88,7 +88,7 @@ declarations_from w n (m ∷ ms) = form_declaration w n m.form m.loops ++ declar
 abbrev pub declarations_in : KnownData → SourceModuleData → Option ModuleId → List DeclarationTree
 declarations_in known m None = []
 declarations_in known m (Some own) =
-    declarations_from (here known own m.members) 0 m.members ++ ModuleTree (here known own m.members) m.place ∷ []
+    declarations_from (here known own m.members) 0 m.members ++ ModuleTree (here known own m.members) m.span ∷ []
 
 abbrev pub module_declarations : KnownData → SourceModuleData → List DeclarationTree
 module_declarations known m = declarations_in known m (module_meaning known.environment m.name)
@@ -115,14 +115,14 @@ friend_of_form w _ = None
 abbrev pub friend_of_member : Here → SourceMemberData → Option ModuleId
 friend_of_member w m = friend_of_form w m.form
 
-pub record IsModuleOf (w : Here) (place : Span) (id : ModuleId) (resolved : ModuleData) : Type 0 where
+pub record IsModuleOf (w : Here) (span : Span) (id : ModuleId) (resolved : ModuleData) : Type 0 where
   pub id_is : id ≡ w.environment.own
-  pub place_is : resolved.place ≡ place
+  pub span_is : resolved.span ≡ span
   pub friends : resolved.friends ≡ filter_map (friend_of_member w) w.members
   pub clauses : AreClausesOfOwner w (module_scope w.environment w.schemas) (length w.members) resolved.clauses
 
 abbrev pub without_clauses : StructData → StructData
-without_clauses s = record { place = s.place; type_parameters = s.type_parameters; abilities = s.abilities; fields = s.fields; clauses = [] }
+without_clauses s = record { span = s.span; type_parameters = s.type_parameters; abilities = s.abilities; fields = s.fields; clauses = [] }
 
 -- the context of the clauses of a member with this form
 abbrev pub form_scope : Here → SourceForm → OwnerScope
@@ -162,7 +162,7 @@ AreLoopsOf w f loops resolved = Paired (IsLoopClauseOf w f) (flat_map sources_of
 
 pub record IsOwnFunction (w : Here) (n : ℕ) (tree : FunctionTree) (loops : List SpecTree) (id : FunctionId) (resolved : FunctionData) : Type 0 where
   pub id_is : id ≡ function_of (own_member w tree.name.text)
-  pub place_is : resolved.place ≡ function_place tree
+  pub span_is : resolved.span ≡ function_span tree
   pub head : IsHeadOf w.environment tree (record { visibility = resolved.visibility; type_parameters = resolved.type_parameters; parameters = resolved.parameters; result_type = resolved.result; acquires = resolved.acquires })
   pub body : IsResolved (body_of w.environment tree) (spans_of_block tree.body) (parameter_names_of tree ++ names_of_block tree.body) (record { body = resolved.body; locals = resolved.locals })
   pub pragmas : resolved.pragmas ≡ pragmas_of (settings_in (blocks_of w.members n)) (settings_in (blocks_of w.members (length w.members)))
@@ -178,7 +178,7 @@ pub record IsOwnSchema (w : Here) (tree : SchemaTree) (id : SchemaId) (resolved 
   pub is_schema : IsSchemaOf w.environment w.schemas tree resolved
 
 abbrev pub IsDeclared : DeclarationTree → DeclaredForm → Type 0
-IsDeclared (ModuleTree w place) (Module id m) = IsModuleOf w place id m
+IsDeclared (ModuleTree w span) (Module id m) = IsModuleOf w span id m
 IsDeclared (StructOf w n s) (struct_form id r) = IsOwnStruct w n s id r
 IsDeclared (ConstantOf w c) (constant_form id r) = IsOwnConstant w c id r
 IsDeclared (FunctionOf w n f loops) (function_form id r) = IsOwnFunction w n f loops id r

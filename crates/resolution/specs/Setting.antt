@@ -6,14 +6,14 @@ use Rattle.program.specs.declared.program.SchemaId.{SchemaId}
 use Rattle.scopes.specs.TypeMeanings.{TypeScope}
 use Rattle.body_names.specs.SpecForms.{SpecScope}
 use Rattle.body_names.specs.declared.spec.outer.OuterName.{OuterName}
-use Rattle.resolution.specs.declared.clauses.place.ClausePlace.{ClausePlace}
+use Rattle.resolution.specs.declared.clauses.context.ClauseContext.{ClauseContext}
 
 -- the context for the meaning of types, and the names of the variables of each schema, in order
 pub record ClauseScope : Type 0 where
   pub types : TypeScope
   pub schemas : List (SchemaId × List (List ℕ))
 
-abbrev pub scope_of : ClausePlace → ClauseScope
+abbrev pub scope_of : ClauseContext → ClauseScope
 scope_of p = record {
   types = record { environment = p.types.environment.now; parameters = p.types.parameters.now; is_spec = p.types.is_spec };
   schemas = p.schemas.now;

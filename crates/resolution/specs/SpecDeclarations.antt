@@ -29,13 +29,13 @@ spec_types env parameters = record { environment = env; parameters = type_names_
 -- ---- schemas
 
 abbrev pub variables_of_clause : ClauseTree → List TypedNameTree
-variables_of_clause (pragma_clause place pragmas) = []
-variables_of_clause (requires_clause place e) = []
-variables_of_clause (ensures_clause place e) = []
-variables_of_clause (aborts_if_clause place e code) = []
-variables_of_clause (modifies_clause place targets) = []
-variables_of_clause (invariant_clause place is_update e) = []
-variables_of_clause (let_clause place is_post name e) = []
+variables_of_clause (pragma_clause span pragmas) = []
+variables_of_clause (requires_clause span e) = []
+variables_of_clause (ensures_clause span e) = []
+variables_of_clause (aborts_if_clause span e code) = []
+variables_of_clause (modifies_clause span targets) = []
+variables_of_clause (invariant_clause span is_update e) = []
+variables_of_clause (let_clause span is_post name e) = []
 variables_of_clause (include_clause i) = []
 variables_of_clause (variable_clause n) = n ∷ []
 
@@ -52,15 +52,15 @@ schema_scope env schemas tree = record { types = spec_types env tree.parameters;
 
 -- the schema of this source: its variables are in scope in its clauses, and so are the `let`s before each clause
 pub record IsSchemaOf (env : EnvironmentData) (schemas : List (SchemaId × List (List ℕ))) (tree : SchemaTree) (resolved : Schema) : Type 0 where
-  pub place : resolved.place ≡ tree.place
+  pub span : resolved.span ≡ tree.span
   pub type_parameters : resolved.type_parameters ≡ type_parameters_of tree.parameters
   pub variables : typed_names (spec_types env tree.parameters) (variables_in tree.clauses) ≡ Some resolved.variables
-  pub clauses : AreClausesOf (schema_scope env schemas tree) (around_schema (schema_variables tree.clauses)) 0 (placed tree.place tree.clauses) resolved.clauses
+  pub clauses : AreClausesOf (schema_scope env schemas tree) (around_schema (schema_variables tree.clauses)) 0 (placed tree.span tree.clauses) resolved.clauses
 
 abbrev pub HasUnknownInSchema : EnvironmentData → List (SchemaId × List (List ℕ)) → SchemaTree → Type 0
 HasUnknownInSchema env schemas tree =
     (typed_names (spec_types env tree.parameters) (variables_in tree.clauses) ≡ None)
-    ⊎ HasUnknownAmong (schema_scope env schemas tree) (around_schema (schema_variables tree.clauses)) 0 (placed tree.place tree.clauses)
+    ⊎ HasUnknownAmong (schema_scope env schemas tree) (around_schema (schema_variables tree.clauses)) 0 (placed tree.span tree.clauses)
 
 -- ---- spec functions
 
@@ -69,7 +69,7 @@ function_tree env f = expression_tree (record { types = spec_types env f.paramet
 
 -- the spec function of this source: its parameters are in scope in its body
 pub record IsSpecFunctionOf (env : EnvironmentData) (tree : SpecFunctionTree) (resolved : SpecFunction) : Type 0 where
-  pub place : resolved.place ≡ tree.place
+  pub span : resolved.span ≡ tree.span
   pub type_parameters : resolved.type_parameters ≡ type_parameters_of tree.parameters
   pub parameters : typed_names (spec_types env tree.parameters) tree.inputs.items ≡ Some resolved.parameters
   pub result_is : type_meaning (spec_types env tree.parameters) tree.result ≡ Some resolved.result

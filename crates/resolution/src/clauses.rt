@@ -3,8 +3,8 @@
 pub mod around;
 mod bindings;
 pub mod clause;
+pub mod context;
 mod include;
-pub mod place;
 pub mod pragmas;
 pub mod schemas;
 pub mod spec_functions;
@@ -16,7 +16,7 @@ ghost use Rattle.resolution.specs.Clauses.{AddedClauses, HasUnknownBehind, enter
 ghost use Rattle.resolution.specs.Setting.{scope_of};
 
 use crate::clauses::clause::{is_clause, resolve_clause};
-use crate::clauses::place::ClausePlace;
+use crate::clauses::context::ClauseContext;
 use base::memory::NoMemory;
 use base::span::Span;
 use body_names::spec::outer::{Outer, OuterName};
@@ -67,21 +67,21 @@ fn enter_let(
 
 /// Resolves one more clause of a target.
 fn resolve_next(
-    place: &ClausePlace<'_>,
+    context: &ClauseContext<'_>,
     block: Span,
     tree: &ClauseTree,
     into: &mut Target,
 ) -> Result<(), NameFault>
-    ensures added { OnOk result (AddedClauses (scope_of place.now) (placed_one block tree.now) into.old into.new) }
-    ensures unknown { IfErr result (λ fault. IfUnknown fault (HasUnknownBehind (scope_of place.now) (placed_one block tree.now) into.old)) }
+    ensures added { OnOk result (AddedClauses (scope_of context.now) (placed_one block tree.now) into.old into.new) }
+    ensures unknown { IfErr result (λ fault. IfUnknown fault (HasUnknownBehind (scope_of context.now) (placed_one block tree.now) into.old)) }
 {
     if !is_clause(tree) {
         return Ok(());
     }
-    let clause = resolve_clause(place, &into.outer, block, tree)?;
+    let clause = resolve_clause(context, &into.outer, block, tree)?;
     let number = into.clauses.as_slice().len();
     into.clauses.push(clause)?;
-    enter_let(place.alloc, number, tree, &mut into.outer)?;
+    enter_let(context.alloc, number, tree, &mut into.outer)?;
     Ok(())
 }
 
@@ -89,16 +89,16 @@ fn resolve_next(
 /// exactly if some use in one of them has no meaning; `NoMemory` if memory runs out first. After a fault the target may
 /// have some of the clauses and must not be used any more.
 pub fn resolve_block(
-    place: &ClausePlace<'_>,
+    context: &ClauseContext<'_>,
     block: Span,
     trees: &[ClauseTree],
     into: &mut Target,
 ) -> Result<(), NameFault>
-    ensures added { OnOk result (AddedClauses (scope_of place.now) (placed block trees.now) into.old into.new) }
-    ensures unknown { IfErr result (λ fault. IfUnknown fault (HasUnknownBehind (scope_of place.now) (placed block trees.now) into.old)) }
+    ensures added { OnOk result (AddedClauses (scope_of context.now) (placed block trees.now) into.old into.new) }
+    ensures unknown { IfErr result (λ fault. IfUnknown fault (HasUnknownBehind (scope_of context.now) (placed block trees.now) into.old)) }
 {
     for tree in trees {
-        resolve_next(place, block, tree, into)?;
+        resolve_next(context, block, tree, into)?;
     }
     Ok(())
 }

@@ -10,7 +10,7 @@ use std::alloc::AllocFailed;
 
 /// The reason why a declaration is not resolved.
 #[derive(Clone, Copy, Debug, PartialEq, Eq)]
-pub enum PlaceFault {
+pub enum DeclarationFault {
     /// Some use in the declaration that begins here has no meaning.
     Unknown(Span),
     NoMemory,
@@ -21,27 +21,27 @@ pub enum PlaceFault {
 pub enum ResolveFault {
     /// The first declaration with a use that has no meaning: the index of its file, and the span of its first token,
     /// attributes excluded.
-    Unknown { file: usize, place: Span },
+    Unknown { file: usize, span: Span },
     NoMemory,
 }
 
-impl From<NoMemory> for PlaceFault {
-    ghost use Rattle.resolution.specs.declared.fault.PlaceFault.{PlaceFault};
+impl From<NoMemory> for DeclarationFault {
+    ghost use Rattle.resolution.specs.declared.fault.DeclarationFault.{DeclarationFault};
 
-    ghost from_gives = { λ _ fault. fault ≡ PlaceFault.NoMemory };
+    ghost from_gives = { λ _ fault. fault ≡ DeclarationFault.NoMemory };
 
-    fn from(_error: NoMemory) -> PlaceFault {
-        PlaceFault::NoMemory
+    fn from(_error: NoMemory) -> DeclarationFault {
+        DeclarationFault::NoMemory
     }
 }
 
-impl<T: Drop> From<AllocFailed<T>> for PlaceFault {
-    ghost use Rattle.resolution.specs.declared.fault.PlaceFault.{PlaceFault};
+impl<T: Drop> From<AllocFailed<T>> for DeclarationFault {
+    ghost use Rattle.resolution.specs.declared.fault.DeclarationFault.{DeclarationFault};
 
-    ghost from_gives = { λ _ fault. fault ≡ PlaceFault.NoMemory };
+    ghost from_gives = { λ _ fault. fault ≡ DeclarationFault.NoMemory };
 
-    fn from(_fault: AllocFailed<T>) -> PlaceFault {
-        PlaceFault::NoMemory
+    fn from(_fault: AllocFailed<T>) -> DeclarationFault {
+        DeclarationFault::NoMemory
     }
 }
 
@@ -56,11 +56,11 @@ impl From<NoMemory> for ResolveFault {
 }
 
 /// Returns the fault of the declaration that begins here.
-pub fn fault_at(fault: NameFault, place: Span) -> PlaceFault
-    ensures { result ≡ fault_at fault place }
+pub fn fault_at(fault: NameFault, span: Span) -> DeclarationFault
+    ensures { result ≡ fault_at fault span }
 {
     match fault {
-        NameFault::Unknown => PlaceFault::Unknown(place),
-        NameFault::NoMemory => PlaceFault::NoMemory,
+        NameFault::Unknown => DeclarationFault::Unknown(span),
+        NameFault::NoMemory => DeclarationFault::NoMemory,
     }
 }

@@ -1,7 +1,7 @@
 //! Resolution of the single members of a module.
 
 ghost use Rattle.std.specs.Prelude.{◌≡◌, ℕ, ◌<◌, ◌^◌, length, IfOk, IfErr, OnOk};
-ghost use Rattle.syntax_tree.specs.Places.{function_place, spec_place};
+ghost use Rattle.syntax_tree.specs.Spans.{function_span, spec_span};
 ghost use Rattle.scopes.specs.Meanings.{IfUnknown};
 ghost use Rattle.resolution.specs.Parameters.{type_names_of};
 ghost use Rattle.resolution.specs.Declarations.{HasUnknownInConstant, HasUnknownInStruct};
@@ -36,7 +36,7 @@ use syntax_tree::source::SourceMember;
 /// A module from within: the meaning of names in it, all modules, the variables of all schemas, its members, and the
 /// indices of the members by name.
 #[derive(Clone, Copy)]
-pub struct ModulePlace<'a> {
+pub struct ModuleContext<'a> {
     pub alloc: Global,
     pub environment: &'a Environment,
     pub modules: &'a IndexSet<ModuleId>,
@@ -46,28 +46,28 @@ pub struct ModulePlace<'a> {
 }
 
 /// Returns the span of a spec block's keyword.
-pub fn spec_place(spec: &Spec) -> Span
-    ensures { result ≡ spec_place spec.now }
+pub fn spec_span(spec: &Spec) -> Span
+    ensures { result ≡ spec_span spec.now }
 {
     match spec {
-        Spec::Module { place, .. } => *place,
-        Spec::Named { place, .. } => *place,
-        Spec::Schema(schema) => schema.place,
-        Spec::Function(function) => function.place,
-        Spec::Loop { place, .. } => *place,
+        Spec::Module { span, .. } => *span,
+        Spec::Named { span, .. } => *span,
+        Spec::Schema(schema) => schema.span,
+        Spec::Function(function) => function.span,
+        Spec::Loop { span, .. } => *span,
     }
 }
 
 /// Returns the span of a function's first token, attributes excluded.
-pub fn function_place(tree: &FunctionTree) -> Span
-    ensures { result ≡ function_place tree.now }
+pub fn function_span(tree: &FunctionTree) -> Span
+    ensures { result ≡ function_span tree.now }
 {
-    let place = match tree.entry {
-        None => tree.place,
+    let span = match tree.entry {
+        None => tree.span,
         Some(entry) => entry,
     };
     match tree.visibility {
-        Visibility::Module => place,
+        Visibility::Module => span,
         Visibility::Public(public) => public,
         Visibility::Friends(public) => public,
     }
@@ -87,12 +87,12 @@ pub fn clauses_of_spec(spec: &Spec) -> &[Clause]
 }
 
 /// Returns the member of the module with this name.
-pub fn own_member(place: &ModulePlace<'_>, name: &Name) -> Result<MemberId, NoMemory>
-    ensures { IfOk result (λ member. member ≡ own_member (here_of place.now) name.now) }
+pub fn own_member(context: &ModuleContext<'_>, name: &Name) -> Result<MemberId, NoMemory>
+    ensures { IfOk result (λ member. member ≡ own_member (here_of context.now) name.now) }
 {
     Ok(MemberId {
-        owner: place.environment.own().try_clone(place.alloc)?,
-        name: name.try_clone(place.alloc)?,
+        owner: context.environment.own().try_clone(context.alloc)?,
+        name: name.try_clone(context.alloc)?,
     })
 }
 
@@ -112,51 +112,51 @@ pub fn few_parameters(parameters: &Option<TypeParameters>) -> Result<(), NoMemor
 }
 
 /// Resolves a struct, without the clauses of its spec blocks.
-pub fn own_struct(place: &ModulePlace<'_>, tree: &StructTree) -> Result<Declared, NameFault>
-    ensures resolved { IfOk result (λ declared. (n : ℕ) → IsBareAs (StructOf (here_of place.now) n tree.now) declared) }
-    ensures unknown { IfErr result (λ fault. IfUnknown fault (HasUnknownInStruct place.now.environment.now tree.now)) }
+pub fn own_struct(context: &ModuleContext<'_>, tree: &StructTree) -> Result<Declared, NameFault>
+    ensures resolved { IfOk result (λ declared. (n : ℕ) → IsBareAs (StructOf (here_of context.now) n tree.now) declared) }
+    ensures unknown { IfErr result (λ fault. IfUnknown fault (HasUnknownInStruct context.now.environment.now tree.now)) }
 {
     few_parameters(&tree.parameters)?;
-    let member = own_member(place, &tree.name.text)?;
-    let resolved = resolve_struct(place.alloc, place.environment, tree)?;
+    let member = own_member(context, &tree.name.text)?;
+    let resolved = resolve_struct(context.alloc, context.environment, tree)?;
     Ok(Declared {
         form: DeclaredForm::Struct(member.into_struct(), resolved),
     })
 }
 
-pub fn own_constant(place: &ModulePlace<'_>, tree: &ConstantTree) -> Result<Declared, NameFault>
-    ensures resolved { IfOk result (IsBareAs (ConstantOf (here_of place.now) tree.now)) }
-    ensures unknown { IfErr result (λ fault. IfUnknown fault (HasUnknownInConstant place.now.environment.now tree.now)) }
+pub fn own_constant(context: &ModuleContext<'_>, tree: &ConstantTree) -> Result<Declared, NameFault>
+    ensures resolved { IfOk result (IsBareAs (ConstantOf (here_of context.now) tree.now)) }
+    ensures unknown { IfErr result (λ fault. IfUnknown fault (HasUnknownInConstant context.now.environment.now tree.now)) }
 {
-    let member = own_member(place, &tree.name.text)?;
-    let resolved = resolve_constant(place.alloc, place.environment, tree)?;
+    let member = own_member(context, &tree.name.text)?;
+    let resolved = resolve_constant(context.alloc, context.environment, tree)?;
     Ok(Declared {
         form: DeclaredForm::Constant(member.into_constant(), resolved),
     })
 }
 
-pub fn own_schema(place: &ModulePlace<'_>, tree: &SchemaTree) -> Result<Declared, NameFault>
-    ensures resolved { IfOk result (IsBareAs (SchemaOf (here_of place.now) tree.now)) }
-    ensures unknown { IfErr result (λ fault. IfUnknown fault (HasUnknownInSchema place.now.environment.now place.now.schemas.now tree.now)) }
+pub fn own_schema(context: &ModuleContext<'_>, tree: &SchemaTree) -> Result<Declared, NameFault>
+    ensures resolved { IfOk result (IsBareAs (SchemaOf (here_of context.now) tree.now)) }
+    ensures unknown { IfErr result (λ fault. IfUnknown fault (HasUnknownInSchema context.now.environment.now context.now.schemas.now tree.now)) }
 {
     few_parameters(&tree.parameters)?;
-    let member = own_member(place, &tree.name.text)?;
-    let resolved = resolve_schema(place.alloc, place.environment, place.schemas, tree)?;
+    let member = own_member(context, &tree.name.text)?;
+    let resolved = resolve_schema(context.alloc, context.environment, context.schemas, tree)?;
     Ok(Declared {
         form: DeclaredForm::Schema(member.into_schema(), resolved),
     })
 }
 
 pub fn own_spec_function(
-    place: &ModulePlace<'_>,
+    context: &ModuleContext<'_>,
     tree: &SpecFunctionTree,
 ) -> Result<Declared, NameFault>
-    ensures resolved { IfOk result (IsBareAs (SpecFunctionOf (here_of place.now) tree.now)) }
-    ensures unknown { IfErr result (λ fault. IfUnknown fault (HasUnknownInSpecFunction place.now.environment.now tree.now)) }
+    ensures resolved { IfOk result (IsBareAs (SpecFunctionOf (here_of context.now) tree.now)) }
+    ensures unknown { IfErr result (λ fault. IfUnknown fault (HasUnknownInSpecFunction context.now.environment.now tree.now)) }
 {
     few_parameters(&tree.parameters)?;
-    let member = own_member(place, &tree.name.text)?;
-    let resolved = resolve_spec_function(place.alloc, place.environment, tree)?;
+    let member = own_member(context, &tree.name.text)?;
+    let resolved = resolve_spec_function(context.alloc, context.environment, tree)?;
     Ok(Declared {
         form: DeclaredForm::SpecFunction(member.into_function(), resolved),
     })

@@ -12,9 +12,9 @@ ghost use Rattle.resolution.specs.Programs.{ModuleTree, declarations_from, decla
 
 use crate::clauses::pragmas::Settings;
 use crate::declared::{Declared, DeclaredForm};
-use crate::fault::PlaceFault;
+use crate::fault::DeclarationFault;
 use crate::known::Known;
-use crate::members::ModulePlace;
+use crate::members::ModuleContext;
 use crate::owners::{Owner, fresh_owners, member_numbers};
 use crate::parts::own_members;
 use crate::tables::enter_parts;
@@ -29,28 +29,32 @@ use std::alloc::Global;
 use syntax_tree::source::SourceModule;
 
 /// Returns the settings of the pragmas of a module, which is the last of its owners.
-fn settings_of_module(place: &ModulePlace<'_>, owners: &[Owner]) -> Settings
-    requires { AreOwners (here_of place.now) (blocks_before (here_of place.now) place.now.members.now) owners.now }
-    ensures { result ≡ settings_in (blocks_of place.now.members.now (length place.now.members.now)) }
+fn settings_of_module(context: &ModuleContext<'_>, owners: &[Owner]) -> Settings
+    requires { AreOwners (here_of context.now) (blocks_before (here_of context.now) context.now.members.now) owners.now }
+    ensures { result ≡ settings_in (blocks_of context.now.members.now (length context.now.members.now)) }
 {
-    owners[place.members.len()].settings
+    owners[context.members.len()].settings
 }
 
 /// Adds the declarations of a module to their tables, the module itself last.
-fn own_module(place: &ModulePlace<'_>, at: Span, program: &mut Program) -> Result<(), PlaceFault>
-    requires { AreNumbers (here_of place.now) place.now.numbers.now }
-    ensures entered { OnOk result (EnteredOf (declarations_from (here_of place.now) 0 place.now.members.now ++ ModuleTree (here_of place.now) at ∷ []) program.old program.new) }
-    ensures known { OnOk result (AreKnown (items_behind (here_of place.now) [] place.now.members.now)) }
-    ensures unknown { IfErr result (IsFaultAmong (items_behind (here_of place.now) [] place.now.members.now)) }
+fn own_module(
+    context: &ModuleContext<'_>,
+    at: Span,
+    program: &mut Program,
+) -> Result<(), DeclarationFault>
+    requires { AreNumbers (here_of context.now) context.now.numbers.now }
+    ensures entered { OnOk result (EnteredOf (declarations_from (here_of context.now) 0 context.now.members.now ++ ModuleTree (here_of context.now) at ∷ []) program.old program.new) }
+    ensures known { OnOk result (AreKnown (items_behind (here_of context.now) [] context.now.members.now)) }
+    ensures unknown { IfErr result (IsFaultAmong (items_behind (here_of context.now) [] context.now.members.now)) }
 {
-    let mut owners = fresh_owners(place.alloc, place.environment, place.members)?;
-    let mut friends = Sequence::new(place.alloc);
-    let parts = own_members(place, &mut owners, &mut friends)?;
-    let of_module = settings_of_module(place, &owners);
+    let mut owners = fresh_owners(context.alloc, context.environment, context.members)?;
+    let mut friends = Sequence::new(context.alloc);
+    let parts = own_members(context, &mut owners, &mut friends)?;
+    let of_module = settings_of_module(context, &owners);
     let owned = enter_parts(program, parts, owners, of_module)?;
-    let id = place.environment.own().try_clone(place.alloc)?;
+    let id = context.environment.own().try_clone(context.alloc)?;
     let resolved = Module {
-        place: at,
+        span: at,
         friends,
         clauses: owned.clauses,
     };
@@ -69,7 +73,7 @@ fn enter_own(
     own: ModuleId,
     tree: &SourceModule,
     program: &mut Program,
-) -> Result<(), PlaceFault>
+) -> Result<(), DeclarationFault>
     ensures within { OnOk result ((k : KnownData) → IsWithin k environment.old → IsWithin k environment.new) }
     ensures entered { OnOk result ((k : KnownData) → IsWithin k environment.old → IsKnown k known.now → EnteredOf (declarations_in k tree.now (Some own)) program.old program.new) }
     ensures known { OnOk result ((k : KnownData) → IsWithin k environment.old → IsKnown k known.now → AreKnown (items_in k tree.now (Some own))) }
@@ -77,7 +81,7 @@ fn enter_own(
 {
     enter_module(alloc, own, &tree.members, environment)?;
     let numbers = member_numbers(alloc, &tree.members)?;
-    let place = ModulePlace {
+    let context = ModuleContext {
         alloc,
         environment,
         modules: &known.modules,
@@ -85,7 +89,7 @@ fn enter_own(
         members: &tree.members,
         numbers: &numbers,
     };
-    own_module(&place, tree.place, program)
+    own_module(&context, tree.span, program)
 }
 
 /// Adds the declarations of a module to their tables.
@@ -95,7 +99,7 @@ fn enter_tree(
     known: &Known,
     tree: &SourceModule,
     program: &mut Program,
-) -> Result<(), PlaceFault>
+) -> Result<(), DeclarationFault>
     ensures within { OnOk result ((k : KnownData) → IsWithin k environment.old → IsWithin k environment.new) }
     ensures entered { OnOk result ((k : KnownData) → IsWithin k environment.old → IsKnown k known.now → EnteredOf (module_declarations k tree.now) program.old program.new) }
     ensures known { OnOk result ((k : KnownData) → IsWithin k environment.old → IsKnown k known.now → AreKnown (module_items k tree.now)) }
@@ -103,8 +107,8 @@ fn enter_tree(
 {
     match environment.module_named(alloc, &tree.name) {
         Ok(own) => enter_own(alloc, environment, known, own, tree, program),
-        Err(NameFault::Unknown) => Err(PlaceFault::Unknown(tree.place)),
-        Err(NameFault::NoMemory) => Err(PlaceFault::NoMemory),
+        Err(NameFault::Unknown) => Err(DeclarationFault::Unknown(tree.span)),
+        Err(NameFault::NoMemory) => Err(DeclarationFault::NoMemory),
     }
 }
 
@@ -115,7 +119,7 @@ pub fn enter_source(
     known: &Known,
     trees: &[SourceModule],
     program: &mut Program,
-) -> Result<(), PlaceFault>
+) -> Result<(), DeclarationFault>
     ensures within { OnOk result ((k : KnownData) → IsWithin k environment.old → IsWithin k environment.new) }
     ensures entered { OnOk result ((k : KnownData) → IsWithin k environment.old → IsKnown k known.now → EnteredOf (source_declarations k trees.now) program.old program.new) }
     ensures known { OnOk result ((k : KnownData) → IsWithin k environment.old → IsKnown k known.now → AreKnown (source_items k trees.now)) }

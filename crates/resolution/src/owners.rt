@@ -25,7 +25,7 @@ use scopes::environment::Environment;
 use scopes::fault::NameFault;
 use scopes::member::{MemberKind, NameOfKind};
 use scopes::modules::declares::form_declares;
-use scopes::types::{TypePlace, type_named};
+use scopes::types::{TypeContext, type_named};
 use std::alloc::Global;
 use syntax_tree::clause::Spec;
 use syntax_tree::member::{Function, Struct};
@@ -134,13 +134,13 @@ pub fn outcome_of(
     requires names { parameters.now ≡ type_names_of tree.now.parameters }
     ensures { IfOk result (λ outcome. outcome ≡ outcome_of environment.now tree.now) }
 {
-    let place = TypePlace {
+    let context = TypeContext {
         environment,
         parameters,
         is_spec: false,
     };
     if let Some(written) = &tree.result {
-        match type_named(alloc, &place, written) {
+        match type_named(alloc, &context, written) {
             Ok(found) => return Ok(found),
             Err(NameFault::NoMemory) => return Err(NoMemory),
             Err(NameFault::Unknown) => {}

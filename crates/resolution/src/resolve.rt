@@ -8,7 +8,7 @@ ghost use Rattle.resolution.specs.Modules.{IsKnown, IsWithin};
 ghost use Rattle.resolution.specs.Parts.{EnteredOf};
 ghost use Rattle.resolution.specs.Programs.{IsProgramOf, declarations_of};
 
-use crate::fault::{PlaceFault, ResolveFault};
+use crate::fault::{DeclarationFault, ResolveFault};
 use crate::known::{Known, known_in};
 use crate::modules::enter_source;
 use program::program::Program;
@@ -18,12 +18,12 @@ use std::alloc::Global;
 use syntax_tree::source::Source;
 
 /// Returns the fault of the sources for a fault in the file with this index.
-fn fault_in(fault: PlaceFault, file: usize) -> ResolveFault
+fn fault_in(fault: DeclarationFault, file: usize) -> ResolveFault
     ensures { result ≡ fault_in fault file }
 {
     match fault {
-        PlaceFault::Unknown(place) => ResolveFault::Unknown { file, place },
-        PlaceFault::NoMemory => ResolveFault::NoMemory,
+        DeclarationFault::Unknown(span) => ResolveFault::Unknown { file, span },
+        DeclarationFault::NoMemory => ResolveFault::NoMemory,
     }
 }
 

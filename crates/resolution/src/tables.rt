@@ -46,7 +46,7 @@ pub fn struct_with(resolved: Struct, clauses: Sequence<Clause>) -> Struct
     ensures { result ≡ struct_with resolved clauses }
 {
     let Struct {
-        place,
+        span,
         type_parameters,
         abilities,
         fields,
@@ -54,7 +54,7 @@ pub fn struct_with(resolved: Struct, clauses: Sequence<Clause>) -> Struct
     } = resolved;
     drop(none);
     Struct {
-        place,
+        span,
         type_parameters,
         abilities,
         fields,
@@ -67,7 +67,7 @@ pub fn function_with(resolved: Function, pragmas: Pragmas, clauses: Sequence<Cla
     ensures { result ≡ function_with resolved pragmas clauses }
 {
     let Function {
-        place,
+        span,
         visibility,
         type_parameters,
         parameters,
@@ -81,7 +81,7 @@ pub fn function_with(resolved: Function, pragmas: Pragmas, clauses: Sequence<Cla
     } = resolved;
     drop(none);
     Function {
-        place,
+        span,
         visibility,
         type_parameters,
         parameters,

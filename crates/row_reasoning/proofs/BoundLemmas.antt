@@ -21,7 +21,7 @@ use Rattle.row_reasoning.specs.declared.values.numbers.NumberEntry.{NumberEntry}
 said_term : (b : Branch) (i : ℕ) (t : TermData) → Says b i (IsFormula NumType t) → IsTerm b t
 said_term b i t says = record {
   generation = says.entry.generation;
-  holds = record { place = i; entry = says.entry; found = says.found; inside = subst (IsInFormula t) (sym says.is) (InTyped NumType t Itself); same = refl };
+  holds = record { position = i; entry = says.entry; found = says.found; inside = subst (IsInFormula t) (sym says.is) (InTyped NumType t Itself); same = refl };
 }
 
 module _ (ns : List Node) (b : Branch) (names : List ℕ) (found : ℕ → Option NumberEntry) (numbers : AreNumberEntries ns b names found) (class : TermData → ℕ) (named : AreNames ns b class names) where
@@ -32,7 +32,7 @@ module _ (ns : List Node) (b : Branch) (names : List ℕ) (found : ℕ → Optio
   has_entry : (name : ℕ) → IsNumberClass b class name → found name ≡ None → ⊥
   has_entry name h none =
       let it = numbers.all h.term h.stands in
-      let term : IsTerm b (term_at ns it.number) = subst (IsTerm b) (sym it.is) (said_term b h.stands.place h.term h.stands.says) in
+      let term : IsTerm b (term_at ns it.number) = subst (IsTerm b) (sym it.is) (said_term b h.stands.position h.term h.stands.says) in
       let same : slice_index names it.number ≡ name = named.named it.number it.is_number term ∙ ap class it.is ∙ h.of_class in
       it.has (ap found same ∙ none)
 

@@ -22,9 +22,9 @@ use Rattle.row_reasoning.proofs.ClosingsSumLemmas.{IsReadAs, combined_is, MayCit
 -- ---- the chosen term of an unknown
 
 pub record IsChosenAt (classes : List ℕ) (chosen : ℕ → TermData) (u : TermData) : Type 0 where
-  pub place : ℕ
+  pub position : ℕ
   pub name : ℕ
-  pub found : slice_get classes place ≡ Some name
+  pub found : slice_get classes position ≡ Some name
   pub is : chosen name ≡ u
 
 pub record IsNotChosen (classes : List ℕ) (chosen : ℕ → TermData) (u : TermData) : Type 0 where
@@ -32,8 +32,8 @@ pub record IsNotChosen (classes : List ℕ) (chosen : ℕ → TermData) (u : Ter
 
 -- the first of these classes, or one of the others
 of_more : (m : ℕ) (ms : List ℕ) (chosen : ℕ → TermData) (u : TermData) → IsChosenAt ms chosen u ⊎ IsNotChosen ms chosen u → (b : Bool) → same_term (chosen m) u ≡ b → IsChosenAt (m ∷ ms) chosen u ⊎ IsNotChosen (m ∷ ms) chosen u
-of_more m ms chosen u rest true e = inl (record { place = 0; name = m; found = refl; is = same_term-equal (chosen m) u e })
-of_more m ms chosen u (inl h) false e = inl (record { place = suc h.place; name = h.name; found = h.found; is = h.is })
+of_more m ms chosen u rest true e = inl (record { position = 0; name = m; found = refl; is = same_term-equal (chosen m) u e })
+of_more m ms chosen u (inl h) false e = inl (record { position = suc h.position; name = h.name; found = h.found; is = h.is })
 of_more m ms chosen u (inr h) false e = inr (record { none = none })
   where
     none : (k n : ℕ) → slice_get (m ∷ ms) k ≡ Some n → chosen n ≡ u → ⊥
@@ -63,14 +63,14 @@ module _ (class : TermData → ℕ) (classes : List ℕ) (chosen : ℕ → TermD
     gap e = equation_gap (comparison_with (over class) h.formula) h.stated (entry_row class h.formula h.stated h.stated_is) (h.equation e)
 
     -- the formula of the entry with the chosen terms has this row
-    stands_row : (place : ℕ) → StandsChosen class chosen ps qs origin place → row_of_entry (slice_get qs place) ≡ Some (with_sides (with_chosen chosen) h.stated)
-    stands_row place s =
+    stands_row : (position : ℕ) → StandsChosen class chosen ps qs origin position → row_of_entry (slice_get qs position) ≡ Some (with_sides (with_chosen chosen) h.stated)
+    stands_row position s =
         let both : Some h.formula ≡ Some s.formula = sym h.found ∙ s.found in
         let same : h.formula ≡ s.formula = cc in
         ap row_of_entry s.stands ∙ row_with (with_chosen chosen) (comparison_with (over class) s.formula) h.stated (ap (λ p. row_of (comparison_with (over class) p)) (sym same) ∙ entry_row class h.formula h.stated h.stated_is)
 
     reads : (p q : Part) (number : Inequality → ℤ) → ((i : ℤ) → numeral_weight q i ≡ numeral_weight p i) → ((i : ℤ) → gap_weight q i ≡ gap_weight p i) → ((k n : ℕ) → slice_get classes k ≡ Some n → unknown_weight q (chosen n) ≡ unknown_weight p (VarTerm n)) → row_weight p (Some h.stated) ≡ Some (signed origin.is_turned (number row)) → IsReadAs class chosen ps qs q number row origin
-    reads p q number numerals gaps unknowns e = record { read = λ place s. ap (row_weight q) (stands_row place s) ∙ same_row classes chosen are.no_sum p q numerals gaps unknowns h.stated known ∙ e }
+    reads p q number numerals gaps unknowns e = record { read = λ position s. ap (row_weight q) (stands_row position s) ∙ same_row classes chosen are.no_sum p q numerals gaps unknowns h.stated known ∙ e }
 
     may_cite : MayCite class chosen ps qs row origin
     may_cite = record { stated = with_sides (with_chosen chosen) h.stated; found = stands_row; equation = h.equation }
@@ -78,14 +78,14 @@ module _ (class : TermData → ℕ) (classes : List ℕ) (chosen : ℕ → TermD
     read_bound : IsReadAs class chosen ps qs None (λ r. pos 0 -ℤ bound_of r) row origin
     read_bound = reads None None (λ r. pos 0 -ℤ bound_of r) (λ i. refl) (λ i. refl) (λ k n f. refl) (stated_weight None h.stated origin.is_turned (pos 0 -ℤ bound_of row) gap h.is_row.bound)
 
-    read_unknown : (u : TermData) (c : IsChosenAt classes chosen u) → IsReadAs class chosen ps qs (Some u) (coefficient c.place) row origin
-    read_unknown u c = reads (Some (VarTerm c.name)) (Some u) (coefficient c.place) (λ i. refl) (λ i. refl) alike (stated_weight (Some (VarTerm c.name)) h.stated origin.is_turned (coefficient c.place row) gap (h.is_row.coefficients c.place c.name c.found))
+    read_unknown : (u : TermData) (c : IsChosenAt classes chosen u) → IsReadAs class chosen ps qs (Some u) (coefficient c.position) row origin
+    read_unknown u c = reads (Some (VarTerm c.name)) (Some u) (coefficient c.position) (λ i. refl) (λ i. refl) alike (stated_weight (Some (VarTerm c.name)) h.stated origin.is_turned (coefficient c.position row) gap (h.is_row.coefficients c.position c.name c.found))
       where
         alike : (k n : ℕ) → slice_get classes k ≡ Some n → unknown_weight (Some u) (chosen n) ≡ unknown_weight (Some (VarTerm c.name)) (VarTerm n)
         alike k n f = counts_alike (chosen n) u (VarTerm n) (VarTerm c.name) there back
           where
             there : chosen n ≡ u → VarTerm n ≡ VarTerm c.name
-            there e = ap VarTerm (sym (are.of_class k n f) ∙ ap class (e ∙ sym c.is) ∙ are.of_class c.place c.name c.found)
+            there e = ap VarTerm (sym (are.of_class k n f) ∙ ap class (e ∙ sym c.is) ∙ are.of_class c.position c.name c.found)
 
             back : VarTerm n ≡ VarTerm c.name → chosen n ≡ u
             back e = let same : n ≡ c.name = cc in ap chosen same ∙ c.is
@@ -119,8 +119,8 @@ module _ (class : TermData → ℕ) (classes : List ℕ) (chosen : ℕ → TermD
   module _ (rows : List Inequality) (origins : List RowOrigin) (from : AllZip (IsRowFrom class ps classes) rows origins) (ms : List ℤ) (contradiction : IsContradiction rows ms) (cited : List Multiple) (are_cited : AreCited class chosen ps qs origins ms cited) where
     cancelled_at : (u : TermData) → IsChosenAt classes chosen u → total (Some u) qs cited ≡ Some (pos 0)
     cancelled_at u c =
-        combined_is class chosen ps qs (Some u) (coefficient c.place) (pos 0) rows origins ms cited (all_rows (IsReadAs class chosen ps qs (Some u) (coefficient c.place)) (λ r o h. read_unknown r o h u c) rows origins from) (contradiction.coefficients_within c.place) are_cited
-        ∙ ap (λ z. Some (pos 0 +ℤ z)) (contradiction.no_unknown_left c.place)
+        combined_is class chosen ps qs (Some u) (coefficient c.position) (pos 0) rows origins ms cited (all_rows (IsReadAs class chosen ps qs (Some u) (coefficient c.position)) (λ r o h. read_unknown r o h u c) rows origins from) (contradiction.coefficients_within c.position) are_cited
+        ∙ ap (λ z. Some (pos 0 +ℤ z)) (contradiction.no_unknown_left c.position)
 
     never_there : (u : TermData) → IsNotChosen classes chosen u → total (Some u) qs cited ≡ Some (pos 0)
     never_there u c =

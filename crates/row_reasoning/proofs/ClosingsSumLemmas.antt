@@ -26,7 +26,7 @@ regroup a b c = omega (arith, ints)
 module _ (class : TermData → ℕ) (chosen : ℕ → TermData) (ps qs : List FormulaData) where
   -- the weight of the entry's formula is the row's number, up to the sign of the origin, at whatever index
   pub record IsReadAs (part : Part) (number : Inequality → ℤ) (row : Inequality) (origin : RowOrigin) : Type 0 where
-    pub read : (place : ℕ) → StandsChosen class chosen ps qs origin place → row_weight part (row_of_entry (slice_get qs place)) ≡ Some (signed origin.is_turned (number row))
+    pub read : (position : ℕ) → StandsChosen class chosen ps qs origin position → row_weight part (row_of_entry (slice_get qs position)) ≡ Some (signed origin.is_turned (number row))
 
   module _ (part : Part) (number : Inequality → ℤ) where
     -- the sum with one more multiple
@@ -48,9 +48,9 @@ module _ (class : TermData → ℕ) (chosen : ℕ → TermData) (ps qs : List Fo
       where
         same : total +ℤ (pos 0 *ℤ number row) ≡ total
         same = ap (λ z. total +ℤ z) (zero-*ℤ (number row)) ∙ sym (none_more total)
-    combined_is total [] _ _ _ reads stays (OneCited origin origins m ms place cited stands h) = absurd reads
-    combined_is total (row ∷ rows) _ _ _ reads stays (OneCited origin origins m ms place cited stands h) =
-        ap (λ o. combined part qs o cited) (one_more total m (number row) origin.is_turned (row_weight part (row_of_entry (slice_get qs place))) (reads.0.read place stands) stays.0.0 stays.0.1)
+    combined_is total [] _ _ _ reads stays (OneCited origin origins m ms position cited stands h) = absurd reads
+    combined_is total (row ∷ rows) _ _ _ reads stays (OneCited origin origins m ms position cited stands h) =
+        ap (λ o. combined part qs o cited) (one_more total m (number row) origin.is_turned (row_weight part (row_of_entry (slice_get qs position))) (reads.0.read position stands) stays.0.0 stays.0.1)
         ∙ combined_is (total +ℤ (m *ℤ number row)) rows origins ms cited reads.1 stays.1 h
         ∙ ap Some (regroup total (m *ℤ number row) (weighted_sum number ms rows))
 
@@ -59,7 +59,7 @@ module _ (class : TermData → ℕ) (chosen : ℕ → TermData) (ps qs : List Fo
   -- the entry of the row has a row, which is an equation if this is the second row of one
   pub record MayCite (row : Inequality) (origin : RowOrigin) : Type 0 where
     pub stated : Row
-    pub found : (place : ℕ) → StandsChosen class chosen ps qs origin place → row_of_entry (slice_get qs place) ≡ Some stated
+    pub found : (position : ℕ) → StandsChosen class chosen ps qs origin position → row_of_entry (slice_get qs position) ≡ Some stated
     pub equation : origin.is_turned ≡ true → stated.is_equation ≡ true
 
   may_multiply : (row : Row) (t : Bool) (m : ℤ) → pos 0 ≤ℤ m → (t ≡ true → row.is_equation ≡ true) → MayMultiply (Some row) (signed t m)
@@ -75,10 +75,10 @@ module _ (class : TermData → ℕ) (chosen : ℕ → TermData) (ps qs : List Fo
   all_count rows _ _ _ may positive NoneCited = All-nil (MayCount qs)
   all_count [] _ _ _ may positive (NotCited origin origins ms cited h) = absurd may
   all_count (row ∷ rows) _ _ _ may positive (NotCited origin origins ms cited h) = all_count rows origins ms cited may.1 (All-tail (λ m. pos 0 ≤ℤ m) (pos 0) ms positive) h
-  all_count [] _ _ _ may positive (OneCited origin origins m ms place cited stands h) = absurd may
-  all_count (row ∷ rows) _ _ _ may positive (OneCited origin origins m ms place cited stands h) =
-      All-cons (MayCount qs) (record { entry = place; multiplier = signed origin.is_turned m }) cited
-      (subst (λ o. MayMultiply o (signed origin.is_turned m)) (sym (may.0.found place stands)) (may_multiply may.0.stated origin.is_turned m (All-head (λ x. pos 0 ≤ℤ x) m ms positive) may.0.equation))
+  all_count [] _ _ _ may positive (OneCited origin origins m ms position cited stands h) = absurd may
+  all_count (row ∷ rows) _ _ _ may positive (OneCited origin origins m ms position cited stands h) =
+      All-cons (MayCount qs) (record { entry = position; multiplier = signed origin.is_turned m }) cited
+      (subst (λ o. MayMultiply o (signed origin.is_turned m)) (sym (may.0.found position stands)) (may_multiply may.0.stated origin.is_turned m (All-head (λ x. pos 0 ≤ℤ x) m ms positive) may.0.equation))
       (all_count rows origins ms cited may.1 (All-tail (λ x. pos 0 ≤ℤ x) m ms positive) h)
 
 -- ---- sums of no numbers, and of opposite ones

@@ -1,6 +1,6 @@
 -- Entries with the chosen terms.
-use Rattle.std.proofs.Common.{◌≡◌, inl, inr, ℕ, ◌<◌, ◌≤◌, Bool, true, false, List, [], ◌++◌, length, Option, Some, None, refl, sym, ap, ◌∙◌, subst, arith}
-use Rattle.std.specs.Prelude.{slice_get, MatchOption}
+use Rattle.std.proofs.Common.{◌≡◌, inl, inr, ℕ, ◌<◌, ◌≤◌, Bool, true, false, List, [], ◌++◌, length, Option, Some, refl, sym, ap, ◌∙◌, subst, arith}
+use Rattle.std.specs.Prelude.{slice_get}
 use Rattle.std.proofs.lemmas.Option.{slice_get_within}
 use Rattle.fol.specs.declared.operators.Comparison.{Comparison}
 use Rattle.fol.specs.FormulaData.{TermData, FormulaData, CompareFormula, NotFormula}
@@ -9,13 +9,14 @@ use Rattle.certificates.specs.Due.{IsShallow}
 use Rattle.certificates.specs.Rows.{over, comparison_with}
 use Rattle.term_pool.specs.Items.{Item, NoItem, FormulaItem, TermSort, FormulaSort, sort_of, formula_in, leaf_item, one_item, two_item, three_item, first_of_two, second_of_two}
 use Rattle.term_pool.specs.Pools.{item_at, IsMade, Extends}
+use Rattle.term_pool.specs.Forms.{IsNoDenial}
 use Rattle.term_pool.specs.Depths.{item_depth, counted}
 use Rattle.term_pool.specs.declared.node.Leaf.{Leaf}
 use Rattle.term_pool.specs.declared.node.Leaf.TheVariants.{TypeBool}
 use Rattle.term_pool.specs.declared.node.One.{One}
 use Rattle.term_pool.specs.declared.node.One.TheVariants.{Not, Holds}
 use Rattle.term_pool.specs.declared.node.Two.{Two}
-use Rattle.term_pool.specs.declared.node.Two.TheVariants.{Compare, Pack}
+use Rattle.term_pool.specs.declared.node.Two.TheVariants.{Compare}
 use Rattle.term_pool.specs.declared.node.Three.{Three}
 use Rattle.term_pool.specs.declared.node.Three.TheVariants.{If}
 use Rattle.term_pool.specs.declared.node.Node.{Node}
@@ -32,15 +33,15 @@ use Rattle.explanations.specs.Chains.{formula_at}
 use Rattle.explanations.specs.Frames.{filled, Leads, bound_in, bound_on}
 use Rattle.explanations.specs.declared.frame.Frame.{Frame}
 use Rattle.explanations.specs.Replacing.{IsReplacement, after_all, AreInTurn}
-use Rattle.explanations.specs.Places.{IsDifference}
+use Rattle.explanations.specs.Positions.{IsDifference}
 use Rattle.explanations.specs.declared.derived.replacing.Difference.{Difference}
 use Rattle.explanations.proofs.GrowthLemmas.{part_grown}
 use Rattle.explanations.proofs.ReplacingLemmas.{replacement_grown, all_grown, turn_grown}
 use Rattle.row_reasoning.specs.Chosen.{with_chosen}
 use Rattle.row_reasoning.specs.StandIns.{AreOverClasses}
 use Rattle.row_reasoning.specs.DifferencesSums.{IsPair, IsNoPair, Past, Other, IsChosenSum}
-use Rattle.row_reasoning.specs.Places.{pair_item, AreSidesAt, AreFoundAt}
-use Rattle.row_reasoning.specs.DifferencesEntries.{is_comparison, denied_in, IsCompared, IsNotCompared, IsNoDenial, IsWith, IsComparison, IsNoComparison, way_to, IsDeep, AreSidesOf, MakeChosen}
+use Rattle.row_reasoning.specs.Positions.{pair_item, AreSidesAt, AreFoundAt}
+use Rattle.row_reasoning.specs.DifferencesEntries.{is_comparison, IsCompared, IsNotCompared, IsWith, IsComparison, IsNoComparison, way_to, IsDeep, AreSidesOf, MakeChosen}
 use Rattle.row_reasoning.specs.declared.differences.shape.Pair.{Pair}
 use Rattle.row_reasoning.specs.declared.differences.entry.Sides.{Sides}
 use Rattle.row_reasoning.proofs.StandInLemmas.{over_classes_back}
@@ -89,48 +90,6 @@ head_compared h e = absurd (cc)
 pub is_compared : (ns : List Node) (n : ℕ) (p : Pair) (r : Bool) → r ≡ is_comparison p.head → r ≡ true → IsPair ns n p → IsCompared ns n p
 is_compared ns n p r e f made = let it = head_compared p.head (sym e ∙ f) in record { operator = it.operator; head = it.is; made = made }
 
--- ---- negations
-
-leaf_denied : (h : Leaf) (p : FormulaData) → formula_in (leaf_item h) ≡ NotFormula p → ⊥
-leaf_denied TypeBool p e = absurd (cc)
-leaf_denied h p e = absurd (cc)
-
-one_denied : (h : One) (a : ℕ) (x : Item) → denied_in (OneNode h a) ≡ None → (p : FormulaData) → formula_in (one_item h x) ≡ NotFormula p → ⊥
-one_denied Not a x e p f = absurd (cc)
-one_denied h a x e p f = absurd (cc)
-
-two_denied : (h : Two) (x y : Item) (p : FormulaData) → formula_in (two_item h x y) ≡ NotFormula p → ⊥
-two_denied Pack x y p e = absurd (cc)
-two_denied h x y p e = absurd (cc)
-
-three_denied : (h : Three) (x y z : Item) (p : FormulaData) → formula_in (three_item h x y z) ≡ NotFormula p → ⊥
-three_denied If x y z p e = absurd (cc)
-three_denied h x y z p e = absurd (cc)
-
-no_denial : (ns : List Node) (n : ℕ) (node : Node) → IsMade ns n node → denied_in node ≡ None → IsNoDenial ns n
-no_denial ns n (LeafNode h) made e = record { none = λ p f. leaf_denied h p (sym (ap formula_in made.item) ∙ f) }
-no_denial ns n (OneNode h a) made e = record { none = λ p f. one_denied h a (item_at ns a) e p (sym (ap formula_in made.item) ∙ f) }
-no_denial ns n (TwoNode h a b) made e = record { none = λ p f. two_denied h (item_at ns a) (item_at ns b) p (sym (ap formula_in made.item) ∙ f) }
-no_denial ns n (ThreeNode h a b c) made e = record { none = λ p f. three_denied h (item_at ns a) (item_at ns b) (item_at ns c) p (sym (ap formula_in made.item) ∙ f) }
-
-is_denial : (node : Node) (a : ℕ) → denied_in node ≡ Some a → node ≡ OneNode Not a
-is_denial (OneNode Not b) a e = let same : b ≡ a = cc in ap (OneNode Not) same
-is_denial (OneNode h b) a e = absurd (cc)
-is_denial _ a e = absurd (cc)
-
-abbrev DenialIs : List Node → ℕ → Option ℕ → Type 0
-DenialIs ns n o = MatchOption o (IsNoDenial ns n) (λ a. IsMade ns n (OneNode Not a))
-
-pub denial_made : (ns : List Node) (n : ℕ) (node : Node) → IsMade ns n node → (r : Option ℕ) → r ≡ denied_in node → MatchOption r (IsNoDenial ns n) (λ a. IsMade ns n (OneNode Not a))
-denial_made ns n node made r e = subst (DenialIs ns n) (sym e) (go (denied_in node) refl)
-  where
-    go : (o : Option ℕ) → denied_in node ≡ o → DenialIs ns n o
-    go None f = no_denial ns n node made f
-    go (Some a) f = subst (IsMade ns n) (is_denial node a f) made
-
-pub past_denial : (ns : List Node) (n : ℕ) → length ns ≤ n → IsNoDenial ns n
-past_denial ns n w = record { none = λ p e. absurd (let never : formula_in NoItem ≡ NotFormula p = sym (ap formula_in (item_past ns n w)) ∙ e in cc) }
-
 -- ---- formulas that are neither
 
 plain_same : (side : TermData → TermData) (p : FormulaData) → ((o : Comparison) (t u : TermData) → p ≡ CompareFormula o t u → ⊥) → ((o : Comparison) (t u : TermData) → p ≡ NotFormula (CompareFormula o t u) → ⊥) → comparison_with side p ≡ p
@@ -139,7 +98,7 @@ plain_same side (NotFormula (CompareFormula o t u)) f g = absurd (g o t u refl)
 plain_same side (NotFormula _) f g = refl
 plain_same side _ f g = refl
 
-pub no_comparison : (ns : List Node) (n : ℕ) → IsNotCompared ns n → IsNoDenial ns n → IsNoComparison ns n
+pub no_comparison : (ns : List Node) (n : ℕ) → IsNotCompared ns n → IsNoDenial (formula_at ns n) → IsNoComparison ns n
 no_comparison ns n h k = record { same = λ side. plain_same side (formula_at ns n) h.none (λ o t u e. k.none (CompareFormula o t u) e) }
 
 pub no_denied_comparison : (ns : List Node) (n a : ℕ) → IsNotCompared ns n → IsMade ns n (OneNode Not a) → IsNotCompared ns a → IsNoComparison ns n

@@ -13,7 +13,7 @@ use Rattle.certificates.specs.Rows.{AreBranchRows}
 use Rattle.row_reasoning.specs.Sums.{IsAmong}
 use Rattle.row_reasoning.specs.Rows.{IsRowFrom, AreDifferent, AreClassesFrom, HasNoRows, AreRowsOver, IsSetOf}
 use Rattle.row_reasoning.specs.declared.rows.BranchRows.{BranchRows}
-use Rattle.row_reasoning.proofs.PutLemmas.{at_place, all_different, one_place, longer_keeps, insert_cases}
+use Rattle.row_reasoning.proofs.PutLemmas.{at_position, all_different, one_position, longer_keeps, insert_cases}
 
 -- ---- a set of classes
 
@@ -28,7 +28,7 @@ take_is [] (suc k) n = inl refl
 take_is (x ∷ xs) (suc k) zero = inl refl
 take_is (x ∷ xs) (suc k) (suc n) = elim (take_is xs k n) [ inl e ↦ inl e | inr l ↦ inr (omega (arith, l)) ]
 
-module _ (given : List ℕ) (count : ℕ) (ks ls : List ℕ) (class place key : ℕ) (w : count < length given) (class_is : class ≡ get_or given count 0) (before : IsSetSoFar given count ks) (keys : ls ≡ insert_key nat_eq ks class) (distinct : IsDistinct nat_eq ls) (stored : slice_get ls place ≡ Some key) (same_key : nat_eq class key ≡ true) where
+module _ (given : List ℕ) (count : ℕ) (ks ls : List ℕ) (class position key : ℕ) (w : count < length given) (class_is : class ≡ get_or given count 0) (before : IsSetSoFar given count ks) (keys : ls ≡ insert_key nat_eq ks class) (distinct : IsDistinct nat_eq ls) (stored : slice_get ls position ≡ Some key) (same_key : nat_eq class key ≡ true) where
   grown : (ls ≡ ks) ⊎ (ls ≡ ks ++ class ∷ [])
   grown = elim (insert_cases ks class) [ inl e ↦ inl (keys ∙ e) | inr e ↦ inr (keys ∙ e) ]
 
@@ -43,24 +43,24 @@ module _ (given : List ℕ) (count : ℕ) (ks ls : List ℕ) (class place key : 
   pub stands_twice : length ls ≡ length ks + 0 → AreDifferent given → ⊥
   stands_twice long different = twice grown
     where
-      found : slice_get ls place ≡ Some class
+      found : slice_get ls position ≡ Some class
       found = stored ∙ ap Some (sym (eqb-true class key same_key))
 
-      earlier : slice_get ks place ≡ Some class → (slice_get (take count given) place ≡ slice_get given place) ⊎ (count ≤ place) → ⊥
+      earlier : slice_get ks position ≡ Some class → (slice_get (take count given) position ≡ slice_get given position) ⊎ (count ≤ position) → ⊥
       earlier e (inl same) = (
-          let at : slice_get given place ≡ Some class = sym same ∙ ap (λ xs. slice_get xs place) (sym before.keys_are) ∙ e in
-          let less = slice_get_within ks place class e in
+          let at : slice_get given position ≡ Some class = sym same ∙ ap (λ xs. slice_get xs position) (sym before.keys_are) ∙ e in
+          let less = slice_get_within ks position class e in
           let few = ap length before.keys_are in
           let short = length-take-le count given (omega (arith, w)) in
-          different place count 0 (omega (arith, less, few, short)) w (at_place given place class 0 at ∙ class_is))
+          different position count 0 (omega (arith, less, few, short)) w (at_position given position class 0 at ∙ class_is))
       earlier e (inr l) = (
-          let less = slice_get_within ks place class e in
+          let less = slice_get_within ks position class e in
           let few = ap length before.keys_are in
           let short = length-take-le count given (omega (arith, w)) in
           omega (arith, less, few, short, l))
 
       twice : (ls ≡ ks) ⊎ (ls ≡ ks ++ class ∷ []) → ⊥
-      twice (inl e) = earlier (ap (λ xs. slice_get xs place) (sym e) ∙ found) (take_is given count place)
+      twice (inl e) = earlier (ap (λ xs. slice_get xs position) (sym e) ∙ found) (take_is given count position)
       twice (inr e) = (let s = ap length e in let t = length_push ks class in omega (arith, s, t, long))
 
 -- ---- rows over them
@@ -91,7 +91,7 @@ module _ (b : Branch) (class : TermData → ℕ) (given keys : List ℕ) (made :
   first_more [] e other = absurd (other (ap length (e ∙ append-nil given)))
   first_more (x ∷ more) e other =
       let found : slice_get made.classes.keys (length given) ≡ Some x = ap (λ ks. slice_get ks (length given)) e ∙ at_end given x more in
-      (record { place = length given; found = found }, found)
+      (record { position = length given; found = found }, found)
 
   pub none_over : (length made.classes.keys ≡ length given → ⊥) → HasNoRows b class given
   none_over other = record { none = λ rows over. never rows over }
@@ -105,9 +105,9 @@ module _ (b : Branch) (class : TermData → ℕ) (given keys : List ℕ) (made :
       never : (rows : List Inequality) → AreBranchRows b class given rows → ⊥
       never rows over =
           let a = among rows over in
-          let within = slice_get_within given a.place _ a.found in
-          let kept = longer_keeps given made.classes.keys (record { more = from.longer.more; is = over_given }) a.place _ a.found in
-          let same : a.place ≡ length given = one_place made.classes.keys are.different a.place (length given) _ kept last.1 in
+          let within = slice_get_within given a.position _ a.found in
+          let kept = longer_keeps given made.classes.keys (record { more = from.longer.more; is = over_given }) a.position _ a.found in
+          let same : a.position ≡ length given = one_position made.classes.keys are.different a.position (length given) _ kept last.1 in
           omega (arith, within, same)
 
 -- there are no rows over classes one of which occurs twice

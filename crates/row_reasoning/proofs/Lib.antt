@@ -12,7 +12,6 @@ pub mod RowLemmas
 pub mod StateLemmas
 pub mod NameLemmas
 pub mod GivenLemmas
-pub mod ValuesShapeLemmas
 pub mod NumberLemmas
 pub mod ValueLemmas
 pub mod BoundLemmas
@@ -27,6 +26,6 @@ pub mod ChosenLemmas
 pub mod CitedLemmas
 pub mod StandInLemmas
 pub mod DifferencesSumLemmas
-pub mod PlaceLemmas
+pub mod PositionLemmas
 pub mod DifferencesEntryLemmas
 pub mod ClassNamesNameLemmas

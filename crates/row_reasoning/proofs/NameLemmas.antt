@@ -28,7 +28,7 @@ module _ (ns : List Node) (d : BranchData) (over : IsOver ns d) (i : ℕ) (e : P
   is_term : (n : ℕ) → IsTermNumber ns n → IsUnder ns e.formula n → IsTerm (branch_in ns d) (term_at ns n)
   is_term n term under = record {
     generation = e.generation;
-    holds = record { place = i; entry = entry_in ns e; found = pure_entry ns d.entries i e found; inside = inside n term under; same = refl };
+    holds = record { position = i; entry = entry_in ns e; found = pure_entry ns d.entries i e found; inside = inside n term under; same = refl };
   }
 
   pub named_entry : (class : TermData → ℕ) (names : List ℕ) → AreNames ns (branch_in ns d) class names → IsNamedUnder ns e.formula class names

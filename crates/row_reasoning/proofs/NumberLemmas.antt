@@ -10,7 +10,8 @@ use Rattle.certificates.specs.BranchesBranch.{Entry, Says}
 use Rattle.tableau.specs.PoolBranches.{BranchData, entry_in, branch_in}
 use Rattle.tableau.specs.declared.entry.PoolEntry.{PoolEntry}
 use Rattle.tableau.proofs.AnswerLemmas.{stored, pure_entry}
-use Rattle.row_reasoning.specs.Numbers.{term_at, formula_at, IsNumberSaid, IsNumberEntry, IsNumberOf, HasEntry, AreNumberEntries}
+use Rattle.tableau.specs.WholeNumbers.{IsNumberSaid}
+use Rattle.row_reasoning.specs.Numbers.{term_at, formula_at, IsNumberEntry, IsNumberOf, HasEntry, AreNumberEntries}
 use Rattle.row_reasoning.specs.declared.values.numbers.NumberEntry.{NumberEntry}
 
 pub says_entry : (ns : List Node) (d : BranchData) (i : ℕ) (e : PoolEntry) → slice_get d.entries i ≡ Some e → Says (branch_in ns d) i (formula_at ns e.formula)
@@ -107,7 +108,7 @@ pub numbers_done : (ns : List Node) (d : BranchData) (names : List ℕ) (count :
 numbers_done ns d names count found w h = record {
   right = h.right;
   all = λ t s. (
-      let it = entry_of ns d s.place (IsFormula NumType t) s.says in
-      let v = slice_get_within d.entries s.place it.entry it.found in
-      h.all s.place t (omega (arith, v, w)) s.says);
+      let it = entry_of ns d s.position (IsFormula NumType t) s.says in
+      let v = slice_get_within d.entries s.position it.entry it.found in
+      h.all s.position t (omega (arith, v, w)) s.says);
 }

@@ -19,20 +19,20 @@ use Rattle.row_reasoning.specs.declared.sum.LinearSum.{LinearSum}
 
 -- ---- indexes
 
-pub at_place : {X : Type 0} (xs : List X) (k : ℕ) (x d : X) → slice_get xs k ≡ Some x → get_or xs k d ≡ x
-at_place [] k x d e = absurd (cc)
-at_place (y ∷ xs) zero x d e = (let same : y ≡ x = cc in same)
-at_place (y ∷ xs) (suc k) x d e = at_place xs k x d e
+pub at_position : {X : Type 0} (xs : List X) (k : ℕ) (x d : X) → slice_get xs k ≡ Some x → get_or xs k d ≡ x
+at_position [] k x d e = absurd (cc)
+at_position (y ∷ xs) zero x d e = (let same : y ≡ x = cc in same)
+at_position (y ∷ xs) (suc k) x d e = at_position xs k x d e
 
 pub all_different : (ks : List ℕ) → IsDistinct nat_eq ks → AreDifferent ks
 all_different ks h i j d l m e = (let no = apart_from_distinct nat_eq ks i j d h l m in let yes : nat_eq (get_or ks i d) (get_or ks j d) ≡ true = eq-eqb _ _ e in absurd (cc))
 
 -- a class has one index
-pub one_place : (ks : List ℕ) → AreDifferent ks → (i j n : ℕ) → slice_get ks i ≡ Some n → slice_get ks j ≡ Some n → i ≡ j
-one_place ks h i j n e f = go (cases_eq i j) (cases_lt i j)
+pub one_position : (ks : List ℕ) → AreDifferent ks → (i j n : ℕ) → slice_get ks i ≡ Some n → slice_get ks j ≡ Some n → i ≡ j
+one_position ks h i j n e f = go (cases_eq i j) (cases_lt i j)
   where
     same : get_or ks i 0 ≡ get_or ks j 0
-    same = at_place ks i n 0 e ∙ sym (at_place ks j n 0 f)
+    same = at_position ks i n 0 e ∙ sym (at_position ks j n 0 f)
 
     go : (i ≡ j) ⊎ (i ≢ j) → (i < j) ⊎ (j ≤ i) → i ≡ j
     go (inl s) o = s
@@ -49,36 +49,36 @@ longer_itself ks ls e = record { more = []; is = e ∙ sym (append-nil ks) }
 pub longer_twice : (ks ls ms : List ℕ) → IsLonger ks ls → IsLonger ls ms → IsLonger ks ms
 longer_twice ks ls ms f g = record { more = f.more ++ g.more; is = g.is ∙ ap (λ xs. xs ++ g.more) f.is ∙ append_assoc ks f.more g.more }
 
-kept_place : (ks ms : List ℕ) (k n : ℕ) → slice_get ks k ≡ Some n → slice_get (ks ++ ms) k ≡ Some n
-kept_place [] ms k n e = absurd (cc)
-kept_place (x ∷ ks) ms zero n e = e
-kept_place (x ∷ ks) ms (suc k) n e = kept_place ks ms k n e
+kept_position : (ks ms : List ℕ) (k n : ℕ) → slice_get ks k ≡ Some n → slice_get (ks ++ ms) k ≡ Some n
+kept_position [] ms k n e = absurd (cc)
+kept_position (x ∷ ks) ms zero n e = e
+kept_position (x ∷ ks) ms (suc k) n e = kept_position ks ms k n e
 
-old_place : (ks ms : List ℕ) (k n : ℕ) → k < length ks → slice_get (ks ++ ms) k ≡ Some n → slice_get ks k ≡ Some n
-old_place [] ms k n l e = absurd (omega (arith, l))
-old_place (x ∷ ks) ms zero n l e = e
-old_place (x ∷ ks) ms (suc k) n l e = old_place ks ms k n (omega (arith, l)) e
+old_position : (ks ms : List ℕ) (k n : ℕ) → k < length ks → slice_get (ks ++ ms) k ≡ Some n → slice_get ks k ≡ Some n
+old_position [] ms k n l e = absurd (omega (arith, l))
+old_position (x ∷ ks) ms zero n l e = e
+old_position (x ∷ ks) ms (suc k) n l e = old_position ks ms k n (omega (arith, l)) e
 
 pub longer_keeps : (ks ls : List ℕ) → IsLonger ks ls → (k n : ℕ) → slice_get ks k ≡ Some n → slice_get ls k ≡ Some n
-longer_keeps ks ls h k n e = subst (λ xs. slice_get xs k ≡ Some n) (sym h.is) (kept_place ks h.more k n e)
+longer_keeps ks ls h k n e = subst (λ xs. slice_get xs k ≡ Some n) (sym h.is) (kept_position ks h.more k n e)
 
 pub longer_had : (ks ls : List ℕ) → IsLonger ks ls → (k n : ℕ) → k < length ks → slice_get ls k ≡ Some n → slice_get ks k ≡ Some n
-longer_had ks ls h k n l e = old_place ks h.more k n l (subst (λ xs. slice_get xs k ≡ Some n) h.is e)
+longer_had ks ls h k n l e = old_position ks h.more k n l (subst (λ xs. slice_get xs k ≡ Some n) h.is e)
 
 pub longer_length : (ks ls : List ℕ) → IsLonger ks ls → length ks ≤ length ls
 longer_length ks ls h = (let e = ap length h.is in omega (arith, e, length-append ks h.more))
 
 pub among_longer : (ks ls : List ℕ) → IsLonger ks ls → (n : ℕ) → IsAmong ks n → IsAmong ls n
-among_longer ks ls h n a = record { place = a.place; found = longer_keeps ks ls h a.place n a.found }
+among_longer ks ls h n a = record { position = a.position; found = longer_keeps ks ls h a.position n a.found }
 
 -- a class of the list extended by one
 pub last_among : (ks : List ℕ) (class n : ℕ) → IsAmong (ks ++ class ∷ []) n → IsAmong ks n ⊎ (n ≡ class)
-last_among ks class n a = elim (cases_lt a.place (length ks)) [
-  | inl l ↦ inl (record { place = a.place; found = old_place ks (class ∷ []) a.place n l a.found })
+last_among ks class n a = elim (cases_lt a.position (length ks)) [
+  | inl l ↦ inl (record { position = a.position; found = old_position ks (class ∷ []) a.position n l a.found })
   | inr l ↦ (
-      let within = slice_get_within (ks ++ class ∷ []) a.place n a.found in
+      let within = slice_get_within (ks ++ class ∷ []) a.position n a.found in
       let long = length_push ks class in
-      let last : a.place ≡ length ks = omega (arith, within, long, l) in
+      let last : a.position ≡ length ks = omega (arith, within, long, l) in
       let both : Some n ≡ Some class = sym a.found ∙ ap (slice_get (ks ++ class ∷ [])) last ∙ push_new ks class in
       let same : n ≡ class = cc in
       inr same)
@@ -93,12 +93,12 @@ insert_cases ks class = go (list_any (nat_eq class) ks)
     go true = inl refl
     go false = inr refl
 
-module _ (ks ls : List ℕ) (cs ds : List ℤ) (class place : ℕ) (number : ℤ) (keys : ls ≡ insert_key nat_eq ks class) (distinct : IsDistinct nat_eq ls) (key : ℕ) (stored : slice_get ls place ≡ Some key) (same_key : nat_eq class key ≡ true) (long : length cs ≡ length ks) where
-  found : slice_get ls place ≡ Some class
+module _ (ks ls : List ℕ) (cs ds : List ℤ) (class position : ℕ) (number : ℤ) (keys : ls ≡ insert_key nat_eq ks class) (distinct : IsDistinct nat_eq ls) (key : ℕ) (stored : slice_get ls position ≡ Some key) (same_key : nat_eq class key ≡ true) (long : length cs ≡ length ks) where
+  found : slice_get ls position ≡ Some class
   found = stored ∙ ap Some (sym (eqb-true class key same_key))
 
-  inside : place < length ls
-  inside = slice_get_within ls place class found
+  inside : position < length ls
+  inside = slice_get_within ls position class found
 
   different : AreDifferent ls
   different = all_different ls distinct
@@ -116,47 +116,47 @@ module _ (ks ls : List ℕ) (cs ds : List ℤ) (class place : ℕ) (number : ℤ
   among_cases (inr e) n a = last_among ks class n (subst (λ xs. IsAmong xs n) e a)
 
   -- an index within the old ones is that of an old class
-  old_length : place < length cs → (ls ≡ ks) ⊎ (ls ≡ ks ++ class ∷ []) → length ls ≡ length ks
+  old_length : position < length cs → (ls ≡ ks) ⊎ (ls ≡ ks ++ class ∷ []) → length ls ≡ length ks
   old_length l (inl e) = ap length e
   old_length l (inr e) =
       let last : slice_get ls (length ks) ≡ Some class = subst (λ xs. slice_get xs (length ks) ≡ Some class) (sym e) (push_new ks class) in
-      let same : place ≡ length ks = one_place ls different place (length ks) class found last in
+      let same : position ≡ length ks = one_position ls different position (length ks) class found last in
       absurd (omega (arith, same, long, l))
 
-  pub put_there : place < length cs → ds ≡ set cs place number → IsPut ks cs class number ls ds
+  pub put_there : position < length cs → ds ≡ set cs position number → IsPut ks cs class number ls ds
   put_there l is = record {
     longer = longer (grown (insert_cases ks class));
     different = different;
-    long = ap length is ∙ length-set cs place number ∙ long ∙ sym (old_length l (grown (insert_cases ks class)));
-    among = record { place = place; found = found };
+    long = ap length is ∙ length-set cs position number ∙ long ∙ sym (old_length l (grown (insert_cases ks class)));
+    among = record { position = position; found = found };
     from = among_cases (grown (insert_cases ks class));
-    here = λ k e. (let at : k ≡ place = one_place ls different k place class e found in
-        ap (λ i. get_or ds i (pos 0)) at ∙ ap (λ xs. get_or xs place (pos 0)) is ∙ get_or-set_same cs place number (pos 0) l);
-    others = λ k n e d. (let other : k ≢ place = λ s. (let both : Some n ≡ Some class = sym e ∙ ap (slice_get ls) s ∙ found in let same : n ≡ class = cc in d same) in
-        ap (λ xs. get_or xs k (pos 0)) is ∙ get_or-set_other cs place k number (pos 0) other);
+    here = λ k e. (let at : k ≡ position = one_position ls different k position class e found in
+        ap (λ i. get_or ds i (pos 0)) at ∙ ap (λ xs. get_or xs position (pos 0)) is ∙ get_or-set_same cs position number (pos 0) l);
+    others = λ k n e d. (let other : k ≢ position = λ s. (let both : Some n ≡ Some class = sym e ∙ ap (slice_get ls) s ∙ found in let same : n ≡ class = cc in d same) in
+        ap (λ xs. get_or xs k (pos 0)) is ∙ get_or-set_other cs position k number (pos 0) other);
   }
 
-  new_length : length cs ≤ place → (ls ≡ ks) ⊎ (ls ≡ ks ++ class ∷ []) → length ls ≡ length ks + 1
+  new_length : length cs ≤ position → (ls ≡ ks) ⊎ (ls ≡ ks ++ class ∷ []) → length ls ≡ length ks + 1
   new_length l (inl e) = (let s = ap length e in absurd (omega (arith, s, inside, l, long)))
   new_length l (inr e) = ap length e ∙ length_push ks class
 
-  pub put_behind : length cs ≤ place → ds ≡ cs ++ number ∷ [] → IsPut ks cs class number ls ds
+  pub put_behind : length cs ≤ position → ds ≡ cs ++ number ∷ [] → IsPut ks cs class number ls ds
   put_behind l is = record {
     longer = longer (grown (insert_cases ks class));
     different = different;
     long = (let s = ap length is ∙ length_push cs number in let t = new_length l (grown (insert_cases ks class)) in omega (arith, s, t, long));
-    among = record { place = place; found = found };
+    among = record { position = position; found = found };
     from = among_cases (grown (insert_cases ks class));
-    here = λ k e. (let at : k ≡ place = one_place ls different k place class e found in
+    here = λ k e. (let at : k ≡ position = one_position ls different k position class e found in
         ap (λ i. get_or ds i (pos 0)) (at ∙ last) ∙ ap (λ xs. get_or xs (length cs) (pos 0)) is ∙ get_or_push cs number (pos 0) (length cs) refl);
-    others = λ k n e d. (let other : k ≢ place = λ s. (let both : Some n ≡ Some class = sym e ∙ ap (slice_get ls) s ∙ found in let same : n ≡ class = cc in d same) in
+    others = λ k n e d. (let other : k ≢ position = λ s. (let both : Some n ≡ Some class = sym e ∙ ap (slice_get ls) s ∙ found in let same : n ≡ class = cc in d same) in
         let within = slice_get_within ls k n e in
         let t = new_length l (grown (insert_cases ks class)) in
         let less : k < length cs = omega (arith, within, t, other, last, long) in
         ap (λ xs. get_or xs k (pos 0)) is ∙ get_or_append_left cs (number ∷ []) (pos 0) k less);
   }
     where
-      last : place ≡ length cs
+      last : position ≡ length cs
       last = (let t = new_length l (grown (insert_cases ks class)) in omega (arith, t, inside, l, long))
 
 -- ---- a row while it is written
@@ -208,8 +208,8 @@ module _ (ks : List ℕ) (negated : Bool) (es : List (ℕ × ℤ)) (ls ms : List
       at k n f (inl l) h = before.numbers k n (longer_had ls ms put.longer k n l f)
       at k n f (inr l) (inl h) =
           let a = before.known n h in
-          let within = slice_get_within ls a.place n a.found in
-          let same : a.place ≡ k = one_place ms put.different a.place k n (longer_keeps ls ms put.longer a.place n a.found) f in
+          let within = slice_get_within ls a.position n a.found in
+          let same : a.position ≡ k = one_position ms put.different a.position k n (longer_keeps ls ms put.longer a.position n a.found) f in
           absurd (omega (arith, within, same, l))
       at k n f (inr l) (inr h) = get_or_past cs k (pos 0) (let s = before.long in omega (arith, s, l)) ∙ signed_zero negated ∙ ap (signed negated) (sym (absent es n h))
 

@@ -1,5 +1,5 @@
 -- Rows over classes: written, over more classes, and after others.
-use Rattle.std.proofs.Common.{◌≡◌, ◌⊎◌, inl, inr, ℕ, ◌<◌, ◌≤◌, ℤ, pos, ◌+ℤ◌, ◌-ℤ◌, ◌*ℤ◌, Bool, true, false, cond, not, List, [], ◌∷◌, ◌++◌, length, Option, Some, None, refl, sym, ap, ◌∙◌, subst, arith}
+use Rattle.std.proofs.Common.{◌≡◌, ◌⊎◌, inl, inr, ℕ, ◌<◌, ◌≤◌, ℤ, pos, ◌+ℤ◌, ◌-ℤ◌, Bool, true, false, not, List, [], ◌∷◌, ◌++◌, length, Option, Some, None, refl, sym, ap, ◌∙◌, subst, arith}
 use Rattle.std.specs.Prelude.{slice_get}
 use Rattle.std.specs.List.{AllZip}
 use Rattle.std.proofs.lemmas.Bool.{cases_lt}
@@ -9,12 +9,11 @@ use Rattle.std.proofs.lemmas.Option.{slice_get_within}
 use lib.IntN.{*ℤ-zero}
 use Rattle.linear_arith.specs.Fits.{Fits}
 use Rattle.linear_arith.specs.Inequality.{Inequality, coefficient}
-use Rattle.fol.specs.declared.operators.Binary.TheVariants.{Add, Mul, Sub}
-use Rattle.fol.specs.declared.operators.Constant.TheVariants.{Num}
-use Rattle.fol.specs.FormulaData.{TermData, VarTerm, MulTerm, BinaryTerm, ConstantTerm, FormulaData}
-use Rattle.certificates.specs.Linear.{kept, kept_of, same_term, numeral_of, Part, unknown_weight, product_weight, weight, Row, gap_weight, row_weight}
-use Rattle.certificates.specs.Unknowns.{EachUnknown, EachOfProduct}
-use Rattle.certificates.proofs.Sums.{same_term-equal, EachUnknown-map, kept_of_exact}
+use Rattle.fol.specs.FormulaData.{TermData, VarTerm, FormulaData}
+use Rattle.certificates.specs.Linear.{kept, kept_of, Part, weight, Row, gap_weight, row_weight}
+use Rattle.certificates.specs.Unknowns.{EachUnknown}
+use Rattle.certificates.proofs.Sums.{EachUnknown-map, kept_of_exact}
+use Rattle.certificates.proofs.LinearLemmas.{term_cases}
 use Rattle.certificates.proofs.KeptLemmas.{row_fits}
 use Rattle.certificates.specs.Rows.{IsKnown, IsRowOf, turned, BeginsWith, BeginsWithEntry, AreRowsOf}
 use Rattle.tableau.proofs.ListLemmas.{push_kept}
@@ -25,7 +24,7 @@ use Rattle.row_reasoning.specs.declared.sum.LinearSum.{LinearSum}
 use Rattle.row_reasoning.specs.declared.rows.RowOrigin.{RowOrigin}
 use Rattle.row_reasoning.proofs.KeptLemmas.{kept_itself, signed_fits}
 use Rattle.row_reasoning.proofs.JoiningLemmas.{IsMadeOf}
-use Rattle.row_reasoning.proofs.PutLemmas.{one_place, longer_keeps, longer_had, longer_length, IsWriting}
+use Rattle.row_reasoning.proofs.PutLemmas.{one_position, longer_keeps, longer_had, longer_length, IsWriting}
 
 -- ---- written rows
 
@@ -57,39 +56,9 @@ row_written ks ls s row made h w = record {
 }
   where
     known : (t : TermData) → EachUnknown (IsUnknownOf s) t → EachUnknown (IsKnown ls) t
-    known t each = EachUnknown-map (IsUnknownOf s) (IsKnown ls) (λ u k. (let a = w.known k.0 k.2 in (a.place, k.0, a.found, k.1))) t each
+    known t each = EachUnknown-map (IsUnknownOf s) (IsKnown ls) (λ u k. (let a = w.known k.0 k.2 in (a.position, k.0, a.found, k.1))) t each
 
 -- ---- over more classes
-
--- an unknown has no weight in a term, or is one of its unknowns
-sum_cases : (P : Type 0) (op : ℤ → ℤ → ℤ) (x y : Option ℤ) → op (pos 0) (pos 0) ≡ pos 0 → (x ≡ Some (pos 0)) ⊎ P → (y ≡ Some (pos 0)) ⊎ P → (kept_of op x y ≡ Some (pos 0)) ⊎ P
-sum_cases P op x y z (inl e) (inl f) = inl ((λ i. kept_of op (e i) (f i)) ∙ ap kept z)
-sum_cases P op x y z (inl e) (inr p) = inr p
-sum_cases P op x y z (inr p) f = inr p
-
-times_cases : (P : Type 0) (m : ℤ) (x : Option ℤ) → (x ≡ Some (pos 0)) ⊎ P → (kept_of ◌*ℤ◌ (Some m) x ≡ Some (pos 0)) ⊎ P
-times_cases P m x (inl e) = inl (ap (kept_of ◌*ℤ◌ (Some m)) e ∙ ap kept (*ℤ-zero m))
-times_cases P m x (inr p) = inr p
-
-product_cases : (P : Type 0) (l r x y z : Option ℤ) (L R W : Type 0) → (L → (x ≡ Some (pos 0)) ⊎ P) → (R → (y ≡ Some (pos 0)) ⊎ P) → (W → (z ≡ Some (pos 0)) ⊎ P) → EachOfProduct l r L R W → (product_weight l r x y z ≡ Some (pos 0)) ⊎ P
-product_cases P (Some m) r x y z L R W f g h e = times_cases P m y (g e)
-product_cases P None (Some m) x y z L R W f g h e = times_cases P m x (f e)
-product_cases P None None x y z L R W f g h e = h e
-
-module _ (P : TermData → Type 0) (x : TermData) where
-  leaf_cases : (t : TermData) → P t → (b : Bool) → same_term t x ≡ b → (cond b (Some (pos 1)) (Some (pos 0)) ≡ Some (pos 0)) ⊎ P x
-  leaf_cases t p true e = inr (subst P (same_term-equal t x e) p)
-  leaf_cases t p false e = inl refl
-
-  term_cases : (t : TermData) → EachUnknown P t → (weight (Some x) t ≡ Some (pos 0)) ⊎ P x
-  term_cases (ConstantTerm (Num i)) h = inl refl
-  term_cases (BinaryTerm Add t u) h =
-      sum_cases (P x) ◌+ℤ◌ (weight (Some x) t) (weight (Some x) u) refl (term_cases t h.0) (term_cases u h.1)
-  term_cases (BinaryTerm Sub t u) h =
-      sum_cases (P x) ◌-ℤ◌ (weight (Some x) t) (weight (Some x) u) refl (term_cases t h.0) (term_cases u h.1)
-  term_cases (BinaryTerm Mul t u) h =
-      product_cases (P x) (numeral_of t) (numeral_of u) (weight (Some x) t) (weight (Some x) u) (unknown_weight (Some x) (MulTerm t u)) _ _ _ (term_cases t) (term_cases u) (λ p. leaf_cases (MulTerm t u) p (same_term (MulTerm t u) x) refl) h
-  term_cases t h = leaf_cases t h (same_term t x) refl
 
 module _ (ks ls : List ℕ) (longer : IsLonger ks ls) (different : AreDifferent ls) where
   known_longer : (t : TermData) → EachUnknown (IsKnown ks) t → EachUnknown (IsKnown ls) t
@@ -100,8 +69,8 @@ module _ (ks ls : List ℕ) (longer : IsLonger ks ls) (different : AreDifferent 
   new_class k n l e known =
       let same : n ≡ known.1 = (let both = known.3 in cc) in
       let within = slice_get_within ks known.0 known.1 known.2 in
-      let place : known.0 ≡ k = one_place ls different known.0 k n (longer_keeps ks ls longer known.0 known.1 known.2 ∙ ap Some (sym same)) e in
-      omega (arith, within, place, l)
+      let position : known.0 ≡ k = one_position ls different known.0 k n (longer_keeps ks ls longer known.0 known.1 known.2 ∙ ap Some (sym same)) e in
+      omega (arith, within, position, l)
 
   no_weight : (k n : ℕ) → length ks ≤ k → slice_get ls k ≡ Some n → (t : TermData) → EachUnknown (IsKnown ks) t → weight (Some (VarTerm n)) t ≡ Some (pos 0)
   no_weight k n l e t each = elim (term_cases (IsKnown ks) (VarTerm n) t each) [ inl f ↦ f | inr known ↦ absurd (new_class k n l e known) ]

@@ -166,7 +166,7 @@ classes_made b class given made h = record {
 }
 
 pub none_given : (b : Branch) (class : TermData → ℕ) (given classes : List ℕ) → given ≡ [] → AreClassesFrom b class given classes → (n : ℕ) → IsAmong classes n → IsSpoken b class n
-none_given b class given classes e h n a = elim (h.spoken n a) [ inl g ↦ absurd (no_place n (subst (λ ks. IsAmong ks n) e g)) | inr s ↦ s ]
+none_given b class given classes e h n a = elim (h.spoken n a) [ inl g ↦ absurd (no_position n (subst (λ ks. IsAmong ks n) e g)) | inr s ↦ s ]
   where
-    no_place : (n : ℕ) → IsAmong [] n → ⊥
-    no_place n g = (let e = g.found in absurd (cc))
+    no_position : (n : ℕ) → IsAmong [] n → ⊥
+    no_position n g = (let e = g.found in absurd (cc))

@@ -85,7 +85,7 @@ module _ (s : LinearSum) (negated : s.is_negated ≡ false) where
     single_weights (Some u) = other_weight u (λ e. absurd (cc))
 
     single_spoken : (n : ℕ) → (n ≡ m) ⊎ ⊥ → (ks : List ℕ) → IsKnown ks (VarTerm m) → IsAmong ks n
-    single_spoken n (inl e) ks known = (let same : m ≡ known.1 = (let both = known.3 in cc) in record { place = known.0; found = known.2 ∙ ap Some (sym (e ∙ same)) })
+    single_spoken n (inl e) ks known = (let same : m ≡ known.1 = (let both = known.3 in cc) in record { position = known.0; found = known.2 ∙ ap Some (sym (e ∙ same)) })
     single_spoken n (inr h) ks known = absurd h
 
     pub variable_sum : IsSumOf (VarTerm m) s

@@ -1,7 +1,7 @@
 -- Entries, and the same entries with the chosen terms.
-use Rattle.std.specs.Prelude.{◌≡◌, ℕ, Bool, true, false, List, [], ◌∷◌, length, slice_get, Option, Some, None}
+use Rattle.std.specs.Prelude.{◌≡◌, ℕ, Bool, true, false, List, [], ◌∷◌, length, slice_get, Option, Some}
 use Rattle.fol.specs.declared.operators.Comparison.{Comparison}
-use Rattle.fol.specs.FormulaData.{TermData, FormulaData, CompareFormula, NotFormula}
+use Rattle.fol.specs.FormulaData.{TermData, CompareFormula}
 use Rattle.term_pool.specs.Items.{formula_in}
 use Rattle.term_pool.specs.Pools.{item_at, IsMade}
 use Rattle.term_pool.specs.declared.node.One.TheVariants.{Not}
@@ -17,7 +17,7 @@ use Rattle.explanations.specs.Chains.{formula_at}
 use Rattle.explanations.specs.declared.frame.Frame.{Frame}
 use Rattle.explanations.specs.declared.frame.Frame.TheVariants.{Only}
 use Rattle.explanations.specs.Replacing.{after_all, AreInTurn}
-use Rattle.explanations.specs.Places.{IsDifference}
+use Rattle.explanations.specs.Positions.{IsDifference}
 use Rattle.explanations.specs.declared.derived.replacing.Difference.{Difference}
 use Rattle.row_reasoning.specs.Chosen.{with_chosen}
 use Rattle.row_reasoning.specs.StandIns.{AreOverClasses}
@@ -31,10 +31,6 @@ abbrev pub is_comparison : Two → Bool
 is_comparison (Compare o) = true
 is_comparison _ = false
 
-abbrev pub denied_in : Node → Option ℕ
-denied_in (OneNode Not a) = Some a
-denied_in _ = None
-
 -- the number is that of a comparison of these terms
 pub record IsCompared (ns : List Node) (n : ℕ) (p : Pair) : Type 0 where
   pub operator : Comparison
@@ -43,9 +39,6 @@ pub record IsCompared (ns : List Node) (n : ℕ) (p : Pair) : Type 0 where
 
 pub record IsNotCompared (ns : List Node) (n : ℕ) : Type 0 where
   pub none : (o : Comparison) (t u : TermData) → formula_at ns n ≡ CompareFormula o t u → ⊥
-
-pub record IsNoDenial (ns : List Node) (n : ℕ) : Type 0 where
-  pub none : (p : FormulaData) → formula_at ns n ≡ NotFormula p → ⊥
 
 -- the formula is the comparison with this number, or its negation
 abbrev pub IsWith : List Node → ℕ → Bool → ℕ → Type 0

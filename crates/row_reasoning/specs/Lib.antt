@@ -10,6 +10,6 @@ pub mod Cited
 pub mod Shallowest
 pub mod StandIns
 pub mod DifferencesSums
-pub mod Places
+pub mod Positions
 pub mod DifferencesEntries
 pub mod Names

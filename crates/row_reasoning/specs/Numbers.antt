@@ -1,13 +1,10 @@
 -- The classes of whole numbers: an entry states that one of their terms is a whole number.
-use Rattle.std.specs.Prelude.{◌≡◌, ℕ, Bool, true, false, List, slice_index, Option, Some, None}
+use Rattle.std.specs.Prelude.{◌≡◌, ℕ, List, slice_index, Option, Some, None}
 use Rattle.base.specs.TypeData.{NumType}
 use Rattle.fol.specs.FormulaData.{TermData, FormulaData, IsFormula}
 use Rattle.term_pool.specs.Items.{term_in, formula_in}
 use Rattle.term_pool.specs.Pools.{item_at}
-use Rattle.term_pool.specs.declared.node.Leaf.TheVariants.{TypeNum}
-use Rattle.term_pool.specs.declared.node.Two.TheVariants.{Is}
 use Rattle.term_pool.specs.declared.node.Node.{Node}
-use Rattle.term_pool.specs.declared.node.Node.TheVariants.{Leaf as LeafNode, Two as TwoNode}
 use Rattle.certificates.specs.BranchesBranch.{Branch, Says, Stands}
 use Rattle.tableau.specs.PoolBranches.{IsTermNumber}
 use Rattle.row_reasoning.specs.declared.values.numbers.NumberEntry.{NumberEntry}
@@ -17,21 +14,6 @@ term_at ns n = term_in (item_at ns n)
 
 abbrev pub formula_at : List Node → ℕ → FormulaData
 formula_at ns n = formula_in (item_at ns n)
-
--- the type of whole numbers
-abbrev pub is_num_node : Node → Bool
-is_num_node (LeafNode TypeNum) = true
-is_num_node _ = false
-
--- the type and the term of a formula stating that a term has a type
-abbrev pub typed_parts : Node → Option (ℕ × ℕ)
-typed_parts (TwoNode Is a t) = Some (a, t)
-typed_parts _ = None
-
--- the formula states that the term is a whole number
-pub record IsNumberSaid (ns : List Node) (formula term : ℕ) : Type 0 where
-  pub number : IsTermNumber ns term
-  pub is : formula_at ns formula ≡ IsFormula NumType (term_at ns term)
 
 -- the entry states that the term is a whole number
 pub record IsNumberEntry (ns : List Node) (b : Branch) (entry : NumberEntry) : Type 0 where

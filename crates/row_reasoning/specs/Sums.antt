@@ -20,8 +20,8 @@ Has (e ∷ es) n = (n ≡ e.0) ⊎ Has es n
 
 -- the class is in the list
 pub record IsAmong (ks : List ℕ) (n : ℕ) : Type 0 where
-  pub place : ℕ
-  pub found : slice_get ks place ≡ Some n
+  pub position : ℕ
+  pub found : slice_get ks position ≡ Some n
 
 -- ---- sums
 

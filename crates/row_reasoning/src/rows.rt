@@ -41,7 +41,8 @@ pub struct BranchRows {
     pub origins: Vec<RowOrigin>,
 }
 
-fn signed(is_negated: bool, number: i128) -> i128
+/// Returns the number, or its negation.
+pub(crate) fn signed(is_negated: bool, number: i128) -> i128
     requires { Fits number }
     ensures { result ≡ signed is_negated number }
 {
@@ -53,7 +54,7 @@ fn zeros(alloc: Global, count: usize) -> Result<Vec<i128>, NoMemory>
     ensures zero { IfOk result (λ numbers. (k : ℕ) → get_or numbers.items k (pos 0) ≡ pos 0) }
 {
     let mut numbers = Vec::with_capacity(alloc, count)?;
-    for place in 0..count {
+    for position in 0..count {
         numbers.push(0)?;
     }
     Ok(numbers)
@@ -69,9 +70,9 @@ fn put(
     requires { length numbers.old.items ≡ length classes.old.keys }
     ensures { OnOk result (IsPut classes.old.keys numbers.old.items class number classes.new.keys numbers.new.items) }
 {
-    let (place, _) = classes.insert_full(class)?;
-    if place < numbers.len() {
-        numbers[place] = number;
+    let (position, _) = classes.insert_full(class)?;
+    if position < numbers.len() {
+        numbers[position] = number;
         return Ok(());
     }
     numbers.push(number)?;
@@ -84,8 +85,8 @@ fn row_of(alloc: Global, classes: &mut IndexSet<usize>, sum: &LinearSum) -> Resu
     ensures { IfOk result (IsWritten classes.old.keys classes.new.keys sum.now) }
 {
     let mut numbers = zeros(alloc, classes.len())?;
-    for place in 0..sum.coefficients.len() {
-        if let Some((class, number)) = sum.coefficients.get_index(place) {
+    for position in 0..sum.coefficients.len() {
+        if let Some((class, number)) = sum.coefficients.get_index(position) {
             put(
                 classes,
                 &mut numbers,

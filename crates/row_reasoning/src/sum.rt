@@ -61,8 +61,8 @@ fn add_multiple(
 ) -> Result<bool, NoMemory>
     ensures { IfOk result (AddsUp factor first.old.entries second.now.entries first.new.entries) }
 {
-    for place in 0..second.len() {
-        if let Some((class, number)) = second.get_index(place) {
+    for position in 0..second.len() {
+        if let Some((class, number)) = second.get_index(position) {
             let total = coefficient(first, *class);
             let Some(sum) = plus_product(total, factor, *number) else {
                 return Ok(false);

@@ -17,7 +17,7 @@ none_contained code c = let b = c.1 in omega arith
 pub none_yet : (p : Program) → IsFirstBarred p [] None
 none_yet p = record {
   clear = λ e. All-nil (IsVisible p);
-  first = λ place h. none_contained h.0 h.1;
+  first = λ span h. none_contained h.0 h.1;
 }
 
 only : (code c : Code) → Contains (code ∷ []) c → code ≡ c
@@ -30,15 +30,15 @@ irreflexive p (inr h) = let s = h.1 in omega arith
 of_one : (p : Program) (code : Code) (found : Option Span) → IsVerdict p code found → IsFirstBarred p (code ∷ []) found
 of_one p code None v = record {
   clear = λ e. All-push (IsVisible p) [] code (All-nil (IsVisible p)) v;
-  first = λ place h. h.3 (subst (λ c. IsVisible p c) (only code h.0 h.1) v);
+  first = λ span h. h.3 (subst (λ c. IsVisible p c) (only code h.0 h.1) v);
 }
-of_one p code (Some place) v = record {
+of_one p code (Some span) v = record {
   clear = λ e. absurd (cc);
   first = record {
     one = (code, Contains-push [] code, sym v.0, v.1);
     first = λ other h b.
-        (let same : other ≡ place = sym h.2 ∙ ap (λ (c : Code). c.place) (sym (only code h.0 h.1)) ∙ sym v.0 in
-        irreflexive place (subst (λ (o : Span). IsBefore o place) same b));
+        (let same : other ≡ span = sym h.2 ∙ ap (λ (c : Code). c.span) (sym (only code h.0 h.1)) ∙ sym v.0 in
+        irreflexive span (subst (λ (o : Span). IsBefore o span) same b));
   };
 }
 
@@ -88,4 +88,4 @@ next_entry p f entries n e a b o h g v m =
 pub answered : (p : Program) (codes : List Code) (o : Option Span) → IsFirstBarred p codes o
     → MatchOption o (All (IsVisible p) codes) (IsFirst (IsBarredAmong p codes))
 answered p codes None f = f.clear refl
-answered p codes (Some place) f = f.first
+answered p codes (Some span) f = f.first

@@ -43,13 +43,13 @@ with_owner (Some owner) names = map (λ name. (name, owner)) names
 abbrev pub all_kinds : List MemberKind
 all_kinds = a_struct ∷ a_constant ∷ a_function ∷ a_spec_function ∷ a_schema ∷ []
 
-abbrev pub standing_for : List ℕ → MemberKind → Option MemberId → List (NameOfKind × MemberId)
-standing_for name kind None = []
-standing_for name kind (Some member) = (record { kind = kind; name = name }, member) ∷ []
+abbrev pub named_for : List ℕ → MemberKind → Option MemberId → List (NameOfKind × MemberId)
+named_for name kind None = []
+named_for name kind (Some member) = (record { kind = kind; name = name }, member) ∷ []
 
 abbrev pub brings_of_kind : EnvironmentData → ModuleId → Import → MemberKind → List (NameOfKind × MemberId)
 brings_of_kind env owner import kind =
-    standing_for (name_here import.name.text import.alias) kind (declared_meaning env kind owner import.name.text)
+    named_for (name_here import.name.text import.alias) kind (declared_meaning env kind owner import.name.text)
 
 -- the members that an import brings in: those with its name, one for each kind that the module declares
 abbrev pub import_brings : EnvironmentData → ModuleId → Import → List (NameOfKind × MemberId)
@@ -72,13 +72,13 @@ abbrev pub form_modules : EnvironmentData → SourceForm → List (List ℕ × M
 form_modules env (Use u) = with_owner (module_meaning env u.owner) (module_names u.owner.name.text u.imported)
 form_modules env _ = []
 
-abbrev pub standing_itself : ModuleId → NameOfKind → NameOfKind × MemberId
-standing_itself own n = (n, record { owner = own; name = n.name })
+abbrev pub named_itself : ModuleId → NameOfKind → NameOfKind × MemberId
+named_itself own n = (n, record { owner = own; name = n.name })
 
 -- the names that it gives to members of modules
 abbrev pub form_members : EnvironmentData → SourceForm → List (NameOfKind × MemberId)
 form_members env (Use u) = use_brings env (module_meaning env u.owner) u.imported
-form_members env form = map (standing_itself env.own) (listed (form_declares form))
+form_members env form = map (named_itself env.own) (listed (form_declares form))
 
 abbrev pub member_modules : EnvironmentData → SourceMemberData → List (List ℕ × ModuleId)
 member_modules env m = form_modules env m.form

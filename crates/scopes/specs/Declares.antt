@@ -25,11 +25,11 @@ listed (Some x) = x ∷ []
 
 -- spec blocks declare schemas and spec functions
 abbrev pub spec_declares : SpecTree → Option NameOfKind
-spec_declares (module_spec place clauses) = None
-spec_declares (named_spec place name clauses) = None
+spec_declares (module_spec span clauses) = None
+spec_declares (named_spec span name clauses) = None
 spec_declares (schema_spec s) = named a_schema s.name.text
 spec_declares (function_spec f) = named a_spec_function f.name.text
-spec_declares (loop_spec place clauses) = None
+spec_declares (loop_spec span clauses) = None
 
 abbrev pub form_declares : SourceForm → Option NameOfKind
 form_declares (Use u) = None

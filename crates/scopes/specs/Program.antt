@@ -33,7 +33,7 @@ modules_of env modules = flat_map (module_of env) modules
 abbrev pub twice_in_source : EnvironmentData → List ModuleId → List SourceModuleData → Option ℕ
 twice_in_source env before [] = None
 twice_in_source env before (m ∷ ms) =
-    if is_among before (module_meaning env m.name) then Some m.place.start
+    if is_among before (module_meaning env m.name) then Some m.span.start
     else option_or (first_twice env [] m.members) (twice_in_source env (before ++ module_of env m) ms)
 
 abbrev pub builtin_declaration : List ℕ → List ℕ → Declaration
@@ -60,15 +60,15 @@ abbrev pub builtin_modules : List ModuleId
 builtin_modules = vector_module ∷ signer_module ∷ []
 
 -- the position in the file of this index, or else the one found in the files after it
-abbrev pub first_place : ℕ → Option ℕ → Option (ℕ × ℕ) → Option (ℕ × ℕ)
-first_place n None behind = behind
-first_place n (Some place) behind = Some (n, place)
+abbrev pub first_offset : ℕ → Option ℕ → Option (ℕ × ℕ) → Option (ℕ × ℕ)
+first_offset n None behind = behind
+first_offset n (Some offset) behind = Some (n, offset)
 
 -- given these modules, in files the first of which has this index
 abbrev pub twice_in_sources : EnvironmentData → List ModuleId → ℕ → List (List SourceModuleData) → Option (ℕ × ℕ)
 twice_in_sources env before n [] = None
 twice_in_sources env before n (source ∷ sources) =
-    first_place n (twice_in_source env before source) (twice_in_sources env (before ++ modules_of env source) (1 + n) sources)
+    first_offset n (twice_in_source env before source) (twice_in_sources env (before ++ modules_of env source) (1 + n) sources)
 
 -- The first duplicate declaration of files: the index of its file, and the byte offset of its first token.
 abbrev pub first_twice_of : List (List SourceModuleData) → Option (ℕ × ℕ)

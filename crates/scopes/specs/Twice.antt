@@ -8,7 +8,7 @@ use Rattle.syntax_tree.specs.declared.clause.Spec.TheVariants.{Module as module_
 use Rattle.syntax_tree.specs.declared.source.SourceForm.{SourceForm}
 use Rattle.syntax_tree.specs.declared.source.SourceForm.TheVariants.{Use, Friend, Struct, Constant, Function, Spec}
 use Rattle.syntax_tree.specs.SourceData.{SourceMemberData}
-use Rattle.syntax_tree.specs.Places.{form_place}
+use Rattle.syntax_tree.specs.Spans.{form_span}
 use Rattle.scopes.specs.declared.member.NameOfKind.{NameOfKind}
 use Rattle.scopes.specs.MemberNames.{same_name_of_kind}
 use Rattle.scopes.specs.EnvironmentData.{EnvironmentData}
@@ -36,11 +36,11 @@ owner_differs types names = all_differ (type_names types) && all_differ (typed_n
 
 -- the variables of a schema may share a name: the later one counts
 abbrev pub spec_differs : SpecTree → Bool
-spec_differs (module_spec place clauses) = true
-spec_differs (named_spec place name clauses) = true
+spec_differs (module_spec span clauses) = true
+spec_differs (named_spec span name clauses) = true
 spec_differs (schema_spec s) = all_differ (type_names s.parameters)
 spec_differs (function_spec f) = owner_differs f.parameters f.inputs
-spec_differs (loop_spec place clauses) = true
+spec_differs (loop_spec span clauses) = true
 
 -- the member has no two type parameters, and no two fields or parameters, of the same name
 abbrev pub form_differs : SourceForm → Bool
@@ -76,4 +76,4 @@ abbrev pub first_twice : EnvironmentData → List SourceMemberData → List Sour
 first_twice env before [] = None
 first_twice env before (m ∷ ms) =
     if declares_behind env (modules_named env before) (members_named env before) m.form then first_twice env (before ++ m ∷ []) ms
-    else Some (form_place m.form).start
+    else Some (form_span m.form).start

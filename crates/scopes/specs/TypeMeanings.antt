@@ -60,10 +60,10 @@ named_meaning scope path types =
 
 abbrev mutual
   pub type_meaning : TypeScope → SourceTypeData → Option TypeData
-  type_meaning scope (SharedSourceType place target) = option_map SharedType (type_meaning scope target)
-  type_meaning scope (MutableSourceType place target) = option_map MutableType (type_meaning scope target)
+  type_meaning scope (SharedSourceType span target) = option_map SharedType (type_meaning scope target)
+  type_meaning scope (MutableSourceType span target) = option_map MutableType (type_meaning scope target)
   type_meaning scope (NamedSourceType path arguments) = option_and_then (named_meaning scope path) (arguments_meaning scope arguments)
-  type_meaning scope (TupleSourceType place items last) = option_map tuple_of (types_meaning scope items)
+  type_meaning scope (TupleSourceType span items last) = option_map tuple_of (types_meaning scope items)
 
   -- the written type arguments; no types if there are none
   pub arguments_meaning : TypeScope → MaybeArgumentsData → Option TypesData

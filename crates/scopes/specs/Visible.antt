@@ -28,17 +28,17 @@ use Rattle.program.specs.Order.{IsFirstOrNone}
 
 -- a declaration with code: its span, its module, its type parameters, and its nodes
 pub record Code : Type 0 where
-  pub place : Span
+  pub span : Span
   pub own : ModuleId
   pub types : List TypeParameter
   pub nodes : List CodeNode
 
 -- the code of functions and of the values of constants
 abbrev pub function_code : FunctionId × Function → Code
-function_code f = record { place = f.1.place; own = function_home f.0; types = f.1.type_parameters; nodes = f.1.body.nodes }
+function_code f = record { span = f.1.span; own = function_home f.0; types = f.1.type_parameters; nodes = f.1.body.nodes }
 
 abbrev pub constant_code : ConstantId × Constant → Code
-constant_code c = record { place = c.1.place; own = constant_home c.0; types = []; nodes = c.1.value.nodes }
+constant_code c = record { span = c.1.span; own = constant_home c.0; types = []; nodes = c.1.value.nodes }
 
 abbrev pub codes_of : Program → List Code
 codes_of program = map function_code program.functions ++ map constant_code program.constants
@@ -85,7 +85,7 @@ IsVisible program code = All (NodeIsVisible program code.own code.types) code.no
 
 -- one of these declarations has this span and breaks visibility
 abbrev pub IsBarredAmong : Program → List Code → Span → Type 0
-IsBarredAmong program codes place = (code : Code) × Contains codes code × (code.place ≡ place) × ¬ IsVisible program code
+IsBarredAmong program codes span = (code : Code) × Contains codes code × (code.span ≡ span) × ¬ IsVisible program code
 
 abbrev pub IsBarred : Program → Span → Type 0
 IsBarred program = IsBarredAmong program (codes_of program)
@@ -93,7 +93,7 @@ IsBarred program = IsBarredAmong program (codes_of program)
 -- the span of the declaration if it breaks visibility, or none if it respects it
 abbrev pub IsVerdict : Program → Code → Option Span → Type 0
 IsVerdict program code None = IsVisible program code
-IsVerdict program code (Some place) = (place ≡ code.place) × ¬ IsVisible program code
+IsVerdict program code (Some span) = (span ≡ code.span) × ¬ IsVisible program code
 
 -- the first of these declarations that breaks visibility
 pub record IsFirstBarred (program : Program) (codes : List Code) (found : Option Span) : Type 0 where

@@ -40,6 +40,13 @@ impl Scope {
         }
     }
 
+    /// The names, from the outermost to the innermost.
+    pub fn as_slice(&self) -> &[InScope]
+        ensures { result.now ≡ self.now }
+    {
+        self.names.as_slice()
+    }
+
     /// The number of names.
     pub fn len(&self) -> usize
         ensures { result ≡ length self.now }

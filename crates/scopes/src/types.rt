@@ -18,7 +18,7 @@ use syntax_tree::types::{SourceType, SourceTypeNode, TypeArguments};
 
 /// The context of a type.
 #[derive(Clone, Copy)]
-pub struct TypePlace<'a> {
+pub struct TypeContext<'a> {
     pub environment: &'a Environment,
     /// The names of the type parameters in scope.
     pub parameters: &'a [Name],
@@ -88,7 +88,7 @@ fn tuple_of(types: TypeList) -> TypeTerm
 }
 
 /// Returns the index of the first parameter with this name.
-fn place_of(parameters: &[Name], word: &[u8]) -> Option<usize>
+fn index_of(parameters: &[Name], word: &[u8]) -> Option<usize>
     ensures { result ≡ position (same_name word.now) parameters.now }
 {
     parameters.iter().position(|name| word == name.as_slice())
@@ -99,7 +99,7 @@ fn parameter_named(parameters: &[Name], path: &Path) -> Option<usize>
     ensures { result ≡ parameter_among parameters.now path.now }
 {
     match path {
-        Path::Name(name) => place_of(parameters, name.text.as_slice()),
+        Path::Name(name) => index_of(parameters, name.text.as_slice()),
         _ => None,
     }
 }
@@ -127,22 +127,22 @@ fn builtin_named(
 /// Returns the meaning of a path as a type with these type arguments.
 fn path_named(
     alloc: Global,
-    place: &TypePlace<'_>,
+    context: &TypeContext<'_>,
     path: &Path,
     types: TypeList,
 ) -> Result<TypeTerm, NameFault>
-    requires { length place.now.parameters.now < 2 ^ 32 }
-    ensures { IsMeaning result (named_meaning (record { environment = place.now.environment.now; parameters = place.now.parameters.now; is_spec = place.now.is_spec }) path.now types) }
+    requires { length context.now.parameters.now < 2 ^ 32 }
+    ensures { IsMeaning result (named_meaning (record { environment = context.now.environment.now; parameters = context.now.parameters.now; is_spec = context.now.is_spec }) path.now types) }
 {
-    if let Some(number) = parameter_named(place.parameters, path) {
+    if let Some(number) = parameter_named(context.parameters, path) {
         let node = TypeNode::Param(number as u32);
         return Ok(plain(alloc, TypeTerm { node }, types)?);
     }
-    match place.environment.struct_named(alloc, path) {
+    match context.environment.struct_named(alloc, path) {
         Ok(id) => Ok(TypeTerm {
             node: TypeNode::Struct(id, types),
         }),
-        Err(NameFault::Unknown) => builtin_named(alloc, place.is_spec, path, types),
+        Err(NameFault::Unknown) => builtin_named(alloc, context.is_spec, path, types),
         Err(NameFault::NoMemory) => Err(NameFault::NoMemory),
     }
 }
@@ -151,31 +151,31 @@ fn path_named(
 #[cycle(type_named)]
 pub fn type_named(
     alloc: Global,
-    place: &TypePlace<'_>,
+    context: &TypeContext<'_>,
     source: &SourceType,
 ) -> Result<TypeTerm, NameFault>
-    requires { length place.now.parameters.now < 2 ^ 32 }
-    ensures { IsMeaning result (type_meaning (record { environment = place.now.environment.now; parameters = place.now.parameters.now; is_spec = place.now.is_spec }) source.now) }
+    requires { length context.now.parameters.now < 2 ^ 32 }
+    ensures { IsMeaning result (type_meaning (record { environment = context.now.environment.now; parameters = context.now.parameters.now; is_spec = context.now.is_spec }) source.now) }
 {
     match &source.node {
         SourceTypeNode::Shared { target, .. } => {
-            let target = Box::new(alloc, type_named(alloc, place, target)?)?;
+            let target = Box::new(alloc, type_named(alloc, context, target)?)?;
             Ok(TypeTerm {
                 node: TypeNode::Shared(target),
             })
         }
         SourceTypeNode::Mutable { target, .. } => {
-            let target = Box::new(alloc, type_named(alloc, place, target)?)?;
+            let target = Box::new(alloc, type_named(alloc, context, target)?)?;
             Ok(TypeTerm {
                 node: TypeNode::Mutable(target),
             })
         }
         SourceTypeNode::Named { path, arguments } => {
-            let types = type_arguments(alloc, place, arguments)?;
-            path_named(alloc, place, path, types)
+            let types = type_arguments(alloc, context, arguments)?;
+            path_named(alloc, context, path, types)
         }
         SourceTypeNode::Tuple { items, .. } => {
-            let types = types_named(alloc, place, items)?;
+            let types = types_named(alloc, context, items)?;
             Ok(tuple_of(types))
         }
     }
@@ -185,17 +185,17 @@ pub fn type_named(
 #[cycle(type_named)]
 pub fn type_arguments(
     alloc: Global,
-    place: &TypePlace<'_>,
+    context: &TypeContext<'_>,
     arguments: &Option<TypeArguments>,
 ) -> Result<TypeList, NameFault>
-    requires { length place.now.parameters.now < 2 ^ 32 }
-    ensures { IsMeaning result (arguments_meaning (record { environment = place.now.environment.now; parameters = place.now.parameters.now; is_spec = place.now.is_spec }) (maybe_arguments_of arguments.now)) }
+    requires { length context.now.parameters.now < 2 ^ 32 }
+    ensures { IsMeaning result (arguments_meaning (record { environment = context.now.environment.now; parameters = context.now.parameters.now; is_spec = context.now.is_spec }) (maybe_arguments_of arguments.now)) }
 {
     match arguments {
         None => Ok(TypeList {
             items: Vec::new(alloc),
         }),
-        Some(arguments) => types_named(alloc, place, &arguments.items),
+        Some(arguments) => types_named(alloc, context, &arguments.items),
     }
 }
 
@@ -203,15 +203,15 @@ pub fn type_arguments(
 #[tactic(auto, using(syntax_tree::proofs::Smaller::source_type_smaller, crate::proofs::TypeLists::types_all, crate::proofs::TypeLists::types_none, crate::proofs::EachLaws::each_next))]
 fn types_named(
     alloc: Global,
-    place: &TypePlace<'_>,
+    context: &TypeContext<'_>,
     sources: &[SourceType],
 ) -> Result<TypeList, NameFault>
-    requires { length place.now.parameters.now < 2 ^ 32 }
-    ensures { IsMeaning result (types_meaning (record { environment = place.now.environment.now; parameters = place.now.parameters.now; is_spec = place.now.is_spec }) (source_types_of sources.now)) }
+    requires { length context.now.parameters.now < 2 ^ 32 }
+    ensures { IsMeaning result (types_meaning (record { environment = context.now.environment.now; parameters = context.now.parameters.now; is_spec = context.now.is_spec }) (source_types_of sources.now)) }
 {
     let mut items = Vec::new(alloc);
     for source in sources {
-        items.push(type_named(alloc, place, source)?)?;
+        items.push(type_named(alloc, context, source)?)?;
     }
     Ok(TypeList { items })
 }

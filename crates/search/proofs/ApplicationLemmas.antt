@@ -175,9 +175,9 @@ strictly n m within differ = elim (cases_lt n m) [
 
 -- a branch that is neither crowded nor of the maximal length has room
 pub room_at : (r : Bool) (ns : List Node) (d : BranchData) → IsShortBranch (branch_in ns d) → length d.entries ≢ most_entries → r ≡ false → (IsTrue r ↔ IsCrowded (branch_in ns d)) → HasRoom (branch_in ns d)
-room_at r ns d short other failed told =
+room_at r ns d short other failed known =
     let entry : length (branch_in ns d) < most_entries = strictly (length (branch_in ns d)) most_entries short (λ e. other (sym (length_in ns d) ∙ e)) in
     elim (cases_lt (above_all (formulas (branch_in ns d))) (2 ^ 32)) [
       | inl less ↦ record { number = less; entry = entry }
-      | inr many ↦ absurd (not_both r (told.1 (record { crowded = many })) failed)
+      | inr many ↦ absurd (not_both r (known.1 (record { crowded = many })) failed)
     ]

@@ -42,7 +42,7 @@ some_items (x ∷ xs) none = omega arith
 
 -- an application that is due adds something
 some_added : (shapes : List Shape) (ns : List Node) (b : Branch) (ps : List FormulaData) (r : Reason) (g : ℕ) (application : Application) → IsAddedFor ns ps r g application → IsDueApplication shapes b application → 0 < length ps
-some_added shapes ns b ps r g application (AsParts i k) due = (let w = slice_get_within ps due.news.place due.news.formula due.news.found in omega (arith, w))
+some_added shapes ns b ps r g application (AsParts i k) due = (let w = slice_get_within ps due.news.position due.news.formula due.news.found in omega (arith, w))
 some_added shapes ns b ps r g application (AsName i v k p is) due = (let l = ap length is in omega (arith, l))
 some_added shapes ns b ps r g application (AsInstance i t k p is) due = (let l = ap length is in omega (arith, l))
 some_added shapes ns b ps r g application (AsAxiom name k p is) due = (let l = ap length is in omega (arith, l))

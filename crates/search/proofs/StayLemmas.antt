@@ -105,7 +105,7 @@ module _ (ns ms : List Node) (grown : Extends ns ms) where
 
   -- ---- branches
 
-  abbrev AreNumbered : List PoolEntry → Type 0
+  abbrev pub AreNumbered : List PoolEntry → Type 0
   AreNumbered es = (i : ℕ) (e : PoolEntry) → slice_get es i ≡ Some e → IsFormulaNumber ns e.formula
 
   taken_numbered : (k : ℕ) (es : List PoolEntry) → AreNumbered es → AreNumbered (take k es)
@@ -120,7 +120,7 @@ module _ (ns ms : List Node) (grown : Extends ns ms) where
   pushed_numbered (y ∷ es) e h one zero x f = h 0 x f
   pushed_numbered (y ∷ es) e h one (suc i) x f = pushed_numbered es e (λ j z g. h (suc j) z g) one i x f
 
-  waiting_stay : (es : List PoolEntry) (ws : List Waiting) → AreNumbered es → AreWaiting ns ws → waiting_in ms es ws ≡ waiting_in ns es ws
+  pub waiting_stay : (es : List PoolEntry) (ws : List Waiting) → AreNumbered es → AreWaiting ns ws → waiting_in ms es ws ≡ waiting_in ns es ws
   waiting_stay es [] numbered h = refl
   waiting_stay es (w ∷ ws) numbered h =
       let one : IsFormulaNumber ns w.entry.formula = All-head (λ (x : Waiting). IsFormulaNumber ns x.entry.formula) w ws h in

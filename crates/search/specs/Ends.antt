@@ -103,10 +103,10 @@ IsShown shapes p budget taken ns t (Wide first second) = HasApplications ns t ta
 IsShown shapes p budget taken ns t (TooManyRows rows) = HasApplications ns t taken (λ applications. IsLargeBranch shapes p applications (branch_in ns t.branch) rows)
 IsShown shapes p budget taken ns t Full = HasApplications ns t taken (λ applications. IsFullAt shapes p applications (branch_in ns t.branch))
 
--- if `told` is true, the negation of the formula is deeper than a step may add; if false, the formula is not
-pub record TellsDeep (p : FormulaData) (told : Bool) : Type 0 where
-  pub deep : IsTrue told → IsShallow (NotFormula p) → ⊥
-  pub shallow : (IsTrue told → ⊥) → IsShallow p
+-- if `known` is true, the negation of the formula is deeper than a step may add; if false, the formula is not
+pub record TellsDeep (p : FormulaData) (known : Bool) : Type 0 where
+  pub deep : IsTrue known → IsShallow (NotFormula p) → ⊥
+  pub shallow : (IsTrue known → ⊥) → IsShallow p
 
 abbrev pub is_full : End → Bool
 is_full Full = true

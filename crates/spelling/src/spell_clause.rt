@@ -24,45 +24,45 @@ use syntax_tree::spec_expression::SpecExpression;
 use tokens::token::Punctuation;
 
 #[tactic(auto, unfolding(syntax_tree::specs::ClauseSpelling::requires_word))]
-fn spell_requires_word(alloc: Global, place: Span, into: &mut Lexemes) -> Result<(), NoMemory>
-    ensures { OnOk result (into.new ≡ into.old ++ requires_word place ∷ []) }
+fn spell_requires_word(alloc: Global, span: Span, into: &mut Lexemes) -> Result<(), NoMemory>
+    ensures { OnOk result (into.new ≡ into.old ++ requires_word span ∷ []) }
 {
-    into.push_word(alloc, b"requires", Some(place))
+    into.push_word(alloc, b"requires", Some(span))
 }
 
 #[tactic(auto, unfolding(syntax_tree::specs::ClauseSpelling::ensures_word))]
-fn spell_ensures_word(alloc: Global, place: Span, into: &mut Lexemes) -> Result<(), NoMemory>
-    ensures { OnOk result (into.new ≡ into.old ++ ensures_word place ∷ []) }
+fn spell_ensures_word(alloc: Global, span: Span, into: &mut Lexemes) -> Result<(), NoMemory>
+    ensures { OnOk result (into.new ≡ into.old ++ ensures_word span ∷ []) }
 {
-    into.push_word(alloc, b"ensures", Some(place))
+    into.push_word(alloc, b"ensures", Some(span))
 }
 
 #[tactic(auto, unfolding(syntax_tree::specs::ClauseSpelling::aborts_if_word))]
-fn spell_aborts_if_word(alloc: Global, place: Span, into: &mut Lexemes) -> Result<(), NoMemory>
-    ensures { OnOk result (into.new ≡ into.old ++ aborts_if_word place ∷ []) }
+fn spell_aborts_if_word(alloc: Global, span: Span, into: &mut Lexemes) -> Result<(), NoMemory>
+    ensures { OnOk result (into.new ≡ into.old ++ aborts_if_word span ∷ []) }
 {
-    into.push_word(alloc, b"aborts_if", Some(place))
+    into.push_word(alloc, b"aborts_if", Some(span))
 }
 
 #[tactic(auto, unfolding(syntax_tree::specs::ClauseSpelling::modifies_word))]
-fn spell_modifies_word(alloc: Global, place: Span, into: &mut Lexemes) -> Result<(), NoMemory>
-    ensures { OnOk result (into.new ≡ into.old ++ modifies_word place ∷ []) }
+fn spell_modifies_word(alloc: Global, span: Span, into: &mut Lexemes) -> Result<(), NoMemory>
+    ensures { OnOk result (into.new ≡ into.old ++ modifies_word span ∷ []) }
 {
-    into.push_word(alloc, b"modifies", Some(place))
+    into.push_word(alloc, b"modifies", Some(span))
 }
 
 #[tactic(auto, unfolding(syntax_tree::specs::ClauseSpelling::invariant_word))]
-fn spell_invariant_word(alloc: Global, place: Span, into: &mut Lexemes) -> Result<(), NoMemory>
-    ensures { OnOk result (into.new ≡ into.old ++ invariant_word place ∷ []) }
+fn spell_invariant_word(alloc: Global, span: Span, into: &mut Lexemes) -> Result<(), NoMemory>
+    ensures { OnOk result (into.new ≡ into.old ++ invariant_word span ∷ []) }
 {
-    into.push_word(alloc, b"invariant", Some(place))
+    into.push_word(alloc, b"invariant", Some(span))
 }
 
 #[tactic(auto, unfolding(syntax_tree::specs::ClauseSpelling::include_word))]
-fn spell_include_word(alloc: Global, place: Span, into: &mut Lexemes) -> Result<(), NoMemory>
-    ensures { OnOk result (into.new ≡ into.old ++ include_word place ∷ []) }
+fn spell_include_word(alloc: Global, span: Span, into: &mut Lexemes) -> Result<(), NoMemory>
+    ensures { OnOk result (into.new ≡ into.old ++ include_word span ∷ []) }
 {
-    into.push_word(alloc, b"include", Some(place))
+    into.push_word(alloc, b"include", Some(span))
 }
 
 #[tactic(auto, unfolding(syntax_tree::specs::ClauseSpelling::failure_word))]
@@ -72,13 +72,13 @@ fn spell_failure_word(alloc: Global, into: &mut Lexemes) -> Result<(), NoMemory>
     into.push_word(alloc, b"EXECUTION_FAILURE", None)
 }
 
-fn spell_truth(alloc: Global, place: Span, value: bool, into: &mut Lexemes) -> Result<(), NoMemory>
-    ensures { OnOk result (into.new ≡ into.old ++ truth_spelling place value) }
+fn spell_truth(alloc: Global, span: Span, value: bool, into: &mut Lexemes) -> Result<(), NoMemory>
+    ensures { OnOk result (into.new ≡ into.old ++ truth_spelling span value) }
 {
     if value {
-        into.push_word(alloc, b"true", Some(place))
+        into.push_word(alloc, b"true", Some(span))
     } else {
-        into.push_word(alloc, b"false", Some(place))
+        into.push_word(alloc, b"false", Some(span))
     }
 }
 
@@ -91,9 +91,9 @@ fn spell_pragma_value(
 {
     match value {
         None => Ok(()),
-        Some(PragmaValue::Truth { place, value }) => {
+        Some(PragmaValue::Truth { span, value }) => {
             into.push_sign(Punctuation::Equal)?;
-            spell_truth(alloc, *place, *value, into)
+            spell_truth(alloc, *span, *value, into)
         }
         Some(PragmaValue::Number(number)) => {
             into.push_sign(Punctuation::Equal)?;
@@ -202,7 +202,7 @@ fn spell_bindings(
 fn spell_include(alloc: Global, include: &Include, into: &mut Lexemes) -> Result<(), NoMemory>
     ensures { OnOk result (into.new ≡ into.old ++ include_spelling include.now) }
 {
-    spell_include_word(alloc, include.place, into)?;
+    spell_include_word(alloc, include.span, into)?;
     spell_path(alloc, &include.schema, into)?;
     spell_maybe_arguments(alloc, None, &include.arguments, into)?;
     spell_bindings(alloc, &include.bindings, into)?;
@@ -225,50 +225,50 @@ pub fn spell_clause(alloc: Global, clause: &Clause, into: &mut Lexemes) -> Resul
     ensures { OnOk result (into.new ≡ into.old ++ clause_spelling clause.now) }
 {
     match clause {
-        Clause::Pragma { place, pragmas } => {
-            into.push_word(alloc, b"pragma", Some(*place))?;
+        Clause::Pragma { span, pragmas } => {
+            into.push_word(alloc, b"pragma", Some(*span))?;
             spell_pragmas(alloc, pragmas, into)?;
             into.push_sign(Punctuation::Semicolon)
         }
-        Clause::Requires { place, condition } => {
-            spell_requires_word(alloc, *place, into)?;
+        Clause::Requires { span, condition } => {
+            spell_requires_word(alloc, *span, into)?;
             spell_condition(alloc, condition, into)
         }
-        Clause::Ensures { place, condition } => {
-            spell_ensures_word(alloc, *place, into)?;
+        Clause::Ensures { span, condition } => {
+            spell_ensures_word(alloc, *span, into)?;
             spell_condition(alloc, condition, into)
         }
         Clause::AbortsIf {
-            place,
+            span,
             condition,
             code,
         } => {
-            spell_aborts_if_word(alloc, *place, into)?;
+            spell_aborts_if_word(alloc, *span, into)?;
             spell_spec_expression(alloc, condition, into)?;
             spell_code(alloc, code, into)?;
             into.push_sign(Punctuation::Semicolon)
         }
-        Clause::Modifies { place, targets } => {
-            spell_modifies_word(alloc, *place, into)?;
+        Clause::Modifies { span, targets } => {
+            spell_modifies_word(alloc, *span, into)?;
             spell_targets(alloc, targets, into)?;
             into.push_sign(Punctuation::Semicolon)
         }
         Clause::Invariant {
-            place,
+            span,
             is_update,
             condition,
         } => {
-            spell_invariant_word(alloc, *place, into)?;
+            spell_invariant_word(alloc, *span, into)?;
             spell_update(alloc, *is_update, into)?;
             spell_condition(alloc, condition, into)
         }
         Clause::Let {
-            place,
+            span,
             is_post,
             name,
             value,
         } => {
-            into.push_word(alloc, b"let", Some(*place))?;
+            into.push_word(alloc, b"let", Some(*span))?;
             spell_post(alloc, *is_post, into)?;
             spell_identifier(alloc, name, into)?;
             into.push_sign(Punctuation::Equal)?;
@@ -303,7 +303,7 @@ fn spell_clause_block(alloc: Global, clauses: &[Clause], into: &mut Lexemes) -> 
 fn spell_schema(alloc: Global, schema: &Schema, into: &mut Lexemes) -> Result<(), NoMemory>
     ensures { OnOk result (into.new ≡ into.old ++ schema_spelling schema.now) }
 {
-    into.push_word(alloc, b"spec", Some(schema.place))?;
+    into.push_word(alloc, b"spec", Some(schema.span))?;
     into.push_word(alloc, b"schema", None)?;
     spell_identifier(alloc, &schema.name, into)?;
     spell_parameters(alloc, &schema.parameters, into)?;
@@ -317,7 +317,7 @@ fn spell_spec_function_head(
 ) -> Result<(), NoMemory>
     ensures { OnOk result (into.new ≡ into.old ++ spec_function_head_spelling function.now) }
 {
-    into.push_word(alloc, b"spec", Some(function.place))?;
+    into.push_word(alloc, b"spec", Some(function.span))?;
     into.push_word(alloc, b"fun", None)?;
     spell_identifier(alloc, &function.name, into)?;
     spell_parameters(alloc, &function.parameters, into)
@@ -354,24 +354,24 @@ pub fn spell_spec(alloc: Global, spec: &Spec, into: &mut Lexemes) -> Result<(), 
     ensures { OnOk result (into.new ≡ into.old ++ spec_tree_spelling spec.now) }
 {
     match spec {
-        Spec::Module { place, clauses } => {
-            into.push_word(alloc, b"spec", Some(*place))?;
+        Spec::Module { span, clauses } => {
+            into.push_word(alloc, b"spec", Some(*span))?;
             into.push_word(alloc, b"module", None)?;
             spell_clause_block(alloc, &clauses.items, into)
         }
         Spec::Named {
-            place,
+            span,
             name,
             clauses,
         } => {
-            into.push_word(alloc, b"spec", Some(*place))?;
+            into.push_word(alloc, b"spec", Some(*span))?;
             spell_identifier(alloc, name, into)?;
             spell_clause_block(alloc, &clauses.items, into)
         }
         Spec::Schema(schema) => spell_schema(alloc, schema, into),
         Spec::Function(function) => spell_spec_function(alloc, function, into),
-        Spec::Loop { place, clauses } => {
-            into.push_word(alloc, b"spec", Some(*place))?;
+        Spec::Loop { span, clauses } => {
+            into.push_word(alloc, b"spec", Some(*span))?;
             spell_clause_block(alloc, &clauses.items, into)
         }
     }

@@ -79,22 +79,22 @@ fn spell_head(
 /// Appends the tokens of a vector up to its items.
 fn spell_vector_head(
     alloc: Global,
-    place: Span,
+    span: Span,
     arguments: &Option<TypeArguments>,
     into: &mut Lexemes,
 ) -> Result<(), NoMemory>
-    ensures { OnOk result (into.new ≡ into.old ++ word (codes "vector") (Some place) ∷ maybe_arguments_spelling None (maybe_arguments_of arguments.now) ++ sign LeftBracket ∷ []) }
+    ensures { OnOk result (into.new ≡ into.old ++ word (codes "vector") (Some span) ∷ maybe_arguments_spelling None (maybe_arguments_of arguments.now) ++ sign LeftBracket ∷ []) }
 {
-    into.push_word(alloc, b"vector", Some(place))?;
+    into.push_word(alloc, b"vector", Some(span))?;
     spell_maybe_arguments(alloc, None, arguments, into)?;
     into.push_sign(Punctuation::LeftBracket)
 }
 
 /// Appends the tokens of an assertion up to its condition.
-fn spell_assert_head(alloc: Global, place: Span, into: &mut Lexemes) -> Result<(), NoMemory>
-    ensures { OnOk result (into.new ≡ into.old ++ word (codes "assert") (Some place) ∷ sign Exclaim ∷ sign LeftParenthesis ∷ []) }
+fn spell_assert_head(alloc: Global, span: Span, into: &mut Lexemes) -> Result<(), NoMemory>
+    ensures { OnOk result (into.new ≡ into.old ++ word (codes "assert") (Some span) ∷ sign Exclaim ∷ sign LeftParenthesis ∷ []) }
 {
-    into.push_word(alloc, b"assert", Some(place))?;
+    into.push_word(alloc, b"assert", Some(span))?;
     into.push_sign(Punctuation::Exclaim)?;
     into.push_sign(Punctuation::LeftParenthesis)
 }
@@ -129,60 +129,60 @@ pub fn spell_expression(
         ExpressionNode::Binary {
             left,
             operator,
-            place,
+            span,
             right,
         } => {
             spell_expression(alloc, left, into)?;
-            spell_operator(*operator, *place, is_path_last(left), into)?;
+            spell_operator(*operator, *span, is_path_last(left), into)?;
             spell_expression(alloc, right, into)
         }
         ExpressionNode::Assign {
             target,
-            place,
+            span,
             value,
         } => {
             spell_expression(alloc, target, into)?;
-            into.push_sign_at(*place, Punctuation::Equal)?;
+            into.push_sign_at(*span, Punctuation::Equal)?;
             spell_expression(alloc, value, into)
         }
         ExpressionNode::If {
-            place,
+            span,
             condition,
             then_branch,
             else_branch,
-        } => spell_if(alloc, *place, condition, then_branch, else_branch, into),
+        } => spell_if(alloc, *span, condition, then_branch, else_branch, into),
         ExpressionNode::While {
-            place,
+            span,
             condition,
             body,
         } => {
-            spell_condition(alloc, b"while", *place, condition, into)?;
+            spell_condition(alloc, b"while", *span, condition, into)?;
             spell_expression(alloc, body, into)
         }
-        ExpressionNode::Loop { place, body } => {
-            into.push_word(alloc, b"loop", Some(*place))?;
+        ExpressionNode::Loop { span, body } => {
+            into.push_word(alloc, b"loop", Some(*span))?;
             spell_expression(alloc, body, into)
         }
-        ExpressionNode::Return { place, value } => {
-            into.push_word(alloc, b"return", Some(*place))?;
+        ExpressionNode::Return { span, value } => {
+            into.push_word(alloc, b"return", Some(*span))?;
             spell_returned(alloc, value, into)
         }
-        ExpressionNode::Abort { place, code } => {
-            into.push_word(alloc, b"abort", Some(*place))?;
+        ExpressionNode::Abort { span, code } => {
+            into.push_word(alloc, b"abort", Some(*span))?;
             spell_expression(alloc, code, into)
         }
-        ExpressionNode::Break(place) => into.push_word(alloc, b"break", Some(*place)),
-        ExpressionNode::Continue(place) => into.push_word(alloc, b"continue", Some(*place)),
+        ExpressionNode::Break(span) => into.push_word(alloc, b"break", Some(*span)),
+        ExpressionNode::Continue(span) => into.push_word(alloc, b"continue", Some(*span)),
         ExpressionNode::Unary {
             operator,
-            place,
+            span,
             operand,
         } => {
-            spell_unary(alloc, *operator, *place, into)?;
+            spell_unary(alloc, *operator, *span, into)?;
             spell_expression(alloc, operand, into)
         }
-        ExpressionNode::Use { kind, place, local } => {
-            spell_use(alloc, *kind, *place, into)?;
+        ExpressionNode::Use { kind, span, local } => {
+            spell_use(alloc, *kind, *span, into)?;
             spell_identifier(alloc, local, into)
         }
         ExpressionNode::Field { base, field } => {
@@ -222,29 +222,29 @@ pub fn spell_expression(
             spell_fields(alloc, fields, *last_comma, into)
         }
         ExpressionNode::Vector {
-            place,
+            span,
             arguments,
             items,
             last_comma,
         } => {
-            spell_vector_head(alloc, *place, arguments, into)?;
+            spell_vector_head(alloc, *span, arguments, into)?;
             spell_listed(alloc, items, *last_comma, Punctuation::RightBracket, into)
         }
         ExpressionNode::Assert {
-            place,
+            span,
             condition,
             code,
         } => {
-            spell_assert_head(alloc, *place, into)?;
+            spell_assert_head(alloc, *span, into)?;
             spell_before(alloc, condition, Punctuation::Comma, into)?;
             spell_before(alloc, code, Punctuation::RightParenthesis, into)
         }
         ExpressionNode::Tuple {
-            place,
+            span,
             items,
             last_comma,
         } => {
-            into.push_sign_at(*place, Punctuation::LeftParenthesis)?;
+            into.push_sign_at(*span, Punctuation::LeftParenthesis)?;
             spell_listed(
                 alloc,
                 items,
@@ -254,11 +254,11 @@ pub fn spell_expression(
             )
         }
         ExpressionNode::Cast {
-            place,
+            span,
             value,
             target,
         } => {
-            into.push_sign_at(*place, Punctuation::LeftParenthesis)?;
+            into.push_sign_at(*span, Punctuation::LeftParenthesis)?;
             spell_expression(alloc, value, into)?;
             spell_cast_target(alloc, target, into)
         }
@@ -270,15 +270,15 @@ pub fn spell_expression(
 #[cycle(spell_expression)]
 fn spell_if(
     alloc: Global,
-    place: Span,
+    span: Span,
     condition: &Expression,
     then_branch: &Expression,
     else_branch: &Option<Box<Expression>>,
     into: &mut Lexemes,
 ) -> Result<(), NoMemory>
-    ensures { OnOk result (into.new ≡ into.old ++ expression_spelling (IfExpression place condition.now then_branch.now (maybe_expression_of (unboxed else_branch.now)))) }
+    ensures { OnOk result (into.new ≡ into.old ++ expression_spelling (IfExpression span condition.now then_branch.now (maybe_expression_of (unboxed else_branch.now)))) }
 {
-    spell_condition(alloc, b"if", place, condition, into)?;
+    spell_condition(alloc, b"if", span, condition, into)?;
     spell_expression(alloc, then_branch, into)?;
     spell_else(alloc, else_branch, into)
 }
@@ -302,13 +302,13 @@ fn spell_before(
 fn spell_condition(
     alloc: Global,
     keyword: &[u8],
-    place: Span,
+    span: Span,
     condition: &Expression,
     into: &mut Lexemes,
 ) -> Result<(), NoMemory>
-    ensures { OnOk result (into.new ≡ into.old ++ word keyword.now (Some place) ∷ sign LeftParenthesis ∷ expression_spelling condition.now ++ sign RightParenthesis ∷ []) }
+    ensures { OnOk result (into.new ≡ into.old ++ word keyword.now (Some span) ∷ sign LeftParenthesis ∷ expression_spelling condition.now ++ sign RightParenthesis ∷ []) }
 {
-    into.push_word(alloc, keyword, Some(place))?;
+    into.push_word(alloc, keyword, Some(span))?;
     into.push_sign(Punctuation::LeftParenthesis)?;
     spell_before(alloc, condition, Punctuation::RightParenthesis, into)
 }
@@ -460,7 +460,7 @@ fn spell_more_field_values(
 pub fn spell_block(alloc: Global, block: &Block, into: &mut Lexemes) -> Result<(), NoMemory>
     ensures { OnOk result (into.new ≡ into.old ++ block_spelling block.now) }
 {
-    into.push_sign_at(block.place, Punctuation::LeftBrace)?;
+    into.push_sign_at(block.span, Punctuation::LeftBrace)?;
     spell_maybe_loop_spec(alloc, &block.spec, into)?;
     spell_items(alloc, &block.items, into)?;
     spell_value(alloc, &block.value, into)?;
@@ -502,12 +502,12 @@ pub fn spell_item(alloc: Global, item: &Item, into: &mut Lexemes) -> Result<(), 
             spell_before(alloc, expression, Punctuation::Semicolon, into)
         }
         ItemNode::Let {
-            place,
+            span,
             pattern,
             annotation,
             value,
         } => {
-            into.push_word(alloc, b"let", Some(*place))?;
+            into.push_word(alloc, b"let", Some(*span))?;
             spell_pattern(alloc, pattern, into)?;
             spell_annotation(alloc, annotation, into)?;
             spell_initial(alloc, value, into)?;

@@ -16,15 +16,15 @@ pub fn spell_literal(alloc: Global, literal: &Literal, into: &mut Lexemes) -> Re
 {
     match literal {
         Literal::Number(number) => spell_numeral(alloc, number, into),
-        Literal::Truth { place, value } => {
+        Literal::Truth { span, value } => {
             if *value {
-                into.push_word(alloc, b"true", Some(*place))
+                into.push_word(alloc, b"true", Some(*span))
             } else {
-                into.push_word(alloc, b"false", Some(*place))
+                into.push_word(alloc, b"false", Some(*span))
             }
         }
-        Literal::Address { place, address } => {
-            into.push_sign_at(*place, Punctuation::AtSign)?;
+        Literal::Address { span, address } => {
+            into.push_sign_at(*span, Punctuation::AtSign)?;
             spell_address(alloc, address, into)
         }
     }

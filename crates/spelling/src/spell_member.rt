@@ -26,7 +26,7 @@ use tokens::token::Punctuation;
 fn spell_attribute(alloc: Global, attribute: &Attribute, into: &mut Lexemes) -> Result<(), NoMemory>
     ensures { OnOk result (into.new ≡ into.old ++ attribute_spelling attribute.now) }
 {
-    into.push_sign_at(attribute.place, Punctuation::NumberSign)?;
+    into.push_sign_at(attribute.span, Punctuation::NumberSign)?;
     into.push_sign(Punctuation::LeftBracket)?;
     spell_tokens(alloc, attribute.tokens.as_slice(), into)?;
     into.push_sign(Punctuation::RightBracket)
@@ -116,7 +116,7 @@ fn spell_imported(alloc: Global, imported: &Imported, into: &mut Lexemes) -> Res
 fn spell_use_member(alloc: Global, used: &Use, into: &mut Lexemes) -> Result<(), NoMemory>
     ensures { OnOk result (into.new ≡ into.old ++ use_member_spelling used.now) }
 {
-    into.push_word(alloc, b"use", Some(used.place))?;
+    into.push_word(alloc, b"use", Some(used.span))?;
     spell_module_name(alloc, &used.owner, into)?;
     spell_imported(alloc, &used.imported, into)?;
     into.push_sign(Punctuation::Semicolon)
@@ -125,7 +125,7 @@ fn spell_use_member(alloc: Global, used: &Use, into: &mut Lexemes) -> Result<(),
 fn spell_friend(alloc: Global, friend: &Friend, into: &mut Lexemes) -> Result<(), NoMemory>
     ensures { OnOk result (into.new ≡ into.old ++ friend_spelling friend.now) }
 {
-    into.push_word(alloc, b"friend", Some(friend.place))?;
+    into.push_word(alloc, b"friend", Some(friend.span))?;
     spell_module_name(alloc, &friend.owner, into)?;
     into.push_sign(Punctuation::Semicolon)
 }
@@ -336,7 +336,7 @@ fn spell_typed_names(alloc: Global, names: &TypedNames, into: &mut Lexemes) -> R
 fn spell_struct(alloc: Global, declared: &Struct, into: &mut Lexemes) -> Result<(), NoMemory>
     ensures { OnOk result (into.new ≡ into.old ++ struct_spelling declared.now) }
 {
-    into.push_word(alloc, b"struct", Some(declared.place))?;
+    into.push_word(alloc, b"struct", Some(declared.span))?;
     spell_identifier(alloc, &declared.name, into)?;
     spell_parameters(alloc, &declared.parameters, into)?;
     spell_abilities(alloc, &declared.abilities, into)?;
@@ -348,7 +348,7 @@ fn spell_struct(alloc: Global, declared: &Struct, into: &mut Lexemes) -> Result<
 fn spell_constant(alloc: Global, constant: &Constant, into: &mut Lexemes) -> Result<(), NoMemory>
     ensures { OnOk result (into.new ≡ into.old ++ constant_spelling constant.now) }
 {
-    into.push_word(alloc, b"const", Some(constant.place))?;
+    into.push_word(alloc, b"const", Some(constant.span))?;
     spell_identifier(alloc, &constant.name, into)?;
     into.push_sign(Punctuation::Colon)?;
     spell_type(alloc, &constant.annotation, into)?;
@@ -375,9 +375,9 @@ fn spell_visibility(
 {
     match visibility {
         Visibility::Module => Ok(()),
-        Visibility::Public(place) => into.push_word(alloc, b"public", Some(place)),
-        Visibility::Friends(place) => {
-            into.push_word(alloc, b"public", Some(place))?;
+        Visibility::Public(span) => into.push_word(alloc, b"public", Some(span)),
+        Visibility::Friends(span) => {
+            into.push_word(alloc, b"public", Some(span))?;
             spell_of_friends(alloc, into)
         }
     }
@@ -388,7 +388,7 @@ fn spell_entry(alloc: Global, entry: Option<Span>, into: &mut Lexemes) -> Result
 {
     match entry {
         None => Ok(()),
-        Some(place) => into.push_word(alloc, b"entry", Some(place)),
+        Some(span) => into.push_word(alloc, b"entry", Some(span)),
     }
 }
 
@@ -451,7 +451,7 @@ fn spell_function_name(
 {
     spell_visibility(alloc, function.visibility, into)?;
     spell_entry(alloc, function.entry, into)?;
-    into.push_word(alloc, b"fun", Some(function.place))?;
+    into.push_word(alloc, b"fun", Some(function.span))?;
     spell_identifier(alloc, &function.name, into)?;
     spell_parameters(alloc, &function.parameters, into)
 }
@@ -510,7 +510,7 @@ pub fn spell_module(alloc: Global, tree: &Module, into: &mut Lexemes) -> Result<
     ensures { OnOk result (into.new ≡ into.old ++ module_tree_spelling tree.now) }
 {
     spell_attributes(alloc, &tree.attributes, into)?;
-    into.push_word(alloc, b"module", Some(tree.place))?;
+    into.push_word(alloc, b"module", Some(tree.span))?;
     spell_module_name(alloc, &tree.name, into)?;
     into.push_sign(Punctuation::LeftBrace)?;
     spell_members(alloc, &tree.members, into)?;

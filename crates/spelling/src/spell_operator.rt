@@ -38,26 +38,26 @@ fn operator_sign(operator: BinaryOperator) -> Punctuation
 /// glued `<` would open type arguments.
 pub fn spell_operator(
     operator: BinaryOperator,
-    place: Span,
+    span: Span,
     after_path: bool,
     into: &mut Lexemes,
 ) -> Result<(), NoMemory>
-    ensures { OnOk result (into.new ≡ into.old ++ operator_spelling operator place after_path) }
+    ensures { OnOk result (into.new ≡ into.old ++ operator_spelling operator span after_path) }
 {
     match operator {
         BinaryOperator::ShiftRight => {
-            into.push_sign_at(place, Punctuation::Greater)?;
+            into.push_sign_at(span, Punctuation::Greater)?;
             into.push_sign_glued(Some(true), Punctuation::Greater)
         }
         BinaryOperator::Less | BinaryOperator::ShiftLeft => {
             let glued = if after_path { Some(false) } else { None };
             into.push(Lexeme {
                 kind: TokenKind::Punctuation(operator_sign(operator)),
-                place: Some(place),
+                span: Some(span),
                 glued,
             })
         }
-        _ => into.push_sign_at(place, operator_sign(operator)),
+        _ => into.push_sign_at(span, operator_sign(operator)),
     }
 }
 
@@ -65,17 +65,17 @@ pub fn spell_operator(
 pub fn spell_unary(
     alloc: Global,
     operator: UnaryOperator,
-    place: Span,
+    span: Span,
     into: &mut Lexemes,
 ) -> Result<(), NoMemory>
-    ensures { OnOk result (into.new ≡ into.old ++ unary_spelling operator place) }
+    ensures { OnOk result (into.new ≡ into.old ++ unary_spelling operator span) }
 {
     match operator {
-        UnaryOperator::Not => into.push_sign_at(place, Punctuation::Exclaim),
-        UnaryOperator::Dereference => into.push_sign_at(place, Punctuation::Star),
-        UnaryOperator::Borrow => into.push_sign_at(place, Punctuation::Ampersand),
+        UnaryOperator::Not => into.push_sign_at(span, Punctuation::Exclaim),
+        UnaryOperator::Dereference => into.push_sign_at(span, Punctuation::Star),
+        UnaryOperator::Borrow => into.push_sign_at(span, Punctuation::Ampersand),
         UnaryOperator::BorrowMutable => {
-            into.push_sign_at(place, Punctuation::Ampersand)?;
+            into.push_sign_at(span, Punctuation::Ampersand)?;
             into.push_word(alloc, b"mut", None)
         }
     }
@@ -85,13 +85,13 @@ pub fn spell_unary(
 pub fn spell_use(
     alloc: Global,
     kind: UseKind,
-    place: Span,
+    span: Span,
     into: &mut Lexemes,
 ) -> Result<(), NoMemory>
-    ensures { OnOk result (into.new ≡ into.old ++ use_spelling kind place) }
+    ensures { OnOk result (into.new ≡ into.old ++ use_spelling kind span) }
 {
     match kind {
-        UseKind::Move => into.push_word(alloc, b"move", Some(place)),
-        UseKind::Copy => into.push_word(alloc, b"copy", Some(place)),
+        UseKind::Move => into.push_word(alloc, b"move", Some(span)),
+        UseKind::Copy => into.push_word(alloc, b"copy", Some(span)),
     }
 }

@@ -18,7 +18,7 @@ pub fn spell_identifier(
 ) -> Result<(), NoMemory>
     ensures { OnOk result (into.new ≡ into.old ++ identifier name.now ∷ []) }
 {
-    into.push_word(alloc, name.text.as_slice(), Some(name.place))
+    into.push_word(alloc, name.text.as_slice(), Some(name.span))
 }
 
 /// Appends the token of a number.
@@ -32,7 +32,7 @@ pub fn spell_numeral(alloc: Global, number: &Numeral, into: &mut Lexemes) -> Res
     };
     into.push(Lexeme {
         kind: TokenKind::Number(literal),
-        place: Some(number.place),
+        span: Some(number.span),
         glued: None,
     })
 }

@@ -21,7 +21,7 @@ pub fn spell_pattern(alloc: Global, pattern: &Pattern, into: &mut Lexemes) -> Re
 {
     match &pattern.node {
         PatternNode::Bind(name) => spell_identifier(alloc, name, into),
-        PatternNode::Ignore(place) => into.push_word(alloc, b"_", Some(*place)),
+        PatternNode::Ignore(span) => into.push_word(alloc, b"_", Some(*span)),
         PatternNode::Unpack {
             path,
             arguments,
@@ -35,11 +35,11 @@ pub fn spell_pattern(alloc: Global, pattern: &Pattern, into: &mut Lexemes) -> Re
             into.push_sign(Punctuation::RightBrace)
         }
         PatternNode::Tuple {
-            place,
+            span,
             items,
             last_comma,
         } => {
-            into.push_sign_at(*place, Punctuation::LeftParenthesis)?;
+            into.push_sign_at(*span, Punctuation::LeftParenthesis)?;
             spell_patterns(alloc, items, *last_comma, into)?;
             into.push_sign(Punctuation::RightParenthesis)
         }

@@ -31,40 +31,40 @@ pub fn spell_spec_expression(
         SpecNode::Binary {
             left,
             operator,
-            place,
+            span,
             right,
         } => {
             spell_spec_expression(alloc, left, into)?;
-            spell_spec_operator(*operator, *place, is_path_last(left), into)?;
+            spell_spec_operator(*operator, *span, is_path_last(left), into)?;
             spell_spec_expression(alloc, right, into)
         }
         SpecNode::Quantified {
             quantifier,
-            place,
+            span,
             binds,
             triggers,
             body,
         } => {
-            spell_quantifier(alloc, *quantifier, *place, into)?;
+            spell_quantifier(alloc, *quantifier, *span, into)?;
             spell_binds(alloc, binds, false, into)?;
             spell_triggers(alloc, triggers, into)?;
             into.push_sign(Punctuation::Colon)?;
             spell_spec_expression(alloc, body, into)
         }
         SpecNode::If {
-            place,
+            span,
             condition,
             then_branch,
             else_branch,
         } => {
-            into.push_word(alloc, b"if", Some(*place))?;
+            into.push_word(alloc, b"if", Some(*span))?;
             spell_condition(alloc, condition, into)?;
             spell_spec_expression(alloc, then_branch, into)?;
             into.push_word(alloc, b"else", None)?;
             spell_spec_expression(alloc, else_branch, into)
         }
-        SpecNode::Not { place, operand } => {
-            into.push_sign_at(*place, Punctuation::Exclaim)?;
+        SpecNode::Not { span, operand } => {
+            into.push_sign_at(*span, Punctuation::Exclaim)?;
             spell_spec_expression(alloc, operand, into)
         }
         SpecNode::Field { base, field } => {
@@ -104,8 +104,8 @@ pub fn spell_spec_expression(
             spell_spec_fields(alloc, fields, *last_comma, into)?;
             into.push_sign(Punctuation::RightBrace)
         }
-        SpecNode::Parenthesized { place, inner } => {
-            into.push_sign_at(*place, Punctuation::LeftParenthesis)?;
+        SpecNode::Parenthesized { span, inner } => {
+            into.push_sign_at(*span, Punctuation::LeftParenthesis)?;
             spell_spec_expression(alloc, inner, into)?;
             into.push_sign(Punctuation::RightParenthesis)
         }

@@ -14,17 +14,17 @@ use tokens::token::Punctuation;
 /// Appends the tokens of a binary operator of spec expressions, whose left operand ends in a path or not.
 pub fn spell_spec_operator(
     operator: SpecOperator,
-    place: Span,
+    span: Span,
     after_path: bool,
     into: &mut Lexemes,
 ) -> Result<(), NoMemory>
-    ensures { OnOk result (into.new ≡ into.old ++ spec_operator_spelling operator place after_path) }
+    ensures { OnOk result (into.new ≡ into.old ++ spec_operator_spelling operator span after_path) }
 {
     match operator {
-        SpecOperator::Equivalent => into.push_sign_at(place, Punctuation::LessEqualEqualGreater),
-        SpecOperator::Implies => into.push_sign_at(place, Punctuation::EqualEqualGreater),
-        SpecOperator::Range => into.push_sign_at(place, Punctuation::PeriodPeriod),
-        SpecOperator::Common(operator) => spell_operator(operator, place, after_path, into),
+        SpecOperator::Equivalent => into.push_sign_at(span, Punctuation::LessEqualEqualGreater),
+        SpecOperator::Implies => into.push_sign_at(span, Punctuation::EqualEqualGreater),
+        SpecOperator::Range => into.push_sign_at(span, Punctuation::PeriodPeriod),
+        SpecOperator::Common(operator) => spell_operator(operator, span, after_path, into),
     }
 }
 
@@ -32,13 +32,13 @@ pub fn spell_spec_operator(
 pub fn spell_quantifier(
     alloc: Global,
     quantifier: Quantifier,
-    place: Span,
+    span: Span,
     into: &mut Lexemes,
 ) -> Result<(), NoMemory>
-    ensures { OnOk result (into.new ≡ into.old ++ quantifier_spelling quantifier place) }
+    ensures { OnOk result (into.new ≡ into.old ++ quantifier_spelling quantifier span) }
 {
     match quantifier {
-        Quantifier::ForAll => into.push_word(alloc, b"forall", Some(place)),
-        Quantifier::Exists => into.push_word(alloc, b"exists", Some(place)),
+        Quantifier::ForAll => into.push_word(alloc, b"forall", Some(span)),
+        Quantifier::Exists => into.push_word(alloc, b"exists", Some(span)),
     }
 }

@@ -15,7 +15,7 @@ fn spell_kept(alloc: Global, token: &Token, into: &mut Lexemes) -> Result<(), No
     let kind = copy_kind(alloc, &token.kind)?;
     into.push(Lexeme {
         kind,
-        place: Some(token.span),
+        span: Some(token.span),
         glued: Some(token.glued),
     })
 }

@@ -23,12 +23,12 @@ pub fn spell_type(
     ensures { OnOk result (into.new ≡ into.old ++ type_spelling source_type.now) }
 {
     match &source_type.node {
-        SourceTypeNode::Shared { place, target } => {
-            into.push_sign_at(*place, Punctuation::Ampersand)?;
+        SourceTypeNode::Shared { span, target } => {
+            into.push_sign_at(*span, Punctuation::Ampersand)?;
             spell_type(alloc, target, into)
         }
-        SourceTypeNode::Mutable { place, target } => {
-            into.push_sign_at(*place, Punctuation::Ampersand)?;
+        SourceTypeNode::Mutable { span, target } => {
+            into.push_sign_at(*span, Punctuation::Ampersand)?;
             into.push_word(alloc, b"mut", None)?;
             spell_type(alloc, target, into)
         }
@@ -37,11 +37,11 @@ pub fn spell_type(
             spell_maybe_arguments(alloc, None, arguments, into)
         }
         SourceTypeNode::Tuple {
-            place,
+            span,
             items,
             last_comma,
         } => {
-            into.push_sign_at(*place, Punctuation::LeftParenthesis)?;
+            into.push_sign_at(*span, Punctuation::LeftParenthesis)?;
             spell_types(alloc, items, *last_comma, into)?;
             into.push_sign(Punctuation::RightParenthesis)
         }

@@ -19,18 +19,18 @@ use Rattle.step_checks.proofs.ClosingsTruthLemmas.{never}
 
 -- ---- shallow steps
 
-pub both_shallow : {P Q : Type 0} → P → (told : Bool) → IsTrue told ↔ Q → IsTrue told ↔ (P × Q)
-both_shallow p told h = (λ yes. (p, h.0 yes), λ both. h.1 both.1)
+pub both_shallow : {P Q : Type 0} → P → (known : Bool) → IsTrue known ↔ Q → IsTrue known ↔ (P × Q)
+both_shallow p known h = (λ yes. (p, h.0 yes), λ both. h.1 both.1)
 
-pub one_deep : {P Q : Type 0} (told : Bool) → told ≡ false → IsTrue told ↔ P → IsTrue false ↔ (P × Q)
-one_deep told e h = never (λ both. (let yes = h.1 both.0 in absurd (cc)))
+pub one_deep : {P Q : Type 0} (known : Bool) → known ≡ false → IsTrue known ↔ P → IsTrue false ↔ (P × Q)
+one_deep known e h = never (λ both. (let yes = h.1 both.0 in absurd (cc)))
 
 module _ (ns : List Node) (xs : List ChainStep) (i : ℕ) where
-  pub shallow_more : (x : ChainStep) (told : Bool) → i < length xs → IsTrue told ↔ IsShallowStep ns (get_or xs i x) → told ≡ true → All (IsShallowStep ns) (take i xs) → All (IsShallowStep ns) (take (i + 1) xs)
-  shallow_more x told w h e all = All-more (IsShallowStep ns) xs i x w all (h.0 e)
+  pub shallow_more : (x : ChainStep) (known : Bool) → i < length xs → IsTrue known ↔ IsShallowStep ns (get_or xs i x) → known ≡ true → All (IsShallowStep ns) (take i xs) → All (IsShallowStep ns) (take (i + 1) xs)
+  shallow_more x known w h e all = All-more (IsShallowStep ns) xs i x w all (h.0 e)
 
-  pub shallow_fails : (x : ChainStep) (told : Bool) → i < length xs → IsTrue told ↔ IsShallowStep ns (get_or xs i x) → told ≡ false → IsTrue false ↔ AreShallow ns xs
-  shallow_fails x told w h e = never (λ all. (let yes = h.1 (All-get_or (IsShallowStep ns) xs i x w all.each) in absurd (cc)))
+  pub shallow_fails : (x : ChainStep) (known : Bool) → i < length xs → IsTrue known ↔ IsShallowStep ns (get_or xs i x) → known ≡ false → IsTrue false ↔ AreShallow ns xs
+  shallow_fails x known w h e = never (λ all. (let yes = h.1 (All-get_or (IsShallowStep ns) xs i x w all.each) in absurd (cc)))
 
   pub shallow_all : length xs ≤ i → All (IsShallowStep ns) (take i xs) → IsTrue true ↔ AreShallow ns xs
   shallow_all w all = (λ yes. record { each = subst (All (IsShallowStep ns)) (take_all i xs w) all }, λ h. refl)
@@ -67,8 +67,8 @@ contains_number ns one xs formulas n number h =
 stands_contained : (b : Branch) (p : FormulaData) → Stands b p → Contains (formulas b) p
 stands_contained b p s =
     let e = s.says.entry in
-    let w = slice_get_within b s.place e s.says.found in
-    (s.place, omega (arith, w, length-map b formula_of), get_or-map formula_of b s.place e p w ∙ ap formula_of (get_or_from_slice_get b s.place e e s.says.found) ∙ s.says.is)
+    let w = slice_get_within b s.position e s.says.found in
+    (s.position, omega (arith, w, length-map b formula_of), get_or-map formula_of b s.position e p w ∙ ap formula_of (get_or_from_slice_get b s.position e e s.says.found) ∙ s.says.is)
 
 contained_stands : (b : Branch) (p : FormulaData) → Contains (formulas b) p → Stands b p
 contained_stands b p h =
@@ -76,7 +76,7 @@ contained_stands b p h =
     let w = h.1 in
     let within : h.0 < length b = omega (arith, w, length-map b formula_of) in
     record {
-      place = h.0;
+      position = h.0;
       says = record {
         entry = get_or b h.0 none;
         found = slice_get-get_or b h.0 none within;
@@ -88,12 +88,12 @@ module _ (ns : List Node) (b : Branch) (xs : List ℕ) (n : ℕ) where
   pub stands_so : Stands b (formula_at ns n) → IsTrue true ↔ Contains (formulas b ++ map (formula_at ns) xs) (formula_at ns n)
   stands_so s = (λ yes. Contains-append_left (formulas b) (map (formula_at ns) xs) (formula_at ns n) (stands_contained b (formula_at ns n) s), λ h. refl)
 
-  pub among_given : IsOneNumber ns → AreFormulas ns xs → IsFormulaNumber ns n → (Stands b (formula_at ns n) → ⊥) → (told : Bool) → IsTrue told ↔ Contains xs n → IsTrue told ↔ Contains (formulas b ++ map (formula_at ns) xs) (formula_at ns n)
-  among_given one formulas_are number none told h = (
+  pub among_given : IsOneNumber ns → AreFormulas ns xs → IsFormulaNumber ns n → (Stands b (formula_at ns n) → ⊥) → (known : Bool) → IsTrue known ↔ Contains xs n → IsTrue known ↔ Contains (formulas b ++ map (formula_at ns) xs) (formula_at ns n)
+  among_given one formulas_are number none known h = (
     λ yes. Contains-append_right (formulas b) (map (formula_at ns) xs) (formula_at ns n) (contains_map (formula_at ns) xs n (h.0 yes)),
     λ c. go (Contains-append_cases (formulas b) (map (formula_at ns) xs) (formula_at ns n) c),
   )
     where
-      go : Contains (formulas b) (formula_at ns n) ⊎ Contains (map (formula_at ns) xs) (formula_at ns n) → IsTrue told
+      go : Contains (formulas b) (formula_at ns n) ⊎ Contains (map (formula_at ns) xs) (formula_at ns n) → IsTrue known
       go (inl c) = absurd (none (contained_stands b (formula_at ns n) c))
       go (inr c) = h.1 (contains_number ns one xs formulas_are n number c)

@@ -23,8 +23,8 @@ use Rattle.step_checks.specs.Orders.{IsOrderDue, IsDecisionDue}
 pub other_axiom : (b : Branch) (name : Axiom) (p : FormulaData) (g : ℕ) → (name ≡ Cases Trichotomy → ⊥) → IsTrue false ↔ IsDecisionDue b name p g
 other_axiom b name p g none = never (λ due. none due.is_name)
 
-pub that_axiom : (b : Branch) (name : Axiom) (p : FormulaData) (g : ℕ) → name ≡ Cases Trichotomy → (told : Bool) → IsTrue told ↔ IsOrderDue b p g → IsTrue told ↔ IsDecisionDue b name p g
-that_axiom b name p g is told h = (λ yes. record { is_name = is; due = h.0 yes }, λ due. h.1 due.due)
+pub that_axiom : (b : Branch) (name : Axiom) (p : FormulaData) (g : ℕ) → name ≡ Cases Trichotomy → (known : Bool) → IsTrue known ↔ IsOrderDue b p g → IsTrue known ↔ IsDecisionDue b name p g
+that_axiom b name p g is known h = (λ yes. record { is_name = is; due = h.0 yes }, λ due. h.1 due.due)
 
 -- ---- all axioms
 
@@ -64,12 +64,12 @@ module _ (shapes : List Shape) (b : Branch) where
         shallow = o.shallow;
       }
 
-  pub no_table : (name : Axiom) (p : FormulaData) (g : ℕ) → (IsDue b (Asks shapes b) name p g → ⊥) → (told : Bool) → IsTrue told ↔ IsDecisionDue b name p g → IsTrue told ↔ AxiomDue shapes b name p g
-  no_table name p g none told h = (
+  pub no_table : (name : Axiom) (p : FormulaData) (g : ℕ) → (IsDue b (Asks shapes b) name p g → ⊥) → (known : Bool) → IsTrue known ↔ IsDecisionDue b name p g → IsTrue known ↔ AxiomDue shapes b name p g
+  no_table name p g none known h = (
     λ yes. as_decision name p g (h.0 yes),
     λ due. elim (of_axiom name p g due) [ inl q ↦ absurd (none q) | inr q ↦ h.1 q ],
   )
 
-pub decision_before : (ns ms : List Node) (grown : Extends ns ms) (d : BranchData) (over : IsOver ns d) (name : Axiom) (n g : ℕ) → IsFormulaNumber ns n → (told : Bool) → IsTrue told ↔ IsDecisionDue (branch_in ms d) name (formula_at ms n) g → IsTrue told ↔ IsDecisionDue (branch_in ns d) name (formula_at ns n) g
-decision_before ns ms grown d over name n g number told h =
-    subst (λ b. IsTrue told ↔ IsDecisionDue b name (formula_at ns n) g) (still_says ns ms grown d over) (subst (λ p. IsTrue told ↔ IsDecisionDue (branch_in ms d) name p g) (formula_stays ns ms grown n number) h)
+pub decision_before : (ns ms : List Node) (grown : Extends ns ms) (d : BranchData) (over : IsOver ns d) (name : Axiom) (n g : ℕ) → IsFormulaNumber ns n → (known : Bool) → IsTrue known ↔ IsDecisionDue (branch_in ms d) name (formula_at ms n) g → IsTrue known ↔ IsDecisionDue (branch_in ns d) name (formula_at ns n) g
+decision_before ns ms grown d over name n g number known h =
+    subst (λ b. IsTrue known ↔ IsDecisionDue b name (formula_at ns n) g) (still_says ns ms grown d over) (subst (λ p. IsTrue known ↔ IsDecisionDue (branch_in ms d) name p g) (formula_stays ns ms grown n number) h)

@@ -66,8 +66,8 @@ same_sum unknowns before of row unknown upper lower e f g h =
     subst (λ (u : ℕ). IsReducedSum u upper.row lower.row row) (some_same (sym h.unknown_at ∙ e)) (subst (λ (r : GivenRow). IsReducedSum h.unknown r.row lower.row row) (some_same (sym h.upper_at ∙ f)) (subst (λ (r : GivenRow). IsReducedSum h.unknown h.upper.row r.row row) (some_same (sym h.lower_at ∙ g)) h.is_sum))
 
 -- the sum of two rows, by their indexes
-pub sum_of_places : (unknowns : List ℕ) (before : List GivenRow) (of : Summands) (row : Inequality) (unknown : ℕ) (upper lower : GivenRow) (sum : Inequality) (b : Bool) → slice_get unknowns of.step ≡ Some unknown → slice_get before of.upper ≡ Some upper → slice_get before of.lower ≡ Some lower → IsOfStage unknowns of.step upper → IsOfStage unknowns of.step lower → IsReducedSum unknown upper.row lower.row sum → Decides b (row ≡ sum) → Decides b (IsSumOfTwo unknowns before of row)
-sum_of_places unknowns before of row unknown upper lower sum b e f g us ls s d = (
+pub sum_of_positions : (unknowns : List ℕ) (before : List GivenRow) (of : Summands) (row : Inequality) (unknown : ℕ) (upper lower : GivenRow) (sum : Inequality) (b : Bool) → slice_get unknowns of.step ≡ Some unknown → slice_get before of.upper ≡ Some upper → slice_get before of.lower ≡ Some lower → IsOfStage unknowns of.step upper → IsOfStage unknowns of.step lower → IsReducedSum unknown upper.row lower.row sum → Decides b (row ≡ sum) → Decides b (IsSumOfTwo unknowns before of row)
+sum_of_positions unknowns before of row unknown upper lower sum b e f g us ls s d = (
   λ t. record { unknown = unknown; upper = upper; lower = lower; unknown_at = e; upper_at = f; lower_at = g; upper_of_stage = us; lower_of_stage = ls; is_sum = subst (λ (r : Inequality). IsReducedSum unknown upper.row lower.row r) (sym (d.0 t)) s },
   λ h. d.1 (one_sum unknown upper.row lower.row row sum (same_sum unknowns before of row unknown upper lower e f g h) s),
 )
@@ -85,10 +85,10 @@ pub sums_decided : (found made : List Inequality) (unknowns us : List ℕ) (b : 
 sums_decided found made unknowns us b e f d = subst (λ (ns : List ℕ). Decides b (HasEachSum found ns)) f (subst (λ (rs : List Inequality). Decides b (HasEachSum rs us)) e d)
 
 -- what remains to show of an elimination at the end
-pub complete : (rows : List Inequality) (handed : GivenElimination) (slice made : List Inequality) (us : List ℕ) (listed : List GivenRow) (w : ℕ) (b : Bool) → slice ≡ rows → us ≡ handed.unknowns.items → listed ≡ handed.rows.items → made ≡ rows_of handed.rows.items → w ≡ width_of rows → AreOfOrigins w slice us listed → AreDifferent made → All (λ (row : Inequality). Contains (rows_of handed.rows.items) (padded (width_of rows) row)) rows → HasEachSum (rows_of handed.rows.items) handed.unknowns.items → length handed.rows.items < 5000 → Decides b (NoUnknownIsLeft made us) → Decides b (IsGivenElimination rows handed)
-complete rows handed slice made us listed w b e f g h i origins different begins sums limit d =
-    let unknowns = handed.unknowns.items in
-    let items = handed.rows.items in
+pub complete : (rows : List Inequality) (provided : GivenElimination) (slice made : List Inequality) (us : List ℕ) (listed : List GivenRow) (w : ℕ) (b : Bool) → slice ≡ rows → us ≡ provided.unknowns.items → listed ≡ provided.rows.items → made ≡ rows_of provided.rows.items → w ≡ width_of rows → AreOfOrigins w slice us listed → AreDifferent made → All (λ (row : Inequality). Contains (rows_of provided.rows.items) (padded (width_of rows) row)) rows → HasEachSum (rows_of provided.rows.items) provided.unknowns.items → length provided.rows.items < 5000 → Decides b (NoUnknownIsLeft made us) → Decides b (IsGivenElimination rows provided)
+complete rows provided slice made us listed w b e f g h i origins different begins sums limit d =
+    let unknowns = provided.unknowns.items in
+    let items = provided.rows.items in
     let left : Decides b (NoUnknownIsLeft (rows_of items) unknowns) = subst (λ (ns : List ℕ). Decides b (NoUnknownIsLeft (rows_of items) ns)) f (subst (λ (rs : List Inequality). Decides b (NoUnknownIsLeft rs us)) h d) in (
       λ t. record {
         of_origins = subst (λ (n : ℕ). AreOfOrigins n rows unknowns items) i (subst (λ (rs : List Inequality). AreOfOrigins w rs unknowns items) e (subst (λ (ns : List ℕ). AreOfOrigins w slice ns items) f (subst (λ (rs : List GivenRow). AreOfOrigins w slice us rs) g origins)));

@@ -42,21 +42,21 @@ module _ (ns : List Node) where
     long : (ps : List FormulaData) → ps ≡ formulas b → length (after_links (formulas b) (map (step_in ns) ss)) ≡ length ps + length ss
     long ps e = after_length (formulas b) ss ∙ ap (λ qs. length qs + length ss) (sym e)
 
-    pub too_long : (ps : List FormulaData) → ps ≡ formulas b → (told : Bool) → IsTrue told ↔ (length ps + length ss ≤ most_entries) → told ≡ false → IsTrue false ↔ Closed
-    too_long ps e told h fails = never (λ closed. (
+    pub too_long : (ps : List FormulaData) → ps ≡ formulas b → (known : Bool) → IsTrue known ↔ (length ps + length ss ≤ most_entries) → known ≡ false → IsTrue false ↔ Closed
+    too_long ps e known h fails = never (λ closed. (
         let l = long ps e in
         let s = closed.short in
         let yes = h.1 (omega (arith, l, s)) in
         absurd (cc)))
 
-    pub too_deep : (told : Bool) → IsTrue told ↔ AreShallow ns ss → told ≡ false → IsTrue false ↔ Closed
-    too_deep told h fails = never (λ closed. (let yes = h.1 (record { each = links_shallow shapes b (formulas b) ss closed.links }) in absurd (cc)))
+    pub too_deep : (known : Bool) → IsTrue known ↔ AreShallow ns ss → known ≡ false → IsTrue false ↔ Closed
+    too_deep known h fails = never (λ closed. (let yes = h.1 (record { each = links_shallow shapes b (formulas b) ss closed.links }) in absurd (cc)))
 
-    pub no_links : (told : Bool) → IsTrue told ↔ AreLinks shapes b (formulas b) (map (step_in ns) ss) → told ≡ false → IsTrue false ↔ Closed
-    no_links told h fails = never (λ closed. (let yes = h.1 closed.links in absurd (cc)))
+    pub no_links : (known : Bool) → IsTrue known ↔ AreLinks shapes b (formulas b) (map (step_in ns) ss) → known ≡ false → IsTrue false ↔ Closed
+    no_links known h fails = never (λ closed. (let yes = h.1 closed.links in absurd (cc)))
 
-    pub closed_given : (ps : List FormulaData) → ps ≡ formulas b → length ps + length ss ≤ most_entries → AreLinks shapes b (formulas b) (map (step_in ns) ss) → (line : List FormulaData) → line ≡ after_links (formulas b) (map (step_in ns) ss) → (told : Bool) → IsTrue told ↔ IsClose line by → IsTrue told ↔ Closed
-    closed_given ps e few links line leads told h = (
+    pub closed_given : (ps : List FormulaData) → ps ≡ formulas b → length ps + length ss ≤ most_entries → AreLinks shapes b (formulas b) (map (step_in ns) ss) → (line : List FormulaData) → line ≡ after_links (formulas b) (map (step_in ns) ss) → (known : Bool) → IsTrue known ↔ IsClose line by → IsTrue known ↔ Closed
+    closed_given ps e few links line leads known h = (
       λ yes. record {
         links = links;
         short = (let l = long ps e in omega (arith, l, few));

@@ -27,9 +27,9 @@ module _ (ns : List Node) (number : IsOneNumber ns) (d : BranchData) (over : IsO
 
   pub two_classes : (x y : ℕ) → x ≡ class_of c i → y ≡ class_of c j → (x ≡ y → ⊥) → (denied : Bool) → IsTrue denied ↔ IsDenied (branch_in ns d) (term_at ns i) (term_at ns j) → IsTrue (not denied) ↔ IsUndecided (branch_in ns d) (term_at ns i) (term_at ns j)
   two_classes x y e f differ denied h =
-      let told = not_so denied h in (
-        λ yes. record { not_joined = λ joined. differ (e ∙ class_of_joined ns number d over c classes exact i j s t joined ∙ sym f); not_denied = told.0 yes },
-        λ undecided. told.1 undecided.not_denied,
+      let known = not_so denied h in (
+        λ yes. record { not_joined = λ joined. differ (e ∙ class_of_joined ns number d over c classes exact i j s t joined ∙ sym f); not_denied = known.0 yes },
+        λ undecided. known.1 undecided.not_denied,
       )
 
   itself : (n : ℕ) → IsBranchTerm ns (branch_in ns d) n → Joined (branch_in ns d) (term_at ns n) (term_at ns n)
@@ -41,7 +41,7 @@ module _ (ns : List Node) (number : IsOneNumber ns) (d : BranchData) (over : IsO
     triggered = inl indexes;
     no_numbers = numbers;
     undecided = undecided;
-    is_new = record { new = λ h. undecided.not_joined (ByEntry h.place (term_at ns i) (term_at ns j) h.says) };
+    is_new = record { new = λ h. undecided.not_joined (ByEntry h.position (term_at ns i) (term_at ns j) h.says) };
     denial_is_new = record { new = λ h. undecided.not_denied (record { formula = EqFormula (term_at ns i) (term_at ns j); stands = h; alike = inl (equation_alike (branch_in ns d) (term_at ns i) (term_at ns j) (term_at ns i) (term_at ns j) (itself i s) (itself j t)) }) };
     shallow = shallow;
   }
@@ -65,8 +65,8 @@ shallow_right ns i j t h = (let e = depth_of ns j t in omega (arith, h, e))
 indexes_of : (b : Branch) (t u : TermData) → CutDue b t u → AreIndexes b t u
 indexes_of b t u h = elim h.triggered [ inl q ↦ q | inr q ↦ absurd (h.denial_is_new.new q) ]
 
-pub not_triggered : (b : Branch) (t u : TermData) (told : Bool) → told ≡ false → IsTrue told ↔ AreIndexes b t u → IsTrue false ↔ CutDue b t u
-not_triggered b t u told e h = never (λ due. (let yes = h.1 (indexes_of b t u due) in absurd (cc)))
+pub not_triggered : (b : Branch) (t u : TermData) (known : Bool) → known ≡ false → IsTrue known ↔ AreIndexes b t u → IsTrue false ↔ CutDue b t u
+not_triggered b t u known e h = never (λ due. (let yes = h.1 (indexes_of b t u due) in absurd (cc)))
 
 pub not_open : (b : Branch) (t u : TermData) → (IsUndecided b t u → ⊥) → IsTrue false ↔ CutDue b t u
 not_open b t u none = never (λ due. none due.undecided)
@@ -78,4 +78,4 @@ pub right_deep : (ns : List Node) (b : Branch) (i j : ℕ) → IsTermNumber ns j
 right_deep ns b i j t deep = never (λ due. deep (shallow_right ns i j t due.shallow))
 
 pub cut_so : (b : Branch) (t u : TermData) (numbers : Bool) → IsTrue numbers ↔ AreNumbers b t u → ((AreNumbers b t u → ⊥) → CutDue b t u) → IsTrue (not numbers) ↔ CutDue b t u
-cut_so b t u numbers h due = (let told = not_so numbers h in (λ yes. due (told.0 yes), λ d. told.1 d.no_numbers))
+cut_so b t u numbers h due = (let known = not_so numbers h in (λ yes. due (known.0 yes), λ d. known.1 d.no_numbers))

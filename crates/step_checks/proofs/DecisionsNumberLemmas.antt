@@ -25,8 +25,8 @@ use Rattle.step_checks.proofs.DecisionsTruthLemmas.{never, weaker}
 
 -- ---- formulas on the branch, by their numbers in an extended pool
 
-pub told_before : (ns ms : List Node) → Extends ns ms → (d : BranchData) → IsOver ns d → (p : FormulaData) (k : ℕ) → IsNumberOf ms p k → (told : Bool) → IsTrue told ↔ Stands (branch_in ms d) (formula_at ms k) → IsTrue told ↔ Stands (branch_in ns d) p
-told_before ns ms grown d over p k number told h = weaker told (stands_before ns ms grown d over p k number) (stands_after ns ms grown d over p k number) h
+pub known_before : (ns ms : List Node) → Extends ns ms → (d : BranchData) → IsOver ns d → (p : FormulaData) (k : ℕ) → IsNumberOf ms p k → (known : Bool) → IsTrue known ↔ Stands (branch_in ms d) (formula_at ms k) → IsTrue known ↔ Stands (branch_in ns d) p
+known_before ns ms grown d over p k number known h = weaker known (stands_before ns ms grown d over p k number) (stands_after ns ms grown d over p k number) h
 
 -- ---- whole numbers
 
@@ -38,15 +38,15 @@ module _ (ns ms : List Node) (grown : Extends ns ms) (term of : ℕ) (t : IsTerm
   number_made os further k m =
       number_of_item os (IsFormula NumType (term_at ns term)) k (two_is Is (leaf_made TypeNum made) (item_stays grown (triggered_item ns term t)) (two_made Is further number_parts m))
 
-pub number_there : (ns ms : List Node) → Extends ns ms → (d : BranchData) → IsOver ns d → (n : ℕ) → IsTermNumber ns n → (told : Bool) → IsTrue told ↔ Stands (branch_in ms d) (IsFormula NumType (term_at ms n)) → IsTrue told ↔ Stands (branch_in ns d) (IsFormula NumType (term_at ns n))
-number_there ns ms grown d over n number told h =
-    subst (λ b. IsTrue told ↔ Stands b (IsFormula NumType (term_at ns n))) (branch_grown ns ms grown d over) (subst (λ t. IsTrue told ↔ Stands (branch_in ms d) (IsFormula NumType t)) (term_grown ns ms grown n number) h)
+pub number_there : (ns ms : List Node) → Extends ns ms → (d : BranchData) → IsOver ns d → (n : ℕ) → IsTermNumber ns n → (known : Bool) → IsTrue known ↔ Stands (branch_in ms d) (IsFormula NumType (term_at ms n)) → IsTrue known ↔ Stands (branch_in ns d) (IsFormula NumType (term_at ns n))
+number_there ns ms grown d over n number known h =
+    subst (λ b. IsTrue known ↔ Stands b (IsFormula NumType (term_at ns n))) (branch_grown ns ms grown d over) (subst (λ t. IsTrue known ↔ Stands (branch_in ms d) (IsFormula NumType t)) (term_grown ns ms grown n number) h)
 
 pub not_both : (b : Branch) (t u : TermData) (one : Bool) → one ≡ false → IsTrue one ↔ Stands b (IsFormula NumType t) → IsTrue false ↔ AreNumbers b t u
 not_both b t u one e h = never (λ both. (let yes = h.1 both.left in absurd (cc)))
 
-pub both_so : (b : Branch) (t u : TermData) → Stands b (IsFormula NumType t) → (told : Bool) → IsTrue told ↔ Stands b (IsFormula NumType u) → IsTrue told ↔ AreNumbers b t u
-both_so b t u left told h = (λ yes. record { left = left; right = h.0 yes }, λ both. h.1 both.right)
+pub both_so : (b : Branch) (t u : TermData) → Stands b (IsFormula NumType t) → (known : Bool) → IsTrue known ↔ Stands b (IsFormula NumType u) → IsTrue known ↔ AreNumbers b t u
+both_so b t u left known h = (λ yes. record { left = left; right = h.0 yes }, λ both. h.1 both.right)
 
 -- ---- negated equations
 
@@ -99,8 +99,8 @@ module _ (b : Branch) (t u : TermData) (g : ℕ) where
   pub right_nowhere : IsNoTerm b u → IsTrue false ↔ AreGenerations b (t ∷ u ∷ []) g
   right_nowhere none = never (λ h. (let two = of_two h t u refl in none.none (record { generation = two.other; holds = two.other_is.holds })))
 
-  pub greatest_so : (one other : ℕ) → IsGeneration b t one → IsGeneration b u other → (told : Bool) → IsTrue told ↔ (g ≡ max one other) → IsTrue told ↔ AreGenerations b (t ∷ u ∷ []) g
-  greatest_so one other p q told h = (
+  pub greatest_so : (one other : ℕ) → IsGeneration b t one → IsGeneration b u other → (known : Bool) → IsTrue known ↔ (g ≡ max one other) → IsTrue known ↔ AreGenerations b (t ∷ u ∷ []) g
+  greatest_so one other p q known h = (
     λ yes. subst (AreGenerations b (t ∷ u ∷ [])) (sym (h.0 yes)) (two_generations b t u one other p q),
     λ are. (
         let two = of_two are t u refl in

@@ -13,5 +13,5 @@ not_so true h = (λ t. absurd (cc), λ none. absurd (none (h.0 refl)))
 not_so false h = (λ t p. (let yes = h.1 p in absurd (cc)), λ none. refl)
 
 -- a check that is false and exact refutes its claim
-pub not_told : {P : Type 0} (r : Bool) → r ≡ false → IsTrue r ↔ P → P → ⊥
-not_told r e h p = (let yes = h.1 p in absurd (cc))
+pub refuted : {P : Type 0} (r : Bool) → r ≡ false → IsTrue r ↔ P → P → ⊥
+refuted r e h p = (let yes = h.1 p in absurd (cc))

@@ -24,8 +24,8 @@ module _ (ns : List Node) (b : Branch) (c : BranchClassesData) (i one other : �
   pub denies_none : DeniesNone b i → IsTrue false ↔ DeniesClasses ns b c i one other
   denies_none none = never (λ h. none.none _ _ h.denies.says)
 
-  pub denies_so : IsOneNumber ns → (p : ℕ × ℕ) → DeniesSides ns b i p → (x y : ℕ) → x ≡ class_of c p.0 → y ≡ class_of c p.1 → (told : Bool) → IsTrue told ↔ (((x ≡ one) × (y ≡ other)) ⊎ ((x ≡ other) × (y ≡ one))) → IsTrue told ↔ DeniesClasses ns b c i one other
-  denies_so number p denies x y e f told h = (
+  pub denies_so : IsOneNumber ns → (p : ℕ × ℕ) → DeniesSides ns b i p → (x y : ℕ) → x ≡ class_of c p.0 → y ≡ class_of c p.1 → (known : Bool) → IsTrue known ↔ (((x ≡ one) × (y ≡ other)) ⊎ ((x ≡ other) × (y ≡ one))) → IsTrue known ↔ DeniesClasses ns b c i one other
+  denies_so number p denies x y e f known h = (
     λ t. record { sides = p; denies = denies; are = subst (λ (z : ℕ). AreThey z (class_of c p.1) one other) e (subst (λ (z : ℕ). AreThey x z one other) f (h.0 t)) },
     λ d. (
         let same : d.sides ≡ p = same_sides ns number b i d.sides p d.denies denies in
@@ -53,8 +53,8 @@ module _ (ns : List Node) (b : Branch) (c : BranchClassesData) (one other : ℕ)
 module _ (ns : List Node) (number : IsOneNumber ns) (d : BranchData) (over : IsOver ns d) (c : BranchClassesData) (classes : AreClassesOf ns d c) (exact : AreExact c) (l r : ℕ) (s : IsBranchTerm ns (branch_in ns d) l) (t : IsBranchTerm ns (branch_in ns d) r) where
   by_classes : (i : ℕ) → DeniesClasses ns (branch_in ns d) c i (class_of c l) (class_of c r) → IsDenied (branch_in ns d) (term_at ns l) (term_at ns r)
   by_classes i h = elim h.are [
-    | inl q ↦ denied_by ns number d over c classes exact l r s t (record { place = i; sides = h.sides; denies = h.denies; is_one = q.0; is_other = q.1 })
-    | inr q ↦ turned_by ns number d over c classes exact l r s t (record { place = i; sides = h.sides; denies = h.denies; is_one = q.0; is_other = q.1 })
+    | inl q ↦ denied_by ns number d over c classes exact l r s t (record { position = i; sides = h.sides; denies = h.denies; is_one = q.0; is_other = q.1 })
+    | inr q ↦ turned_by ns number d over c classes exact l r s t (record { position = i; sides = h.sides; denies = h.denies; is_one = q.0; is_other = q.1 })
   ]
 
   pub denied_at : (i x y : ℕ) → x ≡ class_of c l → y ≡ class_of c r → DeniesClasses ns (branch_in ns d) c i x y → IsDenied (branch_in ns d) (term_at ns l) (term_at ns r)
@@ -62,11 +62,11 @@ module _ (ns : List Node) (number : IsOneNumber ns) (d : BranchData) (over : IsO
 
   one_way : (x y count : ℕ) → length d.entries ≤ count → NoneDenies ns (branch_in ns d) c x y count → (h : IsDeniedClass ns (branch_in ns d) c x y) → ⊥
   one_way x y count w none h =
-      none.each h.place (let within = says_within ns d h.place _ h.denies.says in omega (arith, w, within)) (record { sides = h.sides; denies = h.denies; are = inl (h.is_one, h.is_other) })
+      none.each h.position (let within = says_within ns d h.position _ h.denies.says in omega (arith, w, within)) (record { sides = h.sides; denies = h.denies; are = inl (h.is_one, h.is_other) })
 
   other_way : (x y count : ℕ) → length d.entries ≤ count → NoneDenies ns (branch_in ns d) c x y count → (h : IsDeniedClass ns (branch_in ns d) c y x) → ⊥
   other_way x y count w none h =
-      none.each h.place (let within = says_within ns d h.place _ h.denies.says in omega (arith, w, within)) (record { sides = h.sides; denies = h.denies; are = inr (h.is_one, h.is_other) })
+      none.each h.position (let within = says_within ns d h.position _ h.denies.says in omega (arith, w, within)) (record { sides = h.sides; denies = h.denies; are = inr (h.is_one, h.is_other) })
 
   pub none_denied : (x y count : ℕ) → x ≡ class_of c l → y ≡ class_of c r → length d.entries ≤ count → NoneDenies ns (branch_in ns d) c x y count → IsDenied (branch_in ns d) (term_at ns l) (term_at ns r) → ⊥
   none_denied x y count e f w none h =

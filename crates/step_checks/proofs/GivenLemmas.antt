@@ -71,8 +71,8 @@ module _ (ns ms : List Node) (grown : Extends ns ms) (d : BranchData) (over : Is
     back : P (branch_in ms d) (map (formula_at ms) xs) → P (branch_in ns d) (map (formula_at ns) xs)
     back h = subst (λ b. P b (map (formula_at ns) xs)) (still_says ns ms grown d over) (subst (P (branch_in ms d)) kept h)
 
-    given_due : IsOneNumber ms → (numbers : List ℕ) (ps : List FormulaData) → AreNumbersOf ms ps numbers → P (branch_in ms d) ps → (told : Bool) → IsTrue told ↔ (numbers ≡ xs) → IsTrue told ↔ P (branch_in ns d) (map (formula_at ns) xs)
-    given_due one numbers ps numbered due told same = (
+    given_due : IsOneNumber ms → (numbers : List ℕ) (ps : List FormulaData) → AreNumbersOf ms ps numbers → P (branch_in ms d) ps → (known : Bool) → IsTrue known ↔ (numbers ≡ xs) → IsTrue known ↔ P (branch_in ns d) (map (formula_at ns) xs)
+    given_due one numbers ps numbered due known same = (
       λ t. back (subst (P (branch_in ms d)) (sym numbered.are ∙ ap (map (formula_at ms)) (same.0 t)) due),
       λ h. same.1 (formulas_once ms one numbers xs numbered.formulas.each (formulas_stay ns ms grown xs given).each (numbered.are ∙ once ps (map (formula_at ms) xs) due (there h))),
     )
@@ -80,11 +80,11 @@ module _ (ns ms : List Node) (grown : Extends ns ms) (d : BranchData) (over : Is
     pub none_due : ((ps : List FormulaData) → P (branch_in ms d) ps → ⊥) → IsTrue false ↔ P (branch_in ns d) (map (formula_at ns) xs)
     none_due none = never (λ h. none (map (formula_at ms) xs) (there h))
 
-  pub parts_given : IsOneNumber ms → (numbers : List ℕ) → ArePartsDue ms (branch_in ms d) i numbers → (told : Bool) → IsTrue told ↔ (numbers ≡ xs) → IsTrue told ↔ PartsDue (branch_in ns d) i (map (formula_at ns) xs)
-  parts_given one numbers h told same = given_due (λ b ps. PartsDue b i ps) (same_parts (branch_in ms d) i) one numbers h.parts h.numbered h.due told same
+  pub parts_given : IsOneNumber ms → (numbers : List ℕ) → ArePartsDue ms (branch_in ms d) i numbers → (known : Bool) → IsTrue known ↔ (numbers ≡ xs) → IsTrue known ↔ PartsDue (branch_in ns d) i (map (formula_at ns) xs)
+  parts_given one numbers h known same = given_due (λ b ps. PartsDue b i ps) (same_parts (branch_in ms d) i) one numbers h.parts h.numbered h.due known same
 
-  pub cases_given : IsOneNumber ms → (numbers : List ℕ) → AreCasesDue ms (branch_in ms d) i numbers → (told : Bool) → IsTrue told ↔ (numbers ≡ xs) → IsTrue told ↔ SplitDue (branch_in ns d) i (map (formula_at ns) xs)
-  cases_given one numbers h told same = given_due (λ b ps. SplitDue b i ps) (same_cases (branch_in ms d) i) one numbers h.cases h.numbered h.due told same
+  pub cases_given : IsOneNumber ms → (numbers : List ℕ) → AreCasesDue ms (branch_in ms d) i numbers → (known : Bool) → IsTrue known ↔ (numbers ≡ xs) → IsTrue known ↔ SplitDue (branch_in ns d) i (map (formula_at ns) xs)
+  cases_given one numbers h known same = given_due (λ b ps. SplitDue b i ps) (same_cases (branch_in ms d) i) one numbers h.cases h.numbered h.due known same
 
   pub no_parts : ((ps : List FormulaData) → PartsDue (branch_in ms d) i ps → ⊥) → IsTrue false ↔ PartsDue (branch_in ns d) i (map (formula_at ns) xs)
   no_parts none = none_due (λ b ps. PartsDue b i ps) (same_parts (branch_in ms d) i) none

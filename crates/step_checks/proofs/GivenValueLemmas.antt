@@ -58,6 +58,6 @@ given_decided rows given values found unknowns e f elimination distinct covered 
   λ g. d.1 (subst (λ (us : List ℕ). AreValues found us [] values) (sym f) (subst (λ (rs : List Inequality). AreValues rs given.unknowns.items [] values) (sym e) g.are_values)),
 )
 
-pub if_told : {E : Type 0} (r : Result Bool E) (P Q : Type 0) → ((b : Bool) → Decides b P → Decides b Q) → IfOk r (λ b. Decides b P) → IfOk r (λ b. Decides b Q)
-if_told (Ok b) P Q f h = f b h
-if_told (Err e) P Q f h = tt
+pub if_decided : {E : Type 0} (r : Result Bool E) (P Q : Type 0) → ((b : Bool) → Decides b P → Decides b Q) → IfOk r (λ b. Decides b P) → IfOk r (λ b. Decides b Q)
+if_decided (Ok b) P Q f h = f b h
+if_decided (Err e) P Q f h = tt

@@ -1,5 +1,5 @@
 -- What occurs in an item is the item, or occurs in a part of it.
-use Rattle.std.proofs.Common.{◌≡◌, ◌⊎◌, inl, inr, ℕ, zero, suc, List, [], ◌∷◌, refl, sym, subst, arith}
+use Rattle.std.proofs.Common.{◌≡◌, ◌⊎◌, inl, inr, ℕ, List, [], ◌∷◌, refl, sym, subst}
 use Rattle.std.specs.Prelude.{Contains}
 use Rattle.fol.specs.declared.operators.Junction.{Junction}
 use Rattle.fol.specs.declared.operators.Quantifier.{Quantifier}
@@ -15,23 +15,8 @@ use Rattle.term_pool.specs.declared.node.Three.{Three}
 use Rattle.term_pool.specs.declared.node.Three.TheVariants.{Ternary, SetField, If, TypeStruct}
 use Rattle.certificates.specs.BranchesParts.{IsIn, Itself as OuterItself, InPart as OuterPart, InCondition as OuterCondition, IsInFormula, InLeft as OuterLeft, InRight as OuterRight, InTyped as OuterTyped, InHolds as OuterHolds, InDenied as OuterDenied, InJoined as OuterJoined, InFirst as OuterFirst, InSecond as OuterSecond}
 use Rattle.certificates.specs.Inside.{IsInsideTerm, Itself, InPart, InCondition, IsInside, InLeft, InRight, InTyped, InHolds, InDenied, InJoined, InFirst, InSecond, InBody, InTrigger}
+use Rattle.tableau.proofs.InsideLemmas.{contains_first, contains_later, contains_cases, contains_none}
 use Rattle.step_checks.specs.Inside.{IsInTerms, IsInTriggers, IsInFormulas, StandsInItem}
-
--- ---- lists
-
-module _ {X : Type 0} where
-  contains_first : (x : X) (xs : List X) → Contains (x ∷ xs) x
-  contains_first x xs = (0, omega arith, refl)
-
-  contains_later : (x y : X) (xs : List X) → Contains xs y → Contains (x ∷ xs) y
-  contains_later x y xs h = (let w = h.1 in (suc h.0, omega (arith, w), h.2))
-
-  contains_cases : (x y : X) (xs : List X) → Contains (x ∷ xs) y → (x ≡ y) ⊎ Contains xs y
-  contains_cases x y xs (zero, w, e) = inl e
-  contains_cases x y xs (suc k, w, e) = inr (k, omega (arith, w), e)
-
-  contains_none : (y : X) → Contains [] y → ⊥
-  contains_none y h = (let w = h.1 in omega (arith, w))
 
 in_terms : (t : TermData) (us : TermsData) (u : TermData) → Contains (list_of_terms us) u → IsInsideTerm t u → IsInTerms t us
 in_terms t NoTerms u c h = absurd (contains_none u c)

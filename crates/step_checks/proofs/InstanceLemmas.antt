@@ -18,8 +18,8 @@ use Rattle.ematching.specs.Instances.{IsNextGeneration}
 one_generation : (b : Branch) (t : TermData) (g h : ℕ) → IsGeneration b t g → IsGeneration b t h → g ≡ h
 one_generation b t g h is also = (let l = is.least h also.holds in let m = also.least g is.holds in omega (arith, l, m))
 
-pub next_given : (b : Branch) (generation older before : ℕ) (t : TermData) → IsGeneration b t older → before ≡ max generation older → term_depth t ≤ 2000 → (next : ℕ) (told : Bool) → IsTrue told ↔ ((before < 3) × (next ≡ before + 1)) → IsTrue told ↔ IsNextGeneration b generation t next
-next_given b generation older before t is e shallow next told h = (
+pub next_given : (b : Branch) (generation older before : ℕ) (t : TermData) → IsGeneration b t older → before ≡ max generation older → term_depth t ≤ 2000 → (next : ℕ) (known : Bool) → IsTrue known ↔ ((before < 3) × (next ≡ before + 1)) → IsTrue known ↔ IsNextGeneration b generation t next
+next_given b generation older before t is e shallow next known h = (
   λ yes. (
       let all = h.0 yes in
       let few = all.0 in
@@ -42,8 +42,8 @@ module _ (ns : List Node) (d : BranchData) (i : ℕ) (e : PoolEntry) (found : sl
   abbrev b : Branch
   b = branch_in ns d
 
-  pub instance_given : (matched next fresh shallow told : Bool) → IsTrue matched ↔ IsMatched b t (formula_at ns e.formula) → IsTrue next ↔ IsNextGeneration b e.generation t g → IsTrue fresh ↔ (IsBodyWith ForAll t (formula_at ns e.formula) p × (HasInstance b (formula_at ns e.formula) t → ⊥)) → IsTrue shallow ↔ IsShallow p → IsTrue told ↔ (IsTrue matched × IsTrue next × IsTrue fresh × IsTrue shallow) → IsTrue told ↔ InstanceDue b i t p g
-  instance_given matched next fresh shallow told m n f s h = (
+  pub instance_given : (matched next fresh shallow known : Bool) → IsTrue matched ↔ IsMatched b t (formula_at ns e.formula) → IsTrue next ↔ IsNextGeneration b e.generation t g → IsTrue fresh ↔ (IsBodyWith ForAll t (formula_at ns e.formula) p × (HasInstance b (formula_at ns e.formula) t → ⊥)) → IsTrue shallow ↔ IsShallow p → IsTrue known ↔ (IsTrue matched × IsTrue next × IsTrue fresh × IsTrue shallow) → IsTrue known ↔ InstanceDue b i t p g
+  instance_given matched next fresh shallow known m n f s h = (
     λ yes. (
         let all = h.0 yes in
         let after = n.0 all.1 in

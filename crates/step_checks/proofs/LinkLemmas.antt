@@ -31,8 +31,8 @@ pub adds_one : (ns : List Node) (s : ChainStep) → added (step_in ns s) ≡ for
 adds_one ns (Itself k) = refl
 adds_one ns (Rewritten r) = refl
 
-pub rewritten_given : (ps : List FormulaData) (r : Rewriting) (read pattern p : FormulaData) → read ≡ pattern → (told : Bool) → IsTrue told ↔ ((e : FormulaData) × (q : FormulaData) × IsEntry ps r.equation e × IsEntry ps r.source q × IsRewriting r.variable read e q p) → IsTrue told ↔ IsRewritten ps r pattern p
-rewritten_given ps r read pattern p same told h = (
+pub rewritten_given : (ps : List FormulaData) (r : Rewriting) (read pattern p : FormulaData) → read ≡ pattern → (known : Bool) → IsTrue known ↔ ((e : FormulaData) × (q : FormulaData) × IsEntry ps r.equation e × IsEntry ps r.source q × IsRewriting r.variable read e q p) → IsTrue known ↔ IsRewritten ps r pattern p
+rewritten_given ps r read pattern p same known h = (
   λ yes. (
       let all = h.0 yes in
       record { equation = all.0; source = all.1; is_equation = all.2; is_source = all.3; rewriting = subst (λ c. IsRewriting r.variable c all.0 all.1 p) same all.4 }),
@@ -50,8 +50,8 @@ module _ (ns : List Node) (b : Branch) (ps : List FormulaData) where
   one_new : (p : FormulaData) → (Contains ps p → ⊥) → All (λ q. Contains ps q → ⊥) (p ∷ [])
   one_new p new = All-cons (λ q. Contains ps q → ⊥) p [] new (All-nil (λ q. Contains ps q → ⊥))
 
-  pub itself_link : (k : ℕ) → (Contains ps (formula_at ns k) → ⊥) → IsShallow (formula_at ns k) → (told : Bool) → IsTrue told ↔ IsItself b (Equal SameTerm) (formula_at ns k) → IsTrue told ↔ IsNextLink b ps (step_in ns (Itself k))
-  itself_link k new shallow told h = (
+  pub itself_link : (k : ℕ) → (Contains ps (formula_at ns k) → ⊥) → IsShallow (formula_at ns k) → (known : Bool) → IsTrue known ↔ IsItself b (Equal SameTerm) (formula_at ns k) → IsTrue known ↔ IsNextLink b ps (step_in ns (Itself k))
+  itself_link k new shallow known h = (
     λ yes. (
         let is = h.0 yes in
         record {
@@ -61,8 +61,8 @@ module _ (ns : List Node) (b : Branch) (ps : List FormulaData) where
     λ link. h.1 link.link.step,
   )
 
-  pub rewritten_link : (r : Rewriting) → (Contains ps (formula_at ns r.formula) → ⊥) → IsShallowStep ns (Rewritten r) → (told : Bool) → IsTrue told ↔ IsRewritten ps r (formula_at ns r.pattern) (formula_at ns r.formula) → IsTrue told ↔ IsNextLink b ps (step_in ns (Rewritten r))
-  rewritten_link r new shallow told h = (
+  pub rewritten_link : (r : Rewriting) → (Contains ps (formula_at ns r.formula) → ⊥) → IsShallowStep ns (Rewritten r) → (known : Bool) → IsTrue known ↔ IsRewritten ps r (formula_at ns r.pattern) (formula_at ns r.formula) → IsTrue known ↔ IsNextLink b ps (step_in ns (Rewritten r))
+  rewritten_link r new shallow known h = (
     λ yes. (
         let is = h.0 yes in
         record {
@@ -116,8 +116,8 @@ module _ (ns : List Node) (b : Branch) (start : List FormulaData) (steps : List 
           leads = ap (λ rs. after_links rs (drop (i + 1) ss)) next ∙ ap (after_links ps) (sym here) ∙ from.leads;
         }
 
-    pub links_fail : (told : Bool) → IsTrue told ↔ IsNextLink b ps (step_in ns s) → told ≡ false → (shapes : List Shape) → IsTrue false ↔ AreLinks shapes b start ss
-    links_fail told h fails shapes = never (λ whole. (
+    pub links_fail : (known : Bool) → IsTrue known ↔ IsNextLink b ps (step_in ns s) → known ≡ false → (shapes : List Shape) → IsTrue false ↔ AreLinks shapes b start ss
+    links_fail known h fails shapes = never (λ whole. (
         let both = subst (AreLinks shapes b ps) here ((from.rest shapes).1 whole) in
         let yes = h.1 (next_link ns b ps s shapes both.0 both.1) in
         absurd (cc)))
@@ -157,5 +157,5 @@ longer_line ps qs p m i e grown = (let l = ap length grown in omega (arith, e, l
 pub tree_at : (ns : List Node) (steps : List ChainStep) (trees : List FormulaData) (i : ℕ) (d : ChainStep) (p : FormulaData) → trees ≡ map (formula_added ns) steps → i < length steps → p ≡ get_or trees i p → p ≡ formula_added ns (get_or steps i d)
 tree_at ns steps trees i d p are w e = e ∙ ap (λ ts. get_or ts i p) are ∙ get_or-map (formula_added ns) steps i d p w
 
-pub step_told : (ns : List Node) (b : Branch) (ps : List FormulaData) (s t : ChainStep) → s ≡ t → (told : Bool) → IsTrue told ↔ IsNextLink b ps (step_in ns t) → IsTrue told ↔ IsNextLink b ps (step_in ns s)
-step_told ns b ps s t e told h = subst (λ r. IsTrue told ↔ IsNextLink b ps (step_in ns r)) (sym e) h
+pub step_known : (ns : List Node) (b : Branch) (ps : List FormulaData) (s t : ChainStep) → s ≡ t → (known : Bool) → IsTrue known ↔ IsNextLink b ps (step_in ns t) → IsTrue known ↔ IsNextLink b ps (step_in ns s)
+step_known ns b ps s t e known h = subst (λ r. IsTrue known ↔ IsNextLink b ps (step_in ns r)) (sym e) h

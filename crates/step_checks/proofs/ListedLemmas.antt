@@ -38,8 +38,8 @@ module _ (shapes : List Shape) (ns ms : List Node) (grown : Extends ns ms) (one 
   there : IsDue (branch_in ms d) (Asks shapes (branch_in ms d)) sought.name (formula_at ms sought.formula) sought.generation ≡ IsDue (branch_in ns d) (Asks shapes (branch_in ns d)) sought.name (formula_at ns sought.formula) sought.generation
   there = λ i. IsDue (still_says ns ms grown d over i) (Asks shapes (still_says ns ms grown d over i)) sought.name (formula_stays ns ms grown sought.formula number i) sought.generation
 
-  pub listed_so : (told : Bool) → IsTrue told ↔ Contains steps sought → IsTrue told ↔ IsDue (branch_in ns d) (Asks shapes (branch_in ns d)) sought.name (formula_at ns sought.formula) sought.generation
-  listed_so told h = (
+  pub listed_so : (known : Bool) → IsTrue known ↔ Contains steps sought → IsTrue known ↔ IsDue (branch_in ns d) (Asks shapes (branch_in ns d)) sought.name (formula_at ns sought.formula) sought.generation
+  listed_so known h = (
     λ yes. subst (λ T. T) there (is_due_there (h.0 yes)),
     λ due. h.1 (is_listed_there (subst (λ T. T) (sym there) due)),
   )

@@ -198,7 +198,7 @@ module _ (ns : List Node) (d : BranchData) where
   module _ (over : IsOver ns d) (t : TermData) where
     below_inside : (n : ℕ) → IsBelow ns d n → StandsInItem t (item_at ns n) → StandsInside (branch_in ns d) t
     below_inside n (OfEntry i e _ found is) s = record {
-      place = i;
+      position = i;
       formula = formula_at ns e.formula;
       says = entry_says ns d i e found;
       inside = (
@@ -224,11 +224,11 @@ module _ (ns : List Node) (d : BranchData) where
 
     inside_mark : (ms : List Bool) → IsSwept ns d ms 0 → StandsInside (branch_in ns d) t → HasMark ms
     inside_mark ms h s =
-        let it = stored ns d.entries s.place s.says.entry s.says.found in
-        let formula = over.formulas s.place it.entry it.found in
-        let said : s.formula ≡ formula_at ns it.entry.formula = said_is ns d s.place it.entry s.formula it.found s.says in
+        let it = stored ns d.entries s.position s.says.entry s.says.found in
+        let formula = over.formulas s.position it.entry it.found in
+        let said : s.formula ≡ formula_at ns it.entry.formula = said_is ns d s.position it.entry s.formula it.found s.says in
         let inside : StandsInItem t (item_at ns it.entry.formula) = subst (StandsInItem t) (a_formula (item_at ns it.entry.formula) formula.sort) (subst (IsInside t) said s.inside) in
-        mark_in ms h (suc it.entry.formula) it.entry.formula (omega arith) (h.entries s.place it.entry it.found) inside
+        mark_in ms h (suc it.entry.formula) it.entry.formula (omega arith) (h.entries s.position it.entry it.found) inside
 
   -- exactly what occurs inside is marked
   pub marks_tell : IsOver ns d → IsOneNumber ns → (term : ℕ) → IsTermNumber ns term → (ms : List Bool) → IsSwept ns d ms 0 → IsTrue (get_or ms term false) ↔ StandsInside (branch_in ns d) (term_at ns term)
@@ -252,7 +252,7 @@ read_mark ns d ms h n v w e =
 -- what has a generation occurs outside quantifiers
 pub known_inside : (b : Branch) (t : TermData) (g : ℕ) → IsGeneration b t g → StandsInside b t
 known_inside b t g h = record {
-  place = h.holds.place;
+  position = h.holds.position;
   formula = h.holds.entry.formula;
   says = record { entry = h.holds.entry; found = h.holds.found; is = refl };
   inside = in_formula t h.holds.entry.formula h.holds.inside;

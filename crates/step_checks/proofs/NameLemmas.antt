@@ -15,8 +15,8 @@ use Rattle.tableau.proofs.EntryLemmas.{entry_says, said_is}
 use Rattle.tableau.proofs.AboveLemmas.{all_new}
 
 module _ (ns : List Node) (d : BranchData) (i : ℕ) (e : PoolEntry) (found : slice_get d.entries i ≡ Some e) (v : ℕ) (p : FormulaData) where
-  pub name_given : (least unnamed body shallow told : Bool) → v < 2 ^ 32 → IsTrue least ↔ (v ≡ above_all (formulas (branch_in ns d))) → IsTrue unnamed ↔ (IsNamed (branch_in ns d) i → ⊥) → IsTrue body ↔ IsBodyWith Exists (VarTerm v) (formula_at ns e.formula) p → IsTrue shallow ↔ IsShallow p → IsTrue told ↔ (IsTrue least × IsTrue unnamed × IsTrue body × IsTrue shallow) → IsTrue told ↔ NameDue (branch_in ns d) i v p
-  name_given least unnamed body shallow told wide l u b s t = (
+  pub name_given : (least unnamed body shallow known : Bool) → v < 2 ^ 32 → IsTrue least ↔ (v ≡ above_all (formulas (branch_in ns d))) → IsTrue unnamed ↔ (IsNamed (branch_in ns d) i → ⊥) → IsTrue body ↔ IsBodyWith Exists (VarTerm v) (formula_at ns e.formula) p → IsTrue shallow ↔ IsShallow p → IsTrue known ↔ (IsTrue least × IsTrue unnamed × IsTrue body × IsTrue shallow) → IsTrue known ↔ NameDue (branch_in ns d) i v p
+  name_given least unnamed body shallow known wide l u b s t = (
     λ yes. (
         let all = t.0 yes in
         record {
@@ -34,11 +34,11 @@ module _ (ns : List Node) (d : BranchData) (i : ℕ) (e : PoolEntry) (found : sl
 
 -- ---- what was read
 
-pub least_read : {told : Bool} {v w least n : ℕ} → w ≡ v → IsTrue told ↔ (w ≡ least) → least ≡ n → IsTrue told ↔ (v ≡ n)
+pub least_read : {known : Bool} {v w least n : ℕ} → w ≡ v → IsTrue known ↔ (w ≡ least) → least ≡ n → IsTrue known ↔ (v ≡ n)
 least_read f h e = (λ yes. sym f ∙ h.0 yes ∙ e, λ is. h.1 (f ∙ is ∙ sym e))
 
-pub named_read : {told named : Bool} {P : Type 0} → IsTrue told ↔ (IsTrue named → ⊥) → IsTrue named ↔ P → IsTrue told ↔ (P → ⊥)
+pub named_read : {known named : Bool} {P : Type 0} → IsTrue known ↔ (IsTrue named → ⊥) → IsTrue named ↔ P → IsTrue known ↔ (P → ⊥)
 named_read h g = (λ yes p. h.0 yes (g.1 p), λ none. h.1 (λ so. none (g.0 so)))
 
-pub name_read : (p : FormulaData) {told : Bool} {name t : TermData} {whole of : FormulaData} → name ≡ t → whole ≡ of → IsTrue told ↔ IsBodyWith Exists name whole p → IsTrue told ↔ IsBodyWith Exists t of p
-name_read p {told} {name} {t} {whole} {of} e f h = subst (λ x. IsTrue told ↔ IsBodyWith Exists x of p) e (subst (λ q. IsTrue told ↔ IsBodyWith Exists name q p) f h)
+pub name_read : (p : FormulaData) {known : Bool} {name t : TermData} {whole of : FormulaData} → name ≡ t → whole ≡ of → IsTrue known ↔ IsBodyWith Exists name whole p → IsTrue known ↔ IsBodyWith Exists t of p
+name_read p {known} {name} {t} {whole} {of} e f h = subst (λ x. IsTrue known ↔ IsBodyWith Exists x of p) e (subst (λ q. IsTrue known ↔ IsBodyWith Exists name q p) f h)

@@ -175,8 +175,8 @@ module _ (ns : List Node) (one : IsOneNumber ns) (d : BranchData) (over : IsOver
             naming.classing.apart t u h g
             (ap naming.class (sym t_is) ∙ sym (naming.named.named i.number i.term.number i.term.stands) ∙ alike ∙ naming.named.named j.number j.term.number j.term.stands ∙ ap naming.class u_is)
 
-  pub told_by_back : Follows terms right names → (told : Bool) → IsTrue told ↔ Follows terms names right → IsTrue told ↔ AreClassNames ns b names
-  told_by_back there told h = (λ t. both_follow there (h.0 t), λ named. h.1 (right_follows named))
+  pub known_by_back : Follows terms right names → (known : Bool) → IsTrue known ↔ Follows terms names right → IsTrue known ↔ AreClassNames ns b names
+  known_by_back there known h = (λ t. both_follow there (h.0 t), λ named. h.1 (right_follows named))
 
-  pub not_followed_right : (told : Bool) → told ≡ false → IsTrue told ↔ Follows terms right names → IsTrue false ↔ AreClassNames ns b names
-  not_followed_right told e h = (λ t. absurd (cc), λ named. sym e ∙ h.1 (right_followed named))
+  pub not_followed_right : (known : Bool) → known ≡ false → IsTrue known ↔ Follows terms right names → IsTrue false ↔ AreClassNames ns b names
+  not_followed_right known e h = (λ t. absurd (cc), λ named. sym e ∙ h.1 (right_followed named))

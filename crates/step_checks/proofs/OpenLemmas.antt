@@ -46,7 +46,7 @@ bound_not_whole ns b class classes values bound positive h whole =
     let one = All-contains (IsWholeIfNumber b class classes) values h.value whole among in
     let above = All-contains (λ (v : Fraction). pos 0 <ℤ v.denominator) values h.value positive among in
     fraction_not_whole bound.below h.value above h.between
-    (one.whole (class (term_at ns bound.term)) h.of_term (record { term = term_at ns bound.term; of_class = refl; stands = record { place = bound.entry; says = h.says } }))
+    (one.whole (class (term_at ns bound.term)) h.of_term (record { term = term_at ns bound.term; of_class = refl; stands = record { position = bound.entry; says = h.says } }))
 
 pub none_is_triggered : (ns : List Node) (b : Branch) (class : TermData → ℕ) (rows : BranchRows) (values : List Fraction) (found : Option Bound) (r : Bool) → IsSolution rows.rows values → MatchOption found (All (IsWholeIfNumber b class rows.classes.keys) values) (IsBound ns b class rows.classes.keys values) → is_some found ≡ not r → IsTrue r ↔ AreOpenValues b class rows values
 none_is_triggered ns b class rows values None true solution whole e = (λ t. record { solution = solution; whole = whole }, λ h. refl)

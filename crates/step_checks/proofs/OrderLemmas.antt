@@ -24,8 +24,8 @@ formula_once : (ns : List Node) → IsOneNumber ns → (i j : ℕ) → IsFormula
 formula_once ns one i j s t e =
     one.one i j s.within t.within (sym (a_formula (item_at ns i) s.sort) ∙ ap FormulaItem e ∙ a_formula (item_at ns j) t.sort)
 
-pub same_made : (ns ms : List Node) → Extends ns ms → IsOneNumber ms → (p : FormulaData) (k n : ℕ) → IsNumberOf ms p k → IsFormulaNumber ns n → (told : Bool) → IsTrue told ↔ (k ≡ n) → IsTrue told ↔ (formula_at ns n ≡ p)
-same_made ns ms grown one p k n made number told h =
+pub same_made : (ns ms : List Node) → Extends ns ms → IsOneNumber ms → (p : FormulaData) (k n : ℕ) → IsNumberOf ms p k → IsFormulaNumber ns n → (known : Bool) → IsTrue known ↔ (k ≡ n) → IsTrue known ↔ (formula_at ns n ≡ p)
+same_made ns ms grown one p k n made number known h =
     let kept : formula_at ms n ≡ formula_at ns n = formula_stays ns ms grown n number in (
       λ yes. sym kept ∙ ap (formula_at ms) (sym (h.0 yes)) ∙ made.is,
       λ is. h.1 (formula_once ms one k n made.number (number_stays ns ms grown n number) (made.is ∙ sym is ∙ sym kept)),
@@ -48,8 +48,8 @@ unordered_so b t u apart turned h = weaker (not turned) (λ none. record { not_j
 pub triggered_as_indexes : (b : Branch) (t u : TermData) → AreIndexes b t u → IsTrue true ↔ AsksDecision b t u
 triggered_as_indexes b t u h = (λ yes. inl h, λ triggered. refl)
 
-pub triggered_as_differing : (b : Branch) (t u : TermData) → (AreIndexes b t u → ⊥) → (told : Bool) → IsTrue told ↔ Stands b (NotFormula (EqFormula t u)) → IsTrue told ↔ AsksDecision b t u
-triggered_as_differing b t u none told h = (
+pub triggered_as_differing : (b : Branch) (t u : TermData) → (AreIndexes b t u → ⊥) → (known : Bool) → IsTrue known ↔ Stands b (NotFormula (EqFormula t u)) → IsTrue known ↔ AsksDecision b t u
+triggered_as_differing b t u none known h = (
   λ yes. inr (h.0 yes),
   λ triggered. elim triggered [ inl q ↦ absurd (none q) | inr q ↦ h.1 q ],
 )
@@ -59,32 +59,32 @@ triggered_as_differing b t u none told h = (
 pub first_fails : {P Q : Type 0} → (P → ⊥) → IsTrue false ↔ (P × Q)
 first_fails none = never (λ both. none both.0)
 
-pub second_tells : {P Q : Type 0} (told : Bool) → P → IsTrue told ↔ Q → IsTrue told ↔ (P × Q)
-second_tells told p h = (λ yes. (p, h.0 yes), λ both. h.1 both.1)
+pub second_tells : {P Q : Type 0} (known : Bool) → P → IsTrue known ↔ Q → IsTrue known ↔ (P × Q)
+second_tells known p h = (λ yes. (p, h.0 yes), λ both. h.1 both.1)
 
 pub pair_fails : (b : Branch) (t u : TermData) → (IsUnordered b t u → ⊥) → IsTrue false ↔ IsPairDue b t u
 pair_fails b t u none = never (λ pair. none pair.unordered)
 
-pub pair_tells : (b : Branch) (t u : TermData) (told : Bool) → IsUnordered b t u → IsTrue told ↔ (AsksDecision b t u × AreNumbers b t u) → IsTrue told ↔ IsPairDue b t u
-pair_tells b t u told unordered h = (λ yes. (let both = h.0 yes in record { unordered = unordered; triggered = both.0; numbers = both.1 }), λ pair. h.1 (pair.triggered, pair.numbers))
+pub pair_tells : (b : Branch) (t u : TermData) (known : Bool) → IsUnordered b t u → IsTrue known ↔ (AsksDecision b t u × AreNumbers b t u) → IsTrue known ↔ IsPairDue b t u
+pair_tells b t u known unordered h = (λ yes. (let both = h.0 yes in record { unordered = unordered; triggered = both.0; numbers = both.1 }), λ pair. h.1 (pair.triggered, pair.numbers))
 
 pub order_fails : (b : Branch) (t u : TermData) (p : FormulaData) → (p ≡ trichotomy_axiom t u → ⊥) → IsTrue false ↔ IsOrderOf b t u p
 order_fails b t u p none = never (λ order. none order.is)
 
-pub order_tells : (b : Branch) (t u : TermData) (p : FormulaData) (told : Bool) → p ≡ trichotomy_axiom t u → IsTrue told ↔ IsPairDue b t u → IsTrue told ↔ IsOrderOf b t u p
-order_tells b t u p told is h = (λ yes. record { is = is; pair = h.0 yes }, λ order. h.1 order.pair)
+pub order_tells : (b : Branch) (t u : TermData) (p : FormulaData) (known : Bool) → p ≡ trichotomy_axiom t u → IsTrue known ↔ IsPairDue b t u → IsTrue known ↔ IsOrderOf b t u p
+order_tells b t u p known is h = (λ yes. record { is = is; pair = h.0 yes }, λ order. h.1 order.pair)
 
 -- ---- results over an extended pool
 
-module _ (ns ms : List Node) (grown : Extends ns ms) (d : BranchData) (over : IsOver ns d) (i j : ℕ) (s : IsTermNumber ns i) (t : IsTermNumber ns j) (told : Bool) where
-  pub numbers_before : IsTrue told ↔ AreNumbers (branch_in ms d) (term_at ms i) (term_at ms j) → IsTrue told ↔ AreNumbers (branch_in ns d) (term_at ns i) (term_at ns j)
-  numbers_before h = so_before ns ms grown d over (λ b x y. IsTrue told ↔ AreNumbers b x y) i j s t h
+module _ (ns ms : List Node) (grown : Extends ns ms) (d : BranchData) (over : IsOver ns d) (i j : ℕ) (s : IsTermNumber ns i) (t : IsTermNumber ns j) (known : Bool) where
+  pub numbers_before : IsTrue known ↔ AreNumbers (branch_in ms d) (term_at ms i) (term_at ms j) → IsTrue known ↔ AreNumbers (branch_in ns d) (term_at ns i) (term_at ns j)
+  numbers_before h = so_before ns ms grown d over (λ b x y. IsTrue known ↔ AreNumbers b x y) i j s t h
 
-  pub triggered_before : IsTrue told ↔ (AsksDecision (branch_in ms d) (term_at ms i) (term_at ms j) × AreNumbers (branch_in ms d) (term_at ms i) (term_at ms j)) → IsTrue told ↔ (AsksDecision (branch_in ns d) (term_at ns i) (term_at ns j) × AreNumbers (branch_in ns d) (term_at ns i) (term_at ns j))
-  triggered_before h = so_before ns ms grown d over (λ b x y. IsTrue told ↔ (AsksDecision b x y × AreNumbers b x y)) i j s t h
+  pub triggered_before : IsTrue known ↔ (AsksDecision (branch_in ms d) (term_at ms i) (term_at ms j) × AreNumbers (branch_in ms d) (term_at ms i) (term_at ms j)) → IsTrue known ↔ (AsksDecision (branch_in ns d) (term_at ns i) (term_at ns j) × AreNumbers (branch_in ns d) (term_at ns i) (term_at ns j))
+  triggered_before h = so_before ns ms grown d over (λ b x y. IsTrue known ↔ (AsksDecision b x y × AreNumbers b x y)) i j s t h
 
-  pub pair_before : IsTrue told ↔ IsPairDue (branch_in ms d) (term_at ms i) (term_at ms j) → IsTrue told ↔ IsPairDue (branch_in ns d) (term_at ns i) (term_at ns j)
-  pair_before h = so_before ns ms grown d over (λ b x y. IsTrue told ↔ IsPairDue b x y) i j s t h
+  pub pair_before : IsTrue known ↔ IsPairDue (branch_in ms d) (term_at ms i) (term_at ms j) → IsTrue known ↔ IsPairDue (branch_in ns d) (term_at ns i) (term_at ns j)
+  pair_before h = so_before ns ms grown d over (λ b x y. IsTrue known ↔ IsPairDue b x y) i j s t h
 
 -- ---- the whole instance
 
@@ -107,8 +107,8 @@ module _ (ns : List Node) (b : Branch) (p : FormulaData) (g : ℕ) (pair : ℕ �
   pub other_generation : (AreGenerations b (term_at ns pair.0 ∷ term_at ns pair.1 ∷ []) g → ⊥) → IsTrue false ↔ IsOrderDue b p g
   other_generation none = never (λ due. none (of_sides (λ x y. AreGenerations b (x ∷ y ∷ []) g) due.left due.right due.order.is due.generations))
 
-  pub order_due : AreGenerations b (term_at ns pair.0 ∷ term_at ns pair.1 ∷ []) g → IsNew b p → IsShallow p → (told : Bool) → IsTrue told ↔ IsOrderOf b (term_at ns pair.0) (term_at ns pair.1) p → IsTrue told ↔ IsOrderDue b p g
-  order_due generations new shallow told h = (
+  pub order_due : AreGenerations b (term_at ns pair.0 ∷ term_at ns pair.1 ∷ []) g → IsNew b p → IsShallow p → (known : Bool) → IsTrue known ↔ IsOrderOf b (term_at ns pair.0) (term_at ns pair.1) p → IsTrue known ↔ IsOrderDue b p g
+  order_due generations new shallow known h = (
     λ yes. record { left = term_at ns pair.0; right = term_at ns pair.1; order = h.0 yes; generations = generations; is_new = new; shallow = shallow },
     λ due. h.1 (of_sides (λ x y. IsOrderOf b x y p) due.left due.right due.order.is due.order),
   )

@@ -10,8 +10,8 @@ use Rattle.tableau.specs.PoolBranches.{BranchData, branch_in, IsTermNumber, IsOv
 use Rattle.congruence_closure.specs.Known.{BranchClassesData, class_of, AreExact}
 use Rattle.tableau.specs.Terms.{term_at, IsBranchTerm, AreBranchTerms, AreClassesOf}
 use Rattle.tableau.specs.Groups.{AreGroups}
-use Rattle.axiom_strategy.specs.Places.{read_of, IsReadAt, IsReadIn}
-use Rattle.axiom_strategy.proofs.PlaceLemmas.{AreSeen}
+use Rattle.axiom_strategy.specs.Positions.{read_of, IsReadAt, IsReadIn}
+use Rattle.axiom_strategy.proofs.PositionLemmas.{AreSeen}
 use Rattle.axiom_strategy.proofs.CutLemmas.{indexes_read, read_indexes}
 use Rattle.step_checks.specs.Pairs.{AreReads, AreReadInOne, IsMeeting}
 use Rattle.step_checks.proofs.DecisionsTruthLemmas.{never}
@@ -44,8 +44,8 @@ module _ (ns : List Node) (c : BranchClassesData) (groups : List ℕ) (reads : L
   pub other_class : (p : ℕ × ℕ) → IsReadAt ns n p → (class_of c p.1 ≡ one → ⊥) → IsTrue false ↔ IsMeeting ns c groups reads one other n
   other_class p read differ = never (λ h. differ (ap (λ (q : ℕ × ℕ). class_of c q.1) (same_read ns n p h.parts read h.read) ∙ h.same_class))
 
-  pub meeting_so : (p : ℕ × ℕ) → IsReadAt ns n p → class_of c p.1 ≡ one → (told : Bool) → IsTrue told ↔ Contains reads (get_or groups p.0 0, other) → IsTrue told ↔ IsMeeting ns c groups reads one other n
-  meeting_so p read same told h = (
+  pub meeting_so : (p : ℕ × ℕ) → IsReadAt ns n p → class_of c p.1 ≡ one → (known : Bool) → IsTrue known ↔ Contains reads (get_or groups p.0 0, other) → IsTrue known ↔ IsMeeting ns c groups reads one other n
+  meeting_so p read same known h = (
     λ t. record { parts = p; read = read; same_class = same; among = h.0 t },
     λ m. h.1 (subst (λ (q : ℕ × ℕ). Contains reads (get_or groups q.0 0, other)) (same_read ns n m.parts p m.read read) m.among),
   )
@@ -69,8 +69,8 @@ module _ (ns : List Node) (b : Branch) (c : BranchClassesData) (groups terms : L
 -- ---- two terms
 
 module _ (ns : List Node) (one : IsOneNumber ns) (d : BranchData) (over : IsOver ns d) (c : BranchClassesData) (classes : AreClassesOf ns d c) (exact : AreExact c) (groups : List ℕ) (near : AreGroups ns (branch_in ns d) groups) (i j : ℕ) (s : IsBranchTerm ns (branch_in ns d) i) (t : IsBranchTerm ns (branch_in ns d) j) where
-  pub indexes_so : (x y : ℕ) → x ≡ class_of c i → y ≡ class_of c j → (told : Bool) → IsTrue told ↔ AreReadInOne ns (branch_in ns d) c groups x y → IsTrue told ↔ AreIndexes (branch_in ns d) (term_at ns i) (term_at ns j)
-  indexes_so x y e f told h = (
+  pub indexes_so : (x y : ℕ) → x ≡ class_of c i → y ≡ class_of c j → (known : Bool) → IsTrue known ↔ AreReadInOne ns (branch_in ns d) c groups x y → IsTrue known ↔ AreIndexes (branch_in ns d) (term_at ns i) (term_at ns j)
+  indexes_so x y e f known h = (
     λ yes. (
         let r = h.0 yes in
         read_indexes ns one d over c classes exact groups near i j s t (record {

@@ -104,8 +104,8 @@ pub not_itself : (b : Branch) (p : FormulaData) → IsNotReflexive p → IsTrue 
 not_itself b p h = never (λ is. h.none is.term is.is)
 
 -- given whether the term occurs
-pub itself_given : (ns : List Node) (b : Branch) (p : FormulaData) (n : ℕ) → IsReflexiveAt ns p n → (told : Bool) → IsTrue told ↔ StandsInside b (term_at ns n) → IsTrue told ↔ IsItself b (Equal Itself) p
-itself_given ns b p n r told h = (
+pub itself_given : (ns : List Node) (b : Branch) (p : FormulaData) (n : ℕ) → IsReflexiveAt ns p n → (known : Bool) → IsTrue known ↔ StandsInside b (term_at ns n) → IsTrue known ↔ IsItself b (Equal Itself) p
+itself_given ns b p n r known h = (
   λ yes. record { is_axiom = refl; term = term_at ns n; stands = h.0 yes; is = r.is },
   λ is. h.1 (
       let both : EqFormula is.term is.term ≡ EqFormula (term_at ns n) (term_at ns n) = sym is.is ∙ r.is in

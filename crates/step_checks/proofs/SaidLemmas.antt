@@ -18,8 +18,8 @@ use Rattle.ematching.specs.Bodies.{IsSaidAt}
 use Rattle.ematching.proofs.SaidLemmas.{one_said}
 use Rattle.step_checks.proofs.GivenLemmas.{never}
 
-pub said_given : (ns : List Node) (d : BranchData) (i : ℕ) (e : PoolEntry) → slice_get d.entries i ≡ Some e → (of : FormulaData) (t : TermData) (told : Bool) → IsTrue told ↔ IsBodyWith ForAll t of (formula_at ns e.formula) → IsTrue told ↔ IsSaidAt (branch_in ns d) of t i
-said_given ns d i e found of t told h = (
+pub said_given : (ns : List Node) (d : BranchData) (i : ℕ) (e : PoolEntry) → slice_get d.entries i ≡ Some e → (of : FormulaData) (t : TermData) (known : Bool) → IsTrue known ↔ IsBodyWith ForAll t of (formula_at ns e.formula) → IsTrue known ↔ IsSaidAt (branch_in ns d) of t i
+said_given ns d i e found of t known h = (
   λ yes. record { formula = formula_at ns e.formula; says = entry_says ns d i e found; is_body = h.0 yes },
   λ said. h.1 (subst (IsBodyWith ForAll t of) (said_is ns d i e said.formula found said.says) said.is_body),
 )
@@ -27,14 +27,14 @@ said_given ns d i e found of t told h = (
 -- ---- instances new to the branch
 
 module _ (b : Branch) (of : FormulaData) (t : TermData) (p : FormulaData) where
-  pub no_body : (told : Bool) → told ≡ false → IsTrue told ↔ IsBodyWith ForAll t of p → IsTrue false ↔ (IsBodyWith ForAll t of p × (HasInstance b of t → ⊥))
-  no_body told e h = never (λ fresh. (let yes = h.1 fresh.0 in absurd (cc)))
+  pub no_body : (known : Bool) → known ≡ false → IsTrue known ↔ IsBodyWith ForAll t of p → IsTrue false ↔ (IsBodyWith ForAll t of p × (HasInstance b of t → ⊥))
+  no_body known e h = never (λ fresh. (let yes = h.1 fresh.0 in absurd (cc)))
 
   pub stands_so : IsBodyWith ForAll t of p → Stands b p → IsTrue false ↔ (IsBodyWith ForAll t of p × (HasInstance b of t → ⊥))
   stands_so body stands = never (λ fresh. fresh.1 (record { body = p; stands = stands; is_body = body }))
 
-  pub unsaid_given : IsBodyWith ForAll t of p → (said told : Bool) → IsTrue said ↔ HasInstance b of t → IsTrue told ↔ (IsTrue said → ⊥) → IsTrue told ↔ (IsBodyWith ForAll t of p × (HasInstance b of t → ⊥))
-  unsaid_given body said told h g = (λ yes. (body, λ has. g.0 yes (h.1 has)), λ fresh. g.1 (λ so. fresh.1 (h.0 so)))
+  pub unsaid_given : IsBodyWith ForAll t of p → (said known : Bool) → IsTrue said ↔ HasInstance b of t → IsTrue known ↔ (IsTrue said → ⊥) → IsTrue known ↔ (IsBodyWith ForAll t of p × (HasInstance b of t → ⊥))
+  unsaid_given body said known h g = (λ yes. (body, λ has. g.0 yes (h.1 has)), λ fresh. g.1 (λ so. fresh.1 (h.0 so)))
 
 -- without quantifiers there is only one such formula
 pub one_says : (ns : List Node) (b : Branch) (of : FormulaData) (t : TermData) (p : FormulaData) (u : Universal) → IsQuantified ns of u → quantifier_free (formula_at ns u.body) ≡ true → IsBodyWith ForAll t of p → (Stands b p → ⊥) → IsTrue true ↔ (IsBodyWith ForAll t of p × (HasInstance b of t → ⊥))
@@ -51,8 +51,8 @@ one_says ns b of t p u is free body none = (λ yes. (body, unsaid), λ fresh. re
 
 -- ---- what was read
 
-pub body_read : (p : FormulaData) (told : Bool) (value t : TermData) (whole of : FormulaData) → value ≡ t → whole ≡ of → IsTrue told ↔ IsBodyWith ForAll value whole p → IsTrue told ↔ IsBodyWith ForAll t of p
-body_read p told value t whole of e f h = subst (λ x. IsTrue told ↔ IsBodyWith ForAll x of p) e (subst (λ q. IsTrue told ↔ IsBodyWith ForAll value q p) f h)
+pub body_read : (p : FormulaData) (known : Bool) (value t : TermData) (whole of : FormulaData) → value ≡ t → whole ≡ of → IsTrue known ↔ IsBodyWith ForAll value whole p → IsTrue known ↔ IsBodyWith ForAll t of p
+body_read p known value t whole of e f h = subst (λ x. IsTrue known ↔ IsBodyWith ForAll x of p) e (subst (λ q. IsTrue known ↔ IsBodyWith ForAll value q p) f h)
 
-pub said_read : (b : Branch) (told : Bool) (value t : TermData) (whole of : FormulaData) → value ≡ t → whole ≡ of → IsTrue told ↔ HasInstance b whole value → IsTrue told ↔ HasInstance b of t
-said_read b told value t whole of e f h = subst (λ x. IsTrue told ↔ HasInstance b of x) e (subst (λ q. IsTrue told ↔ HasInstance b q value) f h)
+pub said_read : (b : Branch) (known : Bool) (value t : TermData) (whole of : FormulaData) → value ≡ t → whole ≡ of → IsTrue known ↔ HasInstance b whole value → IsTrue known ↔ HasInstance b of t
+said_read b known value t whole of e f h = subst (λ x. IsTrue known ↔ HasInstance b of x) e (subst (λ q. IsTrue known ↔ HasInstance b q value) f h)

@@ -137,7 +137,7 @@ solution_so rs ss values same h = record {
 
 module _ (b : Branch) (f g : TermData → ℕ) (agree : Agree b f g) where
   stands_so : (i : ℕ) (e : Entry) → slice_get b i ≡ Some e → (u : TermData) → IsInFormula u e.formula → f u ≡ g u
-  stands_so i e found u inside = agree.same u (record { generation = e.generation; holds = record { place = i; entry = e; found = found; inside = inside; same = refl } })
+  stands_so i e found u inside = agree.same u (record { generation = e.generation; holds = record { position = i; entry = e; found = found; inside = inside; same = refl } })
 
   -- values of the rows over the second classes are values of those over the first
   pub solved_so : (classes : List ℕ) (rs ss : List Inequality) (values : List Fraction) → AreBranchRows b f classes rs → AreBranchRows b g classes ss → IsSolution ss values → IsSolution rs values
@@ -158,7 +158,7 @@ module _ (b : Branch) (f g : TermData → ℕ) (agree : Agree b f g) where
   number_so n h = (
       let e = h.stands.says.entry in
       let inside : IsInFormula h.term e.formula = subst (IsInFormula h.term) (sym h.stands.says.is) (InTyped NumType h.term Itself) in
-      record { term = h.term; of_class = sym (stands_so h.stands.place e h.stands.says.found h.term inside) ∙ h.of_class; stands = h.stands })
+      record { term = h.term; of_class = sym (stands_so h.stands.position e h.stands.says.found h.term inside) ∙ h.of_class; stands = h.stands })
 
   pub whole_so : (classes : List ℕ) (values : List Fraction) → All (IsWholeIfNumber b g classes) values → All (IsWholeIfNumber b f classes) values
   whole_so classes values h = λ k d w. record { whole = λ n found number. (h k d w).whole n found (number_so n number) }

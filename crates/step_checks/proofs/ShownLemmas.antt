@@ -185,17 +185,17 @@ abbrev AreShown : ℕ → List Inequality → List ℕ → List GivenRow → ℕ
 AreShown width rows unknowns made n = (k : ℕ) (d : GivenRow) → k < n → k < length made → IsShown width rows unknowns (stage_of (get_or made k d).origin) (get_or made k d).row
 
 -- a row before another one
-before_at : (made : List GivenRow) (n place : ℕ) (one : GivenRow) → slice_get (take n made) place ≡ Some one → (place < n) × (place < length made) × (get_or made place one ≡ one)
-before_at made n place one e =
-    let within = slice_get_within (take n made) place one e in
+before_at : (made : List GivenRow) (n position : ℕ) (one : GivenRow) → slice_get (take n made) position ≡ Some one → (position < n) × (position < length made) × (get_or made position one ≡ one)
+before_at made n position one e =
+    let within = slice_get_within (take n made) position one e in
     let len = length-take n made in
-    let l : place < n = omega (arith, within, len) in
-    (l, omega (arith, within, len), sym (get_or-take n made place one l) ∙ get_or_from_slice_get (take n made) place one one e)
+    let l : position < n = omega (arith, within, len) in
+    (l, omega (arith, within, len), sym (get_or-take n made position one l) ∙ get_or_from_slice_get (take n made) position one one e)
 
-shown_before : (width : ℕ) (rows : List Inequality) (unknowns : List ℕ) (made : List GivenRow) (n place : ℕ) (one : GivenRow) → AreShown width rows unknowns made n → slice_get (take n made) place ≡ Some one → IsShown width rows unknowns (stage_of one.origin) one.row
-shown_before width rows unknowns made n place one h e =
-    let at = before_at made n place one e in
-    subst (λ (r : GivenRow). IsShown width rows unknowns (stage_of r.origin) r.row) at.2 (h place one at.0 at.1)
+shown_before : (width : ℕ) (rows : List Inequality) (unknowns : List ℕ) (made : List GivenRow) (n position : ℕ) (one : GivenRow) → AreShown width rows unknowns made n → slice_get (take n made) position ≡ Some one → IsShown width rows unknowns (stage_of one.origin) one.row
+shown_before width rows unknowns made n position one h e =
+    let at = before_at made n position one e in
+    subst (λ (r : GivenRow). IsShown width rows unknowns (stage_of r.origin) r.row) at.2 (h position one at.0 at.1)
 
 shown_of_origin : (width : ℕ) (rows : List Inequality) (unknowns : List ℕ) (made : List GivenRow) (n : ℕ) (origin : Origin) (row : Inequality) → AreShown width rows unknowns made n → IsOfOrigin width rows unknowns (take n made) origin row → IsShown width rows unknowns (stage_of origin) row
 shown_of_origin width rows unknowns made n (Given i) row h o = shown_given width rows unknowns i row o
@@ -248,10 +248,10 @@ length_of_rows : (made : List GivenRow) → length (rows_of made) ≡ length mad
 length_of_rows made = length-map made (λ (one : GivenRow). one.row)
 
 pub shows : (rows : List Inequality) (given : GivenElimination) → IsGivenElimination rows given → ShowsElimination rows given
-shows rows handed g =
+shows rows provided g =
     let width = width_of rows in
-    let unknowns = handed.unknowns.items in
-    let made = handed.rows.items in
+    let unknowns = provided.unknowns.items in
+    let made = provided.rows.items in
     let found = rows_of made in
     let shown = all_shown width rows unknowns made g.of_origins (length made) in
     let same : All (λ (row : Inequality). length row.coefficients ≡ width) found = each_row (λ (row : Inequality). length row.coefficients ≡ width) made (λ k d l. (shown k d l l).same_width) in
@@ -276,11 +276,11 @@ shows rows handed g =
     }
 
 -- values chosen after it are chosen for all unknowns
-pub chosen : (rows : List Inequality) (handed : GivenElimination) (values : List Fraction) → AreGivenValues rows handed values → AreAllChosen rows values
+pub chosen : (rows : List Inequality) (provided : GivenElimination) (values : List Fraction) → AreGivenValues rows provided values → AreAllChosen rows values
 unfolding shows
-chosen rows handed values g = record {
+chosen rows provided values g = record {
   choosing = record {
-    complete = (shows rows handed g.elimination).complete;
+    complete = (shows rows provided g.elimination).complete;
     different = g.different;
     before = [];
     are_values = g.are_values;

@@ -55,7 +55,7 @@ module _ (ns ms : List Node) (grown : Extends ns ms) where
       go n number stands None e = absurd ((generation_is ms one d over n number None e).none stands)
       go n number stands (Some g) e =
           let from = (all_least ms d over).from n g (sym e) in
-          let top = (entries.formulas from.place from.entry from.found).within in
+          let top = (entries.formulas from.position from.entry from.found).within in
           let low = under_below ms from.entry.formula n from.under in
           let w : n < length ns = omega (arith, top, low) in
           record { within = w; sort = ap sort_of (sym (item_kept ns ms grown n w)) ∙ number.sort }

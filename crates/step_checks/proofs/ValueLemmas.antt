@@ -99,7 +99,7 @@ until found unknowns _ _ k l (idle before vs v h n absent nothing one) = on_the_
 until found unknowns _ _ k l (next before vs v h n chosen) = on_the_way found unknowns before vs v k l (next before vs v h n chosen) (λ m. until found unknowns (before ++ v.unknown ∷ []) vs k m h)
 
 -- the first `count` values are chosen, and the first `left` unknowns are still to be chosen
-pub record IsStanding (found : List Inequality) (unknowns : List ℕ) (values : List Fraction) (count left : ℕ) : Type 0 where
+pub record IsChoosing (found : List Inequality) (unknowns : List ℕ) (values : List Fraction) (count left : ℕ) : Type 0 where
   pub within : left ≤ length unknowns
   pub are_values : AreValues found unknowns (take left unknowns) (take count values)
 
@@ -108,8 +108,8 @@ pub data IsStep (found : List Inequality) (unknowns : List ℕ) (left : ℕ) (va
   rests : (Contains unknowns value.unknown → ⊥) → value.numerator ≡ pos 0 → value.denominator ≡ pos 1 → IsStep found unknowns left values value
   steps : (less : ℕ) → less + 1 ≡ left → get_or unknowns less 0 ≡ value.unknown → IsChosen found (take less unknowns) values value → IsStep found unknowns left values value
 
-pub none_standing : (found : List Inequality) (unknowns : List ℕ) (values : List Fraction) (left : ℕ) → left ≡ length unknowns → IsStanding found unknowns values 0 left
-none_standing found unknowns values left e = record {
+pub none_present : (found : List Inequality) (unknowns : List ℕ) (values : List Fraction) (left : ℕ) → left ≡ length unknowns → IsChoosing found unknowns values 0 left
+none_present found unknowns values left e = record {
   within = omega (arith, e);
   are_values = subst (λ (us : List ℕ). AreValues found unknowns us []) (sym (take_all left unknowns (omega (arith, e)))) begun;
 }
@@ -128,7 +128,7 @@ steps_from found unknowns before (suc less) values value l e chosen =
     let s = same_from_push (take less unknowns) before (get_or unknowns less 0) value.unknown (sym (with_last unknowns less (suc less) is l) ∙ e) in
     steps less is s.1 (subst (λ (us : List ℕ). IsChosen found us values value) (sym s.0) chosen)
 
-pub step_of : (found : List Inequality) (unknowns before : List ℕ) (values : List Fraction) (i left : ℕ) (value : Fraction) → i < length values → value ≡ get_or values i value → IsStanding found unknowns values i left → AreValues found unknowns before values → IsStep found unknowns left (take i values) value
+pub step_of : (found : List Inequality) (unknowns before : List ℕ) (values : List Fraction) (i left : ℕ) (value : Fraction) → i < length values → value ≡ get_or values i value → IsChoosing found unknowns values i left → AreValues found unknowns before values → IsStep found unknowns left (take i values) value
 step_of found unknowns before values i left value l is s all =
     let vs = take i values in
     let at = until found unknowns before values (i + 1) (omega (arith, l)) all in
@@ -146,7 +146,7 @@ no_value values i value l is d k e m same =
     let before : k < i = omega (arith, m, short) in
     d k i e before l (ap (λ (v : Fraction). v.unknown) (sym (get_or-take i values k e before)) ∙ same ∙ ap (λ (v : Fraction). v.unknown) (is ∙ get_or-any_default values i value e l))
 
-pub stands_idle : (found : List Inequality) (unknowns : List ℕ) (values : List Fraction) (i left : ℕ) (value : Fraction) → i < length values → value ≡ get_or values i value → HaveDifferentUnknowns values → (Contains unknowns value.unknown → ⊥) → value.numerator ≡ pos 0 → value.denominator ≡ pos 1 → IsStanding found unknowns values i left → IsStanding found unknowns values (i + 1) left
+pub stands_idle : (found : List Inequality) (unknowns : List ℕ) (values : List Fraction) (i left : ℕ) (value : Fraction) → i < length values → value ≡ get_or values i value → HaveDifferentUnknowns values → (Contains unknowns value.unknown → ⊥) → value.numerator ≡ pos 0 → value.denominator ≡ pos 1 → IsChoosing found unknowns values i left → IsChoosing found unknowns values (i + 1) left
 stands_idle found unknowns values i left value l is d absent nothing one s =
     let vs = take i values in
     let more : take (i + 1) values ≡ vs ++ value ∷ [] = take_more values i value l ∙ ap (λ (v : Fraction). vs ++ v ∷ []) (sym is) in
@@ -155,7 +155,7 @@ stands_idle found unknowns values i left value l is d absent nothing one s =
       are_values = subst (λ (xs : List Fraction). AreValues found unknowns (take left unknowns) xs) (sym more) (idle (take left unknowns) vs value s.are_values (no_value values i value l is d) absent nothing one);
     }
 
-pub stands_next : (found : List Inequality) (unknowns : List ℕ) (values : List Fraction) (i less left : ℕ) (value : Fraction) → i < length values → value ≡ get_or values i value → HaveDifferentUnknowns values → less + 1 ≡ left → get_or unknowns less 0 ≡ value.unknown → IsChosen found (take less unknowns) (take i values) value → IsStanding found unknowns values i left → IsStanding found unknowns values (i + 1) less
+pub stands_next : (found : List Inequality) (unknowns : List ℕ) (values : List Fraction) (i less left : ℕ) (value : Fraction) → i < length values → value ≡ get_or values i value → HaveDifferentUnknowns values → less + 1 ≡ left → get_or unknowns less 0 ≡ value.unknown → IsChosen found (take less unknowns) (take i values) value → IsChoosing found unknowns values i left → IsChoosing found unknowns values (i + 1) less
 stands_next found unknowns values i less left value l is d e same chosen s =
     let vs = take i values in
     let us = take less unknowns in
@@ -168,8 +168,8 @@ stands_next found unknowns values i less left value l is d e same chosen s =
     }
 
 -- at the end no unknown is still to be chosen
-pub standing_ends : (found : List Inequality) (unknowns : List ℕ) (values : List Fraction) (i left : ℕ) (b : Bool) → length values ≤ i → Decides b (left ≡ 0) → IsStanding found unknowns values i left → Decides b (AreValues found unknowns [] values)
-standing_ends found unknowns values i left b l d s =
+pub present_ends : (found : List Inequality) (unknowns : List ℕ) (values : List Fraction) (i left : ℕ) (b : Bool) → length values ≤ i → Decides b (left ≡ 0) → IsChoosing found unknowns values i left → Decides b (AreValues found unknowns [] values)
+present_ends found unknowns values i left b l d s =
     let whole : AreValues found unknowns (take left unknowns) values = subst (λ (xs : List Fraction). AreValues found unknowns (take left unknowns) xs) (take_all i values l) s.are_values in (
       λ t. subst (λ (n : ℕ). AreValues found unknowns (take n unknowns) values) (d.0 t) whole,
       λ h. d.1 (let len = length-take-le left unknowns s.within in let n = ap length (one_before found unknowns (take left unknowns) [] values whole h) in omega (arith, len, n)),
@@ -184,5 +184,5 @@ pub not_idle : (found : List Inequality) (unknowns : List ℕ) (left : ℕ) (val
 not_idle found unknowns left values value not_last refuses (rests absent nothing one) = refuses absent nothing one
 not_idle found unknowns left values value not_last refuses (steps less e same chosen) = not_last less e same
 
-pub at_place : (values : List Fraction) (i : ℕ) (d : Fraction) → i < length values → get_or values i d ≡ get_or values i (get_or values i d)
-at_place values i d l = get_or-any_default values i d (get_or values i d) l
+pub at_position : (values : List Fraction) (i : ℕ) (d : Fraction) → i < length values → get_or values i d ≡ get_or values i (get_or values i d)
+at_position values i d l = get_or-any_default values i d (get_or values i d) l

@@ -24,10 +24,10 @@ filled_names ns b class names made same h = record { named = λ n number stands.
 
 -- ---- the rows that the values must satisfy
 
-pub no_names : (ns : List Node) (b : Branch) (v : OpenValues) (told : Bool) → told ≡ false → IsTrue told ↔ AreClassNames ns b v.names.items → HasNoRows ns b v
-no_names ns b v told e h = record {
+pub no_names : (ns : List Node) (b : Branch) (v : OpenValues) (known : Bool) → known ≡ false → IsTrue known ↔ AreClassNames ns b v.names.items → HasNoRows ns b v
+no_names ns b v known e h = record {
   none = λ rows has. (
-      let t : IsTrue told = h.1 (record { class = has.class; classing = has.are_rows.classing; named = has.named }) in
+      let t : IsTrue known = h.1 (record { class = has.class; classing = has.are_rows.classing; named = has.named }) in
       absurd (cc));
 }
 
@@ -71,8 +71,8 @@ module _ (ns : List Node) (one : IsOneNumber ns) (d : BranchData) (over : IsOver
         let agree : Agree b are.class has.class = agreed ns one d over are.class has.class v.names.items are.named has.named in
         solved_so b are.class has.class agree v.classes.items made.rows.rows rows v.values are.are_rows has.are_rows solution
 
-    pub met_exactly : (told : Bool) → IsTrue told ↔ IsSolution made.rows.rows v.values → IsTrue told ↔ IsMet ns b v
-    met_exactly told h = (λ t. record { rows = made.rows.rows; has = record { class = are.class; named = are.named; are_rows = are.are_rows }; solution = h.0 t }, λ met. h.1 (same_solution met.rows met.has met.solution))
+    pub met_exactly : (known : Bool) → IsTrue known ↔ IsSolution made.rows.rows v.values → IsTrue known ↔ IsMet ns b v
+    met_exactly known h = (λ t. record { rows = made.rows.rows; has = record { class = are.class; named = are.named; are_rows = are.are_rows }; solution = h.0 t }, λ met. h.1 (same_solution met.rows met.has met.solution))
 
     open_valued : AreOpenValues b are.class made.rows v.values → IsValued ns b v
     open_valued h = record {
@@ -93,5 +93,5 @@ module _ (ns : List Node) (one : IsOneNumber ns) (d : BranchData) (over : IsOver
           whole = subst (λ ks. All (IsWholeIfNumber b are.class ks) v.values) (sym are.keys) (whole_so b are.class h.class agree v.classes.items v.values h.whole);
         }
 
-    pub valued_exactly : (told : Bool) → IsTrue told ↔ AreOpenValues b are.class made.rows v.values → IsTrue told ↔ IsValued ns b v
-    valued_exactly told h = (λ t. open_valued (h.0 t), λ w. h.1 (valued_open w))
+    pub valued_exactly : (known : Bool) → IsTrue known ↔ AreOpenValues b are.class made.rows v.values → IsTrue known ↔ IsValued ns b v
+    valued_exactly known h = (λ t. open_valued (h.0 t), λ w. h.1 (valued_open w))

@@ -5,7 +5,7 @@ use Rattle.term_pool.specs.declared.node.Node.{Node}
 use Rattle.certificates.specs.BranchesBranch.{Branch}
 use Rattle.congruence_closure.specs.Known.{BranchClassesData, class_of}
 use Rattle.axiom_strategy.specs.Denials.{DeniesSides}
-use Rattle.axiom_strategy.specs.Places.{IsReadAt, IsReadIn}
+use Rattle.axiom_strategy.specs.Positions.{IsReadAt, IsReadIn}
 
 -- the groups, each with the classes at which something of it is read
 pub record AreReads (ns : List Node) (b : Branch) (c : BranchClassesData) (groups : List ℕ) (reads : List (ℕ × ℕ)) : Type 0 where

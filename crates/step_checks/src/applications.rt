@@ -3,6 +3,5 @@
 pub mod entries;
 pub mod names;
 mod said;
-mod standing;
 mod truths;
 pub mod universals;

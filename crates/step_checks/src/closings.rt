@@ -2,7 +2,6 @@
 //! formula, the explanation does not exceed the maximal length of a branch, and the closing rule applies.
 
 mod adding;
-mod closes;
 pub mod closing;
 mod equations;
 pub mod inside;

@@ -37,7 +37,7 @@ pub fn are_open_values(
 ) -> Result<bool, NoMemory>
     requires over { IsOver pool.now branch.now }
     requires named { length pool.now ≤ length names.now }
-    ensures { (class : TermData → ℕ) → AreNames pool.now (branch_in pool.now branch.now) class names.now → IfOk result (λ told. IsTrue told ↔ AreOpenValues (branch_in pool.now branch.now) class rows.now values.now) }
+    ensures { (class : TermData → ℕ) → AreNames pool.now (branch_in pool.now branch.now) class names.now → IfOk result (λ known. IsTrue known ↔ AreOpenValues (branch_in pool.now branch.now) class rows.now values.now) }
 {
     if !meets_rows(alloc, &rows.rows, values)? {
         return Ok(false);

@@ -5,6 +5,5 @@ pub mod PromisingLemmas
 pub mod RangeLemmas
 pub mod MarkLemmas
 pub mod EarlyLemmas
-pub mod StayLemmas
 pub mod StateLemmas
 pub mod SaturationLemmas

@@ -94,7 +94,7 @@ module _ (xs : List TriggeredAxiom) (formula : ℕ) where
       none k y w e is = elim (cases_lt k i) [ inl l ↦ h.none k y l e is | inr l ↦ (let same : i ≡ k = omega (arith, w, l) in let both : Some x ≡ Some y = sym found ∙ ap (slice_get xs) same ∙ e in here (subst (λ z. IsRangeInstance z formula) (sym (instance_same both)) is)) ]
 
   pub none_all : (i : ℕ) → length xs ≤ i → NoneListed xs formula i → ListsRange xs formula → ⊥
-  none_all i w h l = h.none l.place l.instance (let v = slice_get_within xs l.place l.instance l.found in omega (arith, v, w)) l.found l.is
+  none_all i w h l = h.none l.position l.instance (let v = slice_get_within xs l.position l.instance l.found in omega (arith, v, w)) l.found l.is
 
 -- ---- triggers of a type and a term
 
@@ -119,17 +119,17 @@ module _ (shapes : List Shape) (a : TypeData) (t : TermData) where
 
 -- an instance of a list, with its formula
 record IsFound (ns : List Node) (xs : List TriggeredAxiom) (name : Axiom) (p : FormulaData) : Type 0 where
-  place : ℕ
+  position : ℕ
   instance : TriggeredAxiom
-  found : slice_get xs place ≡ Some instance
+  found : slice_get xs position ≡ Some instance
   named : instance.name ≡ name
   formula : IsItem ns instance.formula (FormulaItem p)
 
 among_found : {ns : List Node} {a : Triggered} {xs : List TriggeredAxiom} {as' : List Triggered} → IsAmong a as' → AreTriggered ns xs as' → IsFound ns xs a.name a.formula
-among_found (IsHere _) (MoreTriggered x a xs as' h r) = record { place = 0; instance = x; found = refl; named = h.name; formula = h.formula }
+among_found (IsHere _) (MoreTriggered x a xs as' h r) = record { position = 0; instance = x; found = refl; named = h.name; formula = h.formula }
 among_found (IsLater _ _ m) (MoreTriggered x a xs as' h r) =
     let rest = among_found m r in
-    record { place = suc rest.place; instance = rest.instance; found = rest.found; named = rest.named; formula = rest.formula }
+    record { position = suc rest.position; instance = rest.instance; found = rest.found; named = rest.named; formula = rest.formula }
 
 given_type : {p : FormulaData} {a b : TypeData} {t u : TermData} → IsTyping p a t → p ≡ IsFormula b u → (a ≡ b) × (t ≡ u)
 given_type (Gives a t) e = (cc, cc)
@@ -150,7 +150,7 @@ no_range_untyped ns p left side none h = none.none h.type h.term (subst (λ q. I
 module _ (ns ms : List Node) (grown : Extends ns ms) (one : IsOneNumber ms) (formula : ℕ) (number : IsFormulaNumber ns formula) (shapes : List Shape) (left : ℕ) (side : IsLeftSide ns (formula_at ns formula) left) (typing : Typing) (typed : IsTypingOf ns (formula_at ns left) typing) (xs : List TriggeredAxiom) (all : ListsAll ms xs (AsksOfType shapes (type_at ns typing.of) (term_at ns typing.term))) where
   pub range_listed : ListsRange xs formula → IsRange (formula_at ns formula)
   range_listed l =
-      let there = range_at shapes (type_at ns typing.of) (term_at ns typing.term) all.are all.exactly.only l.place l.instance l.found l.is.is_range in
+      let there = range_at shapes (type_at ns typing.of) (term_at ns typing.term) all.are all.exactly.only l.position l.instance l.found l.is.is_range in
       subst IsRange (ap (formula_at ms) l.is.is_formula ∙ formula_stays ns ms grown formula number) there
 
   pub listed_range : IsRange (formula_at ns formula) → ListsRange xs formula
@@ -162,7 +162,7 @@ module _ (ns ms : List Node) (grown : Extends ns ms) (one : IsOneNumber ms) (for
       let there = number_stays ns ms grown formula number in
       let item : item_at ms formula ≡ FormulaItem (range_axiom h.type h.term h.most) = sym (a_formula (item_at ms formula) there.sort) ∙ ap FormulaItem (formula_stays ns ms grown formula number ∙ h.is) in
       record {
-        place = found.place;
+        position = found.position;
         instance = found.instance;
         found = found.found;
         is = record { is_formula = one.one found.instance.formula formula found.formula.within there.within (found.formula.is ∙ sym item); is_range = found.named };

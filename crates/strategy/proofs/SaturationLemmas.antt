@@ -112,10 +112,10 @@ module _ (shapes : List Shape) (b : Branch) where
 
 -- a clash shows that the branch is closed
 pub closes : (b : Branch) (clash : Clash) → IsClashOf b clash → IsNotClosed b → ⊥
-closes b (Opposed said denied) h n = n.no_clash h.formula h.other (record { place = said; says = h.says }) (record { place = denied; says = h.denies }) h.alike
+closes b (Opposed said denied) h n = n.no_clash h.formula h.other (record { position = said; says = h.says }) (record { position = denied; says = h.denies }) h.alike
 closes b (Differing i) h n =
-    n.no_differing h.equates.left h.equates.right (record { place = i; says = record { entry = h.denies.entry; found = h.denies.found; is = h.denies.is ∙ ap NotFormula h.equates.is } }) h.equates.joined
-closes b (False i) h n = n.no_false h.formula (record { place = i; says = h.says }) h.is_false
+    n.no_differing h.equates.left h.equates.right (record { position = i; says = record { entry = h.denies.entry; found = h.denies.found; is = h.denies.is ∙ ap NotFormula h.equates.is } }) h.equates.joined
+closes b (False i) h n = n.no_false h.formula (record { position = i; says = h.says }) h.is_false
 
 -- a truth value known by cases is exact
 pub exact_of : (P : Type 0) (r : Bool) → MatchBool r P (P → ⊥) → IsTrue r ↔ P

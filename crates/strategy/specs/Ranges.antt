@@ -45,9 +45,9 @@ pub record IsRangeInstance (x : TriggeredAxiom) (formula : ℕ) : Type 0 where
 
 -- some instance of the list has this number and is one of the axiom on ranges
 pub record ListsRange (instances : List TriggeredAxiom) (formula : ℕ) : Type 0 where
-  pub place : ℕ
+  pub position : ℕ
   pub instance : TriggeredAxiom
-  pub found : slice_get instances place ≡ Some instance
+  pub found : slice_get instances position ≡ Some instance
   pub is : IsRangeInstance instance formula
 
 -- ---- case splits

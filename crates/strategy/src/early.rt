@@ -103,8 +103,8 @@ fn range_axiom_due(
     ensures known { OnOk result (AreKnownInstances shapes.now pool.new known.new) }
     ensures due { IfOk result (λ found. MatchOption found (NoAxiom shapes.now (branch_in pool.new branch.now) WantedAxioms.Ranges) (IsExtensionDue shapes.now pool.new (branch_in pool.new branch.now))) }
 {
-    let standing = terms(alloc, pool, branch)?;
-    let numbers = standing.as_slice();
+    let present = terms(alloc, pool, branch)?;
+    let numbers = present.as_slice();
     let Some(step) = next_range_axiom(alloc, pool, shapes, known, branch, numbers)? else {
         return Ok(None);
     };

@@ -72,8 +72,8 @@ fn has_all_axioms(
     ensures extends { Extends pool.old pool.new }
     ensures exact { IfOk result (λ done. MatchBool done (HasAllAxioms shapes.now (branch_in pool.old branch.now)) (HasAllAxioms shapes.now (branch_in pool.old branch.now) → ⊥)) }
 {
-    let standing = terms(alloc, pool, branch)?;
-    let numbers = standing.as_slice();
+    let present = terms(alloc, pool, branch)?;
+    let numbers = present.as_slice();
     let mut known = KnownInstances::new(alloc);
     let axiom = next_axiom(alloc, pool, shapes, &mut known, branch, classes, numbers)?;
     if axiom.is_some() {

@@ -28,7 +28,7 @@ name_is f g e = go (is_plain f) (inputs_of f.inputs) (value_of f.body) e
     inside x y e = cc
 
     go : (b : Bool) (i : Option (List (List ℕ))) (v : Option SumData)
-        → cond b (option_and_then (λ parameters. option_map (λ body. record { name = f.name.text; parameters = parameters; body = body; start = f.place.start }) v) i) None ≡ Some g → g.name ≡ f.name.text
+        → cond b (option_and_then (λ parameters. option_map (λ body. record { name = f.name.text; parameters = parameters; body = body; start = f.span.start }) v) i) None ≡ Some g → g.name ≡ f.name.text
     go false i v e = absurd (cc)
     go true None v e = absurd (cc)
     go true (Some ps) None e = absurd (cc)

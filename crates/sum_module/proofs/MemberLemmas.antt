@@ -7,7 +7,7 @@ use Rattle.syntax_tree.specs.SourceData.{SourceMemberData}
 use Rattle.sum_module.specs.declared.member.SumMember.{SumMember}
 use Rattle.sum_module.specs.Parameters.{Table, IsTableOf}
 use Rattle.base.specs.Names.{IsSetOf}
-use Rattle.syntax_tree.specs.Places.{form_place}
+use Rattle.syntax_tree.specs.Spans.{form_span}
 use Rattle.sum_module.specs.Members.{name_of_form, name_of_member, functions_of, IsMember, IsUnbuilt, AreMembers}
 use Rattle.sum_module.specs.Built.{IsFirstUnbuilt}
 
@@ -58,9 +58,9 @@ parts_at [] i d h = absurd (omega arith)
 parts_at (x ∷ xs) zero d h = refl
 parts_at (x ∷ xs) (suc i) d h = ap (λ ys. x ∷ ys) (parts_at xs i d (omega (arith, h)))
 
-pub reading_stops : (members : List SourceMemberData) (table : Table) (i : ℕ) (d : SourceMemberData) (seen : BTreeSet (List ℕ)) (found : List SumMember) (place : ℕ) → i < length members
-    → Reading members table (take i members) seen found → IsUnbuilt members (take i members) (get_or members i d).form → place ≡ (form_place (get_or members i d).form).start → IsFirstUnbuilt members place
-reading_stops members table i d seen found place h r none e = record {
+pub reading_stops : (members : List SourceMemberData) (table : Table) (i : ℕ) (d : SourceMemberData) (seen : BTreeSet (List ℕ)) (found : List SumMember) (offset : ℕ) → i < length members
+    → Reading members table (take i members) seen found → IsUnbuilt members (take i members) (get_or members i d).form → offset ≡ (form_span (get_or members i d).form).start → IsFirstUnbuilt members offset
+reading_stops members table i d seen found offset h r none e = record {
   before = take i members;
   member = get_or members i d;
   behind = behind members i;
@@ -68,5 +68,5 @@ reading_stops members table i d seen found place h r none e = record {
   built = found;
   are_built = r.are;
   unbuilt = none;
-  place_is = e;
+  offset_is = e;
 }

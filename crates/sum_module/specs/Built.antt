@@ -9,7 +9,7 @@ use Rattle.syntax_tree.specs.SourceModuleData.{SourceModuleData}
 use Rattle.sum_module.specs.declared.member.SumMember.{SumMember}
 use Rattle.sum_module.specs.BuiltModuleData.{BuiltModuleData}
 use Rattle.sum_module.specs.Members.{IsFunction, IsSpec, IsUnbuilt, AreMembers}
-use Rattle.syntax_tree.specs.Places.{form_place, module_place}
+use Rattle.syntax_tree.specs.Spans.{form_span, module_span}
 
 abbrev pub IsNoFunction : List SourceMemberData → FunctionTree → Type 0
 IsNoFunction before f = (found : SumMember) → IsFunction before f found → ⊥
@@ -18,7 +18,7 @@ abbrev pub IsNoSpec : List SourceMemberData → SpecTree → Type 0
 IsNoSpec members tree = (found : SumMember) → IsSpec members tree found → ⊥
 
 -- all members before this one are built, and it is not; it begins at this offset
-pub record IsFirstUnbuilt (members : List SourceMemberData) (place : ℕ) : Type 0 where
+pub record IsFirstUnbuilt (members : List SourceMemberData) (offset : ℕ) : Type 0 where
   pub before : List SourceMemberData
   pub member : SourceMemberData
   pub behind : List SourceMemberData
@@ -26,7 +26,7 @@ pub record IsFirstUnbuilt (members : List SourceMemberData) (place : ℕ) : Type
   pub built : List SumMember
   pub are_built : AreMembers members [] before built
   pub unbuilt : IsUnbuilt members before member.form
-  pub place_is : place ≡ (form_place member.form).start
+  pub offset_is : offset ≡ (form_span member.form).start
 
 -- the address of a module, if it is a number
 abbrev pub address_of : Address → Option ℕ
@@ -40,16 +40,16 @@ pub record IsBuilt (m : SourceModuleData) (found : BuiltModuleData) : Type 0 whe
   pub members : AreMembers m.members [] m.members found.members
 
 -- the module's address is no number, and the module begins at this offset
-pub record HasNoNumber (m : SourceModuleData) (place : ℕ) : Type 0 where
+pub record HasNoNumber (m : SourceModuleData) (offset : ℕ) : Type 0 where
   pub address : address_of m.name.address ≡ None
-  pub place_is : place ≡ (module_place m).start
+  pub offset_is : offset ≡ (module_span m).start
 
 -- the module's address is a number, and a member is not built, the first of which begins at this offset
-pub record HasUnbuiltMember (m : SourceModuleData) (place : ℕ) : Type 0 where
+pub record HasUnbuiltMember (m : SourceModuleData) (offset : ℕ) : Type 0 where
   pub address : ℕ
   pub address_is : address_of m.name.address ≡ Some address
-  pub first : IsFirstUnbuilt m.members place
+  pub first : IsFirstUnbuilt m.members offset
 
 -- the module is not built, and the module or the first member that is not begins at this offset
 abbrev pub IsUnbuiltAt : SourceModuleData → ℕ → Type 0
-IsUnbuiltAt m place = HasNoNumber m place ⊎ HasUnbuiltMember m place
+IsUnbuiltAt m offset = HasNoNumber m offset ⊎ HasUnbuiltMember m offset

@@ -5,5 +5,5 @@ use Rattle.sum_module.specs.declared.fault.ModuleFault.TheVariants.{NotBuilt, No
 
 -- a property of the offset at which what is not built begins
 abbrev pub IfNotBuiltAt : ModuleFault → (ℕ → Type 0) → Type 0
-IfNotBuiltAt (NotBuilt place) P = P place
+IfNotBuiltAt (NotBuilt offset) P = P offset
 IfNotBuiltAt NoMemory P = Unit {0}

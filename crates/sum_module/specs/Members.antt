@@ -47,7 +47,7 @@ pub record IsFunction (before : List SourceMemberData) (f : FunctionTree) (found
 -- ---- specs
 
 abbrev pub spec_of : SpecTree → Option SumSpecData
-spec_of (Named place name clauses) = option_map (λ cs. record { target = name.text; clauses = cs }) (clauses_of clauses)
+spec_of (Named span name clauses) = option_map (λ cs. record { target = name.text; clauses = cs }) (clauses_of clauses)
 spec_of _ = None
 
 -- the block has these clauses over sums, its name is that of a function of the module, and the words of its clauses are

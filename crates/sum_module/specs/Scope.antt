@@ -5,8 +5,8 @@ use Rattle.sum_tree.specs.declared.clause.Condition.TheVariants.{True, False, Co
 use Rattle.sum_tree.specs.declared.clause.ClauseKind.{ClauseKind}
 use Rattle.sum_tree.specs.declared.clause.ClauseKind.TheVariants.{Requires, Ensures, AbortsIf}
 use Rattle.sum_tree.specs.declared.clause.SumClause.{SumClause}
-use Rattle.sum_module.specs.declared.scope.Place.{Place}
-use Rattle.sum_module.specs.declared.scope.Place.TheVariants.{Body, InClause}
+use Rattle.sum_module.specs.declared.scope.Context.{Context}
+use Rattle.sum_module.specs.declared.scope.Context.TheVariants.{Body, InClause}
 use Rattle.base.specs.Names.{same_name, is_one_of}
 use Rattle.sum_tree.specs.SumData.{SumData, NumberSum, WordSum, JoinedSum}
 use Rattle.sum_tree.specs.SumFunctionData.{SumFunctionData}
@@ -22,21 +22,21 @@ speaks_of_result Ensures = true
 speaks_of_result AbortsIf = false
 
 -- A word is a parameter; in a clause it may be `MAX_U64`, and in an `ensures` `result`.
-abbrev pub is_known : List (List ℕ) → Place → List ℕ → Bool
+abbrev pub is_known : List (List ℕ) → Context → List ℕ → Bool
 is_known parameters Body word = is_one_of parameters word
 is_known parameters (InClause kind) word =
     is_one_of parameters word || (same_name word (codes "MAX_U64") || (speaks_of_result kind && same_name word (codes "result")))
 
 -- each word of the sum is in scope
-abbrev pub knows_sum : List (List ℕ) → Place → SumData → Bool
-knows_sum parameters place (NumberSum n) = true
-knows_sum parameters place (WordSum word) = is_known parameters place word
-knows_sum parameters place (JoinedSum left operator right) = knows_sum parameters place left && knows_sum parameters place right
+abbrev pub knows_sum : List (List ℕ) → Context → SumData → Bool
+knows_sum parameters context (NumberSum n) = true
+knows_sum parameters context (WordSum word) = is_known parameters context word
+knows_sum parameters context (JoinedSum left operator right) = knows_sum parameters context left && knows_sum parameters context right
 
-abbrev pub knows_condition : List (List ℕ) → Place → Condition → Bool
-knows_condition parameters place True = true
-knows_condition parameters place False = true
-knows_condition parameters place (Compares left comparison right) = knows_sum parameters place left && knows_sum parameters place right
+abbrev pub knows_condition : List (List ℕ) → Context → Condition → Bool
+knows_condition parameters context True = true
+knows_condition parameters context False = true
+knows_condition parameters context (Compares left comparison right) = knows_sum parameters context left && knows_sum parameters context right
 
 -- a spec of a function with these parameters may have this clause
 abbrev pub knows_clause : List (List ℕ) → SumClause → Bool

@@ -14,7 +14,7 @@ use std::alloc::Global;
 use std::marker::Model;
 use sum_read::fault::FormFault;
 use syntax_tree::path::Address;
-use syntax_tree::source::places::{form_place, module_place};
+use syntax_tree::source::spans::{form_span, module_span};
 use syntax_tree::source::{SourceMember, SourceModule};
 
 /// A module whose members are all of the supported form.
@@ -48,7 +48,7 @@ fn read_members(alloc: Global, members: &[SourceMember]) -> Result<Vec<SumMember
         match read_member(alloc, &parameters, &seen, &member.form) {
             Ok(read) => found.push(read)?,
             Err(FormFault::NotBuilt) => {
-                return Err(ModuleFault::NotBuilt(form_place(&member.form).start));
+                return Err(ModuleFault::NotBuilt(form_span(&member.form).start));
             }
             Err(FormFault::NoMemory) => return Err(ModuleFault::NoMemory),
         }
@@ -77,7 +77,7 @@ pub fn read_module(alloc: Global, source_module: &SourceModule) -> Result<BuiltM
     ensures { MatchResult result (IsBuilt source_module.now) (λ fault. IfNotBuiltAt fault (IsUnbuiltAt source_module.now)) }
 {
     let Some(address) = address_of(&source_module.name.address) else {
-        return Err(ModuleFault::NotBuilt(module_place(source_module).start));
+        return Err(ModuleFault::NotBuilt(module_span(source_module).start));
     };
     let members = read_members(alloc, &source_module.members)?;
     Ok(BuiltModule {

@@ -12,7 +12,7 @@ use sum_tree::sum::{Sum, SumNode};
 
 /// Where a word occurs.
 #[derive(Clone, Copy, Debug, PartialEq, Eq)]
-pub enum Place {
+pub enum Context {
     /// In the body of a function.
     Body,
     /// In a clause of this kind.
@@ -44,13 +44,13 @@ fn all_differ(names: &[Name]) -> bool
 }
 
 /// Decides whether a word is in scope where it occurs.
-fn is_known(parameters: &[Name], place: Place, word: &[u8]) -> bool
-    ensures { result ≡ is_known parameters.now place word.now }
+fn is_known(parameters: &[Name], context: Context, word: &[u8]) -> bool
+    ensures { result ≡ is_known parameters.now context word.now }
 {
     let is_parameter = is_one_of(parameters, word);
-    match place {
-        Place::Body => is_parameter,
-        Place::InClause(kind) => {
+    match context {
+        Context::Body => is_parameter,
+        Context::InClause(kind) => {
             is_parameter
                 || word == b"MAX_U64".as_slice()
                 || (kind == ClauseKind::Ensures && word == b"result".as_slice())
@@ -60,26 +60,26 @@ fn is_known(parameters: &[Name], place: Place, word: &[u8]) -> bool
 
 /// Decides whether each word of a sum is in scope.
 #[cycle(knows_sum)]
-fn knows_sum(parameters: &[Name], place: Place, sum: &Sum) -> bool
-    ensures { result ≡ knows_sum parameters.now place sum.now }
+fn knows_sum(parameters: &[Name], context: Context, sum: &Sum) -> bool
+    ensures { result ≡ knows_sum parameters.now context sum.now }
 {
     match &sum.node {
         SumNode::Number(_) => true,
-        SumNode::Word(word) => is_known(parameters, place, word.as_slice()),
+        SumNode::Word(word) => is_known(parameters, context, word.as_slice()),
         SumNode::Joined { left, right, .. } => {
-            knows_sum(parameters, place, left) && knows_sum(parameters, place, right)
+            knows_sum(parameters, context, left) && knows_sum(parameters, context, right)
         }
     }
 }
 
 /// Decides whether each word of a condition is in scope.
-fn knows_condition(parameters: &[Name], place: Place, condition: &Condition) -> bool
-    ensures { result ≡ knows_condition parameters.now place condition.now }
+fn knows_condition(parameters: &[Name], context: Context, condition: &Condition) -> bool
+    ensures { result ≡ knows_condition parameters.now context condition.now }
 {
     match condition {
         Condition::True | Condition::False => true,
         Condition::Compares(left, _, right) => {
-            knows_sum(parameters, place, left) && knows_sum(parameters, place, right)
+            knows_sum(parameters, context, left) && knows_sum(parameters, context, right)
         }
     }
 }
@@ -89,8 +89,8 @@ fn knows_condition(parameters: &[Name], place: Place, condition: &Condition) -> 
 pub fn knows_clause(parameters: &[Name], clause: &SumClause) -> bool
     ensures { result ≡ knows_clause parameters.now clause.now }
 {
-    let place = Place::InClause(clause.kind);
-    knows_condition(parameters, place, &clause.condition)
+    let context = Context::InClause(clause.kind);
+    knows_condition(parameters, context, &clause.condition)
 }
 
 /// Decides whether a spec of a function with these parameters may have each of these clauses.
@@ -114,5 +114,5 @@ pub fn is_closed(function: &SumFunction) -> bool
     ensures { result ≡ is_closed function.now }
 {
     let parameters = function.parameters.as_slice();
-    are_parameters(parameters) && knows_sum(parameters, Place::Body, &function.body)
+    are_parameters(parameters) && knows_sum(parameters, Context::Body, &function.body)
 }

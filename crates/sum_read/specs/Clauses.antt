@@ -29,9 +29,9 @@ use Rattle.sum_read.specs.Sums.{spec_sum_of}
 
 abbrev pub truth_condition : Literal → Option Condition
 truth_condition (Number n) = None
-truth_condition (Truth place true) = Some True
-truth_condition (Truth place false) = Some False
-truth_condition (Address place address) = None
+truth_condition (Truth span true) = Some True
+truth_condition (Truth span false) = Some False
+truth_condition (Address span address) = None
 
 abbrev pub common_comparison : BinaryOperator → Option Comparison
 common_comparison equal_sign = Some Equal
@@ -53,8 +53,8 @@ compared comparison left right =
 
 abbrev pub condition_of : SpecExpressionData → Option Condition
 condition_of (SpecLiteral literal) = truth_condition literal
-condition_of (SpecBinary left operator place right) = compared (comparison_of operator) (spec_sum_of left) (spec_sum_of right)
-condition_of (SpecParenthesized place inner) = condition_of inner
+condition_of (SpecBinary left operator span right) = compared (comparison_of operator) (spec_sum_of left) (spec_sum_of right)
+condition_of (SpecParenthesized span inner) = condition_of inner
 condition_of _ = None
 
 -- ---- clauses
@@ -69,9 +69,9 @@ bare_clause Failure c = None
 bare_clause (Code e) c = None
 
 abbrev pub clause_of : ClauseTree → Option SumClause
-clause_of (requires_clause place e) = clause_at Requires place.start e
-clause_of (ensures_clause place e) = clause_at Ensures place.start e
-clause_of (aborts_if_clause place e code) = bare_clause code (clause_at AbortsIf place.start e)
+clause_of (requires_clause span e) = clause_at Requires span.start e
+clause_of (ensures_clause span e) = clause_at Ensures span.start e
+clause_of (aborts_if_clause span e code) = bare_clause code (clause_at AbortsIf span.start e)
 clause_of _ = None
 
 -- all of them, if each is one

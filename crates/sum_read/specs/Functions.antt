@@ -33,7 +33,7 @@ inputs_of inputs = if inputs.last_comma then None else parameter_names inputs.it
 
 -- a body that consists of a value alone
 abbrev pub value_of : BlockData → Option SumData
-value_of (BlockOf place None NoItems (SomeExpression e)) = sum_of e
+value_of (BlockOf span None NoItems (SomeExpression e)) = sum_of e
 value_of _ = None
 
 abbrev pub is_result : Option SourceTypeData → Bool
@@ -43,8 +43,8 @@ is_result (Some t) = is_u64 t
 -- private to its module
 abbrev pub is_private : Visibility → Bool
 is_private Module = true
-is_private (Public place) = false
-is_private (Friends place) = false
+is_private (Public span) = false
+is_private (Friends span) = false
 
 -- no `public` or `entry`, no type parameters, no `acquires`, and the result is a u64
 abbrev pub is_plain : Function → Bool
@@ -53,5 +53,5 @@ is_plain f = is_private f.visibility && (is_none f.entry && (is_none f.parameter
 abbrev pub function_of : Function → Option SumFunctionData
 function_of f =
     if is_plain f then
-    option_and_then (λ parameters. option_map (λ body. record { name = f.name.text; parameters = parameters; body = body; start = f.place.start }) (value_of f.body)) (inputs_of f.inputs)
+    option_and_then (λ parameters. option_map (λ body. record { name = f.name.text; parameters = parameters; body = body; start = f.span.start }) (value_of f.body)) (inputs_of f.inputs)
     else None

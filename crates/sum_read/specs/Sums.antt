@@ -31,8 +31,8 @@ number_sum n = if is_absent n.literal.suffix && nat_lt n.literal.value (2 ^ 64) 
 
 abbrev pub literal_sum : Literal → Option SumData
 literal_sum (Number n) = number_sum n
-literal_sum (Truth place value) = None
-literal_sum (Address place address) = None
+literal_sum (Truth span value) = None
+literal_sum (Address span address) = None
 
 abbrev pub word_sum : Path → Option SumData
 word_sum (name_path i) = Some (WordSum i.text)
@@ -54,8 +54,8 @@ abbrev mutual
   pub sum_of : ExpressionData → Option SumData
   sum_of (LiteralExpression literal) = literal_sum literal
   sum_of (PathExpression path) = word_sum path
-  sum_of (BinaryExpression left operator place right) = joined (operator_of operator) (sum_of left) (sum_of right)
-  sum_of (TupleExpression place items last) = if last then None else only_sum items
+  sum_of (BinaryExpression left operator span right) = joined (operator_of operator) (sum_of left) (sum_of right)
+  sum_of (TupleExpression span items last) = if last then None else only_sum items
   sum_of _ = None
 
   -- the sum of the only expression
@@ -75,6 +75,6 @@ spec_operator_of (Common operator) = operator_of operator
 abbrev pub spec_sum_of : SpecExpressionData → Option SumData
 spec_sum_of (SpecLiteral literal) = literal_sum literal
 spec_sum_of (SpecPath path) = word_sum path
-spec_sum_of (SpecBinary left operator place right) = joined (spec_operator_of operator) (spec_sum_of left) (spec_sum_of right)
-spec_sum_of (SpecParenthesized place inner) = spec_sum_of inner
+spec_sum_of (SpecBinary left operator span right) = joined (spec_operator_of operator) (spec_sum_of left) (spec_sum_of right)
+spec_sum_of (SpecParenthesized span inner) = spec_sum_of inner
 spec_sum_of _ = None

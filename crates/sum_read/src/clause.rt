@@ -16,16 +16,16 @@ use syntax_tree::spec_expression::SpecExpression;
 fn read_at(
     alloc: Global,
     kind: ClauseKind,
-    place: Span,
+    span: Span,
     condition: &SpecExpression,
 ) -> Result<SumClause, FormFault>
-    ensures { MatchResult result (λ clause. clause_at kind place.start condition.now ≡ Some clause) (λ fault. IfNotBuilt fault (clause_at kind place.start condition.now ≡ None)) }
+    ensures { MatchResult result (λ clause. clause_at kind span.start condition.now ≡ Some clause) (λ fault. IfNotBuilt fault (clause_at kind span.start condition.now ≡ None)) }
 {
     let condition = read_condition(alloc, condition)?;
     Ok(SumClause {
         kind,
         condition,
-        start: place.start,
+        start: span.start,
     })
 }
 
@@ -34,18 +34,18 @@ fn read_clause(alloc: Global, clause: &ClauseTree) -> Result<SumClause, FormFaul
     ensures { MatchResult result (λ read. clause_of clause.now ≡ Some read) (λ fault. IfNotBuilt fault (clause_of clause.now ≡ None)) }
 {
     match clause {
-        ClauseTree::Requires { place, condition } => {
-            read_at(alloc, ClauseKind::Requires, *place, condition)
+        ClauseTree::Requires { span, condition } => {
+            read_at(alloc, ClauseKind::Requires, *span, condition)
         }
-        ClauseTree::Ensures { place, condition } => {
-            read_at(alloc, ClauseKind::Ensures, *place, condition)
+        ClauseTree::Ensures { span, condition } => {
+            read_at(alloc, ClauseKind::Ensures, *span, condition)
         }
         ClauseTree::AbortsIf {
-            place,
+            span,
             condition,
             code,
         } => match code {
-            AbortCode::Bare => read_at(alloc, ClauseKind::AbortsIf, *place, condition),
+            AbortCode::Bare => read_at(alloc, ClauseKind::AbortsIf, *span, condition),
             AbortCode::Failure => Err(FormFault::NotBuilt),
             AbortCode::Code(_) => Err(FormFault::NotBuilt),
         },

@@ -130,6 +130,6 @@ pub fn read_function(alloc: Global, function: &FunctionTree) -> Result<SumFuncti
         name: function.name.text.try_clone(alloc)?,
         parameters,
         body: Box::into_inner(body),
-        start: function.place.start,
+        start: function.span.start,
     })
 }

@@ -43,7 +43,7 @@ fn at(start: u32, end: u32) -> Span {
 fn identifier(rt: &impl Abort, alloc: Global, text: &[u8], start: u32, end: u32) -> Identifier {
     Identifier {
         text: Name::from_slice(alloc, text).expect(rt, "memory"),
-        place: at(start, end),
+        span: at(start, end),
     }
 }
 
@@ -112,7 +112,7 @@ fn pragmas(rt: &impl Abort, alloc: Global) -> Vec<Pragma> {
         .push(Pragma {
             name: identifier(rt, alloc, b"p", 7, 8),
             value: Some(PragmaValue::Truth {
-                place: at(11, 15),
+                span: at(11, 15),
                 value: true,
             }),
         })
@@ -123,7 +123,7 @@ fn pragmas(rt: &impl Abort, alloc: Global) -> Vec<Pragma> {
             value: 1,
             suffix: NumberSuffix::Absent,
         },
-        place: at(21, 22),
+        span: at(21, 22),
     };
     items
         .push(Pragma {
@@ -137,7 +137,7 @@ fn pragmas(rt: &impl Abort, alloc: Global) -> Vec<Pragma> {
 // `pragma p = true, q = 1,;`
 fn pragma_clause(rt: &impl Abort, alloc: Global) -> Box<Clause> {
     let clause = Clause::Pragma {
-        place: at(0, 6),
+        span: at(0, 6),
         pragmas: Pragmas {
             items: pragmas(rt, alloc),
             last_comma: true,
@@ -149,7 +149,7 @@ fn pragma_clause(rt: &impl Abort, alloc: Global) -> Box<Clause> {
 // `requires a;`
 fn requires_clause(rt: &impl Abort, alloc: Global) -> Box<Clause> {
     let clause = Clause::Requires {
-        place: at(0, 8),
+        span: at(0, 8),
         condition: Box::into_inner(variable(rt, alloc, b"a", 9, 10)),
     };
     Box::new(alloc, clause).expect(rt, "memory")
@@ -158,7 +158,7 @@ fn requires_clause(rt: &impl Abort, alloc: Global) -> Box<Clause> {
 // `ensures a;`
 fn ensures_clause(rt: &impl Abort, alloc: Global) -> Box<Clause> {
     let clause = Clause::Ensures {
-        place: at(0, 7),
+        span: at(0, 7),
         condition: Box::into_inner(variable(rt, alloc, b"a", 8, 9)),
     };
     Box::new(alloc, clause).expect(rt, "memory")
@@ -167,7 +167,7 @@ fn ensures_clause(rt: &impl Abort, alloc: Global) -> Box<Clause> {
 // `aborts_if a;`
 fn aborts_if_clause(rt: &impl Abort, alloc: Global) -> Box<Clause> {
     let clause = Clause::AbortsIf {
-        place: at(0, 9),
+        span: at(0, 9),
         condition: Box::into_inner(variable(rt, alloc, b"a", 10, 11)),
         code: AbortCode::Bare,
     };
@@ -188,7 +188,7 @@ fn targets(rt: &impl Abort, alloc: Global) -> Vec<SpecExpression> {
 // `modifies a, b;`
 fn modifies_clause(rt: &impl Abort, alloc: Global) -> Box<Clause> {
     let clause = Clause::Modifies {
-        place: at(0, 8),
+        span: at(0, 8),
         targets: Targets {
             items: targets(rt, alloc),
             last_comma: false,
@@ -200,7 +200,7 @@ fn modifies_clause(rt: &impl Abort, alloc: Global) -> Box<Clause> {
 // `invariant update a;`
 fn invariant_clause(rt: &impl Abort, alloc: Global) -> Box<Clause> {
     let clause = Clause::Invariant {
-        place: at(0, 9),
+        span: at(0, 9),
         is_update: true,
         condition: Box::into_inner(variable(rt, alloc, b"a", 17, 18)),
     };
@@ -210,7 +210,7 @@ fn invariant_clause(rt: &impl Abort, alloc: Global) -> Box<Clause> {
 // `let post x = a;`
 fn let_clause(rt: &impl Abort, alloc: Global) -> Box<Clause> {
     let clause = Clause::Let {
-        place: at(0, 3),
+        span: at(0, 3),
         is_post: true,
         name: identifier(rt, alloc, b"x", 9, 10),
         value: Box::into_inner(variable(rt, alloc, b"a", 13, 14)),
@@ -247,7 +247,7 @@ fn one_type(rt: &impl Abort, alloc: Global, annotation: Box<SourceType>) -> Type
 // `include S<T> { x: a, y };`
 fn include_clause(rt: &impl Abort, alloc: Global) -> Box<Clause> {
     let clause = Clause::Include(Include {
-        place: at(0, 7),
+        span: at(0, 7),
         schema: path(rt, alloc, b"S", 8, 9),
         arguments: Some(one_type(rt, alloc, named_type(rt, alloc, b"T", 10, 11))),
         bindings: Some(Bindings {
@@ -260,7 +260,7 @@ fn include_clause(rt: &impl Abort, alloc: Global) -> Box<Clause> {
 
 fn inner_ensures(rt: &impl Abort, alloc: Global) -> Box<Clause> {
     let clause = Clause::Ensures {
-        place: at(9, 16),
+        span: at(9, 16),
         condition: Box::into_inner(variable(rt, alloc, b"a", 17, 18)),
     };
     Box::new(alloc, clause).expect(rt, "memory")
@@ -269,7 +269,7 @@ fn inner_ensures(rt: &impl Abort, alloc: Global) -> Box<Clause> {
 // `spec f { ensures a; }`
 fn function_block(rt: &impl Abort, alloc: Global) -> Box<Spec> {
     let spec = Spec::Named {
-        place: at(0, 4),
+        span: at(0, 4),
         name: identifier(rt, alloc, b"f", 5, 6),
         clauses: one_clause(rt, alloc, inner_ensures(rt, alloc)),
     };
@@ -278,7 +278,7 @@ fn function_block(rt: &impl Abort, alloc: Global) -> Box<Spec> {
 
 fn inner_invariant(rt: &impl Abort, alloc: Global) -> Box<Clause> {
     let clause = Clause::Invariant {
-        place: at(14, 23),
+        span: at(14, 23),
         is_update: false,
         condition: Box::into_inner(variable(rt, alloc, b"a", 24, 25)),
     };
@@ -288,7 +288,7 @@ fn inner_invariant(rt: &impl Abort, alloc: Global) -> Box<Clause> {
 // `spec module { invariant a; }`
 fn module_block(rt: &impl Abort, alloc: Global) -> Box<Spec> {
     let spec = Spec::Module {
-        place: at(0, 4),
+        span: at(0, 4),
         clauses: one_clause(rt, alloc, inner_invariant(rt, alloc)),
     };
     Box::new(alloc, spec).expect(rt, "memory")
@@ -297,12 +297,12 @@ fn module_block(rt: &impl Abort, alloc: Global) -> Box<Spec> {
 // `spec { invariant a; }`
 fn loop_block(rt: &impl Abort, alloc: Global) -> Box<Spec> {
     let clause = Clause::Invariant {
-        place: at(7, 16),
+        span: at(7, 16),
         is_update: false,
         condition: Box::into_inner(variable(rt, alloc, b"a", 17, 18)),
     };
     let spec = Spec::Loop {
-        place: at(0, 4),
+        span: at(0, 4),
         clauses: one_clause(rt, alloc, Box::new(alloc, clause).expect(rt, "memory")),
     };
     Box::new(alloc, spec).expect(rt, "memory")
@@ -319,7 +319,7 @@ fn inner_variable(rt: &impl Abort, alloc: Global) -> Box<Clause> {
 // `spec schema S<T> { x: u64; }`
 fn schema_block(rt: &impl Abort, alloc: Global) -> Box<Spec> {
     let spec = Spec::Schema(Schema {
-        place: at(0, 4),
+        span: at(0, 4),
         name: identifier(rt, alloc, b"S", 12, 13),
         parameters: one_parameter(rt, alloc, identifier(rt, alloc, b"T", 14, 15)),
         clauses: one_clause(rt, alloc, inner_variable(rt, alloc)),
@@ -344,7 +344,7 @@ fn inputs(rt: &impl Abort, alloc: Global) -> TypedNames {
 // `spec fun g(x: u64): u64 { x }`
 fn spec_function(rt: &impl Abort, alloc: Global) -> Box<Spec> {
     let spec = Spec::Function(SpecFunction {
-        place: at(0, 4),
+        span: at(0, 4),
         name: identifier(rt, alloc, b"g", 9, 10),
         parameters: None,
         inputs: inputs(rt, alloc),

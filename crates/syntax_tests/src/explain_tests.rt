@@ -19,19 +19,19 @@ fn scan(rt: &impl Abort, alloc: Global, text: &[u8]) -> Tokens {
 }
 
 #[test]
-fn places_where_reading_ended(rt: HostRuntime) {
+fn spans_where_reading_ended(rt: HostRuntime) {
     let alloc = rt.alloc();
     let found = scan(&rt, alloc, b"a bc d");
-    for (left, place) in [(2, 2), (0, 5), (9, 0)] {
+    for (left, span) in [(2, 2), (0, 5), (9, 0)] {
         let fault = explain(found.as_slice(), ReadFault::NoTree { left });
-        assert_eq!(rt; fault, ParseFault::Grammar(place));
+        assert_eq!(rt; fault, ParseFault::Grammar(span));
     }
     let fault = explain(&[], ReadFault::NoTree { left: 0 });
     assert_eq!(rt; fault, ParseFault::Grammar(0));
 }
 
 #[test]
-fn markers_before_the_place_where_reading_ended(rt: HostRuntime) {
+fn markers_before_the_span_where_reading_ended(rt: HostRuntime) {
     let alloc = rt.alloc();
     let found = scan(&rt, alloc, b"a bc  emits apply");
     let fault = explain(found.as_slice(), ReadFault::NoTree { left: 3 });

@@ -40,7 +40,7 @@ fn at(start: u32, end: u32) -> Span {
 fn identifier(rt: &impl Abort, alloc: Global, text: &[u8], start: u32, end: u32) -> Identifier {
     Identifier {
         text: Name::from_slice(alloc, text).expect(rt, "memory"),
-        place: at(start, end),
+        span: at(start, end),
     }
 }
 
@@ -62,7 +62,7 @@ fn numeral(
             value,
             suffix: NumberSuffix::Absent,
         },
-        place: at(start, end),
+        span: at(start, end),
     }
 }
 
@@ -95,7 +95,7 @@ fn binary(
     alloc: Global,
     left: Box<Expression>,
     operator: BinaryOperator,
-    place: Span,
+    span: Span,
     right: Box<Expression>,
 ) -> Box<Expression> {
     boxed(
@@ -104,7 +104,7 @@ fn binary(
         ExpressionNode::Binary {
             left,
             operator,
-            place,
+            span,
             right,
         },
     )
@@ -177,7 +177,7 @@ fn nearest_else(rt: &impl Abort, alloc: Global) -> Box<Expression> {
         rt,
         alloc,
         ExpressionNode::If {
-            place: at(7, 9),
+            span: at(7, 9),
             condition: local(rt, alloc, b"b", 11, 12),
             then_branch: local(rt, alloc, b"c", 14, 15),
             else_branch: Some(local(rt, alloc, b"d", 21, 22)),
@@ -187,7 +187,7 @@ fn nearest_else(rt: &impl Abort, alloc: Global) -> Box<Expression> {
         rt,
         alloc,
         ExpressionNode::If {
-            place: at(0, 2),
+            span: at(0, 2),
             condition: local(rt, alloc, b"a", 4, 5),
             then_branch: inner,
             else_branch: None,
@@ -252,7 +252,7 @@ fn product(rt: &impl Abort, alloc: Global) -> Box<Expression> {
         rt,
         alloc,
         ExpressionNode::Tuple {
-            place: at(0, 1),
+            span: at(0, 1),
             items,
             last_comma: false,
         },
@@ -277,7 +277,7 @@ fn assertion(rt: &impl Abort, alloc: Global) -> Box<Expression> {
         rt,
         alloc,
         ExpressionNode::Assert {
-            place: at(12, 18),
+            span: at(12, 18),
             condition: local(rt, alloc, b"c", 20, 21),
             code: full_path(rt, alloc),
         },
@@ -290,7 +290,7 @@ fn cast(rt: &impl Abort, alloc: Global) -> Box<Expression> {
         rt,
         alloc,
         ExpressionNode::Cast {
-            place: at(35, 36),
+            span: at(35, 36),
             value: local(rt, alloc, b"x", 36, 37),
             target: Box::into_inner(named_type(rt, alloc, b"u64", 41, 44)),
         },
@@ -312,7 +312,7 @@ fn borrowed_field(rt: &impl Abort, alloc: Global) -> Box<Expression> {
         alloc,
         ExpressionNode::Unary {
             operator: UnaryOperator::BorrowMutable,
-            place: at(47, 48),
+            span: at(47, 48),
             operand: field,
         },
     )
@@ -321,7 +321,7 @@ fn borrowed_field(rt: &impl Abort, alloc: Global) -> Box<Expression> {
 // !true, from the byte 57 on
 fn negation(rt: &impl Abort, alloc: Global) -> Box<Expression> {
     let truth = Literal::Truth {
-        place: at(58, 62),
+        span: at(58, 62),
         value: true,
     };
     boxed(
@@ -329,7 +329,7 @@ fn negation(rt: &impl Abort, alloc: Global) -> Box<Expression> {
         alloc,
         ExpressionNode::Unary {
             operator: UnaryOperator::Not,
-            place: at(57, 58),
+            span: at(57, 58),
             operand: boxed(rt, alloc, ExpressionNode::Literal(truth)),
         },
     )
@@ -338,7 +338,7 @@ fn negation(rt: &impl Abort, alloc: Global) -> Box<Expression> {
 // @0x1, from the byte 64 on
 fn address(rt: &impl Abort, alloc: Global) -> Box<Expression> {
     let address = Literal::Address {
-        place: at(64, 65),
+        span: at(64, 65),
         address: Address::Number(numeral(rt, alloc, b"0x1", 1, 65, 68)),
     };
     boxed(rt, alloc, ExpressionNode::Literal(address))
@@ -366,7 +366,7 @@ fn terms(rt: &impl Abort, alloc: Global) -> Box<Expression> {
         rt,
         alloc,
         ExpressionNode::Vector {
-            place: at(0, 6),
+            span: at(0, 6),
             arguments: one_type(rt, alloc, named_type(rt, alloc, b"u64", 7, 10)),
             items,
             last_comma: true,
@@ -388,7 +388,7 @@ fn pair_pattern(rt: &impl Abort, alloc: Global) -> Box<Pattern> {
         })
         .expect(rt, "memory");
     let node = PatternNode::Tuple {
-        place: at(6, 7),
+        span: at(6, 7),
         items,
         last_comma: false,
     };
@@ -398,7 +398,7 @@ fn pair_pattern(rt: &impl Abort, alloc: Global) -> Box<Pattern> {
 // let (a, _): u64 = p;, from the byte 2 on
 fn binding(rt: &impl Abort, alloc: Global) -> Box<Item> {
     let node = ItemNode::Let {
-        place: at(2, 5),
+        span: at(2, 5),
         pattern: Box::into_inner(pair_pattern(rt, alloc)),
         annotation: Some(Box::into_inner(named_type(rt, alloc, b"u64", 14, 17))),
         value: Some(local(rt, alloc, b"p", 20, 21)),
@@ -413,7 +413,7 @@ fn assignment(rt: &impl Abort, alloc: Global) -> Box<Expression> {
         alloc,
         ExpressionNode::Unary {
             operator: UnaryOperator::Dereference,
-            place: at(23, 24),
+            span: at(23, 24),
             operand: local(rt, alloc, b"r", 24, 25),
         },
     );
@@ -422,7 +422,7 @@ fn assignment(rt: &impl Abort, alloc: Global) -> Box<Expression> {
         alloc,
         ExpressionNode::Use {
             kind: UseKind::Move,
-            place: at(28, 32),
+            span: at(28, 32),
             local: identifier(rt, alloc, b"x", 33, 34),
         },
     );
@@ -431,7 +431,7 @@ fn assignment(rt: &impl Abort, alloc: Global) -> Box<Expression> {
         alloc,
         ExpressionNode::Assign {
             target,
-            place: at(26, 27),
+            span: at(26, 27),
             value,
         },
     )
@@ -449,11 +449,11 @@ fn block(rt: &impl Abort, alloc: Global) -> Box<Expression> {
         })
         .expect(rt, "memory");
     let value = ExpressionNode::Return {
-        place: at(36, 42),
+        span: at(36, 42),
         value: None,
     };
     let block = Block {
-        place: at(0, 1),
+        span: at(0, 1),
         spec: None,
         items,
         value: Some(Expression { node: value }),
@@ -475,7 +475,7 @@ fn loop_spec(rt: &impl Abort, alloc: Global) -> Box<KeptSpec> {
 fn endless(rt: &impl Abort, alloc: Global) -> Box<Expression> {
     let value = ExpressionNode::Continue(at(44, 52));
     let block = Block {
-        place: at(42, 43),
+        span: at(42, 43),
         spec: None,
         items: Vec::new(alloc),
         value: Some(Expression { node: value }),
@@ -489,7 +489,7 @@ fn endless(rt: &impl Abort, alloc: Global) -> Box<Expression> {
         rt,
         alloc,
         ExpressionNode::Loop {
-            place: at(37, 41),
+            span: at(37, 41),
             body,
         },
     )
@@ -499,7 +499,7 @@ fn endless(rt: &impl Abort, alloc: Global) -> Box<Expression> {
 fn loops(rt: &impl Abort, alloc: Global) -> Box<Expression> {
     let spec = loop_spec(rt, alloc);
     let block = Block {
-        place: at(7, 8),
+        span: at(7, 8),
         spec: Some(Box::into_inner(spec)),
         items: Vec::new(alloc),
         value: Some(Box::into_inner(local(rt, alloc, b"i", 32, 33))),
@@ -513,7 +513,7 @@ fn loops(rt: &impl Abort, alloc: Global) -> Box<Expression> {
         rt,
         alloc,
         ExpressionNode::While {
-            place: at(0, 5),
+            span: at(0, 5),
             condition,
             body: endless(rt, alloc),
         },
@@ -523,7 +523,7 @@ fn loops(rt: &impl Abort, alloc: Global) -> Box<Expression> {
 // (T, &u8,), from the byte 12 on
 fn tuple_type(rt: &impl Abort, alloc: Global) -> Box<SourceType> {
     let shared = SourceTypeNode::Shared {
-        place: at(16, 17),
+        span: at(16, 17),
         target: named_type(rt, alloc, b"u8", 17, 19),
     };
     let mut items = Vec::new(alloc);
@@ -532,7 +532,7 @@ fn tuple_type(rt: &impl Abort, alloc: Global) -> Box<SourceType> {
         .expect(rt, "memory");
     items.push(SourceType { node: shared }).expect(rt, "memory");
     let node = SourceTypeNode::Tuple {
-        place: at(12, 13),
+        span: at(12, 13),
         items,
         last_comma: true,
     };
@@ -547,7 +547,7 @@ fn reference_type(rt: &impl Abort, alloc: Global) -> Box<SourceType> {
         arguments: one_type(rt, alloc, tuple_type(rt, alloc)),
     };
     let node = SourceTypeNode::Mutable {
-        place: at(0, 1),
+        span: at(0, 1),
         target: Box::new(alloc, SourceType { node: named }).expect(rt, "memory"),
     };
     Box::new(alloc, SourceType { node }).expect(rt, "memory")

@@ -19,9 +19,9 @@ fn is_kind(kind: &TokenKind, said: &TokenKind) -> bool {
 }
 
 fn is_token(token: &Token, said: &Lexeme) -> bool {
-    let is_placed = match said.place {
+    let is_placed = match said.span {
         None => true,
-        Some(place) => place == token.span,
+        Some(span) => span == token.span,
     };
     let is_glued = match said.glued {
         None => true,

@@ -2,4 +2,4 @@ pub mod Smaller
 pub mod SmallerExpressions
 pub mod SmallerSpecs
 pub mod Taken
-mod PlaceLaws
+mod SpanLaws

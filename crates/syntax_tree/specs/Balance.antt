@@ -15,19 +15,19 @@ closed RightBracket (RightBracket ∷ wanted) = Some wanted
 closed _ _ = None
 
 -- the same after a token; none where brackets do not match
-abbrev pub wanted_behind : Option (List Sign) → TokenKind → Option (List Sign)
-wanted_behind None kind = None
-wanted_behind (Some wanted) (Punctuation LeftParenthesis) = Some (RightParenthesis ∷ wanted)
-wanted_behind (Some wanted) (Punctuation LeftBrace) = Some (RightBrace ∷ wanted)
-wanted_behind (Some wanted) (Punctuation LeftBracket) = Some (RightBracket ∷ wanted)
-wanted_behind (Some wanted) (Punctuation RightParenthesis) = closed RightParenthesis wanted
-wanted_behind (Some wanted) (Punctuation RightBrace) = closed RightBrace wanted
-wanted_behind (Some wanted) (Punctuation RightBracket) = closed RightBracket wanted
-wanted_behind (Some wanted) kind = Some wanted
+abbrev pub expected_after : Option (List Sign) → TokenKind → Option (List Sign)
+expected_after None kind = None
+expected_after (Some wanted) (Punctuation LeftParenthesis) = Some (RightParenthesis ∷ wanted)
+expected_after (Some wanted) (Punctuation LeftBrace) = Some (RightBrace ∷ wanted)
+expected_after (Some wanted) (Punctuation LeftBracket) = Some (RightBracket ∷ wanted)
+expected_after (Some wanted) (Punctuation RightParenthesis) = closed RightParenthesis wanted
+expected_after (Some wanted) (Punctuation RightBrace) = closed RightBrace wanted
+expected_after (Some wanted) (Punctuation RightBracket) = closed RightBracket wanted
+expected_after (Some wanted) kind = Some wanted
 
 abbrev pub wanted_after : Option (List Sign) → List Token → Option (List Sign)
 wanted_after wanted [] = wanted
-wanted_after wanted (token ∷ tokens) = wanted_after (wanted_behind wanted token.kind) tokens
+wanted_after wanted (token ∷ tokens) = wanted_after (expected_after wanted token.kind) tokens
 
 abbrev pub IsBalanced : List Token → Type 0
 IsBalanced tokens = wanted_after (Some []) tokens ≡ Some []

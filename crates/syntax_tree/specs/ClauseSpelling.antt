@@ -39,22 +39,22 @@ use Rattle.syntax_tree.specs.declared.clause.Spec.TheVariants.{Module as module_
 -- ---- words
 
 unfoldable pub requires_word : Span → Lexeme
-requires_word place = word (codes "requires") (Some place)
+requires_word span = word (codes "requires") (Some span)
 
 unfoldable pub ensures_word : Span → Lexeme
-ensures_word place = word (codes "ensures") (Some place)
+ensures_word span = word (codes "ensures") (Some span)
 
 unfoldable pub aborts_if_word : Span → Lexeme
-aborts_if_word place = word (codes "aborts_if") (Some place)
+aborts_if_word span = word (codes "aborts_if") (Some span)
 
 unfoldable pub modifies_word : Span → Lexeme
-modifies_word place = word (codes "modifies") (Some place)
+modifies_word span = word (codes "modifies") (Some span)
 
 unfoldable pub invariant_word : Span → Lexeme
-invariant_word place = word (codes "invariant") (Some place)
+invariant_word span = word (codes "invariant") (Some span)
 
 unfoldable pub include_word : Span → Lexeme
-include_word place = word (codes "include") (Some place)
+include_word span = word (codes "include") (Some span)
 
 unfoldable pub failure_word : Lexeme
 failure_word = word (codes "EXECUTION_FAILURE") None
@@ -62,12 +62,12 @@ failure_word = word (codes "EXECUTION_FAILURE") None
 -- ---- parts of clauses
 
 abbrev pub truth_spelling : Span → Bool → List Lexeme
-truth_spelling place true = word (codes "true") (Some place) ∷ []
-truth_spelling place false = word (codes "false") (Some place) ∷ []
+truth_spelling span true = word (codes "true") (Some span) ∷ []
+truth_spelling span false = word (codes "false") (Some span) ∷ []
 
 abbrev pub pragma_value_spelling : Option PragmaValue → List Lexeme
 pragma_value_spelling None = []
-pragma_value_spelling (Some (truth_value place value)) = sign Equal ∷ truth_spelling place value
+pragma_value_spelling (Some (truth_value span value)) = sign Equal ∷ truth_spelling span value
 pragma_value_spelling (Some (number_value n)) = sign Equal ∷ numeral n ∷ []
 
 abbrev pub pragma_spelling : Pragma → List Lexeme
@@ -98,7 +98,7 @@ bindings_spelling (Some b) = sign LeftBrace ∷ comma_list (spec_field_spellings
 
 abbrev pub include_spelling : Include → List Lexeme
 include_spelling i =
-    include_word i.place ∷ path_spelling i.schema ++ maybe_arguments_spelling None (maybe_arguments_of i.arguments)
+    include_word i.span ∷ path_spelling i.schema ++ maybe_arguments_spelling None (maybe_arguments_of i.arguments)
     ++ bindings_spelling i.bindings ++ sign Semicolon ∷ []
 
 -- an expression, and the end of the clause
@@ -108,14 +108,14 @@ condition_spelling e = spec_spelling e ++ sign Semicolon ∷ []
 -- ---- clauses
 
 abbrev pub clause_spelling : Clause → List Lexeme
-clause_spelling (pragma_clause place p) = word (codes "pragma") (Some place) ∷ pragmas_spelling p ++ sign Semicolon ∷ []
-clause_spelling (requires_clause place e) = requires_word place ∷ condition_spelling e
-clause_spelling (ensures_clause place e) = ensures_word place ∷ condition_spelling e
-clause_spelling (aborts_if_clause place e code) = aborts_if_word place ∷ spec_spelling e ++ code_spelling code ++ sign Semicolon ∷ []
-clause_spelling (modifies_clause place t) = modifies_word place ∷ targets_spelling t ++ sign Semicolon ∷ []
-clause_spelling (invariant_clause place is_update e) = invariant_word place ∷ update_spelling is_update ++ condition_spelling e
-clause_spelling (let_clause place is_post name e) =
-    word (codes "let") (Some place) ∷ post_spelling is_post ++ identifier name ∷ sign Equal ∷ condition_spelling e
+clause_spelling (pragma_clause span p) = word (codes "pragma") (Some span) ∷ pragmas_spelling p ++ sign Semicolon ∷ []
+clause_spelling (requires_clause span e) = requires_word span ∷ condition_spelling e
+clause_spelling (ensures_clause span e) = ensures_word span ∷ condition_spelling e
+clause_spelling (aborts_if_clause span e code) = aborts_if_word span ∷ spec_spelling e ++ code_spelling code ++ sign Semicolon ∷ []
+clause_spelling (modifies_clause span t) = modifies_word span ∷ targets_spelling t ++ sign Semicolon ∷ []
+clause_spelling (invariant_clause span is_update e) = invariant_word span ∷ update_spelling is_update ++ condition_spelling e
+clause_spelling (let_clause span is_post name e) =
+    word (codes "let") (Some span) ∷ post_spelling is_post ++ identifier name ∷ sign Equal ∷ condition_spelling e
 clause_spelling (include_clause i) = include_spelling i
 clause_spelling (variable_clause n) = typed_name_spelling n ++ sign Semicolon ∷ []
 
@@ -129,12 +129,12 @@ clause_block_spelling clauses = sign LeftBrace ∷ clauses_spelling clauses ++ s
 
 abbrev pub schema_spelling : Schema → List Lexeme
 schema_spelling s =
-    word (codes "spec") (Some s.place) ∷ word (codes "schema") None ∷ identifier s.name ∷ parameters_spelling s.parameters
+    word (codes "spec") (Some s.span) ∷ word (codes "schema") None ∷ identifier s.name ∷ parameters_spelling s.parameters
     ++ clause_block_spelling s.clauses
 
 abbrev pub spec_function_head_spelling : SpecFunction → List Lexeme
 spec_function_head_spelling f =
-    word (codes "spec") (Some f.place) ∷ word (codes "fun") None ∷ identifier f.name ∷ parameters_spelling f.parameters
+    word (codes "spec") (Some f.span) ∷ word (codes "fun") None ∷ identifier f.name ∷ parameters_spelling f.parameters
 
 abbrev pub spec_function_body_spelling : SpecExpressionData → List Lexeme
 spec_function_body_spelling e = sign LeftBrace ∷ spec_spelling e ++ sign RightBrace ∷ []
@@ -145,10 +145,10 @@ spec_function_spelling f =
     ++ spec_function_body_spelling f.body
 
 abbrev pub spec_tree_spelling : Spec → List Lexeme
-spec_tree_spelling (module_spec place clauses) =
-    word (codes "spec") (Some place) ∷ word (codes "module") None ∷ clause_block_spelling clauses
-spec_tree_spelling (named_spec place name clauses) =
-    word (codes "spec") (Some place) ∷ identifier name ∷ clause_block_spelling clauses
+spec_tree_spelling (module_spec span clauses) =
+    word (codes "spec") (Some span) ∷ word (codes "module") None ∷ clause_block_spelling clauses
+spec_tree_spelling (named_spec span name clauses) =
+    word (codes "spec") (Some span) ∷ identifier name ∷ clause_block_spelling clauses
 spec_tree_spelling (schema_spec s) = schema_spelling s
 spec_tree_spelling (function_spec f) = spec_function_spelling f
-spec_tree_spelling (loop_spec place clauses) = word (codes "spec") (Some place) ∷ clause_block_spelling clauses
+spec_tree_spelling (loop_spec span clauses) = word (codes "spec") (Some span) ∷ clause_block_spelling clauses

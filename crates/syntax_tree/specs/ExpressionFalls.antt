@@ -29,39 +29,39 @@ field_values_fall [] = omega arith
 field_values_fall (x ∷ xs) = omega (arith, field_values_fall xs)
 
 pub expression_falls : (n : ExpressionNode) → max (deep-ExpressionNode n) 0 ≤ expression_size (expression_of_node n)
-expression_falls (Binary left operator place right) = omega arith
-expression_falls (Assign target place value) = omega arith
-expression_falls (If place condition then_branch None) = omega arith
-expression_falls (If place condition then_branch (Some else_branch)) = omega arith
-expression_falls (While place condition body) = omega arith
-expression_falls (Loop place body) = omega arith
-expression_falls (Return place None) = omega arith
-expression_falls (Return place (Some value)) = omega arith
-expression_falls (Abort place code) = omega arith
-expression_falls (Break place) = omega arith
-expression_falls (Continue place) = omega arith
-expression_falls (Unary operator place operand) = omega arith
-expression_falls (Use kind place local) = omega arith
+expression_falls (Binary left operator span right) = omega arith
+expression_falls (Assign target span value) = omega arith
+expression_falls (If span condition then_branch None) = omega arith
+expression_falls (If span condition then_branch (Some else_branch)) = omega arith
+expression_falls (While span condition body) = omega arith
+expression_falls (Loop span body) = omega arith
+expression_falls (Return span None) = omega arith
+expression_falls (Return span (Some value)) = omega arith
+expression_falls (Abort span code) = omega arith
+expression_falls (Break span) = omega arith
+expression_falls (Continue span) = omega arith
+expression_falls (Unary operator span operand) = omega arith
+expression_falls (Use kind span local) = omega arith
 expression_falls (Field base field) = omega arith
 expression_falls (Literal literal) = omega arith
 expression_falls (Path path) = omega arith
 expression_falls (Call function arguments values last) = omega (arith, expressions_fall values.items)
 expression_falls (Pack path arguments fields last) = omega (arith, field_values_fall fields.items)
-expression_falls (Vector place arguments items last) = omega (arith, expressions_fall items.items)
-expression_falls (Assert place condition code) = omega arith
-expression_falls (Tuple place items last) = omega (arith, expressions_fall items.items)
-expression_falls (Cast place value target) = omega arith
+expression_falls (Vector span arguments items last) = omega (arith, expressions_fall items.items)
+expression_falls (Assert span condition code) = omega arith
+expression_falls (Tuple span items last) = omega (arith, expressions_fall items.items)
+expression_falls (Cast span value target) = omega arith
 expression_falls (Block block) = omega arith
 
 pub item_falls : (n : ItemNode) → max (deep-ItemNode n) 0 ≤ item_size (item_of_node n)
 item_falls (Expression expression) = omega arith
-item_falls (Let place pattern annotation None) = omega arith
-item_falls (Let place pattern annotation (Some value)) = omega arith
+item_falls (Let span pattern annotation None) = omega arith
+item_falls (Let span pattern annotation (Some value)) = omega arith
 
 pub field_value_falls : (name : Identifier) (value : Option ExpressionData) → deep-FieldValue (record { name = name; value = value }) ≤ field_value_size (field_value_of name value)
 field_value_falls name None = omega arith
 field_value_falls name (Some value) = omega arith
 
-pub block_falls : (place : Span) (spec : Option KeptSpec) (items : Vec ItemData Global) (value : Option ExpressionData) → deep-Block (record { place = place; spec = spec; items = items; value = value }) ≤ block_size (BlockOf place spec (items_of items.items) (maybe_expression_of value))
-block_falls place spec items None = omega (arith, items_fall items.items)
-block_falls place spec items (Some value) = omega (arith, items_fall items.items)
+pub block_falls : (span : Span) (spec : Option KeptSpec) (items : Vec ItemData Global) (value : Option ExpressionData) → deep-Block (record { span = span; spec = spec; items = items; value = value }) ≤ block_size (BlockOf span spec (items_of items.items) (maybe_expression_of value))
+block_falls span spec items None = omega (arith, items_fall items.items)
+block_falls span spec items (Some value) = omega (arith, items_fall items.items)

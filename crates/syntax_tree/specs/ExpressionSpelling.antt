@@ -32,8 +32,8 @@ use Rattle.syntax_tree.specs.ExpressionData.{ExpressionData, BinaryExpression, A
 -- decides whether the last token belongs to a path, so that a glued `<` after it would open type arguments
 abbrev pub ends_in_path : ExpressionData → Bool
 ends_in_path (PathExpression path) = true
-ends_in_path (BinaryExpression left operator place right) = ends_in_path right
-ends_in_path (UnaryExpression operator place operand) = ends_in_path operand
+ends_in_path (BinaryExpression left operator span right) = ends_in_path right
+ends_in_path (UnaryExpression operator span operand) = ends_in_path operand
 ends_in_path _ = false
 
 -- the type after a colon, if there is one
@@ -48,23 +48,23 @@ maybe_loop_spec_spelling (Some spec) = kept_spelling spec ++ sign Semicolon ∷ 
 
 abbrev mutual
   pub expression_spelling : ExpressionData → List Lexeme
-  expression_spelling (BinaryExpression left operator place right) =
-      expression_spelling left ++ operator_spelling operator place (ends_in_path left) ++ expression_spelling right
-  expression_spelling (AssignExpression target place value) =
-      expression_spelling target ++ sign_at place Equal ∷ expression_spelling value
-  expression_spelling (IfExpression place condition then_branch else_branch) =
-      word (codes "if") (Some place) ∷ sign LeftParenthesis ∷ expression_spelling condition
+  expression_spelling (BinaryExpression left operator span right) =
+      expression_spelling left ++ operator_spelling operator span (ends_in_path left) ++ expression_spelling right
+  expression_spelling (AssignExpression target span value) =
+      expression_spelling target ++ sign_at span Equal ∷ expression_spelling value
+  expression_spelling (IfExpression span condition then_branch else_branch) =
+      word (codes "if") (Some span) ∷ sign LeftParenthesis ∷ expression_spelling condition
       ++ sign RightParenthesis ∷ expression_spelling then_branch ++ else_spelling else_branch
-  expression_spelling (WhileExpression place condition body) =
-      word (codes "while") (Some place) ∷ sign LeftParenthesis ∷ expression_spelling condition
+  expression_spelling (WhileExpression span condition body) =
+      word (codes "while") (Some span) ∷ sign LeftParenthesis ∷ expression_spelling condition
       ++ sign RightParenthesis ∷ expression_spelling body
-  expression_spelling (LoopExpression place body) = word (codes "loop") (Some place) ∷ expression_spelling body
-  expression_spelling (ReturnExpression place value) = word (codes "return") (Some place) ∷ maybe_expression_spelling value
-  expression_spelling (AbortExpression place code) = word (codes "abort") (Some place) ∷ expression_spelling code
-  expression_spelling (BreakExpression place) = word (codes "break") (Some place) ∷ []
-  expression_spelling (ContinueExpression place) = word (codes "continue") (Some place) ∷ []
-  expression_spelling (UnaryExpression operator place operand) = unary_spelling operator place ++ expression_spelling operand
-  expression_spelling (UseExpression kind place local) = use_spelling kind place ++ identifier local ∷ []
+  expression_spelling (LoopExpression span body) = word (codes "loop") (Some span) ∷ expression_spelling body
+  expression_spelling (ReturnExpression span value) = word (codes "return") (Some span) ∷ maybe_expression_spelling value
+  expression_spelling (AbortExpression span code) = word (codes "abort") (Some span) ∷ expression_spelling code
+  expression_spelling (BreakExpression span) = word (codes "break") (Some span) ∷ []
+  expression_spelling (ContinueExpression span) = word (codes "continue") (Some span) ∷ []
+  expression_spelling (UnaryExpression operator span operand) = unary_spelling operator span ++ expression_spelling operand
+  expression_spelling (UseExpression kind span local) = use_spelling kind span ++ identifier local ∷ []
   expression_spelling (FieldExpression base field) = expression_spelling base ++ sign Period ∷ identifier field ∷ []
   expression_spelling (LiteralExpression literal) = literal_spelling literal
   expression_spelling (PathExpression path) = path_spelling path
@@ -74,16 +74,16 @@ abbrev mutual
   expression_spelling (PackExpression path arguments fields last) =
       path_spelling path ++ maybe_arguments_spelling (Some true) arguments
       ++ sign LeftBrace ∷ comma_list (field_value_spellings fields) last ++ sign RightBrace ∷ []
-  expression_spelling (VectorExpression place arguments items last) =
-      word (codes "vector") (Some place) ∷ maybe_arguments_spelling None arguments
+  expression_spelling (VectorExpression span arguments items last) =
+      word (codes "vector") (Some span) ∷ maybe_arguments_spelling None arguments
       ++ sign LeftBracket ∷ comma_list (expression_spellings items) last ++ sign RightBracket ∷ []
-  expression_spelling (AssertExpression place condition code) =
-      word (codes "assert") (Some place) ∷ sign Exclaim ∷ sign LeftParenthesis ∷ expression_spelling condition
+  expression_spelling (AssertExpression span condition code) =
+      word (codes "assert") (Some span) ∷ sign Exclaim ∷ sign LeftParenthesis ∷ expression_spelling condition
       ++ sign Comma ∷ expression_spelling code ++ sign RightParenthesis ∷ []
-  expression_spelling (TupleExpression place items last) =
-      sign_at place LeftParenthesis ∷ comma_list (expression_spellings items) last ++ sign RightParenthesis ∷ []
-  expression_spelling (CastExpression place value target) =
-      sign_at place LeftParenthesis ∷ expression_spelling value ++ word (codes "as") None ∷ type_spelling target ++ sign RightParenthesis ∷ []
+  expression_spelling (TupleExpression span items last) =
+      sign_at span LeftParenthesis ∷ comma_list (expression_spellings items) last ++ sign RightParenthesis ∷ []
+  expression_spelling (CastExpression span value target) =
+      sign_at span LeftParenthesis ∷ expression_spelling value ++ word (codes "as") None ∷ type_spelling target ++ sign RightParenthesis ∷ []
   expression_spelling (BlockExpression block) = block_spelling block
 
   pub maybe_expression_spelling : MaybeExpressionData → List Lexeme
@@ -95,8 +95,8 @@ abbrev mutual
   else_spelling (SomeExpression branch) = word (codes "else") None ∷ expression_spelling branch
 
   pub block_spelling : BlockData → List Lexeme
-  block_spelling (BlockOf place spec items value) =
-      sign_at place LeftBrace ∷ maybe_loop_spec_spelling spec ++ items_spelling items
+  block_spelling (BlockOf span spec items value) =
+      sign_at span LeftBrace ∷ maybe_loop_spec_spelling spec ++ items_spelling items
       ++ maybe_expression_spelling value ++ sign RightBrace ∷ []
 
   -- each item, with the semicolon after it
@@ -106,8 +106,8 @@ abbrev mutual
 
   pub item_spelling : ItemData → List Lexeme
   item_spelling (ExpressionItem expression) = expression_spelling expression ++ sign Semicolon ∷ []
-  item_spelling (LetItem place pattern annotation value) =
-      word (codes "let") (Some place) ∷ pattern_spelling pattern ++ annotation_spelling annotation
+  item_spelling (LetItem span pattern annotation value) =
+      word (codes "let") (Some span) ∷ pattern_spelling pattern ++ annotation_spelling annotation
       ++ initial_spelling value ++ sign Semicolon ∷ []
 
   pub initial_spelling : MaybeExpressionData → List Lexeme

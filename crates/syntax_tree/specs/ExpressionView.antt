@@ -17,28 +17,28 @@ field_value_of name None = ShortFieldValue name
 field_value_of name (Some value) = LongFieldValue name value
 
 abbrev pub expression_of_node : ExpressionNode → ExpressionData
-expression_of_node (Binary left operator place right) = BinaryExpression left.value operator place right.value
-expression_of_node (Assign target place value) = AssignExpression target.value place value.value
-expression_of_node (If place condition then_branch else_branch) = IfExpression place condition.value then_branch.value (maybe_expression_of (unboxed else_branch))
-expression_of_node (While place condition body) = WhileExpression place condition.value body.value
-expression_of_node (Loop place body) = LoopExpression place body.value
-expression_of_node (Return place value) = ReturnExpression place (maybe_expression_of (unboxed value))
-expression_of_node (Abort place code) = AbortExpression place code.value
-expression_of_node (Break place) = BreakExpression place
-expression_of_node (Continue place) = ContinueExpression place
-expression_of_node (Unary operator place operand) = UnaryExpression operator place operand.value
-expression_of_node (Use kind place local) = UseExpression kind place local
+expression_of_node (Binary left operator span right) = BinaryExpression left.value operator span right.value
+expression_of_node (Assign target span value) = AssignExpression target.value span value.value
+expression_of_node (If span condition then_branch else_branch) = IfExpression span condition.value then_branch.value (maybe_expression_of (unboxed else_branch))
+expression_of_node (While span condition body) = WhileExpression span condition.value body.value
+expression_of_node (Loop span body) = LoopExpression span body.value
+expression_of_node (Return span value) = ReturnExpression span (maybe_expression_of (unboxed value))
+expression_of_node (Abort span code) = AbortExpression span code.value
+expression_of_node (Break span) = BreakExpression span
+expression_of_node (Continue span) = ContinueExpression span
+expression_of_node (Unary operator span operand) = UnaryExpression operator span operand.value
+expression_of_node (Use kind span local) = UseExpression kind span local
 expression_of_node (Field base field) = FieldExpression base.value field
 expression_of_node (Literal literal) = LiteralExpression literal
 expression_of_node (Path path) = PathExpression path
 expression_of_node (Call function arguments values last) = CallExpression function (maybe_arguments_of arguments) (expressions_of values.items) last
 expression_of_node (Pack path arguments fields last) = PackExpression path (maybe_arguments_of arguments) (field_values_of fields.items) last
-expression_of_node (Vector place arguments items last) = VectorExpression place (maybe_arguments_of arguments) (expressions_of items.items) last
-expression_of_node (Assert place condition code) = AssertExpression place condition.value code.value
-expression_of_node (Tuple place items last) = TupleExpression place (expressions_of items.items) last
-expression_of_node (Cast place value target) = CastExpression place value.value target
+expression_of_node (Vector span arguments items last) = VectorExpression span (maybe_arguments_of arguments) (expressions_of items.items) last
+expression_of_node (Assert span condition code) = AssertExpression span condition.value code.value
+expression_of_node (Tuple span items last) = TupleExpression span (expressions_of items.items) last
+expression_of_node (Cast span value target) = CastExpression span value.value target
 expression_of_node (Block block) = BlockExpression block.value
 
 abbrev pub item_of_node : ItemNode → ItemData
 item_of_node (Expression expression) = ExpressionItem expression.value
-item_of_node (Let place pattern annotation value) = LetItem place pattern annotation (maybe_expression_of (unboxed value))
+item_of_node (Let span pattern annotation value) = LetItem span pattern annotation (maybe_expression_of (unboxed value))

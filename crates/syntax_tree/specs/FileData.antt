@@ -11,6 +11,6 @@ pub record MemberData : Type 0 where
 
 pub record ModuleData : Type 0 where
   pub attributes : List Attribute
-  pub place : Span
+  pub span : Span
   pub name : ModuleName
   pub members : List MemberData

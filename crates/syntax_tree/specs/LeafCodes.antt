@@ -45,13 +45,13 @@ pub span_back-code : (s : Span) → span_back (span_code s) ≡ s
 span_back-code s = refl
 
 abbrev pub identifier_code : Identifier → Gv
-identifier_code i = gcons (numbers_code i.text) (span_code i.place)
+identifier_code i = gcons (numbers_code i.text) (span_code i.span)
 
 abbrev pub identifier_back : Gv → Identifier
-identifier_back g = record { text = numbers_back (head g); place = span_back (tail g) }
+identifier_back g = record { text = numbers_back (head g); span = span_back (tail g) }
 
 pub identifier_back-code : (x : Identifier) → identifier_back (identifier_code x) ≡ x
-identifier_back-code x = λ i. record { text = numbers_back-code x.text i; place = x.place }
+identifier_back-code x = λ i. record { text = numbers_back-code x.text i; span = x.span }
 
 abbrev suffix_code : NumberSuffix → Gv
 suffix_code Absent = gnum 0
@@ -84,13 +84,13 @@ pub number_literal_back-code : (x : NumberLiteral) → number_literal_back (numb
 number_literal_back-code x = λ i. record { text = numbers_back-code x.text i; value = x.value; suffix = suffix_back-code x.suffix i }
 
 abbrev pub numeral_code : Numeral → Gv
-numeral_code n = gcons (number_literal_code n.literal) (span_code n.place)
+numeral_code n = gcons (number_literal_code n.literal) (span_code n.span)
 
 abbrev pub numeral_back : Gv → Numeral
-numeral_back g = record { literal = number_literal_back (head g); place = span_back (tail g) }
+numeral_back g = record { literal = number_literal_back (head g); span = span_back (tail g) }
 
 pub numeral_back-code : (x : Numeral) → numeral_back (numeral_code x) ≡ x
-numeral_back-code x = λ i. record { literal = number_literal_back-code x.literal i; place = x.place }
+numeral_back-code x = λ i. record { literal = number_literal_back-code x.literal i; span = x.span }
 
 abbrev pub address_code : Address → Gv
 address_code (number_address n) = gcons (gnum 0) (numeral_code n)

@@ -11,24 +11,24 @@ use Rattle.syntax_tree.specs.declared.lexeme.Identifier.{Identifier}
 use Rattle.syntax_tree.specs.declared.lexeme.Numeral.{Numeral}
 
 abbrev pub lexeme : TokenKind → Option Span → Option Bool → Lexeme
-lexeme kind place glued = record { kind = kind; place = place; glued = glued }
+lexeme kind span glued = record { kind = kind; span = span; glued = glued }
 
 -- ---- the tokens of a tree
 
 abbrev pub word : List ℕ → Option Span → Lexeme
-word text place = lexeme (Word text) place None
+word text span = lexeme (Word text) span None
 
 abbrev pub sign : Sign → Lexeme
 sign s = lexeme (Punctuation s) None None
 
 abbrev pub sign_at : Span → Sign → Lexeme
-sign_at place s = lexeme (Punctuation s) (Some place) None
+sign_at span s = lexeme (Punctuation s) (Some span) None
 
 abbrev pub identifier : Identifier → Lexeme
-identifier i = word i.text (Some i.place)
+identifier i = word i.text (Some i.span)
 
 abbrev pub numeral : Numeral → Lexeme
-numeral n = lexeme (Number n.literal) (Some n.place) None
+numeral n = lexeme (Number n.literal) (Some n.span) None
 
 -- sequences of lexemes, each after a comma
 abbrev pub after_commas : List (List Lexeme) → List Lexeme
@@ -53,7 +53,7 @@ Says (Some y) x = x ≡ y
 
 pub record IsToken (token : Token) (said : Lexeme) : Type 0 where
   pub kind : token.kind ≡ said.kind
-  pub placed : Says said.place token.span
+  pub placed : Says said.span token.span
   pub glued : Says said.glued token.glued
 
 -- the tokens agree with the lexemes, one by one

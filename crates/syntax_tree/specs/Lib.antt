@@ -54,5 +54,5 @@ pub mod SourceModuleData
 pub mod SourceSlots
 pub mod Members
 pub mod DenotedSources
-pub mod Places
-pub mod TreePlaces
+pub mod Spans
+pub mod TreeSpans

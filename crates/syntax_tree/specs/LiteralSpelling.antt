@@ -10,6 +10,6 @@ use Rattle.syntax_tree.specs.PathSpelling.{address_spelling}
 
 abbrev pub literal_spelling : Literal → List Lexeme
 literal_spelling (Number n) = numeral n ∷ []
-literal_spelling (Truth place true) = word (codes "true") (Some place) ∷ []
-literal_spelling (Truth place false) = word (codes "false") (Some place) ∷ []
-literal_spelling (Address place address) = sign_at place AtSign ∷ address_spelling address
+literal_spelling (Truth span true) = word (codes "true") (Some span) ∷ []
+literal_spelling (Truth span false) = word (codes "false") (Some span) ∷ []
+literal_spelling (Address span address) = sign_at span AtSign ∷ address_spelling address

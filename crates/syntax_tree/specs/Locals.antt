@@ -10,9 +10,9 @@ use Rattle.syntax_tree.specs.Blocks.{blocks_of_block}
 abbrev mutual
   pub names_of : PatternData → List Identifier
   names_of (BindPattern name) = name ∷ []
-  names_of (IgnorePattern place) = []
+  names_of (IgnorePattern span) = []
   names_of (UnpackPattern path types fields last) = names_of_fields fields
-  names_of (TuplePattern place items last) = names_of_patterns items
+  names_of (TuplePattern span items last) = names_of_patterns items
 
   -- a field without a pattern is bound to a local of its name
   pub names_of_field : FieldPatternData → List Identifier
@@ -29,7 +29,7 @@ abbrev mutual
 
 abbrev pub names_of_item : ItemData → List Identifier
 names_of_item (ExpressionItem expression) = []
-names_of_item (LetItem place pattern annotation value) = names_of pattern
+names_of_item (LetItem span pattern annotation value) = names_of pattern
 
 abbrev pub names_of_items : ItemsData → List Identifier
 names_of_items NoItems = []
@@ -37,7 +37,7 @@ names_of_items (MoreItems one more) = names_of_item one ++ names_of_items more
 
 -- the names that the block's own items declare
 abbrev pub names_of_block : BlockData → List Identifier
-names_of_block (BlockOf place spec items value) = names_of_items items
+names_of_block (BlockOf span spec items value) = names_of_items items
 
 -- the names that the `let`s of a body declare, including the blocks in it
 abbrev pub locals_of : BlockData → List Identifier

@@ -22,8 +22,8 @@ blocks_of_form (Spec s) = []
 
 -- the spec block of a block, if it has one
 abbrev pub spec_of_block : BlockData → List KeptSpec
-spec_of_block (BlockOf place None items value) = []
-spec_of_block (BlockOf place (Some spec) items value) = spec ∷ []
+spec_of_block (BlockOf span None items value) = []
+spec_of_block (BlockOf span (Some spec) items value) = spec ∷ []
 
 -- the spec blocks of the loops in a member, in the order of the blocks
 abbrev pub loop_specs : MemberForm → List KeptSpec

@@ -48,7 +48,7 @@ use Rattle.syntax_tree.specs.MemberData.{AbilitiesData, TypeParameterData, TypeP
 use Rattle.syntax_tree.specs.FileData.{MemberData, ModuleData}
 
 abbrev pub attribute_spelling : Attribute → List Lexeme
-attribute_spelling a = sign_at a.place NumberSign ∷ sign LeftBracket ∷ map kept a.tokens ++ sign RightBracket ∷ []
+attribute_spelling a = sign_at a.span NumberSign ∷ sign LeftBracket ∷ map kept a.tokens ++ sign RightBracket ∷ []
 
 -- ---- uses and friends
 
@@ -66,10 +66,10 @@ imported_spelling (Several imports) =
     sign ColonColon ∷ sign LeftBrace ∷ comma_list (map import_spelling imports.items) imports.last_comma ++ sign RightBrace ∷ []
 
 abbrev pub use_member_spelling : Use → List Lexeme
-use_member_spelling u = word (codes "use") (Some u.place) ∷ module_spelling u.owner ++ imported_spelling u.imported ++ sign Semicolon ∷ []
+use_member_spelling u = word (codes "use") (Some u.span) ∷ module_spelling u.owner ++ imported_spelling u.imported ++ sign Semicolon ∷ []
 
 abbrev pub friend_spelling : Friend → List Lexeme
-friend_spelling f = word (codes "friend") (Some f.place) ∷ module_spelling f.owner ++ sign Semicolon ∷ []
+friend_spelling f = word (codes "friend") (Some f.span) ∷ module_spelling f.owner ++ sign Semicolon ∷ []
 
 -- ---- structs and type parameters
 
@@ -109,14 +109,14 @@ typed_names_spelling n = comma_list (map typed_name_spelling n.items) n.last_com
 
 abbrev pub struct_spelling : Struct → List Lexeme
 struct_spelling s =
-    word (codes "struct") (Some s.place) ∷ identifier s.name ∷ parameters_spelling s.parameters ++ abilities_spelling s.abilities
+    word (codes "struct") (Some s.span) ∷ identifier s.name ∷ parameters_spelling s.parameters ++ abilities_spelling s.abilities
     ++ sign LeftBrace ∷ typed_names_spelling s.fields ++ sign RightBrace ∷ []
 
 -- ---- constants and functions
 
 abbrev pub constant_spelling : Constant → List Lexeme
 constant_spelling c =
-    word (codes "const") (Some c.place) ∷ identifier c.name ∷ sign Colon ∷ type_spelling c.annotation
+    word (codes "const") (Some c.span) ∷ identifier c.name ∷ sign Colon ∷ type_spelling c.annotation
     ++ sign Equal ∷ expression_spelling c.value ++ sign Semicolon ∷ []
 
 unfoldable pub of_friends : List Lexeme
@@ -124,12 +124,12 @@ of_friends = sign LeftParenthesis ∷ word (codes "friend") None ∷ sign RightP
 
 abbrev pub visibility_spelling : Visibility → List Lexeme
 visibility_spelling in_module = []
-visibility_spelling (Public place) = word (codes "public") (Some place) ∷ []
-visibility_spelling (Friends place) = word (codes "public") (Some place) ∷ of_friends
+visibility_spelling (Public span) = word (codes "public") (Some span) ∷ []
+visibility_spelling (Friends span) = word (codes "public") (Some span) ∷ of_friends
 
 abbrev pub entry_spelling : Option Span → List Lexeme
 entry_spelling None = []
-entry_spelling (Some place) = word (codes "entry") (Some place) ∷ []
+entry_spelling (Some span) = word (codes "entry") (Some span) ∷ []
 
 unfoldable pub acquires_word : Lexeme
 acquires_word = word (codes "acquires") None
@@ -140,7 +140,7 @@ acquires_spelling (Some p) = acquires_word ∷ comma_list (map path_spelling p.i
 
 abbrev pub function_name_spelling : Function → List Lexeme
 function_name_spelling f =
-    visibility_spelling f.visibility ++ entry_spelling f.entry ++ word (codes "fun") (Some f.place) ∷ identifier f.name
+    visibility_spelling f.visibility ++ entry_spelling f.entry ++ word (codes "fun") (Some f.span) ∷ identifier f.name
     ∷ parameters_spelling f.parameters
 
 abbrev pub inputs_spelling : TypedNamesData → List Lexeme
@@ -166,7 +166,7 @@ member_spelling m = flat_map attribute_spelling m.attributes ++ form_spelling m.
 
 abbrev pub module_tree_spelling : ModuleData → List Lexeme
 module_tree_spelling m =
-    flat_map attribute_spelling m.attributes ++ word (codes "module") (Some m.place) ∷ module_spelling m.name
+    flat_map attribute_spelling m.attributes ++ word (codes "module") (Some m.span) ∷ module_spelling m.name
     ++ sign LeftBrace ∷ flat_map member_spelling m.members ++ sign RightBrace ∷ []
 
 abbrev pub file_spelling : List ModuleData → List Lexeme

@@ -39,6 +39,6 @@ pub record IsSourceMember (functions : List (List ℕ)) (member : MemberData) (f
 
 pub record IsSourceModule (m : ModuleData) (found : SourceModuleData) : Type 0 where
   pub attributes : found.attributes ≡ m.attributes
-  pub place : found.place ≡ m.place
+  pub span : found.span ≡ m.span
   pub name : found.name ≡ m.name
   pub members : Paired (IsSourceMember (function_names m.members)) m.members found.members

@@ -83,8 +83,8 @@ use_kind_back-code Copy = refl
 
 abbrev pub literal_code : Literal → Gv
 literal_code (Number n) = gcons (gnum 0) (numeral_code n)
-literal_code (Truth place value) = gcons (gnum 1) (gcons (span_code place) (bool_code value))
-literal_code (Address place address) = gcons (gnum 2) (gcons (span_code place) (address_code address))
+literal_code (Truth span value) = gcons (gnum 1) (gcons (span_code span) (bool_code value))
+literal_code (Address span address) = gcons (gnum 2) (gcons (span_code span) (address_code address))
 
 abbrev pub literal_back : Gv → Literal
 literal_back g =
@@ -92,5 +92,5 @@ literal_back g =
 
 pub literal_back-code : (x : Literal) → literal_back (literal_code x) ≡ x
 literal_back-code (Number n) = λ i. Number (numeral_back-code n i)
-literal_back-code (Truth place value) = λ i. Truth place (bool_back-code value i)
-literal_back-code (Address place address) = λ i. Address place (address_back-code address i)
+literal_back-code (Truth span value) = λ i. Truth span (bool_back-code value i)
+literal_back-code (Address span address) = λ i. Address span (address_back-code address i)

@@ -41,17 +41,17 @@ apart_from_path true = Some false
 apart_from_path false = None
 
 abbrev pub operator_spelling : BinaryOperator → Span → Bool → List Lexeme
-operator_spelling Less place after_path = lexeme (Punctuation less_sign) (Some place) (apart_from_path after_path) ∷ []
-operator_spelling ShiftLeft place after_path = lexeme (Punctuation LessLess) (Some place) (apart_from_path after_path) ∷ []
-operator_spelling ShiftRight place after_path = sign_at place greater_sign ∷ lexeme (Punctuation greater_sign) None (Some true) ∷ []
-operator_spelling operator place after_path = sign_at place (sign_of operator) ∷ []
+operator_spelling Less span after_path = lexeme (Punctuation less_sign) (Some span) (apart_from_path after_path) ∷ []
+operator_spelling ShiftLeft span after_path = lexeme (Punctuation LessLess) (Some span) (apart_from_path after_path) ∷ []
+operator_spelling ShiftRight span after_path = sign_at span greater_sign ∷ lexeme (Punctuation greater_sign) None (Some true) ∷ []
+operator_spelling operator span after_path = sign_at span (sign_of operator) ∷ []
 
 abbrev pub unary_spelling : UnaryOperator → Span → List Lexeme
-unary_spelling Not place = sign_at place Exclaim ∷ []
-unary_spelling Dereference place = sign_at place Star ∷ []
-unary_spelling Borrow place = sign_at place Ampersand ∷ []
-unary_spelling BorrowMutable place = sign_at place Ampersand ∷ word (codes "mut") None ∷ []
+unary_spelling Not span = sign_at span Exclaim ∷ []
+unary_spelling Dereference span = sign_at span Star ∷ []
+unary_spelling Borrow span = sign_at span Ampersand ∷ []
+unary_spelling BorrowMutable span = sign_at span Ampersand ∷ word (codes "mut") None ∷ []
 
 abbrev pub use_spelling : UseKind → Span → List Lexeme
-use_spelling Move place = word (codes "move") (Some place) ∷ []
-use_spelling Copy place = word (codes "copy") (Some place) ∷ []
+use_spelling Move span = word (codes "move") (Some span) ∷ []
+use_spelling Copy span = word (codes "copy") (Some span) ∷ []

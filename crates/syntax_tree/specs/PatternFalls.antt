@@ -20,9 +20,9 @@ field_patterns_fall (p ∷ ps) = omega (arith, field_patterns_fall ps)
 
 pub pattern_falls : (n : PatternNode) → max (deep-PatternNode n) 0 ≤ pattern_size (pattern_of_node n)
 pattern_falls (Bind name) = omega arith
-pattern_falls (Ignore place) = omega arith
+pattern_falls (Ignore span) = omega arith
 pattern_falls (Unpack path arguments fields last) = omega (arith, field_patterns_fall fields.items)
-pattern_falls (Tuple place items last) = omega (arith, patterns_fall items.items)
+pattern_falls (Tuple span items last) = omega (arith, patterns_fall items.items)
 
 pub field_pattern_falls : (name : Identifier) (pattern : Option PatternData) → deep-FieldPattern (record { name = name; pattern = pattern }) ≤ field_pattern_size (field_pattern_of name pattern)
 field_pattern_falls name None = omega arith

@@ -11,12 +11,12 @@ use Rattle.syntax_tree.specs.PatternData.{PatternData, BindPattern, IgnorePatter
 abbrev mutual
   pub pattern_spelling : PatternData → List Lexeme
   pattern_spelling (BindPattern name) = identifier name ∷ []
-  pattern_spelling (IgnorePattern place) = word (codes "_") (Some place) ∷ []
+  pattern_spelling (IgnorePattern span) = word (codes "_") (Some span) ∷ []
   pattern_spelling (UnpackPattern path arguments fields last) =
       path_spelling path ++ maybe_arguments_spelling None arguments
       ++ sign LeftBrace ∷ comma_list (field_pattern_spellings fields) last ++ sign RightBrace ∷ []
-  pattern_spelling (TuplePattern place items last) =
-      sign_at place LeftParenthesis ∷ comma_list (pattern_spellings items) last ++ sign RightParenthesis ∷ []
+  pattern_spelling (TuplePattern span items last) =
+      sign_at span LeftParenthesis ∷ comma_list (pattern_spellings items) last ++ sign RightParenthesis ∷ []
 
   pub field_pattern_spelling : FieldPatternData → List Lexeme
   field_pattern_spelling (ShortFieldPattern name) = identifier name ∷ []

@@ -12,6 +12,6 @@ field_pattern_of name (Some pattern) = LongFieldPattern name pattern
 
 abbrev pub pattern_of_node : PatternNode → PatternData
 pattern_of_node (Bind name) = BindPattern name
-pattern_of_node (Ignore place) = IgnorePattern place
+pattern_of_node (Ignore span) = IgnorePattern span
 pattern_of_node (Unpack path arguments fields last) = UnpackPattern path (maybe_arguments_of arguments) (field_patterns_of fields.items) last
-pattern_of_node (Tuple place items last) = TuplePattern place (patterns_of items.items) last
+pattern_of_node (Tuple span items last) = TuplePattern span (patterns_of items.items) last

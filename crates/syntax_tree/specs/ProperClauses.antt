@@ -32,7 +32,7 @@ use Rattle.syntax_tree.specs.Slots.{MayHold}
 
 abbrev pub IsProperPragmaValue : Option PragmaValue → Type 0
 IsProperPragmaValue None = Unit {0}
-IsProperPragmaValue (Some (truth_value place value)) = Unit {0}
+IsProperPragmaValue (Some (truth_value span value)) = Unit {0}
 IsProperPragmaValue (Some (number_value n)) = IsProperNumeral n
 
 abbrev pub IsProperPragma : Pragma → Type 0
@@ -63,7 +63,7 @@ IsWord word _ = ⊥
 
 -- the first tokens are this word and a parenthesis
 abbrev pub BeginsAsCall : List ℕ → SpecExpressionData → Type 0
-BeginsAsCall word (SpecBinary left operator place right) = BeginsAsCall word left
+BeginsAsCall word (SpecBinary left operator span right) = BeginsAsCall word left
 BeginsAsCall word (SpecField base field) = BeginsAsCall word base
 BeginsAsCall word (SpecIndex base index) = BeginsAsCall word base
 BeginsAsCall word (SpecCall function NoArguments values last) = IsWord word function
@@ -73,14 +73,14 @@ BeginsAsCall word _ = ⊥
 
 -- `update` is a keyword where the token after it can begin an expression
 abbrev pub IsProperForm : Clause → Type 0
-IsProperForm (pragma_clause place p) = AreProperPragmas p
-IsProperForm (requires_clause place e) = IsProperSpec e
-IsProperForm (ensures_clause place e) = IsProperSpec e
-IsProperForm (aborts_if_clause place e code) = IsProperSpec e × IsProperCode code
-IsProperForm (modifies_clause place t) = AreProperTargets t
-IsProperForm (invariant_clause place is_update e) =
+IsProperForm (pragma_clause span p) = AreProperPragmas p
+IsProperForm (requires_clause span e) = IsProperSpec e
+IsProperForm (ensures_clause span e) = IsProperSpec e
+IsProperForm (aborts_if_clause span e code) = IsProperSpec e × IsProperCode code
+IsProperForm (modifies_clause span t) = AreProperTargets t
+IsProperForm (invariant_clause span is_update e) =
     IsProperSpec e × (is_update ≡ false → BeginsAsCall (codes "update") e → ⊥)
-IsProperForm (let_clause place is_post name e) = IsName name.text × IsProperSpec e
+IsProperForm (let_clause span is_post name e) = IsName name.text × IsProperSpec e
 IsProperForm (include_clause i) = IsProperInclude i
 IsProperForm (variable_clause n) = IsProperField n
 
@@ -104,10 +104,10 @@ IsProperSpecFunction f =
 
 -- a block of this kind
 abbrev pub IsProperBlock : Slot → Spec → Type 0
-IsProperBlock of_function (named_spec place name clauses) = IsName name.text × AreProperClauses of_function clauses
-IsProperBlock of_struct (named_spec place name clauses) = IsName name.text × AreProperClauses of_struct clauses
-IsProperBlock of_module (module_spec place clauses) = AreProperClauses of_module clauses
+IsProperBlock of_function (named_spec span name clauses) = IsName name.text × AreProperClauses of_function clauses
+IsProperBlock of_struct (named_spec span name clauses) = IsName name.text × AreProperClauses of_struct clauses
+IsProperBlock of_module (module_spec span clauses) = AreProperClauses of_module clauses
 IsProperBlock of_schema (schema_spec s) = IsProperSchema s
 IsProperBlock of_spec_function (function_spec f) = IsProperSpecFunction f
-IsProperBlock of_loop (loop_spec place clauses) = AreProperClauses of_loop clauses
+IsProperBlock of_loop (loop_spec span clauses) = AreProperClauses of_loop clauses
 IsProperBlock _ _ = ⊥

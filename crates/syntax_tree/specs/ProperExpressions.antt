@@ -46,17 +46,17 @@ term_level = 14
 
 -- an assignment and a control form have the level 0: as operands they need parentheses
 abbrev pub level : ExpressionData → ℕ
-level (BinaryExpression left operator place right) = operator_level operator
-level (UnaryExpression operator place operand) = unary_level
-level (UseExpression kind place local) = unary_level
-level (AssignExpression target place value) = 0
-level (IfExpression place condition then_branch else_branch) = 0
-level (WhileExpression place condition body) = 0
-level (LoopExpression place body) = 0
-level (ReturnExpression place value) = 0
-level (AbortExpression place code) = 0
-level (BreakExpression place) = 0
-level (ContinueExpression place) = 0
+level (BinaryExpression left operator span right) = operator_level operator
+level (UnaryExpression operator span operand) = unary_level
+level (UseExpression kind span local) = unary_level
+level (AssignExpression target span value) = 0
+level (IfExpression span condition then_branch else_branch) = 0
+level (WhileExpression span condition body) = 0
+level (LoopExpression span body) = 0
+level (ReturnExpression span value) = 0
+level (AbortExpression span code) = 0
+level (BreakExpression span) = 0
+level (ContinueExpression span) = 0
 level _ = term_level
 
 -- all operators of Move associate to the left: the left operand has the operator's level or a tighter one, the right
@@ -71,13 +71,13 @@ right_level operator = suc (operator_level operator)
 
 -- decides whether an `else` after the expression would belong to an `if` in it
 abbrev pub takes_else : ExpressionData → Bool
-takes_else (IfExpression place condition then_branch NoExpression) = true
-takes_else (IfExpression place condition then_branch (SomeExpression else_branch)) = takes_else else_branch
-takes_else (WhileExpression place condition body) = takes_else body
-takes_else (LoopExpression place body) = takes_else body
-takes_else (ReturnExpression place (SomeExpression value)) = takes_else value
-takes_else (AbortExpression place code) = takes_else code
-takes_else (AssignExpression target place value) = takes_else value
+takes_else (IfExpression span condition then_branch NoExpression) = true
+takes_else (IfExpression span condition then_branch (SomeExpression else_branch)) = takes_else else_branch
+takes_else (WhileExpression span condition body) = takes_else body
+takes_else (LoopExpression span body) = takes_else body
+takes_else (ReturnExpression span (SomeExpression value)) = takes_else value
+takes_else (AbortExpression span code) = takes_else code
+takes_else (AssignExpression target span value) = takes_else value
 takes_else _ = false
 
 abbrev pub LeavesElse : ExpressionData → MaybeExpressionData → Type 0
@@ -89,13 +89,13 @@ LeavesElse then_branch (SomeExpression else_branch) = takes_else then_branch ≡
 -- the expression does not end in the path `vector`
 abbrev pub EndsInOther : ExpressionData → Type 0
 EndsInOther (PathExpression path) = IsOther (codes "vector") path
-EndsInOther (BinaryExpression left operator place right) = EndsInOther right
-EndsInOther (UnaryExpression operator place operand) = EndsInOther operand
+EndsInOther (BinaryExpression left operator span right) = EndsInOther right
+EndsInOther (UnaryExpression operator span operand) = EndsInOther operand
 EndsInOther _ = Unit {0}
 
-abbrev pub MayStandBefore : BinaryOperator → ExpressionData → Type 0
-MayStandBefore Less left = EndsInOther left
-MayStandBefore _ left = Unit {0}
+abbrev pub MayPrecede : BinaryOperator → ExpressionData → Type 0
+MayPrecede Less left = EndsInOther left
+MayPrecede _ left = Unit {0}
 
 -- the path of a call with type arguments is not the word `vector`
 abbrev pub MayHaveArguments : Path → MaybeArgumentsData → Type 0
@@ -121,8 +121,8 @@ AreSomeValues (MoreFieldValues one more) = Unit {0}
 
 abbrev pub IsProperLiteral : Literal → Type 0
 IsProperLiteral (Number n) = IsProperNumeral n
-IsProperLiteral (Truth place value) = Unit {0}
-IsProperLiteral (Address place address) = IsProperAddress address
+IsProperLiteral (Truth span value) = Unit {0}
+IsProperLiteral (Address span address) = IsProperAddress address
 
 abbrev pub IsProperAnnotation : Option SourceTypeData → Type 0
 IsProperAnnotation None = Unit {0}
@@ -152,21 +152,21 @@ MayHoldSpec body_of_loop (Some spec) value = IsLoopSpec spec
 
 abbrev mutual
   pub IsProperAs : Role → ExpressionData → Type 0
-  IsProperAs role (BinaryExpression left operator place right) =
+  IsProperAs role (BinaryExpression left operator span right) =
       IsProperAs elsewhere left × IsProperAs elsewhere right
-      × (left_level operator ≤ level left) × (right_level operator ≤ level right) × MayStandBefore operator left
-  IsProperAs role (AssignExpression target place value) =
+      × (left_level operator ≤ level left) × (right_level operator ≤ level right) × MayPrecede operator left
+  IsProperAs role (AssignExpression target span value) =
       IsProperAs elsewhere target × (unary_level ≤ level target) × IsProperAs elsewhere value
-  IsProperAs role (IfExpression place condition then_branch else_branch) =
+  IsProperAs role (IfExpression span condition then_branch else_branch) =
       IsProperAs elsewhere condition × IsProperAs elsewhere then_branch × IsProperMaybe else_branch × LeavesElse then_branch else_branch
-  IsProperAs role (WhileExpression place condition body) = IsProperAs condition_of_while condition × IsProperAs elsewhere body
-  IsProperAs role (LoopExpression place body) = IsProperAs body_of_loop body
-  IsProperAs role (ReturnExpression place value) = IsProperMaybe value
-  IsProperAs role (AbortExpression place code) = IsProperAs elsewhere code
-  IsProperAs role (BreakExpression place) = Unit {0}
-  IsProperAs role (ContinueExpression place) = Unit {0}
-  IsProperAs role (UnaryExpression operator place operand) = IsProperAs elsewhere operand × (unary_level ≤ level operand)
-  IsProperAs role (UseExpression kind place local) = IsName local.text
+  IsProperAs role (WhileExpression span condition body) = IsProperAs condition_of_while condition × IsProperAs elsewhere body
+  IsProperAs role (LoopExpression span body) = IsProperAs body_of_loop body
+  IsProperAs role (ReturnExpression span value) = IsProperMaybe value
+  IsProperAs role (AbortExpression span code) = IsProperAs elsewhere code
+  IsProperAs role (BreakExpression span) = Unit {0}
+  IsProperAs role (ContinueExpression span) = Unit {0}
+  IsProperAs role (UnaryExpression operator span operand) = IsProperAs elsewhere operand × (unary_level ≤ level operand)
+  IsProperAs role (UseExpression kind span local) = IsName local.text
   IsProperAs role (FieldExpression base field) = IsProperAs elsewhere base × (term_level ≤ level base) × IsName field.text
   IsProperAs role (LiteralExpression literal) = IsProperLiteral literal
   IsProperAs role (PathExpression path) = IsProperPath path
@@ -176,12 +176,12 @@ abbrev mutual
   IsProperAs role (PackExpression path arguments fields last) =
       IsProperPath path × IsCapital (last_name path) × AreProperMaybeArguments arguments
       × AreProperFieldValues fields × (last ≡ true → AreSomeValues fields)
-  IsProperAs role (VectorExpression place arguments items last) =
+  IsProperAs role (VectorExpression span arguments items last) =
       AreProperMaybeArguments arguments × AreProperExpressions items × (last ≡ true → AreSomeExpressions items)
-  IsProperAs role (AssertExpression place condition code) = IsProperAs elsewhere condition × IsProperAs elsewhere code
-  IsProperAs role (TupleExpression place items last) = AreProperExpressions items × (last ≡ true → AreSeveral items)
-  IsProperAs role (CastExpression place value target) = IsProperAs elsewhere value × IsProperType target
-  IsProperAs role (BlockExpression (BlockOf place spec items value)) = MayHoldSpec role spec value × AreProperItems items × IsProperMaybe value
+  IsProperAs role (AssertExpression span condition code) = IsProperAs elsewhere condition × IsProperAs elsewhere code
+  IsProperAs role (TupleExpression span items last) = AreProperExpressions items × (last ≡ true → AreSeveral items)
+  IsProperAs role (CastExpression span value target) = IsProperAs elsewhere value × IsProperType target
+  IsProperAs role (BlockExpression (BlockOf span spec items value)) = MayHoldSpec role spec value × AreProperItems items × IsProperMaybe value
 
   pub IsProperMaybe : MaybeExpressionData → Type 0
   IsProperMaybe NoExpression = Unit {0}
@@ -193,7 +193,7 @@ abbrev mutual
 
   pub IsProperItem : ItemData → Type 0
   IsProperItem (ExpressionItem expression) = IsProperAs elsewhere expression
-  IsProperItem (LetItem place pattern annotation value) = IsProperPattern pattern × IsProperAnnotation annotation × IsProperMaybe value
+  IsProperItem (LetItem span pattern annotation value) = IsProperPattern pattern × IsProperAnnotation annotation × IsProperMaybe value
 
   pub IsProperFieldValue : FieldValueData → Type 0
   IsProperFieldValue (ShortFieldValue name) = IsName name.text

@@ -16,10 +16,10 @@ AreSomeFields (MoreFieldPatterns one more) = Unit {0}
 abbrev mutual
   pub IsProperPattern : PatternData → Type 0
   IsProperPattern (BindPattern name) = IsName name.text × IsSmall name.text × (name.text ≢ codes "_")
-  IsProperPattern (IgnorePattern place) = Unit {0}
+  IsProperPattern (IgnorePattern span) = Unit {0}
   IsProperPattern (UnpackPattern path arguments fields last) =
       IsProperPath path × AreProperMaybeArguments arguments × AreProperFieldPatterns fields × (last ≡ true → AreSomeFields fields)
-  IsProperPattern (TuplePattern place items last) = AreProperPatterns items × AreSomePatterns items
+  IsProperPattern (TuplePattern span items last) = AreProperPatterns items × AreSomePatterns items
 
   pub IsProperFieldPattern : FieldPatternData → Type 0
   IsProperFieldPattern (ShortFieldPattern name) = IsName name.text × IsSmall name.text

@@ -27,19 +27,19 @@ right_level Implies = 2
 right_level operator = suc (spec_operator_level operator)
 
 abbrev pub level : SpecExpressionData → ℕ
-level (SpecBinary left operator place right) = spec_operator_level operator
-level (SpecNot place operand) = unary_level
-level (SpecQuantified quantifier place binds _ body) = 0
-level (SpecIf place condition then_branch else_branch) = 0
+level (SpecBinary left operator span right) = spec_operator_level operator
+level (SpecNot span operand) = unary_level
+level (SpecQuantified quantifier span binds _ body) = 0
+level (SpecIf span condition then_branch else_branch) = 0
 level _ = term_level
 
 -- ---- the range of a bind: a pack is allowed only inside its brackets, since a `{` outside them opens triggers
 
 abbrev pub HasNoOpenPack : SpecExpressionData → Type 0
-HasNoOpenPack (SpecBinary left operator place right) = HasNoOpenPack left × HasNoOpenPack right
-HasNoOpenPack (SpecQuantified quantifier place binds _ body) = HasNoOpenPack body
-HasNoOpenPack (SpecIf place condition then_branch else_branch) = HasNoOpenPack then_branch × HasNoOpenPack else_branch
-HasNoOpenPack (SpecNot place operand) = HasNoOpenPack operand
+HasNoOpenPack (SpecBinary left operator span right) = HasNoOpenPack left × HasNoOpenPack right
+HasNoOpenPack (SpecQuantified quantifier span binds _ body) = HasNoOpenPack body
+HasNoOpenPack (SpecIf span condition then_branch else_branch) = HasNoOpenPack then_branch × HasNoOpenPack else_branch
+HasNoOpenPack (SpecNot span operand) = HasNoOpenPack operand
 HasNoOpenPack (SpecField base field) = HasNoOpenPack base
 HasNoOpenPack (SpecIndex base index) = HasNoOpenPack base
 HasNoOpenPack (SpecPack path _ fields last) = ⊥
@@ -63,14 +63,14 @@ AreSomeFields (MoreSpecFields one more) = Unit {0}
 
 abbrev mutual
   pub IsProperSpec : SpecExpressionData → Type 0
-  IsProperSpec (SpecBinary left operator place right) =
+  IsProperSpec (SpecBinary left operator span right) =
       IsProperSpec left × IsProperSpec right
       × (left_level operator ≤ level left) × (right_level operator ≤ level right)
-  IsProperSpec (SpecQuantified quantifier place binds triggers body) =
+  IsProperSpec (SpecQuantified quantifier span binds triggers body) =
       AreProperBinds binds × AreSomeBinds binds × AreProperTriggers triggers × IsProperSpec body
-  IsProperSpec (SpecIf place condition then_branch else_branch) =
+  IsProperSpec (SpecIf span condition then_branch else_branch) =
       IsProperSpec condition × IsProperSpec then_branch × IsProperSpec else_branch
-  IsProperSpec (SpecNot place operand) = IsProperSpec operand × (unary_level ≤ level operand)
+  IsProperSpec (SpecNot span operand) = IsProperSpec operand × (unary_level ≤ level operand)
   IsProperSpec (SpecField base field) = IsProperSpec base × (term_level ≤ level base) × IsName field.text
   IsProperSpec (SpecIndex base index) = IsProperSpec base × (term_level ≤ level base) × IsProperSpec index
   IsProperSpec (SpecLiteral literal) = IsProperLiteral literal
@@ -81,7 +81,7 @@ abbrev mutual
   IsProperSpec (SpecPack path arguments fields last) =
       IsProperPath path × IsCapital (last_name path) × AreProperMaybeArguments arguments
       × AreProperFields fields × (last ≡ true → AreSomeFields fields)
-  IsProperSpec (SpecParenthesized place inner) = IsProperSpec inner
+  IsProperSpec (SpecParenthesized span inner) = IsProperSpec inner
 
   pub IsProperBind : BindData → Type 0
   IsProperBind (TypedBind name t) = IsName name.text × IsProperType t

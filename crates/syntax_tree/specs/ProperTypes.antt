@@ -46,10 +46,10 @@ AreSome (MoreSourceTypes one more) = Unit {0}
 
 abbrev mutual
   pub IsProperType : SourceTypeData → Type 0
-  IsProperType (SharedSourceType place target) = IsProperType target
-  IsProperType (MutableSourceType place target) = IsProperType target
+  IsProperType (SharedSourceType span target) = IsProperType target
+  IsProperType (MutableSourceType span target) = IsProperType target
   IsProperType (NamedSourceType path arguments) = IsProperPath path × IsOther (codes "u256") path × AreProperMaybeArguments arguments
-  IsProperType (TupleSourceType place items last) = AreProperTypes items × (last ≡ true → AreSome items)
+  IsProperType (TupleSourceType span items last) = AreProperTypes items × (last ≡ true → AreSome items)
 
   pub AreProperArguments : ArgumentsData → Type 0
   AreProperArguments (Arguments items last) = AreProperTypes items × AreSome items

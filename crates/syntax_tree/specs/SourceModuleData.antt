@@ -7,6 +7,6 @@ use Rattle.syntax_tree.specs.SourceData.{SourceMemberData}
 
 pub record SourceModuleData : Type 0 where
   pub attributes : List Attribute
-  pub place : Span
+  pub span : Span
   pub name : ModuleName
   pub members : List SourceMemberData

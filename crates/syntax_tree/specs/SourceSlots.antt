@@ -14,9 +14,9 @@ IsOfStruct functions name = IsCapital name × AllByRecursion (λ other. name ≢
 
 -- in a module with functions of these names, a block with this tree is of this kind; a loop's block is no member
 abbrev pub IsSlotOf : List (List ℕ) → Spec → Slot → Type 0
-IsSlotOf functions (module_spec place clauses) Module = Unit {0}
-IsSlotOf functions (named_spec place name clauses) Struct = IsOfStruct functions name.text
-IsSlotOf functions (named_spec place name clauses) Function = IsOfStruct functions name.text → ⊥
+IsSlotOf functions (module_spec span clauses) Module = Unit {0}
+IsSlotOf functions (named_spec span name clauses) Struct = IsOfStruct functions name.text
+IsSlotOf functions (named_spec span name clauses) Function = IsOfStruct functions name.text → ⊥
 IsSlotOf functions (schema_spec s) Schema = Unit {0}
 IsSlotOf functions (function_spec f) SpecFunction = Unit {0}
 IsSlotOf _ _ _ = ⊥

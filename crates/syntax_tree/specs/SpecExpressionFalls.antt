@@ -29,17 +29,17 @@ spec_fields_fall [] = omega arith
 spec_fields_fall (x ∷ xs) = omega (arith, spec_fields_fall xs)
 
 pub spec_falls : (n : SpecNode) → max (deep-SpecNode n) 0 ≤ spec_expression_size (spec_of_node n)
-spec_falls (Binary left operator place right) = omega arith
-spec_falls (Quantified quantifier place binds triggers body) = omega (arith, binds_fall binds.items, triggers_fall triggers.items)
-spec_falls (If place condition then_branch else_branch) = omega arith
-spec_falls (Not place operand) = omega arith
+spec_falls (Binary left operator span right) = omega arith
+spec_falls (Quantified quantifier span binds triggers body) = omega (arith, binds_fall binds.items, triggers_fall triggers.items)
+spec_falls (If span condition then_branch else_branch) = omega arith
+spec_falls (Not span operand) = omega arith
 spec_falls (Field base field) = omega arith
 spec_falls (Index base index) = omega arith
 spec_falls (Literal literal) = omega arith
 spec_falls (Path path) = omega arith
 spec_falls (Call function arguments values last) = omega (arith, spec_expressions_fall values.items)
 spec_falls (Pack path arguments fields last) = omega (arith, spec_fields_fall fields.items)
-spec_falls (Parenthesized place inner) = omega arith
+spec_falls (Parenthesized span inner) = omega arith
 
 pub bind_falls : (name : Identifier) (domain : Domain) → deep-Bind (record { name = name; domain = domain }) ≤ bind_size (bind_of name domain)
 bind_falls name (type_domain t) = omega arith

@@ -19,21 +19,21 @@ use Rattle.syntax_tree.specs.SpecExpressionData.{SpecExpressionData, SpecBinary,
 -- decides whether the last token belongs to a path, so that a glued `<` after it would open type arguments
 abbrev pub ends_in_path : SpecExpressionData → Bool
 ends_in_path (SpecPath path) = true
-ends_in_path (SpecBinary left operator place right) = ends_in_path right
-ends_in_path (SpecNot place operand) = ends_in_path operand
+ends_in_path (SpecBinary left operator span right) = ends_in_path right
+ends_in_path (SpecNot span operand) = ends_in_path operand
 ends_in_path _ = false
 
 abbrev mutual
   pub spec_spelling : SpecExpressionData → List Lexeme
-  spec_spelling (SpecBinary left operator place right) =
-      spec_spelling left ++ spec_operator_spelling operator place (ends_in_path left) ++ spec_spelling right
-  spec_spelling (SpecQuantified quantifier place binds triggers body) =
-      quantifier_spelling quantifier place ++ comma_list (bind_spellings binds) false ++ triggers_spelling triggers
+  spec_spelling (SpecBinary left operator span right) =
+      spec_spelling left ++ spec_operator_spelling operator span (ends_in_path left) ++ spec_spelling right
+  spec_spelling (SpecQuantified quantifier span binds triggers body) =
+      quantifier_spelling quantifier span ++ comma_list (bind_spellings binds) false ++ triggers_spelling triggers
       ++ sign Colon ∷ spec_spelling body
-  spec_spelling (SpecIf place condition then_branch else_branch) =
-      word (codes "if") (Some place) ∷ sign LeftParenthesis ∷ spec_spelling condition ++ sign RightParenthesis
+  spec_spelling (SpecIf span condition then_branch else_branch) =
+      word (codes "if") (Some span) ∷ sign LeftParenthesis ∷ spec_spelling condition ++ sign RightParenthesis
       ∷ spec_spelling then_branch ++ word (codes "else") None ∷ spec_spelling else_branch
-  spec_spelling (SpecNot place operand) = sign_at place Exclaim ∷ spec_spelling operand
+  spec_spelling (SpecNot span operand) = sign_at span Exclaim ∷ spec_spelling operand
   spec_spelling (SpecField base field) = spec_spelling base ++ sign Period ∷ identifier field ∷ []
   spec_spelling (SpecIndex base index) = spec_spelling base ++ sign LeftBracket ∷ spec_spelling index ++ sign RightBracket ∷ []
   spec_spelling (SpecLiteral literal) = literal_spelling literal
@@ -44,7 +44,7 @@ abbrev mutual
   spec_spelling (SpecPack path arguments fields last) =
       path_spelling path ++ maybe_arguments_spelling (Some true) arguments
       ++ sign LeftBrace ∷ comma_list (spec_field_spellings fields) last ++ sign RightBrace ∷ []
-  spec_spelling (SpecParenthesized place inner) = sign_at place LeftParenthesis ∷ spec_spelling inner ++ sign RightParenthesis ∷ []
+  spec_spelling (SpecParenthesized span inner) = sign_at span LeftParenthesis ∷ spec_spelling inner ++ sign RightParenthesis ∷ []
 
   pub bind_spelling : BindData → List Lexeme
   bind_spelling (TypedBind name t) = identifier name ∷ sign Colon ∷ type_spelling t

@@ -17,14 +17,14 @@ spec_field_of name None = ShortSpecField name
 spec_field_of name (Some value) = LongSpecField name value
 
 abbrev pub spec_of_node : SpecNode → SpecExpressionData
-spec_of_node (Binary left operator place right) = SpecBinary left.value operator place right.value
-spec_of_node (Quantified quantifier place binds triggers body) = SpecQuantified quantifier place (binds_of binds.items) (triggers_of triggers.items) body.value
-spec_of_node (If place condition then_branch else_branch) = SpecIf place condition.value then_branch.value else_branch.value
-spec_of_node (Not place operand) = SpecNot place operand.value
+spec_of_node (Binary left operator span right) = SpecBinary left.value operator span right.value
+spec_of_node (Quantified quantifier span binds triggers body) = SpecQuantified quantifier span (binds_of binds.items) (triggers_of triggers.items) body.value
+spec_of_node (If span condition then_branch else_branch) = SpecIf span condition.value then_branch.value else_branch.value
+spec_of_node (Not span operand) = SpecNot span operand.value
 spec_of_node (Field base field) = SpecField base.value field
 spec_of_node (Index base index) = SpecIndex base.value index.value
 spec_of_node (Literal literal) = SpecLiteral literal
 spec_of_node (Path path) = SpecPath path
 spec_of_node (Call function arguments values last) = SpecCall function (maybe_arguments_of arguments) (spec_expressions_of values.items) last
 spec_of_node (Pack path arguments fields last) = SpecPack path (maybe_arguments_of arguments) (spec_fields_of fields.items) last
-spec_of_node (Parenthesized place inner) = SpecParenthesized place inner.value
+spec_of_node (Parenthesized span inner) = SpecParenthesized span inner.value

@@ -12,11 +12,11 @@ use Rattle.syntax_tree.specs.declared.spec_expression.operator.Quantifier.{Quant
 use Rattle.syntax_tree.specs.declared.spec_expression.operator.Quantifier.TheVariants.{ForAll, Exists}
 
 abbrev pub spec_operator_spelling : SpecOperator → Span → Bool → List Lexeme
-spec_operator_spelling Equivalent place after_path = sign_at place LessEqualEqualGreater ∷ []
-spec_operator_spelling Implies place after_path = sign_at place EqualEqualGreater ∷ []
-spec_operator_spelling Range place after_path = sign_at place PeriodPeriod ∷ []
-spec_operator_spelling (Common operator) place after_path = operator_spelling operator place after_path
+spec_operator_spelling Equivalent span after_path = sign_at span LessEqualEqualGreater ∷ []
+spec_operator_spelling Implies span after_path = sign_at span EqualEqualGreater ∷ []
+spec_operator_spelling Range span after_path = sign_at span PeriodPeriod ∷ []
+spec_operator_spelling (Common operator) span after_path = operator_spelling operator span after_path
 
 abbrev pub quantifier_spelling : Quantifier → Span → List Lexeme
-quantifier_spelling ForAll place = word (codes "forall") (Some place) ∷ []
-quantifier_spelling Exists place = word (codes "exists") (Some place) ∷ []
+quantifier_spelling ForAll span = word (codes "forall") (Some span) ∷ []
+quantifier_spelling Exists span = word (codes "exists") (Some span) ∷ []

@@ -11,11 +11,11 @@ use Rattle.syntax_tree.specs.TypeTreeData.{SourceTypeData, SharedSourceType, Mut
 
 abbrev mutual
   pub type_spelling : SourceTypeData → List Lexeme
-  type_spelling (SharedSourceType place target) = sign_at place Ampersand ∷ type_spelling target
-  type_spelling (MutableSourceType place target) = sign_at place Ampersand ∷ word (codes "mut") None ∷ type_spelling target
+  type_spelling (SharedSourceType span target) = sign_at span Ampersand ∷ type_spelling target
+  type_spelling (MutableSourceType span target) = sign_at span Ampersand ∷ word (codes "mut") None ∷ type_spelling target
   type_spelling (NamedSourceType path arguments) = path_spelling path ++ maybe_arguments_spelling None arguments
-  type_spelling (TupleSourceType place items last) =
-      sign_at place LeftParenthesis ∷ comma_list (type_spellings items) last ++ sign RightParenthesis ∷ []
+  type_spelling (TupleSourceType span items last) =
+      sign_at span LeftParenthesis ∷ comma_list (type_spellings items) last ++ sign RightParenthesis ∷ []
 
   -- a `<` after a path is glued to it where it could be a comparison; elsewhere it may be glued or not
   pub arguments_spelling : Option Bool → ArgumentsData → List Lexeme

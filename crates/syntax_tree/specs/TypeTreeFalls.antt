@@ -17,8 +17,8 @@ pub arguments_fall : (ts : List SourceTypeData) (last : Bool) → max (most (λ 
 arguments_fall ts last = omega (arith, source_types_fall ts)
 
 pub source_type_falls : (n : SourceTypeNode) → max (deep-SourceTypeNode n) 0 ≤ source_type_size (source_type_of_node n)
-source_type_falls (Shared place target) = omega arith
-source_type_falls (Mutable place target) = omega arith
+source_type_falls (Shared span target) = omega arith
+source_type_falls (Mutable span target) = omega arith
 source_type_falls (Named path None) = omega arith
 source_type_falls (Named path (Some arguments)) = omega arith
-source_type_falls (Tuple place items last_comma) = omega (arith, source_types_fall items.items)
+source_type_falls (Tuple span items last_comma) = omega (arith, source_types_fall items.items)

@@ -11,7 +11,7 @@ use std::marker::Model;
 /// The value of a pragma.
 #[derive(Drop)]
 pub enum PragmaValue {
-    Truth { place: Span, value: bool },
+    Truth { span: Span, value: bool },
     Number(Numeral),
 }
 
@@ -60,7 +60,7 @@ pub struct Bindings {
 }
 
 pub struct Include {
-    pub place: Span,
+    pub span: Span,
     pub schema: Path,
     pub arguments: Option<TypeArguments>,
     pub bindings: Option<Bindings>,
@@ -70,7 +70,7 @@ pub struct Include {
 impl Drop for Include {
     fn drop(self) {
         let Include {
-            place: _,
+            span: _,
             schema,
             arguments,
             bindings,
@@ -84,33 +84,33 @@ impl Drop for Include {
 /// A clause of a spec block.
 pub enum Clause {
     Pragma {
-        place: Span,
+        span: Span,
         pragmas: Pragmas,
     },
     Requires {
-        place: Span,
+        span: Span,
         condition: SpecExpression,
     },
     Ensures {
-        place: Span,
+        span: Span,
         condition: SpecExpression,
     },
     AbortsIf {
-        place: Span,
+        span: Span,
         condition: SpecExpression,
         code: AbortCode,
     },
     Modifies {
-        place: Span,
+        span: Span,
         targets: Targets,
     },
     Invariant {
-        place: Span,
+        span: Span,
         is_update: bool,
         condition: SpecExpression,
     },
     Let {
-        place: Span,
+        span: Span,
         is_post: bool,
         name: Identifier,
         value: SpecExpression,
@@ -124,31 +124,25 @@ pub enum Clause {
 impl Drop for Clause {
     fn drop(self) {
         match self {
-            Clause::Pragma { place: _, pragmas } => drop(pragmas),
-            Clause::Requires {
-                place: _,
-                condition,
-            }
-            | Clause::Ensures {
-                place: _,
-                condition,
-            }
+            Clause::Pragma { span: _, pragmas } => drop(pragmas),
+            Clause::Requires { span: _, condition }
+            | Clause::Ensures { span: _, condition }
             | Clause::Invariant {
-                place: _,
+                span: _,
                 is_update: _,
                 condition,
             } => drop(condition),
             Clause::AbortsIf {
-                place: _,
+                span: _,
                 condition,
                 code,
             } => {
                 drop(condition);
                 drop(code);
             }
-            Clause::Modifies { place: _, targets } => drop(targets),
+            Clause::Modifies { span: _, targets } => drop(targets),
             Clause::Let {
-                place: _,
+                span: _,
                 is_post: _,
                 name,
                 value,
@@ -169,7 +163,7 @@ pub struct Clauses {
 }
 
 pub struct Schema {
-    pub place: Span,
+    pub span: Span,
     pub name: Identifier,
     pub parameters: Option<TypeParameters>,
     pub clauses: Clauses,
@@ -179,7 +173,7 @@ pub struct Schema {
 impl Drop for Schema {
     fn drop(self) {
         let Schema {
-            place: _,
+            span: _,
             name,
             parameters,
             clauses,
@@ -192,7 +186,7 @@ impl Drop for Schema {
 
 /// A spec function.
 pub struct SpecFunction {
-    pub place: Span,
+    pub span: Span,
     pub name: Identifier,
     pub parameters: Option<TypeParameters>,
     pub inputs: TypedNames,
@@ -204,7 +198,7 @@ pub struct SpecFunction {
 impl Drop for SpecFunction {
     fn drop(self) {
         let SpecFunction {
-            place: _,
+            span: _,
             name,
             parameters,
             inputs,
@@ -223,12 +217,12 @@ impl Drop for SpecFunction {
 pub enum Spec {
     /// The block of the module around it.
     Module {
-        place: Span,
+        span: Span,
         clauses: Clauses,
     },
     /// The block of a struct or a function, by name.
     Named {
-        place: Span,
+        span: Span,
         name: Identifier,
         clauses: Clauses,
     },
@@ -236,7 +230,7 @@ pub enum Spec {
     Function(SpecFunction),
     /// The block of the loop of Move code around it.
     Loop {
-        place: Span,
+        span: Span,
         clauses: Clauses,
     },
 }
@@ -245,9 +239,9 @@ pub enum Spec {
 impl Drop for Spec {
     fn drop(self) {
         match self {
-            Spec::Module { place: _, clauses } | Spec::Loop { place: _, clauses } => drop(clauses),
+            Spec::Module { span: _, clauses } | Spec::Loop { span: _, clauses } => drop(clauses),
             Spec::Named {
-                place: _,
+                span: _,
                 name,
                 clauses,
             } => {

@@ -35,48 +35,48 @@ pub enum ExpressionNode {
     Binary {
         left: Box<Expression>,
         operator: BinaryOperator,
-        place: Span,
+        span: Span,
         right: Box<Expression>,
     },
     Assign {
         target: Box<Expression>,
-        place: Span,
+        span: Span,
         value: Box<Expression>,
     },
     If {
-        place: Span,
+        span: Span,
         condition: Box<Expression>,
         then_branch: Box<Expression>,
         else_branch: Option<Box<Expression>>,
     },
     While {
-        place: Span,
+        span: Span,
         condition: Box<Expression>,
         body: Box<Expression>,
     },
     Loop {
-        place: Span,
+        span: Span,
         body: Box<Expression>,
     },
     Return {
-        place: Span,
+        span: Span,
         value: Option<Box<Expression>>,
     },
     Abort {
-        place: Span,
+        span: Span,
         code: Box<Expression>,
     },
     Break(Span),
     Continue(Span),
     Unary {
         operator: UnaryOperator,
-        place: Span,
+        span: Span,
         operand: Box<Expression>,
     },
     /// `move x` or `copy x`
     Use {
         kind: UseKind,
-        place: Span,
+        span: Span,
         local: Identifier,
     },
     Field {
@@ -101,25 +101,25 @@ pub enum ExpressionNode {
     },
     /// `vector` and its items between brackets.
     Vector {
-        place: Span,
+        span: Span,
         arguments: Option<TypeArguments>,
         items: Vec<Expression>,
         last_comma: bool,
     },
     /// `assert!` with its condition and its code.
     Assert {
-        place: Span,
+        span: Span,
         condition: Box<Expression>,
         code: Box<Expression>,
     },
     /// Expressions between parentheses: a single one means itself.
     Tuple {
-        place: Span,
+        span: Span,
         items: Vec<Expression>,
         last_comma: bool,
     },
     Cast {
-        place: Span,
+        span: Span,
         value: Box<Expression>,
         target: SourceType,
     },
@@ -129,7 +129,7 @@ pub enum ExpressionNode {
 /// A block: its items, and the value after them.
 #[cycle(expression)]
 pub struct Block {
-    pub place: Span,
+    pub span: Span,
     /// The spec block of the loop whose body or condition this block is.
     pub spec: Option<KeptSpec>,
     pub items: Vec<Item>,
@@ -141,7 +141,7 @@ impl Drop for Block {
     #[cycle(drop_expression)]
     fn drop(self) {
         let Block {
-            place: _,
+            span: _,
             spec,
             items,
             value,
@@ -173,7 +173,7 @@ impl Drop for Item {
 pub enum ItemNode {
     Expression(Box<Expression>),
     Let {
-        place: Span,
+        span: Span,
         pattern: Pattern,
         annotation: Option<SourceType>,
         value: Option<Box<Expression>>,
@@ -215,13 +215,13 @@ impl Model for Block {
 
     ghost coded = { coded_block };
 
-    ghost view = { λ a. BlockOf a.place a.spec (items_of a.items.items) (maybe_expression_of a.value) };
+    ghost view = { λ a. BlockOf a.span a.spec (items_of a.items.items) (maybe_expression_of a.value) };
 
     ghost size = { block_size };
 
     ghost use Rattle.syntax_tree.specs.ExpressionFalls.{block_falls};
 
-    ghost size_decreases = { λ a h. block_falls a.place a.spec a.items a.value };
+    ghost size_decreases = { λ a h. block_falls a.span a.spec a.items a.value };
 }
 
 impl Model for Item {

@@ -15,7 +15,7 @@ use tokens::token::{NumberLiteral, Punctuation, Token, TokenKind};
 pub struct Lexeme {
     pub kind: TokenKind,
     /// Its span, if the tree keeps it.
-    pub place: Option<Span>,
+    pub span: Option<Span>,
     /// Whether it is glued to the token before it, if that affects parsing.
     pub glued: Option<bool>,
 }
@@ -24,14 +24,14 @@ pub struct Lexeme {
 #[derive(Drop)]
 pub struct Identifier {
     pub text: Name,
-    pub place: Span,
+    pub span: Span,
 }
 
 /// A number in a source, with its span.
 #[derive(Drop)]
 pub struct Numeral {
     pub literal: NumberLiteral,
-    pub place: Span,
+    pub span: Span,
 }
 
 /// The lexemes of a tree, in order.
@@ -80,18 +80,18 @@ impl Lexemes {
     {
         self.push(Lexeme {
             kind: TokenKind::Punctuation(punctuation),
-            place: None,
+            span: None,
             glued: None,
         })
     }
 
     /// Adds a sign whose span the tree keeps.
-    pub fn push_sign_at(&mut self, place: Span, punctuation: Punctuation) -> Result<(), NoMemory>
-        ensures { OnOk result (self.new ≡ self.old ++ sign_at place punctuation ∷ []) }
+    pub fn push_sign_at(&mut self, span: Span, punctuation: Punctuation) -> Result<(), NoMemory>
+        ensures { OnOk result (self.new ≡ self.old ++ sign_at span punctuation ∷ []) }
     {
         self.push(Lexeme {
             kind: TokenKind::Punctuation(punctuation),
-            place: Some(place),
+            span: Some(span),
             glued: None,
         })
     }
@@ -106,7 +106,7 @@ impl Lexemes {
     {
         self.push(Lexeme {
             kind: TokenKind::Punctuation(punctuation),
-            place: None,
+            span: None,
             glued,
         })
     }
@@ -116,13 +116,13 @@ impl Lexemes {
         &mut self,
         alloc: Global,
         text: &[u8],
-        place: Option<Span>,
+        span: Option<Span>,
     ) -> Result<(), NoMemory>
-        ensures { OnOk result (self.new ≡ self.old ++ word text.now place ∷ []) }
+        ensures { OnOk result (self.new ≡ self.old ++ word text.now span ∷ []) }
     {
         self.push(Lexeme {
             kind: TokenKind::Word(Name::from_slice(alloc, text)?),
-            place,
+            span,
             glued: None,
         })
     }

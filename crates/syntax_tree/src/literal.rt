@@ -7,9 +7,9 @@ use base::span::Span;
 /// A literal.
 pub enum Literal {
     Number(Numeral),
-    Truth { place: Span, value: bool },
+    Truth { span: Span, value: bool },
     /// `@` and an address.
-    Address { place: Span, address: Address },
+    Address { span: Span, address: Address },
 }
 
 // A separate impl, so that each drop is a call and not the cases of all forms below it.
@@ -17,8 +17,8 @@ impl Drop for Literal {
     fn drop(self) {
         match self {
             Literal::Number(number) => drop(number),
-            Literal::Truth { place: _, value: _ } => {}
-            Literal::Address { place: _, address } => drop(address),
+            Literal::Truth { span: _, value: _ } => {}
+            Literal::Address { span: _, address } => drop(address),
         }
     }
 }

@@ -12,7 +12,7 @@ use tokens::token::Tokens;
 /// An attribute: a number sign, and tokens between brackets.
 #[derive(Drop)]
 pub struct Attribute {
-    pub place: Span,
+    pub span: Span,
     /// The tokens between its brackets.
     pub tokens: Tokens,
 }
@@ -41,7 +41,7 @@ pub enum Imported {
 }
 
 pub struct Use {
-    pub place: Span,
+    pub span: Span,
     pub owner: ModuleName,
     pub imported: Imported,
 }
@@ -50,7 +50,7 @@ pub struct Use {
 impl Drop for Use {
     fn drop(self) {
         let Use {
-            place: _,
+            span: _,
             owner,
             imported,
         } = self;
@@ -61,7 +61,7 @@ impl Drop for Use {
 
 #[derive(Drop)]
 pub struct Friend {
-    pub place: Span,
+    pub span: Span,
     pub owner: ModuleName,
 }
 
@@ -111,7 +111,7 @@ pub struct TypedNames {
 }
 
 pub struct Struct {
-    pub place: Span,
+    pub span: Span,
     pub name: Identifier,
     pub parameters: Option<TypeParameters>,
     pub abilities: Option<Abilities>,
@@ -122,7 +122,7 @@ pub struct Struct {
 impl Drop for Struct {
     fn drop(self) {
         let Struct {
-            place: _,
+            span: _,
             name,
             parameters,
             abilities,
@@ -137,7 +137,7 @@ impl Drop for Struct {
 
 #[derive(Drop)]
 pub struct Constant {
-    pub place: Span,
+    pub span: Span,
     pub name: Identifier,
     pub annotation: SourceType,
     pub value: Expression,
@@ -164,7 +164,7 @@ pub struct Function {
     pub visibility: Visibility,
     /// The span of `entry`, if the function has it.
     pub entry: Option<Span>,
-    pub place: Span,
+    pub span: Span,
     pub name: Identifier,
     pub parameters: Option<TypeParameters>,
     pub inputs: TypedNames,
@@ -179,7 +179,7 @@ impl Drop for Function {
         let Function {
             visibility: _,
             entry: _,
-            place: _,
+            span: _,
             name,
             parameters,
             inputs,
@@ -217,7 +217,7 @@ pub struct Member {
 #[derive(Drop)]
 pub struct Module {
     pub attributes: Vec<Attribute>,
-    pub place: Span,
+    pub span: Span,
     pub name: ModuleName,
     pub members: Vec<Member>,
 }
@@ -303,7 +303,7 @@ impl Model for Module {
 
     ghost coded = { Prim.hlevel (codes, coded_source_type, coded_expression, coded_block) };
 
-    ghost view = { λ a. record { attributes = a.attributes.items; place = a.place; name = a.name; members = a.members.items } };
+    ghost view = { λ a. record { attributes = a.attributes.items; span = a.span; name = a.name; members = a.members.items } };
 }
 
 impl Model for File {

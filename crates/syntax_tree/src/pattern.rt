@@ -38,7 +38,7 @@ pub enum PatternNode {
     },
     /// Patterns between parentheses: a single one means itself.
     Tuple {
-        place: Span,
+        span: Span,
         items: Vec<Pattern>,
         last_comma: bool,
     },

@@ -3,8 +3,8 @@
 pub mod collect;
 pub mod locals;
 pub mod loops;
-pub mod places;
-pub mod tree_places;
+pub mod spans;
+pub mod tree_spans;
 
 use crate::clause::Spec;
 use crate::member::{Attribute, Constant, Friend, Function, Struct, Use};
@@ -64,7 +64,7 @@ impl Model for SourceMember {
 pub struct SourceModule {
     pub attributes: Vec<Attribute>,
     /// The span of its word `module`.
-    pub place: Span,
+    pub span: Span,
     pub name: ModuleName,
     pub members: Vec<SourceMember>,
 }
@@ -80,7 +80,7 @@ impl Model for SourceModule {
 
     ghost coded = { Prim.hlevel (codes, coded_source_type, coded_arguments, coded_expression, coded_block, coded_spec_expression, coded_spec_field) };
 
-    ghost view = { λ m. record { attributes = m.attributes.items; place = m.place; name = m.name; members = m.members.items } };
+    ghost view = { λ m. record { attributes = m.attributes.items; span = m.span; name = m.name; members = m.members.items } };
 }
 
 /// The modules of a file.

@@ -34,24 +34,24 @@ pub enum SpecNode {
     Binary {
         left: Box<SpecExpression>,
         operator: SpecOperator,
-        place: Span,
+        span: Span,
         right: Box<SpecExpression>,
     },
     Quantified {
         quantifier: Quantifier,
-        place: Span,
+        span: Span,
         binds: Vec<Bind>,
         triggers: Vec<Trigger>,
         body: Box<SpecExpression>,
     },
     If {
-        place: Span,
+        span: Span,
         condition: Box<SpecExpression>,
         then_branch: Box<SpecExpression>,
         else_branch: Box<SpecExpression>,
     },
     Not {
-        place: Span,
+        span: Span,
         operand: Box<SpecExpression>,
     },
     Field {
@@ -77,7 +77,7 @@ pub enum SpecNode {
         last_comma: bool,
     },
     Parenthesized {
-        place: Span,
+        span: Span,
         inner: Box<SpecExpression>,
     },
 }

@@ -25,12 +25,12 @@ impl Drop for SourceType {
 pub enum SourceTypeNode {
     /// `&T`
     Shared {
-        place: Span,
+        span: Span,
         target: Box<SourceType>,
     },
     /// `&mut T`
     Mutable {
-        place: Span,
+        span: Span,
         target: Box<SourceType>,
     },
     /// A struct, a type parameter or a builtin type, by name.
@@ -40,7 +40,7 @@ pub enum SourceTypeNode {
     },
     /// Types between parentheses: a single one means itself.
     Tuple {
-        place: Span,
+        span: Span,
         items: Vec<SourceType>,
         last_comma: bool,
     },

@@ -76,7 +76,7 @@ module _ (ns : List Node) (one : IsOneNumber ns) where
     first_says r e = go r (subst (λ o. MatchOption o (IsNotAmong d.entries n) (IsFirstAt d.entries n)) (sym e) ((all_firsts ns d over).each n))
       where
         go : (r : Option ℕ) → MatchOption r (IsNotAmong d.entries n) (IsFirstAt d.entries n) → MatchOption r (IsNew (branch_in ns d) (formula_in (item_at ns n))) (IsFirstEntry (branch_in ns d) (formula_in (item_at ns n)))
-        go None h = record { new = λ s. (let it = said s.place s.says in h.none s.place it.0 it.1 it.2) }
+        go None h = record { new = λ s. (let it = said s.position s.says in h.none s.position it.0 it.1 it.2) }
         go (Some i) h = record {
           says = says i h.entry h.found h.is;
           first = λ j w s. (let it = said j s in h.first j it.0 w it.1 it.2);
@@ -123,24 +123,24 @@ module _ (ns : List Node) (one : IsOneNumber ns) (d : BranchData) (over : IsOver
   -- an entry in which the term occurs gives the term's number a value of at most its own generation
   small : (g : ℕ) → Holds (branch_in ns d) (term_in (item_at ns n)) g → HasAtMost d.generations n g
   small g h =
-      let it = stored ns d.entries h.place h.entry h.found in
-      let formula = over.formulas h.place it.entry it.found in
+      let it = stored ns d.entries h.position h.entry h.found in
+      let formula = over.formulas h.position it.entry it.found in
       let generation : it.entry.generation ≡ g = ap (λ (e : Entry). e.generation) it.is ∙ h.same in
       let in_formula : IsInFormula (term_in (item_at ns n)) (formula_in (item_at ns it.entry.formula)) = subst (λ (e : Entry). IsInFormula (term_in (item_at ns n)) e.formula) (sym it.is) h.inside in
       let inside : IsInItem (term_in (item_at ns n)) (item_at ns it.entry.formula) = subst (IsInItem (term_in (item_at ns n))) (a_formula (item_at ns it.entry.formula) formula.sort) in_formula in
       let least = all_least ns d over in
-      let found = number_found ns d.generations least.closed (term_in (item_at ns n)) it.entry.formula it.entry.generation (least.entries h.place it.entry it.found) inside in
+      let found = number_found ns d.generations least.closed (term_in (item_at ns n)) it.entry.formula it.entry.generation (least.entries h.position it.entry it.found) inside in
       let same : found.number ≡ n = one.one found.number n found.within term.within (found.is ∙ sym is_term) in
       subst (HasAtMost d.generations n) generation (subst (λ m. HasAtMost d.generations m it.entry.generation) same found.small)
 
   held : (g : ℕ) → IsFrom ns d.entries n g → Holds (branch_in ns d) (term_in (item_at ns n)) g
   held g from =
-      let formula = over.formulas from.place from.entry from.found in
+      let formula = over.formulas from.position from.entry from.found in
       let inside : IsInItem (term_in (item_at ns n)) (item_at ns from.entry.formula) = under_inside ns from.entry.formula n from.under (term_in (item_at ns n)) (subst (IsInItem (term_in (item_at ns n))) (sym is_term) Itself) in
       record {
-        place = from.place;
+        position = from.position;
         entry = entry_in ns from.entry;
-        found = pure_entry ns d.entries from.place from.entry from.found;
+        found = pure_entry ns d.entries from.position from.entry from.found;
         inside = subst (IsInItem (term_in (item_at ns n))) (sym (a_formula (item_at ns from.entry.formula) formula.sort)) inside;
         same = from.same;
       }

@@ -124,12 +124,12 @@ module _ (ns : List Node) (one : IsOneNumber ns) (d : BranchData) (over : IsOver
 
   pub term_number : (t : TermData) → IsTerm (branch_in ns d) t → IsNumbered ns (branch_in ns d) t
   term_number t h =
-      let it = stored ns d.entries h.holds.place h.holds.entry h.holds.found in
-      let formula = over.formulas h.holds.place it.entry it.found in
+      let it = stored ns d.entries h.holds.position h.holds.entry h.holds.found in
+      let formula = over.formulas h.holds.position it.entry it.found in
       let in_formula : IsInFormula t (formula_in (item_at ns it.entry.formula)) = subst (λ (e : Entry). IsInFormula t e.formula) (sym it.is) h.holds.inside in
       let inside : IsInItem t (item_at ns it.entry.formula) = subst (IsInItem t) (a_formula (item_at ns it.entry.formula) formula.sort) in_formula in
       let least = all_least ns d over in
-      let found = number_found ns d.generations least.closed t it.entry.formula it.entry.generation (least.entries h.holds.place it.entry it.found) inside in
+      let found = number_found ns d.generations least.closed t it.entry.formula it.entry.generation (least.entries h.holds.position it.entry it.found) inside in
       record {
         number = found.number;
         term = record { number = record { within = found.within; sort = ap sort_of found.is }; stands = subst (IsTerm (branch_in ns d)) (sym (ap term_in found.is)) h };
@@ -153,4 +153,4 @@ module _ (ns : List Node) (one : IsOneNumber ns) (d : BranchData) (over : IsOver
     known_term n h =
         let g = generation_of n h in
         let from = (all_least ns d over).from n g.generation g.is in
-        under_known from.entry.formula n (entry_known from.place from.entry from.found) from.under
+        under_known from.entry.formula n (entry_known from.position from.entry from.found) from.under

@@ -5,7 +5,7 @@ use Rattle.std.proofs.lemmas.Bool.{eqb-true, eq-eqb}
 use Rattle.std.proofs.lemmas.List.{length-set, length-replicate}
 use Rattle.std.proofs.lemmas.List.Elements.{Contains-push_cases}
 use Rattle.term_pool.specs.declared.node.Node.{Node}
-use Rattle.base.specs.Circles.{IsEdge, Reaches, Here, Along}
+use Rattle.base.specs.GraphReachability.{IsEdge, Reaches, Here, Along}
 use Rattle.base.proofs.EdgeLemmas.{no_edge, edge_kept, edge_new, edge_pushed}
 use Rattle.base.proofs.ReachLemmas.{reach_push}
 use Rattle.certificates.specs.BranchesBranch.{Branch}

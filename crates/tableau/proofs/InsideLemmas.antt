@@ -47,17 +47,17 @@ IsOrIn t x xs = (x ≡ TermItem t) ⊎ IsInAny t xs
 -- ---- lists
 
 module _ {X : Type 0} where
-  contains_first : (x : X) (xs : List X) → Contains (x ∷ xs) x
+  pub contains_first : (x : X) (xs : List X) → Contains (x ∷ xs) x
   contains_first x xs = (0, omega arith, refl)
 
-  contains_later : (x y : X) (xs : List X) → Contains xs y → Contains (x ∷ xs) y
+  pub contains_later : (x y : X) (xs : List X) → Contains xs y → Contains (x ∷ xs) y
   contains_later x y xs h = (let w = h.1 in (suc h.0, omega (arith, w), h.2))
 
-  contains_cases : (x y : X) (xs : List X) → Contains (x ∷ xs) y → (x ≡ y) ⊎ Contains xs y
+  pub contains_cases : (x y : X) (xs : List X) → Contains (x ∷ xs) y → (x ≡ y) ⊎ Contains xs y
   contains_cases x y xs (zero, w, e) = inl e
   contains_cases x y xs (suc k, w, e) = inr (k, omega (arith, w), e)
 
-  contains_none : (y : X) → Contains [] y → ⊥
+  pub contains_none : (y : X) → Contains [] y → ⊥
   contains_none y h = (let w = h.1 in omega (arith, w))
 
 in_terms : (t : TermData) (us : TermsData) (u : TermData) → Contains (list_of_terms us) u → IsIn t u → IsInTerms t us

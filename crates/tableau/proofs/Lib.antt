@@ -23,3 +23,4 @@ pub mod GraphLemmas
 pub mod NearLemmas
 pub mod StateMarkLemmas
 pub mod StateLemmas
+pub mod WholeNumberLemmas

@@ -23,7 +23,7 @@ module _ (b more : Branch) where
         is_new = all_new u (formulas b) (omega arith);
         is_above = refl;
         is_variable = (let l = longer_above b more in let e = due.is_above in let s = due.is_variable in omega (arith, l, e, s));
-        unnamed = λ n. due.unnamed (record { place = n.place; entry = n.entry; found = found_kept b more n.place n.entry n.found; names = n.names });
+        unnamed = λ n. due.unnamed (record { position = n.position; entry = n.entry; found = found_kept b more n.position n.entry n.found; names = n.names });
         shallow = (let e = body.same in let s = due.shallow in omega (arith, e, s));
       })
 

@@ -16,7 +16,7 @@ use Rattle.term_pool.specs.declared.node.Three.TheVariants.{Ternary}
 use Rattle.term_pool.specs.declared.node.Node.{Node}
 use Rattle.term_pool.specs.declared.node.Node.TheVariants.{Leaf as LeafNode, One as OneNode, Two as TwoNode, Three as ThreeNode}
 use Rattle.term_pool.proofs.ShapeLemmas.{Shape, LeafShape, OneShape, TwoShape, ThreeShape, shape_of, leaf_shape, one_shape, two_shape, three_shape}
-use Rattle.base.specs.Circles.{Reaches, Here, Along, AreRoots}
+use Rattle.base.specs.GraphReachability.{Reaches, Here, Along, AreRoots}
 use Rattle.base.proofs.ReachLemmas.{reach_join}
 use Rattle.certificates.specs.BranchesBranch.{Branch, IsTerm}
 use Rattle.certificates.specs.Joined.{Joined, Turned as Back, Chained as Then}

@@ -83,8 +83,8 @@ least_more ns es e gs hs least marked = record {
     entries i other (inr f) = subst (λ (x : PoolEntry). HasAtMost hs x.formula x.generation) (sym f.1) marked.marked
 
     from : (n g : ℕ) → (value_in gs n ≡ Some g) ⊎ ((g ≡ e.generation) × IsUnder ns e.formula n) → IsFrom ns (es ++ e ∷ []) n g
-    from n g (inl is) = (let old = least.from n g is in record { place = old.place; entry = old.entry; found = push_kept es e old.place old.entry old.found; under = old.under; same = old.same })
-    from n g (inr new) = record { place = length es; entry = e; found = push_new es e; under = new.1; same = sym new.0 }
+    from n g (inl is) = (let old = least.from n g is in record { position = old.position; entry = old.entry; found = push_kept es e old.position old.entry old.found; under = old.under; same = old.same })
+    from n g (inr new) = record { position = length es; entry = e; found = push_new es e; under = new.1; same = sym new.0 }
 
 module _ (ns : List Node) (d : BranchData) (over : IsOver ns d) (e : PoolEntry) (formula : IsFormulaNumber ns e.formula) (first : ℕ) (is_first : first ≡ unwrap_or (value_in d.firsts e.formula) (length d.entries)) (hs : List Change) (marked : IsMarked ns e.formula e.generation d.generations hs) where
   abbrev longer : BranchData
@@ -289,7 +289,7 @@ module _ (ns ms : List Node) (grown : Extends ns ms) where
       parts = λ n v node part e found one. parts n v node part e found one (least.closed.nodes n v e);
     };
     entries = least.entries;
-    from = λ n g e. (let h = least.from n g e in record { place = h.place; entry = h.entry; found = h.found; under = under_still h.entry.formula n h.under; same = h.same });
+    from = λ n g e. (let h = least.from n g e in record { position = h.position; entry = h.entry; found = h.found; under = under_still h.entry.formula n h.under; same = h.same });
   }
     where
       parts : (n v : ℕ) (node : Node) (part : ℕ) → value_in gs n ≡ Some v → slice_get ms n ≡ Some node → IsOneOf part (outer_parts node) → IsNode ns n → HasAtMost gs part v

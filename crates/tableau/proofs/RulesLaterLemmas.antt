@@ -23,7 +23,7 @@ module _ (b more : Branch) where
 
   pub was_new : (p : FormulaData) → IsNew (b ++ more) p → IsNew b p
   was_new p h = record {
-    new = λ s. h.new (record { place = s.place; says = record { entry = s.says.entry; found = kept b more s.place s.says.entry s.says.found; is = s.says.is } });
+    new = λ s. h.new (record { position = s.position; says = record { entry = s.says.entry; found = kept b more s.position s.says.entry s.says.found; is = s.says.is } });
   }
 
   parts_were_due : (i : ℕ) (ps : List FormulaData) → i < length b → PartsDue (b ++ more) i ps → PartsDue b i ps
@@ -31,7 +31,7 @@ module _ (b more : Branch) where
     entry = due.entry;
     says = said i due.entry w due.says;
     are_parts = due.are_parts;
-    news = record { place = due.news.place; formula = due.news.formula; found = due.news.found; is_new = was_new due.news.formula due.news.is_new };
+    news = record { position = due.news.position; formula = due.news.formula; found = due.news.found; is_new = was_new due.news.formula due.news.is_new };
     shallow = due.shallow;
   }
 

@@ -29,16 +29,16 @@ all_taken P f xs i w all = All-map P f xs (subst (All (λ n. P (f n))) (take_all
 module _ (ns : List Node) (b : Branch) where
   pub none_new : (xs : List ℕ) → All (λ n. Stands b (formula_at ns n)) xs → HasNew b (map (formula_at ns) xs) → ⊥
   none_new xs all h =
-      let within : h.place < length xs = omega (arith, slice_get_within (map (formula_at ns) xs) h.place h.formula h.found, length-map xs (formula_at ns)) in
-      let is : formula_at ns (get_or xs h.place 0) ≡ h.formula = sym (get_or-map (formula_at ns) xs h.place 0 h.formula within) ∙ get_or_from_slice_get (map (formula_at ns) xs) h.place h.formula h.formula h.found in
-      h.is_new.new (subst (Stands b) is (all h.place 0 within))
+      let within : h.position < length xs = omega (arith, slice_get_within (map (formula_at ns) xs) h.position h.formula h.found, length-map xs (formula_at ns)) in
+      let is : formula_at ns (get_or xs h.position 0) ≡ h.formula = sym (get_or-map (formula_at ns) xs h.position 0 h.formula within) ∙ get_or_from_slice_get (map (formula_at ns) xs) h.position h.formula h.formula h.found in
+      h.is_new.new (subst (Stands b) is (all h.position 0 within))
 
   pub none_new_taken : (xs : List ℕ) (i : ℕ) → length xs ≤ i → All (λ n. Stands b (formula_at ns n)) (take i xs) → HasNew b (map (formula_at ns) xs) → ⊥
   none_new_taken xs i w all = none_new xs (subst (All (λ n. Stands b (formula_at ns n))) (take_all i xs w) all)
 
   pub some_new : (xs : List ℕ) (i : ℕ) → i < length xs → (Stands b (formula_at ns (get_or xs i 0)) → ⊥) → HasNew b (map (formula_at ns) xs)
   some_new xs i w fails = record {
-    place = i;
+    position = i;
     formula = formula_at ns (get_or xs i 0);
     found = slice_get-map (formula_at ns) xs i ∙ ap (option_map (formula_at ns)) (slice_get-get_or xs i 0 w);
     is_new = record { new = fails };

@@ -211,16 +211,16 @@ unchanged v (c ∷ cs) n h (suc k) m f = unchanged (cond (nat_eq c.number n) (So
 
 -- a number with a value was changed
 record IsChanged (ms : List ℕ) (n : ℕ) : Type 0 where
-  place : ℕ
-  found : slice_get ms place ≡ Some n
+  position : ℕ
+  found : slice_get ms position ≡ Some n
 
 changed : (cs : List Change) (n x : ℕ) → value_after None cs n ≡ Some x → IsChanged (map number_of cs) n
 changed [] n x h = absurd (cc)
 changed (c ∷ cs) n x h = go (nat_eq c.number n) refl h (changed cs n x)
   where
     go : (b : Bool) → nat_eq c.number n ≡ b → value_after (cond b (Some c.value) None) cs n ≡ Some x → (value_after None cs n ≡ Some x → IsChanged (map number_of cs) n) → IsChanged (map number_of (c ∷ cs)) n
-    go true e g rest = record { place = 0; found = ap Some (eqb-true c.number n e) }
-    go false e g rest = record { place = suc (rest g).place; found = (rest g).found }
+    go true e g rest = record { position = 0; found = ap Some (eqb-true c.number n e) }
+    go false e g rest = record { position = suc (rest g).position; found = (rest g).found }
 
 name_from_key : (o : Origin) (i : ℕ) → name_key o ≡ suc i → o ≡ Name i
 name_from_key (Name j) i e = ap Name (omega (arith, e))
@@ -231,27 +231,27 @@ module _ (ns : List Node) (es : List PoolEntry) (v : VariablesData) (h : AreAbov
   keys = h.names.are ∙ ap (map key_of) (take_all (length v.entries) es all)
 
   pub has_name : (x : ℕ) → value_in v.names (suc i) ≡ Some x → IsNamed (map (entry_in ns) es) i
-  has_name x e = go (slice_get es c.place) refl
+  has_name x e = go (slice_get es c.position) refl
     where
       c : IsChanged (map number_of v.names) (suc i)
       c = changed v.names (suc i) x e
 
-      found : option_map key_of (slice_get es c.place) ≡ Some (suc i)
-      found = sym (slice_get-map key_of es c.place) ∙ ap (λ ms. slice_get ms c.place) (sym keys) ∙ c.found
+      found : option_map key_of (slice_get es c.position) ≡ Some (suc i)
+      found = sym (slice_get-map key_of es c.position) ∙ ap (λ ms. slice_get ms c.position) (sym keys) ∙ c.found
 
-      go : (o : Option PoolEntry) → slice_get es c.place ≡ o → IsNamed (map (entry_in ns) es) i
+      go : (o : Option PoolEntry) → slice_get es c.position ≡ o → IsNamed (map (entry_in ns) es) i
       go None f = (let both : None ≡ Some (suc i) = ap (option_map key_of) (sym f) ∙ found in absurd (cc))
       go (Some s) f =
           let same : Some (key_of s) ≡ Some (suc i) = ap (option_map key_of) (sym f) ∙ found in
           let key : key_of s ≡ suc i = cc in
-          record { place = c.place; entry = entry_in ns s; found = pure_entry ns es c.place s f; names = name_from_key s.origin i key }
+          record { position = c.position; entry = entry_in ns s; found = pure_entry ns es c.position s f; names = name_from_key s.origin i key }
 
   pub has_no_name : value_in v.names (suc i) ≡ None → IsNamed (map (entry_in ns) es) i → ⊥
   has_no_name e named =
-      let it = stored ns es named.place named.entry named.found in
+      let it = stored ns es named.position named.entry named.found in
       let origin : it.entry.origin ≡ Name i = ap (λ (x : Entry). x.origin) it.is ∙ named.names in
-      let found : slice_get (map number_of v.names) named.place ≡ Some (key_of it.entry) = ap (λ ms. slice_get ms named.place) keys ∙ slice_get-map key_of es named.place ∙ ap (option_map key_of) it.found in
-      unchanged None v.names (suc i) e named.place (key_of it.entry) found (ap name_key origin)
+      let found : slice_get (map number_of v.names) named.position ≡ Some (key_of it.entry) = ap (λ ms. slice_get ms named.position) keys ∙ slice_get-map key_of es named.position ∙ ap (option_map key_of) it.found in
+      unchanged None v.names (suc i) e named.position (key_of it.entry) found (ap name_key origin)
 
 pub named_iff : (ns : List Node) (es : List PoolEntry) (v : VariablesData) → AreAbove ns es v → length es ≤ length v.entries → (i : ℕ) (o : Option ℕ) (r : Bool) → o ≡ value_in v.names (i + 1) → r ≡ is_some o → (r ≡ true → IsNamed (map (entry_in ns) es) i) × (IsNamed (map (entry_in ns) es) i → r ≡ true)
 named_iff ns es v h all i None r e f = (

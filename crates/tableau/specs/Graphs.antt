@@ -2,7 +2,7 @@
 use Rattle.std.specs.Prelude.{◌≡◌, ◌⊎◌, ℕ, List, length, Contains, Option, Some, None, cond, nat_eq}
 use Rattle.term_pool.specs.Pools.{IsMade}
 use Rattle.term_pool.specs.declared.node.Node.{Node}
-use Rattle.base.specs.Circles.{IsEdge, Reaches}
+use Rattle.base.specs.GraphReachability.{IsEdge, Reaches}
 use Rattle.certificates.specs.BranchesBranch.{Branch}
 use Rattle.congruence_closure.specs.Known.{BranchClassesData, class_of}
 use Rattle.tableau.specs.Terms.{IsBranchTerm}

@@ -11,3 +11,4 @@ pub mod Terms
 pub mod Groups
 pub mod Graphs
 pub mod States
+pub mod WholeNumbers

@@ -69,9 +69,9 @@ pub record AreFirsts (es : List PoolEntry) (fs : List Change) : Type 0 where
 
 -- an entry of this generation has the item, or it occurs in its formula outside quantifiers
 pub record IsFrom (ns : List Node) (es : List PoolEntry) (n g : ℕ) : Type 0 where
-  pub place : ℕ
+  pub position : ℕ
   pub entry : PoolEntry
-  pub found : slice_get es place ≡ Some entry
+  pub found : slice_get es position ≡ Some entry
   pub under : IsUnder ns entry.formula n
   pub same : entry.generation ≡ g
 

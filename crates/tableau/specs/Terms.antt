@@ -1,31 +1,13 @@
 -- The terms of a branch over a pool, by number, and its classes.
-use Rattle.std.specs.Prelude.{◌≡◌, ◌↔◌, ℕ, Bool, true, false, List, map, Contains}
+use Rattle.std.specs.Prelude.{◌≡◌, ◌↔◌, ℕ, List, map, Contains}
 use Rattle.fol.specs.FormulaData.{TermData}
 use Rattle.term_pool.specs.Items.{term_in}
 use Rattle.term_pool.specs.Pools.{item_at}
-use Rattle.term_pool.specs.declared.node.Leaf.TheVariants.{Var, Constant}
-use Rattle.term_pool.specs.declared.node.One.TheVariants.{Unary}
-use Rattle.term_pool.specs.declared.node.Two.TheVariants.{Binary, Pack, Field}
-use Rattle.term_pool.specs.declared.node.Three.TheVariants.{Ternary, SetField, If}
 use Rattle.term_pool.specs.declared.node.Node.{Node}
-use Rattle.term_pool.specs.declared.node.Node.TheVariants.{Leaf as LeafNode, One as OneNode, Two as TwoNode, Three as ThreeNode}
 use Rattle.certificates.specs.BranchesBranch.{Branch, IsTerm}
 use Rattle.tableau.specs.PoolBranches.{BranchData, IsTermNumber}
 use Rattle.tableau.specs.declared.entry.PoolEntry.{PoolEntry}
 use Rattle.congruence_closure.specs.Known.{BranchClassesData, IsOver}
-
--- the node is that of a term
-abbrev pub is_term_node : Node → Bool
-is_term_node (LeafNode (Var n)) = true
-is_term_node (LeafNode (Constant c)) = true
-is_term_node (OneNode (Unary o) a) = true
-is_term_node (TwoNode (Binary o) a b) = true
-is_term_node (TwoNode Pack a b) = true
-is_term_node (TwoNode (Field k) a b) = true
-is_term_node (ThreeNode (Ternary o) a b c) = true
-is_term_node (ThreeNode (SetField k) a b c) = true
-is_term_node (ThreeNode If a b c) = true
-is_term_node _ = false
 
 abbrev pub term_at : List Node → ℕ → TermData
 term_at ns n = term_in (item_at ns n)

@@ -11,3 +11,4 @@ mod marking;
 pub mod names;
 pub mod rules;
 pub mod state;
+pub mod whole_numbers;

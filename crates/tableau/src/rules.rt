@@ -5,4 +5,4 @@ pub mod formulas;
 pub mod laws;
 pub mod parts;
 pub mod split;
-mod stands;
+pub mod stands;

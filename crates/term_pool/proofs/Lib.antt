@@ -12,3 +12,4 @@ pub mod PoolSubstitutionWalkLemmas
 pub mod MemberLemmas
 pub mod FreeLemmas
 pub mod VariablesWalkLemmas
+pub mod FormLemmas

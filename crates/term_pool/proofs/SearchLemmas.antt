@@ -14,17 +14,17 @@ use Rattle.term_pool.proofs.OnceLemmas.{made, at_end}
 use Rattle.term_pool.proofs.DepthLemmas.{kept_more}
 
 record IsFirst (n : Node) (ns : List Node) (k i : ℕ) : Type 0 where
-  place : ℕ
-  is : i ≡ k + place
-  found : slice_get ns place ≡ Some n
+  position : ℕ
+  is : i ≡ k + position
+  found : slice_get ns position ≡ Some n
 
 first_from : (n : Node) (ns : List Node) (k i : ℕ) → position_from (same_node n) k ns ≡ Some i → IsFirst n ns k i
 first_from n [] k i e = absurd (cc)
 first_from n (m ∷ ns) k i e = go (λ h. first_from n ns (k + 1) i h) (same_node n m) refl e
   where
     go : (position_from (same_node n) (k + 1) ns ≡ Some i → IsFirst n ns (k + 1) i) → (b : Bool) → same_node n m ≡ b → cond b (Some k) (position_from (same_node n) (k + 1) ns) ≡ Some i → IsFirst n (m ∷ ns) k i
-    go later true t h = let here : k ≡ i = cc in record { place = 0; is = omega (arith, here); found = ap Some (sym ((same_node_decides n m).0 t)) }
-    go later false t h = let rest = later h in record { place = suc rest.place; is = omega (arith, rest.is); found = rest.found }
+    go later true t h = let here : k ≡ i = cc in record { position = 0; is = omega (arith, here); found = ap Some (sym ((same_node_decides n m).0 t)) }
+    go later false t h = let rest = later h in record { position = suc rest.position; is = omega (arith, rest.is); found = rest.found }
 
 nowhere_from : (n : Node) (ns : List Node) (k : ℕ) → position_from (same_node n) k ns ≡ None → (i : ℕ) → slice_get ns i ≡ Some n → ⊥
 nowhere_from n [] k e i found = absurd (cc)
@@ -39,7 +39,7 @@ module _ (n : Node) (ns : List Node) where
   pub found_at : (i : ℕ) → position (same_node n) ns ≡ Some i → slice_get ns i ≡ Some n
   found_at i e =
       let first = first_from n ns 0 i (sym (position_from-zero (same_node n) ns) ∙ e) in
-      let here : first.place ≡ i = omega (arith, first.is) in
+      let here : first.position ≡ i = omega (arith, first.is) in
       subst (λ k. slice_get ns k ≡ Some n) here first.found
 
   pub nowhere : position (same_node n) ns ≡ None → IsNowhere ns n
@@ -77,8 +77,8 @@ entry_added (e ∷ es) n d none =
     go rest false t = ap (λ fs. e ∷ fs) rest
 
 -- the number of keys
-pub places : (es : List (Node × ℕ)) (view : List Node) → keys_of es ≡ view → length es ≡ length view
-places es view e = sym (length-map es (λ (p : Node × ℕ). p.0)) ∙ ap length e
+pub positions : (es : List (Node × ℕ)) (view : List Node) → keys_of es ≡ view → length es ≡ length view
+positions es view e = sym (length-map es (λ (p : Node × ℕ). p.0)) ∙ ap length e
 
 pub record Grown (fs : List (Node × ℕ)) (view : List Node) (n : Node) : Type 0 where
   pub kept : IsKept (keys_of fs) (values_of fs)

@@ -7,3 +7,4 @@ pub mod Lists
 pub mod Put
 pub mod Values
 pub mod Free
+pub mod Forms

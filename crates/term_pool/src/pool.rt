@@ -1,9 +1,12 @@
 //! A pool of nodes without duplicates.
 
-ghost use Rattle.std.specs.Prelude.{◌≡◌, ◌<◌, ◌≤◌, [], length, IfOk, MatchOption};
-ghost use Rattle.term_pool.specs.Pools.{item_at, item_of, items, HasParts, IsMade, IsNowhere, IsOneNumber, Extends};
+ghost use Rattle.std.specs.Prelude.{◌≡◌, ◌<◌, ◌≤◌, ◌↔◌, [], length, IfOk, IsTrue, MatchOption};
+ghost use Rattle.term_pool.specs.Items.{TermSort, FormulaSort, formula_in};
+ghost use Rattle.term_pool.specs.Pools.{item_at, item_of, items, HasPart, HasParts, IsMade, IsNowhere, IsOneNumber, Extends};
+ghost use Rattle.term_pool.specs.Forms.{IsNoDenial, IsDenialOf, IsNoEquation, IsEquationOf};
 ghost use Rattle.term_pool.specs.Depths.{item_depth, counted, leaf_steps, one_steps, two_steps};
 
+use crate::forms::{denied_part, is_formula_node, is_term_node, sides_of};
 use crate::node::{Leaf, Node, One, Two};
 use base::memory::NoMemory;
 use indexmap::IndexMap;
@@ -76,6 +79,46 @@ impl Pool {
         match self.nodes.get_index(number) {
             Some((_, depth)) => *depth,
             None => 0,
+        }
+    }
+
+    /// Decides whether a number is that of a term.
+    pub fn is_term(&self, number: usize) -> bool
+        ensures { IsTrue result ↔ HasPart self.now (length self.now) number TermSort }
+    {
+        match self.node(number) {
+            Some(node) => is_term_node(node),
+            None => false,
+        }
+    }
+
+    /// Decides whether a number is that of a formula.
+    pub fn is_formula(&self, number: usize) -> bool
+        ensures { IsTrue result ↔ HasPart self.now (length self.now) number FormulaSort }
+    {
+        match self.node(number) {
+            Some(node) => is_formula_node(node),
+            None => false,
+        }
+    }
+
+    /// Returns the number of the formula that the formula with this number negates; `None` if it is no negation.
+    pub fn denied(&self, formula: usize) -> Option<usize>
+        ensures { MatchOption result (IsNoDenial (formula_in (item_at self.now formula))) (IsDenialOf self.now formula) }
+    {
+        match self.node(formula) {
+            Some(node) => denied_part(node),
+            None => None,
+        }
+    }
+
+    /// Returns the numbers of the sides of the equation with this number; `None` if the formula is no equation.
+    pub fn sides(&self, formula: usize) -> Option<(usize, usize)>
+        ensures { MatchOption result (IsNoEquation (formula_in (item_at self.now formula))) (IsEquationOf self.now formula) }
+    {
+        match self.node(formula) {
+            Some(node) => sides_of(node),
+            None => None,
         }
     }
 

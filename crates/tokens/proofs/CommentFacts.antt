@@ -31,8 +31,8 @@ behind depth count rest = cond (eqb depth 0) (Some count) (comment_end (depth - 
 regrouped : (x y z w : List ℕ) → (x ++ (y ++ z)) ++ w ≡ x ++ (y ++ (z ++ w))
 regrouped x y z w = simp append_assoc
 
-behind_deeper : (depth count : ℕ) (rest : List ℕ) → behind (depth + 1) count rest ≡ comment_end depth 0 count rest
-behind_deeper depth count rest =
+after_deeper : (depth count : ℕ) (rest : List ℕ) → behind (depth + 1) count rest ≡ comment_end depth 0 count rest
+after_deeper depth count rest =
     let deeper : eqb (depth + 1) 0 ≡ false = ne_eqb _ _ (λ e. absurd (omega arith)) in
     let same : depth + 1 - 1 ≡ depth = omega arith in
     rw (deeper, same) refl
@@ -54,7 +54,7 @@ comment_reads (comment x y) depth count rest is =
     let same : count + 1 + 1 + length (inside_text x) + 2 + length (inside_text y) + 2 ≡ count + suc (suc (length (inside_text x ++ (codes "*/" ++ inside_text y)))) + 2 = omega (arith, long) in
     ap (comment_end (depth + 1) 0 (count + 1 + 1)) (regrouped (inside_text x) (codes "*/") (inside_text y) (codes "*/" ++ rest))
     ∙ inner
-    ∙ behind_deeper depth (count + 1 + 1 + length (inside_text x) + 2) (inside_text y ++ (codes "*/" ++ rest))
+    ∙ after_deeper depth (count + 1 + 1 + length (inside_text x) + 2) (inside_text y ++ (codes "*/" ++ rest))
     ∙ outer
     ∙ ap (λ n. behind depth n rest) same
 
@@ -76,7 +76,7 @@ pub record IsClosed (depth count : ℕ) (text bytes : List ℕ) (end : ℕ) : Ty
 
 -- what an end means, with a byte before the bytes, and without
 record AreClosed (bytes : List ℕ) : Type 0 where
-  pub behind_byte : (depth last count end : ℕ) → comment_end depth last count bytes ≡ Some end → IsClosed depth count (last ∷ bytes) bytes end
+  pub after_byte : (depth last count end : ℕ) → comment_end depth last count bytes ≡ Some end → IsClosed depth count (last ∷ bytes) bytes end
   pub at_start : (depth count end : ℕ) → comment_end depth 0 count bytes ≡ Some end → IsClosed depth count bytes bytes end
 
 is_plain : (last b : ℕ) (tail text rest : List ℕ) → (eqb last 47 && eqb b 42) ≡ false → (eqb last 42 && eqb b 47) ≡ false → b ∷ tail ≡ text ++ rest → (c : ℕ) (t : List ℕ) → text ≡ c ∷ t → NoMark (last ∷ text)
@@ -157,8 +157,8 @@ with_closing depth last b count tail end closes some more =
       ends = omega (arith, more.ends);
     }
 
-closed_behind : (depth last b count : ℕ) (tail : List ℕ) (end : ℕ) → AreClosed tail → comment_end depth last count (b ∷ tail) ≡ Some end → IsClosed depth count (last ∷ b ∷ tail) (b ∷ tail) end
-closed_behind depth last b count tail end more h =
+closed_after : (depth last b count : ℕ) (tail : List ℕ) (end : ℕ) → AreClosed tail → comment_end depth last count (b ∷ tail) ≡ Some end → IsClosed depth count (last ∷ b ∷ tail) (b ∷ tail) end
+closed_after depth last b count tail end more h =
     elim (chosen (eqb last 47 && eqb b 42) _ _ _ h) [
       | inl opens ↦
           let is = more.at_start (depth + 1) (count + 1) end opens.1 in
@@ -170,7 +170,7 @@ closed_behind depth last b count tail end more h =
                   | inl outermost ↦ with_last depth last b count tail end closes.0 outermost.0 outermost.1
                   | inr inner ↦ with_closing depth last b count tail end closes.0 inner.0 (more.at_start (depth - 1) (count + 1) end inner.1)
                 ]
-            | inr plain ↦ with_plain depth last b count tail end other.0 plain.0 (more.behind_byte depth b (count + 1) end plain.1)
+            | inr plain ↦ with_plain depth last b count tail end other.0 plain.0 (more.after_byte depth b (count + 1) end plain.1)
           ]
     ]
 
@@ -188,12 +188,12 @@ without_byte depth b count tail end more = record {
 }
 
 are_closed : (bytes : List ℕ) → AreClosed bytes
-are_closed [] = record { behind_byte = λ depth last count end h. absurd (none_is_some _ h); at_start = λ depth count end h. absurd (none_is_some _ h) }
+are_closed [] = record { after_byte = λ depth last count end h. absurd (none_is_some _ h); at_start = λ depth count end h. absurd (none_is_some _ h) }
 are_closed (b ∷ tail) =
     let more = are_closed tail in
     record {
-      behind_byte = λ depth last count end h. closed_behind depth last b count tail end more h;
-      at_start = λ depth count end h. without_byte depth b count tail end (more.behind_byte depth b (count + 1) end h);
+      after_byte = λ depth last count end h. closed_after depth last b count tail end more h;
+      at_start = λ depth count end h. without_byte depth b count tail end (more.after_byte depth b (count + 1) end h);
     }
 
 pub comment_read : (count : ℕ) (bytes : List ℕ) (end : ℕ) → comment_end 0 0 count bytes ≡ Some end → IsClosed 0 count bytes bytes end

@@ -90,9 +90,9 @@ word_or_string b rest f begins h false test o e same = word_piece b rest f begin
 word_or_string b rest f begins h true test None e same = word_piece b rest f begins h same
 word_or_string b rest f begins h true test (Some end) e same = string_piece b rest f end begins h same (string_at b rest end test e)
 
-word_stands : (b : ℕ) (rest : List ℕ) (f : Found) → begins_word b ≡ true → found_at (b ∷ rest) ≡ Some f → IsPiece (b ∷ rest) f
+word_is_piece : (b : ℕ) (rest : List ℕ) (f : Found) → begins_word b ≡ true → found_at (b ∷ rest) ≡ Some f → IsPiece (b ∷ rest) f
 unfolding word_at
-word_stands b rest f begins h =
+word_is_piece b rest f begins h =
     word_or_string b rest f begins h _ refl _ refl (some_found f (word_at b rest) (sym h ∙ found_word b rest begins))
 
 -- a number
@@ -115,9 +115,9 @@ number_piece b rest f digit h (Some v) e same =
     digit_first : (b : ℕ) (rest : List ℕ) → is_ascii_digit b ≡ true → is_ascii_digit (get_or (take (prefix_len continues_word (b ∷ rest)) (b ∷ rest)) 0 0) ≡ true
     digit_first b rest digit = rw (digit_continues b digit, one_more) digit
 
-number_stands : (b : ℕ) (rest : List ℕ) (f : Found) → is_ascii_digit b ≡ true → found_at (b ∷ rest) ≡ Some f → IsPiece (b ∷ rest) f
+number_is_piece : (b : ℕ) (rest : List ℕ) (f : Found) → is_ascii_digit b ≡ true → found_at (b ∷ rest) ≡ Some f → IsPiece (b ∷ rest) f
 unfolding number_at
-number_stands b rest f digit h = number_piece b rest f digit h _ refl (sym h ∙ found_digit b rest digit)
+number_is_piece b rest f digit h = number_piece b rest f digit h _ refl (sym h ∙ found_digit b rest digit)
 
 -- a sign
 sign_piece : (b : ℕ) (rest : List ℕ) (f : Found) → eqb b 47 ≡ false → found_at (b ∷ rest) ≡ Some f → (o : Option Punctuation) → IfSome o (Begins (b ∷ rest)) → sign_found o ≡ Some f → IsPiece (b ∷ rest) f
@@ -172,9 +172,9 @@ slash_piece rest f h line block same =
       no_block = λ tail e. let here : rest ≡ 42 ∷ tail = cc in eqb-false _ _ block (ap (λ t. get_or t 0 0) here);
     })
 
-slash_stands : (rest : List ℕ) (f : Found) → found_at (47 ∷ rest) ≡ Some f → slash_at rest ≡ Some f → IsPiece (47 ∷ rest) f
+slash_is_piece : (rest : List ℕ) (f : Found) → found_at (47 ∷ rest) ≡ Some f → slash_at rest ≡ Some f → IsPiece (47 ∷ rest) f
 unfolding slash_at
-slash_stands rest f h same =
+slash_is_piece rest f h same =
     elim (chosen (eqb (get_or rest 0 0) 47) _ _ _ same) [
       | inl line ↦ line_piece rest f line.0 line.1
       | inr other ↦
@@ -184,8 +184,8 @@ slash_stands rest f h same =
           ]
     ]
 
-slash_stands_at : (b : ℕ) (rest : List ℕ) (f : Found) → b ≡ 47 → found_at (b ∷ rest) ≡ Some f → slash_at rest ≡ Some f → IsPiece (b ∷ rest) f
-slash_stands_at b rest f slash h same = rw slash (slash_stands rest f (ap (λ c. found_at (c ∷ rest)) (sym slash) ∙ h) same)
+slash_is_piece_at : (b : ℕ) (rest : List ℕ) (f : Found) → b ≡ 47 → found_at (b ∷ rest) ≡ Some f → slash_at rest ≡ Some f → IsPiece (b ∷ rest) f
+slash_is_piece_at b rest f slash h same = rw slash (slash_is_piece rest f (ap (λ c. found_at (c ∷ rest)) (sym slash) ∙ h) same)
 
 -- each piece that is found is at the front
 blank_piece : (b : ℕ) (rest : List ℕ) (f : Found) → is_blank b ≡ true → Some (found blank 1) ≡ Some f → IsPiece (b ∷ rest) f
@@ -197,18 +197,18 @@ blank_piece b rest f is same = record {
   found = sym (some_found _ _ same);
 }
 
-pub found_stands : (bytes : List ℕ) (f : Found) → found_at bytes ≡ Some f → IsPiece bytes f
+pub found_piece : (bytes : List ℕ) (f : Found) → found_at bytes ≡ Some f → IsPiece bytes f
 unfolding found_at
-found_stands [] f h = absurd (none_is_some f h)
-found_stands (b ∷ rest) f h =
+found_piece [] f h = absurd (none_is_some f h)
+found_piece (b ∷ rest) f h =
     elim (chosen (is_blank b) _ _ _ h) [
       | inl is ↦ blank_piece b rest f is.0 is.1
       | inr no_blank ↦ elim (chosen (eqb b 47) _ _ _ no_blank.1) [
-        | inl is ↦ slash_stands_at b rest f (eqb-true b 47 is.0) h is.1
+        | inl is ↦ slash_is_piece_at b rest f (eqb-true b 47 is.0) h is.1
         | inr no_slash ↦ elim (chosen (begins_word b) _ _ _ no_slash.1) [
-          | inl is ↦ word_stands b rest f is.0 h
+          | inl is ↦ word_is_piece b rest f is.0 h
           | inr no_word ↦ elim (chosen (is_ascii_digit b) _ _ _ no_word.1) [
-            | inl is ↦ number_stands b rest f is.0 h
+            | inl is ↦ number_is_piece b rest f is.0 h
             | inr no_digit ↦ sign_piece b rest f no_slash.0 h (sign_front b rest) (sign_begins b rest) no_digit.1
           ]
         ]

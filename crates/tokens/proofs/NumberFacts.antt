@@ -18,19 +18,19 @@ use Rattle.tokens.specs.Reading.{continues_numeral, more_number, numeral_at, suf
 use Rattle.tokens.proofs.Runs.{Stops, all_joined, all_weaker, front_is, second_is, chosen, same_parts, pair_of, none_is_some}
 
 -- more digits do not decrease the number
-more_grows : (base before b : ℕ) → 1 ≤ base → before ≤ more_number base before b
+more_increases : (base before b : ℕ) → 1 ≤ base → before ≤ more_number base before b
 unfolding more_number
-more_grows base before b positive =
+more_increases base before b positive =
     cond_both (eqb b 95) before (before * base + digit_value b) (λ n. before ≤ n)
     (λ _. omega arith)
     (λ _. let grown = mul-le-mul_left before positive in omega (arith, grown))
 
-number_grows : (base before : ℕ) (digits : List ℕ) → 1 ≤ base → before ≤ number_from base before digits
+number_increases : (base before : ℕ) (digits : List ℕ) → 1 ≤ base → before ≤ number_from base before digits
 unfolding more_number
-number_grows base before [] positive = omega arith
-number_grows base before (b ∷ digits) positive =
-    let one : before ≤ more_number base before b = more_grows base before b positive in
-    let rest : more_number base before b ≤ number_from base (more_number base before b) digits = number_grows base (more_number base before b) digits positive in
+number_increases base before [] positive = omega arith
+number_increases base before (b ∷ digits) positive =
+    let one : before ≤ more_number base before b = more_increases base before b positive in
+    let rest : more_number base before b ≤ number_from base (more_number base before b) digits = number_increases base (more_number base before b) digits positive in
     omega arith
 
 -- a numeral that ends is read to its end
@@ -40,7 +40,7 @@ numeral_reads base before count [] [] positive all small stops = rw add-zero ref
 numeral_reads base before count [] (r ∷ rest) positive all small stops = rw (stops, add-zero) refl
 numeral_reads base before count (b ∷ front) rest positive all small stops =
     let parts = and_parts (continues_numeral base b) (list_all (continues_numeral base) front) all in
-    let grown : more_number base before b ≤ number_from base (more_number base before b) front = number_grows base (more_number base before b) front positive in
+    let grown : more_number base before b ≤ number_from base (more_number base before b) front = number_increases base (more_number base before b) front positive in
     let fits : ltb (more_number base before b) (2 ^ 128) ≡ true = lt-ltb _ _ (omega arith) in
     let more : numeral_at base (more_number base before b) (count + 1) (front ++ rest) ≡ Some (number_from base (more_number base before b) front, count + 1 + length front) = numeral_reads base (more_number base before b) (count + 1) front rest positive parts.1 small stops in
     let same : count + 1 + length front ≡ count + suc (length front) = omega arith in

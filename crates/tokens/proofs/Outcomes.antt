@@ -7,13 +7,13 @@ use Rattle.tokens.specs.Spelling.{Spells, IsBadAt, IsUnspelled, Gives}
 use Rattle.tokens.proofs.Rows.{spelled_once, bad_unspelled, bad_once, Progress, progress_spells}
 
 -- a bad token
-pub bad_says : (file at : ℕ) (bytes : List ℕ) → IsBadAt at bytes → (place : ℕ) → at ≡ place → IsBadAt place bytes × IsUnspelled file bytes
-bad_says file at bytes bad place e =
+pub bad_says : (file at : ℕ) (bytes : List ℕ) → IsBadAt at bytes → (offset : ℕ) → at ≡ offset → IsBadAt offset bytes × IsUnspelled file bytes
+bad_says file at bytes bad offset e =
     let P : ℕ → Type 0 = λ n. IsBadAt n bytes in
     (subst P e bad, bad_unspelled file at bytes bad)
 
-pub bad_only : (file at : ℕ) (bytes : List ℕ) → IsBadAt at bytes → (place : ℕ) → IsBadAt place bytes → Gives (Err (BadToken at)) (Err (BadToken place))
-bad_only file at bytes bad place other = inl (ap (λ n. Err (BadToken n)) (bad_once at place bytes bad other))
+pub bad_only : (file at : ℕ) (bytes : List ℕ) → IsBadAt at bytes → (offset : ℕ) → IsBadAt offset bytes → Gives (Err (BadToken at)) (Err (BadToken offset))
+bad_only file at bytes bad offset other = inl (ap (λ n. Err (BadToken n)) (bad_once at offset bytes bad other))
 
 -- the end, with too many tokens
 pub many_says : (file : ℕ) (bytes : List ℕ) (found : List Token) (count at : ℕ) (touching : Bool) → Progress file bytes found count at touching → length bytes ≤ at → 200000 < count → (n : ℕ) → count ≡ n → (ts : List Token) × Spells file ts bytes × (length ts ≡ n) × (200000 < n)

@@ -59,10 +59,10 @@ no_quote : (t : Bool) (count end : ℕ) → quoted_end t count [] ≡ Some end �
 no_quote true count end h = none_is_some _ h
 no_quote false count end h = none_is_some _ h
 
-quoted_behind : (b c count : ℕ) (bytes : List ℕ) (end : ℕ) (slash : Bool) → eqb b 92 ≡ slash → b ≢ 10 → b ≢ 34 → quoted_end slash (count + 1) (c ∷ bytes) ≡ Some end → (quoted_end false (count + 1) (c ∷ bytes) ≡ Some end → IsQuoted (count + 1) (c ∷ bytes) end) → (quoted_end false (count + 1 + 1) bytes ≡ Some end → IsQuoted (count + 1 + 1) bytes end) → IsQuoted count (b ∷ c ∷ bytes) end
-quoted_behind b c count bytes end false slash no_line no_quote h one two =
+quoted_after : (b c count : ℕ) (bytes : List ℕ) (end : ℕ) (slash : Bool) → eqb b 92 ≡ slash → b ≢ 10 → b ≢ 34 → quoted_end slash (count + 1) (c ∷ bytes) ≡ Some end → (quoted_end false (count + 1) (c ∷ bytes) ≡ Some end → IsQuoted (count + 1) (c ∷ bytes) end) → (quoted_end false (count + 1 + 1) bytes ≡ Some end → IsQuoted (count + 1 + 1) bytes end) → IsQuoted count (b ∷ c ∷ bytes) end
+quoted_after b c count bytes end false slash no_line no_quote h one two =
     with_byte b count (c ∷ bytes) end (no_quote, eqb-false _ _ slash, no_line) (one h)
-quoted_behind b c count bytes end true slash no_line no_quote h one two =
+quoted_after b c count bytes end true slash no_line no_quote h one two =
     elim (chosen (eqb c 10) _ _ _ h) [
       | inl line ↦ absurd (none_is_some _ line.1)
       | inr other ↦ with_pair b c count bytes end (eqb-true _ _ slash, eqb-false _ _ other.0) (two other.1)
@@ -85,6 +85,6 @@ quoted_read count (b ∷ c ∷ bytes) end h =
       | inr other ↦
           elim (chosen (eqb b 34) _ _ _ other.1) [
             | inl quote ↦ at_quote b count (c ∷ bytes) end (eqb-true _ _ quote.0) quote.1
-            | inr plain ↦ quoted_behind b c count bytes end (eqb b 92) refl (eqb-false _ _ other.0) (eqb-false _ _ plain.0) plain.1 (λ e. quoted_read (count + 1) (c ∷ bytes) end e) (λ e. quoted_read (count + 1 + 1) bytes end e)
+            | inr plain ↦ quoted_after b c count bytes end (eqb b 92) refl (eqb-false _ _ other.0) (eqb-false _ _ plain.0) plain.1 (λ e. quoted_read (count + 1) (c ∷ bytes) end e) (λ e. quoted_read (count + 1 + 1) bytes end e)
           ]
     ]

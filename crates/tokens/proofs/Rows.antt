@@ -18,7 +18,7 @@ use Rattle.tokens.proofs.Runs.{same_front, none_is_some}
 use Rattle.tokens.proofs.SignFacts.{BeginsSign, sign_byte}
 use Rattle.tokens.proofs.NumberFacts.{BeginsDigit, number_first}
 use Rattle.tokens.proofs.PieceFacts.{class_of, found_of, stands_found}
-use Rattle.tokens.proofs.FoundFacts.{found_stands}
+use Rattle.tokens.proofs.FoundFacts.{found_piece}
 
 -- each piece has a byte
 digit_long : (text : List ℕ) → BeginsDigit text → 1 ≤ length text
@@ -111,14 +111,14 @@ spelled_once file bytes ts us left right =
     left.in_order ∙ ap (tokens_of file 0 false) same.row ∙ sym right.in_order
 
 -- bytes with a bad token are spelled by no list
-pub bad_unspelled : (file place : ℕ) (bytes : List ℕ) → IsBadAt place bytes → IsUnspelled file bytes
-bad_unspelled file place bytes bad ts spelled =
+pub bad_unspelled : (file offset : ℕ) (bytes : List ℕ) → IsBadAt offset bytes → IsUnspelled file bytes
+bad_unspelled file offset bytes bad ts spelled =
     let same = one_row spelled.pieces bad.pieces bytes [] bad.rest spelled.laid bad.laid end_blocked bad.stuck.blocked in
     bad.stuck.left (sym same.rest)
 
 -- there is at most one bad token
-pub bad_once : (place other : ℕ) (bytes : List ℕ) → IsBadAt place bytes → IsBadAt other bytes → place ≡ other
-bad_once place other bytes left right =
+pub bad_once : (offset other : ℕ) (bytes : List ℕ) → IsBadAt offset bytes → IsBadAt other bytes → offset ≡ other
+bad_once offset other bytes left right =
     let same = one_row left.pieces right.pieces bytes left.rest right.rest left.laid right.laid left.stuck.blocked right.stuck.blocked in
     omega (arith, left.placed, right.placed, ap length same.rest)
 
@@ -154,7 +154,7 @@ pub record IsNext (bytes : List ℕ) (at : ℕ) (f : Found) : Type 0 where
 
 pub next_is : (bytes : List ℕ) (at : ℕ) (f : Found) → found_at (drop at bytes) ≡ Some f → IsNext bytes at f
 next_is bytes at f h =
-    let is = found_stands (drop at bytes) f h in
+    let is = found_piece (drop at bytes) f h in
     let long : f.length ≡ length (piece_text is.piece) = ap (λ (g : Found). g.length) is.found in
     let text : take f.length (drop at bytes) ≡ piece_text is.piece = ap (take f.length) is.split ∙ take_at (piece_text is.piece) is.after f.length (sym long) in
     let after : drop (at + f.length) bytes ≡ is.after = sym (drop-drop f.length at bytes) ∙ ap (drop f.length) is.split ∙ drop_at (piece_text is.piece) is.after f.length (sym long) in
@@ -275,7 +275,7 @@ laid_within (p ∷ ps) bytes rest laid =
 row_from : (steps : ℕ) (bytes : List ℕ) → length bytes ≤ suc steps → (o : Option Found) → found_at bytes ≡ o → ((shorter : List ℕ) → length shorter ≤ steps → (ps : List Piece) × (rest : List ℕ) × AreLaid ps shorter rest × IsBlocked rest) → (ps : List Piece) × (rest : List ℕ) × AreLaid ps bytes rest × IsBlocked rest
 row_from steps bytes few None h more = ([], bytes, refl, none_blocked bytes h)
 row_from steps bytes few (Some f) h more =
-    let is = found_stands bytes f h in
+    let is = found_piece bytes f h in
     let long = piece_long is.piece is.after is.stands in
     let row = more is.after (omega (arith, ap length is.split, length-append (piece_text is.piece) is.after)) in
     (is.piece ∷ row.0, row.1, (is.after, is.split, is.stands, row.2), row.3)
@@ -286,7 +286,7 @@ some_row zero [] few = ([], [], refl, end_blocked)
 some_row zero (b ∷ bytes) few = absurd (omega arith)
 some_row (suc steps) bytes few = row_from steps bytes few (found_at bytes) refl (some_row steps)
 
-row_says : (file : ℕ) (bytes : List ℕ) (ps : List Piece) (rest : List ℕ) → AreLaid ps bytes rest → IsBlocked rest → ((ts : List Token) × Spells file ts bytes) ⊎ ((place : ℕ) × IsBadAt place bytes)
+row_says : (file : ℕ) (bytes : List ℕ) (ps : List Piece) (rest : List ℕ) → AreLaid ps bytes rest → IsBlocked rest → ((ts : List Token) × Spells file ts bytes) ⊎ ((offset : ℕ) × IsBadAt offset bytes)
 row_says file bytes ps [] laid blocked = inl (tokens_of file 0 false ps, record { pieces = ps; laid = laid; in_order = refl })
 row_says file bytes ps (b ∷ rest) laid blocked =
     let within = laid_within ps bytes (b ∷ rest) laid in
@@ -301,7 +301,7 @@ row_says file bytes ps (b ∷ rest) laid blocked =
       },
     )
 
-pub spelled_or_bad : (file : ℕ) (bytes : List ℕ) → ((ts : List Token) × Spells file ts bytes) ⊎ ((place : ℕ) × IsBadAt place bytes)
+pub spelled_or_bad : (file : ℕ) (bytes : List ℕ) → ((ts : List Token) × Spells file ts bytes) ⊎ ((offset : ℕ) × IsBadAt offset bytes)
 spelled_or_bad file bytes =
     let row = some_row (length bytes) bytes (omega arith) in
     row_says file bytes row.0 row.1 row.2 row.3

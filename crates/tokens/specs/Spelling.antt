@@ -69,12 +69,12 @@ pub record IsStuck (rest : List ℕ) : Type 0 where
   pub blocked : (p : Piece) (after : List ℕ) → rest ≡ piece_text p ++ after → Stands p after → ⊥
 
 -- after whole pieces, no piece begins at this byte: an impossible token, or an unclosed block comment
-pub record IsBadAt (place : ℕ) (bytes : List ℕ) : Type 0 where
+pub record IsBadAt (offset : ℕ) (bytes : List ℕ) : Type 0 where
   pub pieces : List Piece
   pub rest : List ℕ
   pub laid : AreLaid pieces bytes rest
   pub stuck : IsStuck rest
-  pub placed : place + length rest ≡ length bytes
+  pub placed : offset + length rest ≡ length bytes
 
 -- no tokens spell the bytes
 abbrev pub IsUnspelled : ℕ → List ℕ → Type 0
@@ -86,4 +86,4 @@ Gives answer wanted = (answer ≡ wanted) ⊎ (answer ≡ Err NoMemory)
 
 -- the answer is some bad token, or there is not enough memory
 abbrev pub GivesBadToken : Result (List Token) TokenFault → Type 0
-GivesBadToken answer = ((place : ℕ) × (answer ≡ Err (BadToken place))) ⊎ (answer ≡ Err NoMemory)
+GivesBadToken answer = ((offset : ℕ) × (answer ≡ Err (BadToken offset))) ⊎ (answer ≡ Err NoMemory)

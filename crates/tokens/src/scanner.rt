@@ -59,8 +59,8 @@ pub fn tokens(alloc: Global, file: u32, bytes: &[u8]) -> Result<Tokens, TokenFau
 
     // What each answer means.
     ensures ok { IfOk result (λ found. Spells file found bytes.now × (length found ≤ TOKEN_LIMIT)) }
-    ensures bad_token { (place : ℕ) → result ≡ Err (TokenFault.BadToken place)
-        → IsBadAt place bytes.now × IsUnspelled file bytes.now }
+    ensures bad_token { (offset : ℕ) → result ≡ Err (TokenFault.BadToken offset)
+        → IsBadAt offset bytes.now × IsUnspelled file bytes.now }
     ensures too_many { (count : ℕ) → result ≡ Err (TokenFault.TooMany count)
         → (found : List Token) × Spells file found bytes.now × (length found ≡ count) × (TOKEN_LIMIT < count) }
 
@@ -69,8 +69,8 @@ pub fn tokens(alloc: Global, file: u32, bytes: &[u8]) -> Result<Tokens, TokenFau
         → Gives result (Ok found) }
     ensures spelled_long { (found : List Token) → Spells file found bytes.now → TOKEN_LIMIT < length found
         → Gives result (Err (TokenFault.TooMany (length found))) }
-    ensures bad_place { (place : ℕ) → IsBadAt place bytes.now
-        → Gives result (Err (TokenFault.BadToken place)) }
+    ensures bad_offset { (offset : ℕ) → IsBadAt offset bytes.now
+        → Gives result (Err (TokenFault.BadToken offset)) }
     ensures unspelled { IsUnspelled file bytes.now → GivesBadToken result }
 {
     let mut found = Tokens::new(alloc);
@@ -118,8 +118,8 @@ pub fn one_spelling()
 /// A law: either tokens spell the bytes or the bytes contain a bad token, and never both.
 pub fn spelled_or_bad()
     ensures either { (file : ℕ) (bytes : List ℕ)
-        → ((tokens : List Token) × Spells file tokens bytes) ⊎ ((place : ℕ) × IsBadAt place bytes) }
-    ensures apart { (file place : ℕ) (bytes : List ℕ) → IsBadAt place bytes → IsUnspelled file bytes }
-    ensures one_place { (one other : ℕ) (bytes : List ℕ)
+        → ((tokens : List Token) × Spells file tokens bytes) ⊎ ((offset : ℕ) × IsBadAt offset bytes) }
+    ensures apart { (file offset : ℕ) (bytes : List ℕ) → IsBadAt offset bytes → IsUnspelled file bytes }
+    ensures one_offset { (one other : ℕ) (bytes : List ℕ)
         → IsBadAt one bytes → IsBadAt other bytes → one ≡ other }
 {}

@@ -164,7 +164,7 @@ pub enum TokenFault {
 impl fmt::Display for TokenFault {
     fn fmt<W: fmt::Write>(&self, f: &mut fmt::Formatter<W>) -> fmt::Result {
         match self {
-            TokenFault::BadToken(place) => write!(f, "bad token at byte {place}"),
+            TokenFault::BadToken(offset) => write!(f, "bad token at byte {offset}"),
             TokenFault::TooMany(count) => write!(f, "{count} tokens are too many"),
             TokenFault::NoMemory => write!(f, "no memory"),
         }

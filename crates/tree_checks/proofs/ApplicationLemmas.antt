@@ -21,14 +21,14 @@ use Rattle.tree_checks.proofs.FamilyLemmas.{never}
 pub no_range_entry : (ns : List Node) (d : BranchData) (i : ℕ) → slice_get d.entries i ≡ None → IsTrue false ↔ IsRangeEntry (branch_in ns d) i
 no_range_entry ns d i none = never (λ h. (let it = stored ns d.entries i h.says.entry h.says.found in let both : Some it.entry ≡ None = sym it.found ∙ none in absurd (cc)))
 
-pub range_told : (ns : List Node) (d : BranchData) (i : ℕ) (e : PoolEntry) → slice_get d.entries i ≡ Some e → (told : Bool) → IsTrue told ↔ IsRange (formula_at ns e.formula) → IsTrue told ↔ IsRangeEntry (branch_in ns d) i
-range_told ns d i e found told h = (
+pub range_known : (ns : List Node) (d : BranchData) (i : ℕ) (e : PoolEntry) → slice_get d.entries i ≡ Some e → (known : Bool) → IsTrue known ↔ IsRange (formula_at ns e.formula) → IsTrue known ↔ IsRangeEntry (branch_in ns d) i
+range_known ns d i e found known h = (
   λ yes. record { formula = formula_at ns e.formula; says = entry_says ns d i e found; is_range = h.0 yes },
   λ range. h.1 (subst IsRange (said_is ns d i e range.formula found range.says) range.is_range),
 )
 
-pub range_back : (ns ms : List Node) (grown : Extends ns ms) (d : BranchData) (over : IsOver ns d) (i : ℕ) (told : Bool) → IsTrue told ↔ IsRangeEntry (branch_in ms d) i → IsTrue told ↔ IsRangeEntry (branch_in ns d) i
-range_back ns ms grown d over i told h = subst (λ b. IsTrue told ↔ IsRangeEntry b i) (still_says ns ms grown d over) h
+pub range_back : (ns ms : List Node) (grown : Extends ns ms) (d : BranchData) (over : IsOver ns d) (i : ℕ) (known : Bool) → IsTrue known ↔ IsRangeEntry (branch_in ms d) i → IsTrue known ↔ IsRangeEntry (branch_in ns d) i
+range_back ns ms grown d over i known h = subst (λ b. IsTrue known ↔ IsRangeEntry b i) (still_says ns ms grown d over) h
 
 -- ---- case splits
 
@@ -46,11 +46,11 @@ module _ (shapes : List Shape) (b : Branch) (i : ℕ) (ps : List FormulaData) wh
   time_is none (OfRange p says range) = record { formula = p; says = says; is_range = range }
   time_is none (Late late) = absurd (none late)
 
-  pub range_split : SplitDue b i ps → (IsLate shapes b → ⊥) → (told : Bool) → IsTrue told ↔ IsRangeEntry b i → IsTrue told ↔ IsDueApplication shapes b (SplitApplication i ps)
-  range_split due none told h = (λ yes. of_entry due (h.0 yes), λ application. h.1 (time_is none application.1))
+  pub range_split : SplitDue b i ps → (IsLate shapes b → ⊥) → (known : Bool) → IsTrue known ↔ IsRangeEntry b i → IsTrue known ↔ IsDueApplication shapes b (SplitApplication i ps)
+  range_split due none known h = (λ yes. of_entry due (h.0 yes), λ application. h.1 (time_is none application.1))
 
-  pub range_shows : SplitDue b i ps → (told : Bool) → IsTrue told ↔ IsRangeEntry b i → IsTrue told → IsDueApplication shapes b (SplitApplication i ps)
-  range_shows due told h so = of_entry due (h.0 so)
+  pub range_shows : SplitDue b i ps → (known : Bool) → IsTrue known ↔ IsRangeEntry b i → IsTrue known → IsDueApplication shapes b (SplitApplication i ps)
+  range_shows due known h so = of_entry due (h.0 so)
 
 pub not_late : {late : Bool} {P : Type 0} → late ≡ false → IsTrue late ↔ P → P → ⊥
 not_late e h p = (let yes = h.1 p in absurd (cc))
@@ -64,5 +64,5 @@ module _ (shapes : List Shape) (b : Branch) (t u : TermData) (g : ℕ) where
   pub other_generation : (AreGenerations b (t ∷ u ∷ []) g → ⊥) → IsTrue false ↔ IsDueApplication shapes b (CutApplication t u g)
   other_generation none = never (λ application. none application.1)
 
-  pub cut_tells : IsLate shapes b → AreGenerations b (t ∷ u ∷ []) g → (told : Bool) → IsTrue told ↔ CutDue b t u → IsTrue told ↔ IsDueApplication shapes b (CutApplication t u g)
-  cut_tells late generations told h = (λ yes. (h.0 yes, generations, late), λ application. h.1 application.0)
+  pub cut_tells : IsLate shapes b → AreGenerations b (t ∷ u ∷ []) g → (known : Bool) → IsTrue known ↔ CutDue b t u → IsTrue known ↔ IsDueApplication shapes b (CutApplication t u g)
+  cut_tells late generations known h = (λ yes. (h.0 yes, generations, late), λ application. h.1 application.0)

@@ -62,17 +62,17 @@ module _ (b : Branch) (f g : TermData → ℕ) (agree : Agree b f g) where
 
 -- ---- the first value, by a representative or by a term
 
-parts_at : (values : List Fraction) (place : ℕ) (v : Fraction) → slice_get values place ≡ Some v → values ≡ take place values ++ v ∷ drop (suc place) values
-parts_at values place v found =
-    split_at values place v (slice_get_within values place v found) ∙ ap (λ x. take place values ++ x ∷ drop (suc place) values) (get_or_from_slice_get values place v v found)
+parts_at : (values : List Fraction) (position : ℕ) (v : Fraction) → slice_get values position ≡ Some v → values ≡ take position values ++ v ∷ drop (suc position) values
+parts_at values position v found =
+    split_at values position v (slice_get_within values position v found) ∙ ap (λ x. take position values ++ x ∷ drop (suc position) values) (get_or_from_slice_get values position v v found)
 
 module _ (b : Branch) (class : TermData → ℕ) (classes : List ℕ) (t : TermData) (k : ℤ) (values : List Fraction) where
   between_of_term : (name : Option ℕ) (h : IsFirstNamed b class classes name k values) → slice_get classes h.value.unknown ≡ Some (class t) → IsFirstBetween b class classes t k values
   between_of_term name h e = record {
-    before = take h.place values;
+    before = take h.position values;
     value = h.value;
-    after = drop (suc h.place) values;
-    parts = parts_at values h.place h.value h.found;
+    after = drop (suc h.position) values;
+    parts = parts_at values h.position h.value h.found;
     whole_before = h.whole_before;
     of_term = e;
     between = h.triggered.between;
@@ -84,7 +84,7 @@ module _ (b : Branch) (class : TermData → ℕ) (classes : List ℕ) (t : TermD
       let long = length-append h.before (h.value ∷ h.after) in
       let found : slice_get whole (length h.before) ≡ Some h.value = slice_get-get_or whole (length h.before) h.value (omega (arith, long)) ∙ ap Some (get_or-append_seam h.before h.value h.after h.value) in
       record {
-        place = length h.before;
+        position = length h.before;
         value = h.value;
         found = subst (λ vs. slice_get vs (length h.before) ≡ Some h.value) (sym h.parts) found;
         triggered = record { of_name = is; between = h.between };
@@ -93,7 +93,7 @@ module _ (b : Branch) (class : TermData → ℕ) (classes : List ℕ) (t : TermD
 
 -- over classes that agree
 named_so : (b : Branch) (f g : TermData → ℕ) → Agree b f g → (classes : List ℕ) (name : Option ℕ) (k : ℤ) (values : List Fraction) → IsFirstNamed b g classes name k values → IsFirstNamed b f classes name k values
-named_so b f g agree classes name k values h = record { place = h.place; value = h.value; found = h.found; triggered = h.triggered; whole_before = whole_so b f g agree classes (take h.place values) h.whole_before }
+named_so b f g agree classes name k values h = record { position = h.position; value = h.value; found = h.found; triggered = h.triggered; whole_before = whole_so b f g agree classes (take h.position values) h.whole_before }
 
 -- ---- the use of the values
 
@@ -165,8 +165,8 @@ module _ (ns : List Node) (one : IsOneNumber ns) (d : BranchData) (over : IsOver
       (between_of_term b class classes t k v.values None (named_so b class are.class agree classes None k v.values h) (is.is ∙ ap Some (sym (name_is are.class t is.name)))) chosen solution
   triggered_by (Some name) m h chosen solution = triggered_in are.class (record { same = λ u x. refl }) (between_of_term b are.class classes t k v.values (Some name) h (h.triggered.of_name ∙ ap Some (name_of_term name m))) chosen solution
 
-  pub asks_exactly : (name : Option ℕ) → MatchOption name (IsNoTerm b t) (IsNameOf b t made.names.items number) → IsFirstNamed b are.class classes name k v.values → IsSolution rows v.values → (told : Bool) → IsTrue told ↔ AreChosenFor (length classes) rows given v.values → IsTrue told ↔ AskForBound ns b t k v given
-  asks_exactly name m first solution told h = (λ yes. triggered_by name m first (h.0 yes) solution, λ asks. h.1 (asks_chosen asks))
+  pub asks_exactly : (name : Option ℕ) → MatchOption name (IsNoTerm b t) (IsNameOf b t made.names.items number) → IsFirstNamed b are.class classes name k v.values → IsSolution rows v.values → (known : Bool) → IsTrue known ↔ AreChosenFor (length classes) rows given v.values → IsTrue known ↔ AskForBound ns b t k v given
+  asks_exactly name m first solution known h = (λ yes. triggered_by name m first (h.0 yes) solution, λ asks. h.1 (asks_chosen asks))
 
 -- ---- the bound itself
 
@@ -174,6 +174,6 @@ module _ (shapes : List Shape) (ns : List Node) (b : Branch) (t : TermData) (k :
   pub bound_asks : IsBoundBy shapes ns b t k v given → AskForBound ns b t k v given
   bound_asks h = record { class = h.class; named = h.named; rows = h.rows; are_rows = h.are_rows; chosen = h.chosen; solution = h.solution; first = h.first }
 
-  pub bound_exactly : above_all (formulas b) < 2 ^ 32 → AskForBound ns b t k v given → (told : Bool) → IsTrue told ↔ IsSaturated shapes b → IsTrue told ↔ IsBoundBy shapes ns b t k v given
-  bound_exactly room h told saturated =
+  pub bound_exactly : above_all (formulas b) < 2 ^ 32 → AskForBound ns b t k v given → (known : Bool) → IsTrue known ↔ IsSaturated shapes b → IsTrue known ↔ IsBoundBy shapes ns b t k v given
+  bound_exactly room h known saturated =
       (λ yes. record { room = room; saturated = saturated.0 yes; class = h.class; named = h.named; rows = h.rows; are_rows = h.are_rows; chosen = h.chosen; solution = h.solution; first = h.first }, λ bound. saturated.1 bound.saturated)

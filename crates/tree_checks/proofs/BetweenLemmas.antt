@@ -35,8 +35,8 @@ one_between k n v positive h g =
     let second = less_of_products n (k +ℤ pos 1) v.denominator positive (omega (arith, ints, low, high)) in
     omega (arith, ints, first, second)
 
-pub between_told : (k n : ℤ) (v : Fraction) (told : Bool) → pos 0 <ℤ v.denominator → IsBetween k v → IsTrue told ↔ (k ≡ n) → IsTrue told ↔ IsBetween n v
-between_told k n v told positive h same = (λ t. subst (λ z. IsBetween z v) (same.0 t) h, λ g. same.1 (one_between k n v positive h g))
+pub between_known : (k n : ℤ) (v : Fraction) (known : Bool) → pos 0 <ℤ v.denominator → IsBetween k v → IsTrue known ↔ (k ≡ n) → IsTrue known ↔ IsBetween n v
+between_known k n v known positive h same = (λ t. subst (λ z. IsBetween z v) (same.0 t) h, λ g. same.1 (one_between k n v positive h g))
 
 -- numbers of 128 bits are equal if their bits are
 pub same_bits : (x y : ℤ) → FitsSigned w128 x → FitsSigned w128 y → IsTrue (nat_eq (of_z w128 x) (of_z w128 y)) ↔ (x ≡ y)

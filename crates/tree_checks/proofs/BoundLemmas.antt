@@ -49,8 +49,8 @@ module _ (ns : List Node) (t : TermData) (k : ℤ) (below above : ℕ) where
         let high = second_is ns xs (below, above) is (LeFormula t (NumTerm k)) (LeFormula (NumTerm (k +ℤ pos 1)) t) h.0 in
         none (record { is_below = low; is_above = high; shallow = subst IsShallow (sym low) h.1.shallow; shallow_next = subst IsShallow (sym high) h.1.shallow_next })
 
-    pub said_tells : AreBoundsOf ns t k below above → (told : Bool) → IsTrue told ↔ Says b i (IsFormula NumType t) → IsTrue told ↔ AreDue
-    said_tells bounds told h = weaker told
+    pub said_tells : AreBoundsOf ns t k below above → (known : Bool) → IsTrue known ↔ Says b i (IsFormula NumType t) → IsTrue known ↔ AreDue
+    said_tells bounds known h = weaker known
         (λ says. (two_are ns xs (below, above) is (LeFormula t (NumTerm k)) (LeFormula (NumTerm (k +ℤ pos 1)) t) bounds.is_below bounds.is_above, record { says = says; shallow = subst IsShallow bounds.is_below bounds.shallow; shallow_next = subst IsShallow bounds.is_above bounds.shallow_next }))
         (λ due. due.1.says) h
 
@@ -64,8 +64,8 @@ module _ (ns ms : List Node) (grown : Extends ns ms) (d : BranchData) (over : Is
       absurd (cc)))
 
   module _ (e : PoolEntry) (found : slice_get d.entries i ≡ Some e) where
-    pub entry_tells : IsOneNumber ms → (p : FormulaData) (n : ℕ) → IsNumberOf ms p n → (told : Bool) → IsTrue told ↔ (e.formula ≡ n) → IsTrue told ↔ Says (branch_in ns d) i p
-    entry_tells one p n number told h =
+    pub entry_tells : IsOneNumber ms → (p : FormulaData) (n : ℕ) → IsNumberOf ms p n → (known : Bool) → IsTrue known ↔ (e.formula ≡ n) → IsTrue known ↔ Says (branch_in ns d) i p
+    entry_tells one p n number known h =
         let here : formula_at ms e.formula ≡ formula_at ns e.formula = formula_stays ns ms grown e.formula (over.formulas i e found) in (
           λ t. (
               let is : formula_at ns e.formula ≡ p = sym here ∙ ap (formula_at ms) (h.0 t) ∙ number.is in

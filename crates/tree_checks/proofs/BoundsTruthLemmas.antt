@@ -8,8 +8,8 @@ pub never : {P : Type 0} → (P → ⊥) → IsTrue false ↔ P
 never f = (λ t. absurd (cc), λ p. absurd (f p))
 
 -- a check that is false and exact refutes its claim
-pub not_told : {P : Type 0} (r : Bool) → r ≡ false → IsTrue r ↔ P → P → ⊥
-not_told r e h p = (let yes = h.1 p in absurd (cc))
+pub refuted : {P : Type 0} (r : Bool) → r ≡ false → IsTrue r ↔ P → P → ⊥
+refuted r e h p = (let yes = h.1 p in absurd (cc))
 
 -- nothing is found exactly if it holds
 pub none_found : {X : Type 0} (P : Type 0) (R : X → Type 0) → ((x : X) → R x → P → ⊥) → (o : Option X) (r : Bool) → MatchOption o P R → is_some o ≡ not r → IsTrue r ↔ P

@@ -107,16 +107,16 @@ module _ (shapes : List Shape) (ns : List Node) (start : Branch) (ss : List Grow
     same : (w : LeadsToOpen shapes ns start ss v) → w.branch ≡ b
     same w = leads_to_one ns shapes start w.branch b ss w.leads leads
 
-    pub none_left : (told : Bool) → told ≡ false → IsTrue told ↔ HasNumberLeft b → IsTrue false ↔ LeadsToOpen shapes ns start ss v
-    none_left told e h = never (λ w. (let yes = h.1 (subst HasNumberLeft (same w) w.room) in absurd (cc)))
+    pub none_left : (known : Bool) → known ≡ false → IsTrue known ↔ HasNumberLeft b → IsTrue false ↔ LeadsToOpen shapes ns start ss v
+    none_left known e h = never (λ w. (let yes = h.1 (subst HasNumberLeft (same w) w.room) in absurd (cc)))
 
 -- where the steps start with the formula with this number
 module _ (shapes : List Shape) (ns ms : List Node) (grown : Extends ns ms) (one : IsOneNumber ms) (n : ℕ) (number : IsFormulaNumber ns n) (ss : List GrownStep) (v : OpenValues) (d : BranchData) (over : IsOver ms d) (leads : LeadsTo shapes ns (first_branch ns n) ss (branch_in ms d)) where
   terms : HaveNumbersIn ns ms (branch_in ms d)
   terms = terms_of_entries ns ms grown one d over (entries_in ns ms grown one d over (leads_has ns shapes (first_branch ns n) (branch_in ms d) ss leads (first_has ns n number)))
 
-  pub open_exactly : HasNumberLeft (branch_in ms d) → (told : Bool) → IsTrue told ↔ (IsSaturated shapes (branch_in ms d) × IsValued ms (branch_in ms d) v) → IsTrue told ↔ LeadsToOpen shapes ns (first_branch ns n) ss v
-  open_exactly room told h = (
+  pub open_exactly : HasNumberLeft (branch_in ms d) → (known : Bool) → IsTrue known ↔ (IsSaturated shapes (branch_in ms d) × IsValued ms (branch_in ms d) v) → IsTrue known ↔ LeadsToOpen shapes ns (first_branch ns n) ss v
+  open_exactly room known h = (
     λ t. (let w = h.0 t in record { branch = branch_in ms d; leads = leads; room = room; saturated = w.0; valued = same_valued_before ns ms grown (branch_in ms d) terms v w.1 }),
     λ w. (
         let is = same shapes ns (first_branch ns n) ss v (branch_in ms d) leads w in

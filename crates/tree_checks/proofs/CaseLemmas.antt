@@ -136,6 +136,6 @@ module _ (shapes : List Shape) (ns : List Node) (es : List PoolEntry) (s : Grown
       subst (IsTaken shapes ns (branch_of ns es) s) (sym same) (taken_so growing fs h)
 
   -- where the branch continues, and where it does not
-  pub taken_or_not : (ms : List Node) → Extends ns ms → AreFormulas ns s.extension.formulas.items → ((i : ℕ) (e : PoolEntry) → slice_get es i ≡ Some e → IsFormulaNumber ns e.formula) → IsGrowing shapes ns (branch_of ns es) s.extension → (fs : List PoolEntry) (told : Bool) → MatchBool told (IsGoneOn cases s.case es fs) (IsAtEnd cases s.case es) → MatchBool told (IsTaken shapes ns (branch_of ns es) s (branch_of ms fs)) (IsNotTaken shapes ns (branch_of ns es) s)
+  pub taken_or_not : (ms : List Node) → Extends ns ms → AreFormulas ns s.extension.formulas.items → ((i : ℕ) (e : PoolEntry) → slice_get es i ≡ Some e → IsFormulaNumber ns e.formula) → IsGrowing shapes ns (branch_of ns es) s.extension → (fs : List PoolEntry) (known : Bool) → MatchBool known (IsGoneOn cases s.case es fs) (IsAtEnd cases s.case es) → MatchBool known (IsTaken shapes ns (branch_of ns es) s (branch_of ms fs)) (IsNotTaken shapes ns (branch_of ns es) s)
   taken_or_not ms grown formulas numbered growing fs true h = taken_then ms grown formulas numbered growing fs h
   taken_or_not ms grown formulas numbered growing fs false h = at_end h

@@ -174,8 +174,8 @@ module _ (most : ℕ) (given : GivenElimination) (values : List Fraction) where
   same_width (row ∷ rows) [] alike h = absurd alike
   same_width (row ∷ rows) (other ∷ others) alike h = sym (width_found other others given values h) ∙ sym (width_padded width row rows)
 
-  pub chosen_exactly : (rows made : List Inequality) → width ≤ most → ArePadded width rows made → (told : Bool) → IsTrue told ↔ AreGivenValues made given values → IsTrue told ↔ AreChosenFor most rows given values
-  chosen_exactly rows made l are told h = (yes, back)
+  pub chosen_exactly : (rows made : List Inequality) → width ≤ most → ArePadded width rows made → (known : Bool) → IsTrue known ↔ AreGivenValues made given values → IsTrue known ↔ AreChosenFor most rows given values
+  chosen_exactly rows made l are known h = (yes, back)
     where
       alike : AllZip HaveSameNumbers rows made
       alike = subst (λ rs. AllZip HaveSameNumbers rows rs) (sym are.are) (alike_all_padded width rows are.within)
@@ -183,10 +183,10 @@ module _ (most : ℕ) (given : GivenElimination) (values : List Fraction) where
       few : IsWithinWidth most made
       few = subst (λ rs. IsWithinWidth most rs) (sym are.are) (λ k d w. let b = each_padded width rows k d w in omega (arith, b, l))
 
-      yes : IsTrue told → AreChosenFor most rows given values
+      yes : IsTrue known → AreChosenFor most rows given values
       yes t = record { others = made; alike = alike; few = few; chosen = h.0 t }
 
-      back : AreChosenFor most rows given values → IsTrue told
+      back : AreChosenFor most rows given values → IsTrue known
       back c = h.1 (carried c.others made given values (same_width rows c.others c.alike c.chosen ∙ ap width_of (sym are.are)) (alike_joined c.others rows made (alike_turned rows c.others c.alike) alike) c.chosen)
 
 -- ---- rows padded one after another

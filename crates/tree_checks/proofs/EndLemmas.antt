@@ -26,8 +26,8 @@ module _ (shapes : List Shape) (ns : List Node) (w : Walk) (given : GivenChain) 
   abbrev Closes : Branch → Type 0
   Closes b = ClosesBranch shapes b (map (step_in ns) given.closing.chain.items) (close_of_node given.closing.by)
 
-  pub ends_told : w.is_open ≡ true → given.links ≤ length given.closing.chain.items → (told : Bool) → IsTrue told ↔ Closes (branch_of ns w.branch.entries) → IsTrue told ↔ EndsAmong shapes ns (opened ns w) given
-  ends_told is_open within told h =
+  pub ends_known : w.is_open ≡ true → given.links ≤ length given.closing.chain.items → (known : Bool) → IsTrue known ↔ Closes (branch_of ns w.branch.entries) → IsTrue known ↔ EndsAmong shapes ns (opened ns w) given
+  ends_known is_open within known h =
       let first = first_open shapes ns w is_open in (
         λ t. record { b = branch_of ns w.branch.entries; rest = waiting_in ns w.branch.entries (waiting_of w); is = first; closes = h.0 t; within = within },
         λ among. (
@@ -37,8 +37,8 @@ module _ (shapes : List Shape) (ns : List Node) (w : Walk) (given : GivenChain) 
       )
 
 module _ (shapes : List Shape) (ns : List Node) (bs : OpenBranches) (left : ℕ) where
-  pub plain_end : (told : Bool) → IsTrue told ↔ (left ≡ 0) → IsTrue told ↔ ArePartial shapes ns bs [] None left
-  plain_end told h = (
+  pub plain_end : (known : Bool) → IsTrue known ↔ (left ≡ 0) → IsTrue known ↔ ArePartial shapes ns bs [] None left
+  plain_end known h = (
     λ t. record { left = bs; taken = refl; ends = tt; steps = (let e = h.0 t in omega (arith, e)) },
     λ p. h.1 (let s = p.steps in omega (arith, s)),
   )
@@ -47,8 +47,8 @@ module _ (shapes : List Shape) (ns : List Node) (bs : OpenBranches) (left : ℕ)
     pub other_links : given.links ≢ left → IsTrue false ↔ ArePartial shapes ns bs [] (Some given) left
     other_links other = never (λ h. other (let s = h.steps in omega (arith, s)))
 
-    pub chain_end : given.links ≡ left → (told : Bool) → IsTrue told ↔ EndsAmong shapes ns bs given → IsTrue told ↔ ArePartial shapes ns bs [] (Some given) left
-    chain_end same told h = (
+    pub chain_end : given.links ≡ left → (known : Bool) → IsTrue known ↔ EndsAmong shapes ns bs given → IsTrue known ↔ ArePartial shapes ns bs [] (Some given) left
+    chain_end same known h = (
       λ t. record { left = bs; taken = refl; ends = h.0 t; steps = (omega (arith, same)) },
       λ p. h.1 (subst (λ (os : OpenBranches). EndsAmong shapes ns os given) (sym p.taken) p.ends),
     )

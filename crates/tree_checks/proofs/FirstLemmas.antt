@@ -27,14 +27,14 @@ module _ (P : Fraction → Type 0) (values : List Fraction) where
 
 -- ---- values before it
 
-taken : (Q : Fraction → Type 0) (values : List Fraction) (place more : ℕ) → place ≤ more → All Q (take more values) → All Q (take place values)
-taken Q values place more l h = λ k d w. (
-    let short = length-take place values in
+taken : (Q : Fraction → Type 0) (values : List Fraction) (position more : ℕ) → position ≤ more → All Q (take more values) → All Q (take position values)
+taken Q values position more l h = λ k d w. (
+    let short = length-take position values in
     let long = length-take more values in
-    let a : k < place = omega (arith, w, short) in
+    let a : k < position = omega (arith, w, short) in
     let b : k < more = omega (arith, a, l) in
     let c : k < length (take more values) = omega (arith, w, short, long, l) in
-    subst Q (get_or-take more values k d b ∙ sym (get_or-take place values k d a)) (h k d c))
+    subst Q (get_or-take more values k d b ∙ sym (get_or-take position values k d a)) (h k d c))
 
 -- a bound is required only if a value of a number is not whole
 bound_not_whole : (ns : List Node) (b : Branch) (class : TermData → ℕ) (classes : List ℕ) (values : List Fraction) → ArePositive values → (bound : Bound) → IsBound ns b class classes values bound → All (IsWholeIfNumber b class classes) values → ⊥
@@ -43,19 +43,19 @@ bound_not_whole ns b class classes values positive bound h whole =
     let one = All-contains (IsWholeIfNumber b class classes) values h.value whole among in
     let above = All-contains (λ (v : Fraction). pos 0 <ℤ v.denominator) values h.value positive among in
     not_whole bound.below h.value above h.between
-    (one.whole (class (term_at ns bound.term)) h.of_term (record { term = term_at ns bound.term; of_class = refl; stands = record { place = bound.entry; says = h.says } }))
+    (one.whole (class (term_at ns bound.term)) h.of_term (record { term = term_at ns bound.term; of_class = refl; stands = record { position = bound.entry; says = h.says } }))
 
 module _ (b : Branch) (class : TermData → ℕ) (classes : List ℕ) (name : Option ℕ) (k : ℤ) (values : List Fraction) where
   pub none_named : HasNoneWith (IsTriggered classes name k) values → IsFirstNamed b class classes name k values → ⊥
-  none_named none h = none.none h.place h.value h.found h.triggered
+  none_named none h = none.none h.position h.value h.found h.triggered
 
-  whole_to : (place : ℕ) → IsFirstWith (IsTriggered classes name k) values place → IsFirstNamed b class classes name k values → All (IsWholeIfNumber b class classes) (take place values)
-  whole_to place first h = elim (cases_lt h.place place) [
-    | inl l ↦ absurd (first.none_before h.place h.value l h.found h.triggered)
-    | inr l ↦ taken (IsWholeIfNumber b class classes) values place h.place l h.whole_before
+  whole_to : (position : ℕ) → IsFirstWith (IsTriggered classes name k) values position → IsFirstNamed b class classes name k values → All (IsWholeIfNumber b class classes) (take position values)
+  whole_to position first h = elim (cases_lt h.position position) [
+    | inl l ↦ absurd (first.none_before h.position h.value l h.found h.triggered)
+    | inr l ↦ taken (IsWholeIfNumber b class classes) values position h.position l h.whole_before
   ]
 
-  pub first_exactly : (ns : List Node) (place : ℕ) → IsFirstWith (IsTriggered classes name k) values place → ArePositive (take place values) → (found : Option Bound) (told : Bool) → MatchOption found (All (IsWholeIfNumber b class classes) (take place values)) (IsBound ns b class classes (take place values)) → is_some found ≡ not told → IsTrue told ↔ IsFirstNamed b class classes name k values
-  first_exactly ns place first positive found told m e =
-      let whole = none_found (All (IsWholeIfNumber b class classes) (take place values)) (IsBound ns b class classes (take place values)) (bound_not_whole ns b class classes (take place values) positive) found told m e in
-      (λ t. record { place = place; value = first.value; found = first.found; triggered = first.holds; whole_before = whole.0 t }, λ h. whole.1 (whole_to place first h))
+  pub first_exactly : (ns : List Node) (position : ℕ) → IsFirstWith (IsTriggered classes name k) values position → ArePositive (take position values) → (found : Option Bound) (known : Bool) → MatchOption found (All (IsWholeIfNumber b class classes) (take position values)) (IsBound ns b class classes (take position values)) → is_some found ≡ not known → IsTrue known ↔ IsFirstNamed b class classes name k values
+  first_exactly ns position first positive found known m e =
+      let whole = none_found (All (IsWholeIfNumber b class classes) (take position values)) (IsBound ns b class classes (take position values)) (bound_not_whole ns b class classes (take position values) positive) found known m e in
+      (λ t. record { position = position; value = first.value; found = first.found; triggered = first.holds; whole_before = whole.0 t }, λ h. whole.1 (whole_to position first h))

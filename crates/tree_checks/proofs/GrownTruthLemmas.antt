@@ -10,8 +10,8 @@ pub weaker : {A B : Type 0} (r : Bool) → (A → B) → (B → A) → IsTrue r 
 weaker r f g h = (λ t. f (h.0 t), λ b. h.1 (g b))
 
 -- a check that is false and exact refutes its claim, and one that is true shows it
-pub not_told : {P : Type 0} (r : Bool) → r ≡ false → IsTrue r ↔ P → P → ⊥
-not_told r e h p = (let yes = h.1 p in absurd (cc))
+pub refuted : {P : Type 0} (r : Bool) → r ≡ false → IsTrue r ↔ P → P → ⊥
+refuted r e h p = (let yes = h.1 p in absurd (cc))
 
 -- what holds for any result holds if the call succeeds
 pub on_ok : {V E : Type 0} {P : Type 0} (r : Result V E) → P → OnOk r P

@@ -82,8 +82,8 @@ module _ (shapes : List Shape) (ns : List Node) (b : Branch) (g : Extension) (r 
   pub not_due : (DueFor shapes ns b (formulas_of ns g) r g.generation → ⊥) → IsTrue false ↔ IsGrowing shapes ns b g
   not_due none = never (λ h. none (to_due h))
 
-  pub due_tells : IsGenerationFrom b (entry_of r) g.generation → (told : Bool) → IsTrue told ↔ DueFor shapes ns b (formulas_of ns g) r g.generation → IsTrue told ↔ IsGrowing shapes ns b g
-  due_tells from told h = weaker told (from_due from) to_due h
+  pub due_tells : IsGenerationFrom b (entry_of r) g.generation → (known : Bool) → IsTrue known ↔ DueFor shapes ns b (formulas_of ns g) r g.generation → IsTrue known ↔ IsGrowing shapes ns b g
+  due_tells from known h = weaker known (from_due from) to_due h
 
   -- the terms in the reason have numbers
   pub terms_named : All (IsTermNumber ns) (terms_of r)
@@ -111,8 +111,8 @@ module _ (ns : List Node) (xs : List ℕ) where
     pub one_formula : map (formula_at ns) xs ≡ formula_at ns x ∷ []
     one_formula = ap (map (formula_at ns)) is.is
 
-    pub one_tells : (P : FormulaData → Type 0) (told : Bool) → IsTrue told ↔ P (formula_at ns x) → IsTrue told ↔ ((p : FormulaData) × (map (formula_at ns) xs ≡ p ∷ []) × P p)
-    one_tells P told h = (
+    pub one_tells : (P : FormulaData → Type 0) (known : Bool) → IsTrue known ↔ P (formula_at ns x) → IsTrue known ↔ ((p : FormulaData) × (map (formula_at ns) xs ≡ p ∷ []) × P p)
+    one_tells P known h = (
       λ t. (formula_at ns x, one_formula, h.0 t),
       λ d. (
           let both : formula_at ns x ∷ [] ≡ d.0 ∷ [] = sym one_formula ∙ d.1 in

@@ -52,16 +52,16 @@ module _ (shapes : List Shape) (b : Branch) where
   pub entries_early : (HasNoEntryApplication b → ⊥) → IsTrue false ↔ NothingEarly shapes b
   entries_early none = never (λ h. none (no_entry_application h))
 
-  pub ranges_tell : HasNoEntryApplication b → (told : Bool) → IsTrue told ↔ HasNoRangeApplication shapes b → IsTrue told ↔ NothingEarly shapes b
-  ranges_tell entries told h = weaker told (nothing_early entries) no_range_application h
+  pub ranges_tell : HasNoEntryApplication b → (known : Bool) → IsTrue known ↔ HasNoRangeApplication shapes b → IsTrue known ↔ NothingEarly shapes b
+  ranges_tell entries known h = weaker known (nothing_early entries) no_range_application h
 
 -- ---- what closes a branch
 
 pub closes : (b : Branch) (clash : Clash) → IsClashOf b clash → IsNotClosed b → ⊥
-closes b (Opposed said denied) h n = n.no_clash h.formula h.other (record { place = said; says = h.says }) (record { place = denied; says = h.denies }) h.alike
+closes b (Opposed said denied) h n = n.no_clash h.formula h.other (record { position = said; says = h.says }) (record { position = denied; says = h.denies }) h.alike
 closes b (Differing i) h n =
-    n.no_differing h.equates.left h.equates.right (record { place = i; says = record { entry = h.denies.entry; found = h.denies.found; is = h.denies.is ∙ ap NotFormula h.equates.is } }) h.equates.joined
-closes b (False i) h n = n.no_false h.formula (record { place = i; says = h.says }) h.is_false
+    n.no_differing h.equates.left h.equates.right (record { position = i; says = record { entry = h.denies.entry; found = h.denies.found; is = h.denies.is ∙ ap NotFormula h.equates.is } }) h.equates.joined
+closes b (False i) h n = n.no_false h.formula (record { position = i; says = h.says }) h.is_false
 
 -- ---- late applications
 
@@ -72,11 +72,11 @@ module _ (shapes : List Shape) (ns : List Node) (b : Branch) (v : OpenValues) wh
   pub is_closed : (IsNotClosed b → ⊥) → IsTrue false ↔ IsLateBy shapes ns b v
   is_closed none = never (λ h. none h.not_closed)
 
-  pub late_so : IsMet ns b v → IsNotClosed b → (told : Bool) → IsTrue told ↔ NothingEarly shapes b → IsTrue told ↔ IsLateBy shapes ns b v
-  late_so met open_still told h = weaker told (λ nothing. record { nothing_early = nothing; not_closed = open_still; met = met }) (λ late. late.nothing_early) h
+  pub late_so : IsMet ns b v → IsNotClosed b → (known : Bool) → IsTrue known ↔ NothingEarly shapes b → IsTrue known ↔ IsLateBy shapes ns b v
+  late_so met open_still known h = weaker known (λ nothing. record { nothing_early = nothing; not_closed = open_still; met = met }) (λ late. late.nothing_early) h
 
-  pub is_late : (told : Bool) → IsTrue told ↔ IsLateBy shapes ns b v → IsTrue told → IsLate shapes b
-  is_late told h so =
+  pub is_late : (known : Bool) → IsTrue known ↔ IsLateBy shapes ns b v → IsTrue known → IsLate shapes b
+  is_late known h so =
       let late = h.0 so in
       let has = late.met.has in
       record {

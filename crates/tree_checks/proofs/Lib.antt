@@ -27,5 +27,4 @@ pub mod TakenLemmas
 pub mod PartialTextLemmas
 pub mod ReadingLemmas
 pub mod EndLemmas
-pub mod NumberLemmas
 pub mod TextsTextLemmas

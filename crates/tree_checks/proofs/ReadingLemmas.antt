@@ -61,8 +61,8 @@ module _ (shapes : List Shape) (ns : List Node) (n : ℕ) (applications : List G
 
   module _ (ms : List Node) (i : ℕ) (w : Walk) (left : ℕ) (reading : IsReading shapes ns ms start applications chain count i w left) where
     -- the trace ends
-    pub read_through : length applications ≤ i → IsChainNumbered ns chain → (told : Bool) → IsTrue told ↔ ArePartial shapes ms (opened ms w) [] chain left → IsTrue told ↔ Whole
-    read_through past named told h =
+    pub read_through : length applications ≤ i → IsChainNumbered ns chain → (known : Bool) → IsTrue known ↔ ArePartial shapes ms (opened ms w) [] chain left → IsTrue known ↔ Whole
+    read_through past named known h =
         let none : drop i applications ≡ [] = drop_all i applications past in
         let bs = opened ms w in (
           λ t. reading.rest.0 (subst (λ ts. ArePartial shapes ns bs ts chain left) (sym none) (ended_before shapes ns ms reading.extends bs chain left named (h.0 t))),

@@ -159,7 +159,7 @@ module _ (ns ms : List Node) (grown : Extends ns ms) where
         go None e = absurd ((generation_is ms one d over n number None (sym e)).none stands)
         go (Some g) e =
             let from = (all_least ms d over).from n g e in
-            let top = (numbered from.place from.entry from.found).within in
+            let top = (numbered from.position from.entry from.found).within in
             let less = under_less from.entry.formula n from.under in
             let within : n < length ns = omega (arith, top, less) in
             record { within = within; sort = sym (ap sort_of (item_kept ns ms grown n within)) ∙ number.sort }
@@ -195,8 +195,8 @@ module _ (ns ms : List Node) (grown : Extends ns ms) where
       timely_later h = timely_also shapes ns ms (branch_in ms d) names_later given.extension.reason given.grounds (terms_later given.extension.reason numbers.terms) h
 
   -- the result for the grounds over the later pool decides whether the application was due
-  pub due_told : IsOneNumber ms → (d : BranchData) → IsOver ns d → (shapes : List Shape) (given : GivenExtension) → HasNumbers ns given.extension → IsGrowing shapes ns (branch_in ns d) given.extension → (told : Bool) → IsTrue told ↔ IsTimely shapes ms (branch_in ms d) given.extension.reason given.grounds → IsTrue told ↔ IsDueBy shapes ns (branch_in ns d) given
-  due_told one d over shapes given numbers growing told h =
+  pub due_known : IsOneNumber ms → (d : BranchData) → IsOver ns d → (shapes : List Shape) (given : GivenExtension) → HasNumbers ns given.extension → IsGrowing shapes ns (branch_in ns d) given.extension → (known : Bool) → IsTrue known ↔ IsTimely shapes ms (branch_in ms d) given.extension.reason given.grounds → IsTrue known ↔ IsDueBy shapes ns (branch_in ns d) given
+  due_known one d over shapes given numbers growing known h =
       let later = over_still ns ms grown d over in
       let same : branch_in ms d ≡ branch_in ns d = says_still ns ms grown d.entries over.formulas in
       let inside : All (IsIn ns) (branch_in ms d) = subst (All (IsIn ns)) (sym same) (entries_in ns d.entries over.formulas) in (

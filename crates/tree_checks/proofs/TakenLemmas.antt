@@ -36,7 +36,8 @@ use Rattle.tree_checks.specs.declared.partial.applications.GivenApplication.TheV
 use Rattle.tree_checks.specs.declared.partial.walk.Walk.{Walk}
 use Rattle.tree_checks.proofs.StayLemmas.{IsIn, formulas_later, due_before, due_later}
 use Rattle.tree_checks.proofs.AfterLemmas.{after, after_growing, after_entries, Grows, grows_of, grown_of, AreIn}
-use Rattle.tree_checks.proofs.WalkLemmas.{with_kept, waiting_same}
+use Rattle.tree_checks.proofs.WalkLemmas.{with_kept}
+use Rattle.search.proofs.StayLemmas.{waiting_stay}
 
 -- ---- one application on one branch
 
@@ -111,7 +112,7 @@ module _ (shapes : List Shape) (ns ms : List Node) (grown : Extends ns ms) (w : 
   pub grown_so : IsDueBy shapes ns (branch_of ns w.branch.entries) given → (v : Walk) → GoesOn ms (with_kept w k) given.extension v → IsGrownBy shapes ns (opened ns w) given (opened ms v)
   grown_so due v on =
       let es = w.branch.entries in
-      let waits = waiting_same ns ms grown es (waiting_of w) h.over.formulas h.waiting in
+      let waits = waiting_stay ns ms grown es (waiting_of w) h.over.formulas h.waiting in
       let behind : Grows shapes ns given (branch_of ns es) (waiting_in ns es (waiting_of w)) (opened ms v) = record {
         due = due;
         short = subst (All IsShortBranch) (sym same_after) on.short;
@@ -124,7 +125,7 @@ module _ (shapes : List Shape) (ns ms : List Node) (grown : Extends ns ms) (w : 
       let e = sym (after_entries ns w.branch.entries given.extension) ∙ same_after in
       too_long shapes ns w is_open given (record { none = λ short. e ∙ nowhere.none (subst (All IsShortBranch) e short) })
 
-  pub grown_or_not : IsDueBy shapes ns (branch_of ns w.branch.entries) given → (v : Walk) (told : Bool) → MatchBool told (GoesOn ms (with_kept w k) given.extension v) (GoesNowhere ms (with_kept w k) given.extension) → MatchBool told (IsGrownBy shapes ns (opened ns w) given (opened ms v)) (IsNotTakenBy shapes ns (opened ns w) (Grown given))
+  pub grown_or_not : IsDueBy shapes ns (branch_of ns w.branch.entries) given → (v : Walk) (known : Bool) → MatchBool known (GoesOn ms (with_kept w k) given.extension v) (GoesNowhere ms (with_kept w k) given.extension) → MatchBool known (IsGrownBy shapes ns (opened ns w) given (opened ms v)) (IsNotTakenBy shapes ns (opened ns w) (Grown given))
   grown_or_not due v true on = grown_so due v on
   grown_or_not due v false nowhere = grown_nowhere nowhere
 

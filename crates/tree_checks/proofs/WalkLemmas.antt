@@ -1,5 +1,5 @@
 -- The open branches while a trace is read: how they continue.
-use Rattle.std.proofs.Common.{◌≡◌, ℕ, zero, suc, ◌+◌, ◌<◌, ◌≤◌, Bool, true, false, List, [], ◌∷◌, ◌++◌, length, take, drop, map, reverse, Some, refl, sym, ap, ◌∙◌, subst, arith, length-append}
+use Rattle.std.proofs.Common.{◌≡◌, ℕ, ◌+◌, ◌<◌, ◌≤◌, Bool, true, false, List, [], ◌∷◌, ◌++◌, length, take, drop, map, reverse, Some, refl, sym, ap, ◌∙◌, subst, arith, length-append}
 use Rattle.std.specs.Prelude.{All, slice_get}
 use Rattle.std.proofs.lemmas.List.{reverse-append}
 use Rattle.std.proofs.lemmas.List.Elements.{All-nil, All-cons, All-head, All-tail, All-append, All-map, All-weaker}
@@ -24,6 +24,7 @@ use Rattle.search.specs.declared.trees.application.Extension.{Extension}
 use Rattle.search.specs.declared.trees.tree.Waiting.{Waiting}
 use Rattle.search.proofs.PushLemmas.{entry_for}
 use Rattle.search.proofs.WaitingLemmas.{waiting_longer, waiting_frames, waiting_resumed, stacked_higher, stacked_frames, stacked_resumed}
+use Rattle.search.proofs.StayLemmas.{waiting_stay}
 use Rattle.tree_checks.specs.Entries.{cases_by, IsGoneOn, IsAtEnd, IsLonger}
 use Rattle.tree_checks.specs.Kept.{IsKept}
 use Rattle.tree_checks.specs.declared.grown.keeping.Kept.{Kept}
@@ -61,31 +62,11 @@ module _ (ns ms : List Node) (grown : Extends ns ms) where
   abbrev AreNumbered : List PoolEntry → Type 0
   AreNumbered es = (i : ℕ) (e : PoolEntry) → slice_get es i ≡ Some e → IsFormulaNumber ns e.formula
 
-  taken_numbered : (k : ℕ) (es : List PoolEntry) → AreNumbered es → AreNumbered (take k es)
-  taken_numbered zero es h i e f = absurd (cc)
-  taken_numbered (suc k) [] h i e f = absurd (cc)
-  taken_numbered (suc k) (x ∷ es) h zero e f = h 0 e f
-  taken_numbered (suc k) (x ∷ es) h (suc i) e f = taken_numbered k es (λ j y g. h (suc j) y g) i e f
-
-  pushed_numbered : (es : List PoolEntry) (e : PoolEntry) → AreNumbered es → IsFormulaNumber ns e.formula → AreNumbered (es ++ e ∷ [])
-  pushed_numbered [] e h one zero x f = (let same : e ≡ x = cc in subst (λ (y : PoolEntry). IsFormulaNumber ns y.formula) same one)
-  pushed_numbered [] e h one (suc i) x f = absurd (cc)
-  pushed_numbered (y ∷ es) e h one zero x f = h 0 x f
-  pushed_numbered (y ∷ es) e h one (suc i) x f = pushed_numbered es e (λ j z g. h (suc j) z g) one i x f
-
-  pub waiting_same : (es : List PoolEntry) (ws : List Waiting) → AreNumbered es → AreWaiting ns ws → waiting_in ms es ws ≡ waiting_in ns es ws
-  waiting_same es [] numbered h = refl
-  waiting_same es (w ∷ ws) numbered h =
-      let one : IsFormulaNumber ns w.entry.formula = All-head (λ (x : Waiting). IsFormulaNumber ns x.entry.formula) w ws h in
-      let first : branch_of ms (take w.mark es ++ w.entry ∷ []) ≡ branch_of ns (take w.mark es ++ w.entry ∷ []) = says_still ns ms grown (take w.mark es ++ w.entry ∷ []) (pushed_numbered (take w.mark es) w.entry (taken_numbered w.mark es numbered) one) in
-      let rest = waiting_same es ws numbered (All-tail (λ (x : Waiting). IsFormulaNumber ns x.entry.formula) w ws h) in
-      λ i. first i ∷ rest i
-
   open_same : (o : Bool) (es : List PoolEntry) (ws : List Waiting) → AreNumbered es → AreWaiting ns ws → open_if o ms es ws ≡ open_if o ns es ws
   open_same false es ws numbered h = refl
   open_same true es ws numbered h =
       let first : branch_of ms es ≡ branch_of ns es = says_still ns ms grown es numbered in
-      let rest = waiting_same es ws numbered h in
+      let rest = waiting_stay ns ms grown es ws numbered h in
       λ i. first i ∷ rest i
 
   pub opened_same : (w : Walk) → IsWalk ns w → opened ms w ≡ opened ns w

@@ -39,22 +39,22 @@ pub record IsNameOf (b : Branch) (t : TermData) (names : List ℕ) (number name 
 -- ---- values in order
 
 -- the first value with the property is at this index
-pub record IsFirstWith (P : Fraction → Type 0) (values : List Fraction) (place : ℕ) : Type 0 where
+pub record IsFirstWith (P : Fraction → Type 0) (values : List Fraction) (position : ℕ) : Type 0 where
   pub value : Fraction
-  pub found : slice_get values place ≡ Some value
+  pub found : slice_get values position ≡ Some value
   pub holds : P value
-  pub none_before : (k : ℕ) (v : Fraction) → k < place → slice_get values k ≡ Some v → P v → ⊥
+  pub none_before : (k : ℕ) (v : Fraction) → k < position → slice_get values k ≡ Some v → P v → ⊥
 
 pub record HasNoneWith (P : Fraction → Type 0) (values : List Fraction) : Type 0 where
   pub none : (k : ℕ) (v : Fraction) → slice_get values k ≡ Some v → P v → ⊥
 
 -- a value that requires a bound, after others that are whole if their classes have numbers
 pub record IsFirstNamed (b : Branch) (class : TermData → ℕ) (classes : List ℕ) (name : Option ℕ) (k : ℤ) (values : List Fraction) : Type 0 where
-  pub place : ℕ
+  pub position : ℕ
   pub value : Fraction
-  pub found : slice_get values place ≡ Some value
+  pub found : slice_get values position ≡ Some value
   pub triggered : IsTriggered classes name k value
-  pub whole_before : All (IsWholeIfNumber b class classes) (take place values)
+  pub whole_before : All (IsWholeIfNumber b class classes) (take position values)
 
 -- ---- what the grounds of a bound show, apart from what else is due
 

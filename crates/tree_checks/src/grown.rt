@@ -26,12 +26,12 @@ ghost use Rattle.tree_checks.specs.Grown.{IsGrown};
 ghost use Rattle.tree_checks.specs.Steps.{first_branch, AreNumbered, LeadsTo, LeadsNowhere};
 
 use crate::grown::keeping::nothing_kept;
-use crate::grown::pushing::entry_with;
 use crate::grown::steps::GrownStep;
 use crate::grown::taking::take;
 use base::memory::NoMemory;
 use certificates::branches::origin::Origin;
 use fol::shapes::Shapes;
+use search::trees::tree::entry_with;
 use std::alloc::Global;
 use tableau::branch::PoolBranch;
 use term_pool::pool::Pool;
@@ -78,8 +78,8 @@ pub fn is_grown(
     let mut kept = nothing_kept(alloc);
     let mut branch = first_branch(alloc, pool, denial)?;
     for step in steps {
-        let told = take(alloc, pool, shapes, &mut branch, &mut kept, step)?;
-        if !told {
+        let known = take(alloc, pool, shapes, &mut branch, &mut kept, step)?;
+        if !known {
             return Ok(None);
         }
     }

@@ -35,7 +35,7 @@ fn is_not_closed(
 ) -> Result<bool, NoMemory>
     requires over { IsOver pool.now branch.now }
     requires classes { AreClassesOf pool.now branch.now classes.now }
-    ensures { IfOk result (λ told. IsTrue told ↔ IsNotClosed (branch_in pool.now branch.now)) }
+    ensures { IfOk result (λ known. IsTrue known ↔ IsNotClosed (branch_in pool.now branch.now)) }
 {
     let clash = next_clash(alloc, pool, branch, classes)?;
     Ok(clash.is_none())
@@ -64,8 +64,8 @@ pub fn is_late_by(
     requires above { AreAbove pool.old branch.now.entries variables.old }
     ensures extends { Extends pool.old pool.new }
     ensures above { OnOk result (AreAbove pool.new branch.now.entries variables.new) }
-    ensures exact { IfOk result (λ told. IsTrue told ↔ IsLateBy shapes.now pool.old (branch_in pool.old branch.now) values.now) }
-    ensures late { IfOk result (λ told. IsTrue told → IsLate shapes.now (branch_in pool.old branch.now)) }
+    ensures exact { IfOk result (λ known. IsTrue known ↔ IsLateBy shapes.now pool.old (branch_in pool.old branch.now) values.now) }
+    ensures late { IfOk result (λ known. IsTrue known → IsLate shapes.now (branch_in pool.old branch.now)) }
 {
     let met = is_met(alloc, pool, branch, classes, values)?;
     if !met {

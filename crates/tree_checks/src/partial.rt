@@ -47,8 +47,8 @@ pub fn is_partial_tree(
     requires denial { IsFormulaNumber pool.old denial }
     requires numbers { IsTreeNumbered pool.old tree.now }
     ensures extends { Extends pool.old pool.new }
-    ensures exact { IfOk result (λ told. IsTrue told ↔ IsPartialBy shapes.now pool.old (first_branch pool.old denial ∷ []) tree.now budget) }
-    ensures partial { (p : FormulaData) → formula_at pool.old denial ≡ NotFormula p → IfOk result (λ told. IsTrue told → ShowsPartial shapes.now pool.old p tree.now budget) }
+    ensures exact { IfOk result (λ known. IsTrue known ↔ IsPartialBy shapes.now pool.old (first_branch pool.old denial ∷ []) tree.now budget) }
+    ensures partial { (p : FormulaData) → formula_at pool.old denial ≡ NotFormula p → IfOk result (λ known. IsTrue known → ShowsPartial shapes.now pool.old p tree.now budget) }
 {
     let mut walk = begin(alloc, pool, denial)?;
     let mut left = budget;
@@ -60,8 +60,8 @@ pub fn is_partial_tree(
         }
         left -= steps;
         pool.one_number();
-        let told = take(alloc, pool, shapes, &mut walk, application)?;
-        if !told {
+        let known = take(alloc, pool, shapes, &mut walk, application)?;
+        if !known {
             return Ok(false);
         }
     }

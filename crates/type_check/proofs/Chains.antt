@@ -13,7 +13,7 @@ use Rattle.program.specs.declared.declaration.Schema.{Schema}
 use Rattle.program.specs.declared.program.Program.{Program}
 use Rattle.program.specs.declared.program.SchemaId.{SchemaId}
 use Rattle.program.specs.Same.{same_schema}
-use Rattle.declaration_cycles.specs.Circular.{HasNoCircle, schema_kind}
+use Rattle.declaration_cycles.specs.Circular.{HasNoCycle, schema_kind}
 use Rattle.declaration_cycles.specs.Edges.{edge, edges_to, number, schema_edges}
 use Rattle.declaration_cycles.specs.Leading.{IsEdge, Leads, Directly, Over}
 use Rattle.declaration_cycles.specs.Naming.{included_by, included_in, schemas_included}
@@ -123,7 +123,7 @@ module _ (program : Program) where
   declared_below : (s : SchemaId) (i : ℕ) → Number s ≡ Some i → i < length program.schemas
   declared_below s i e = subst (λ (o : Option ℕ). IfSome o (λ k. k < length program.schemas)) e (number_below same_schema program.schemas s)
 
-  module _ (none : HasNoCircle (schema_kind program)) where
+  module _ (none : HasNoCycle (schema_kind program)) where
     -- a schema and all that it includes have numbers among so many: a step along a chain removes one
     shallow_within : (depth : ℕ) (inside : List ℕ) (s : SchemaId) (i : ℕ) → Number s ≡ Some i → length inside ≤ depth → Contains inside i
         → ((j : ℕ) → Leads Edges i j → Contains inside j) → IsShallow program depth s

@@ -8,7 +8,7 @@ use Rattle.std.proofs.lemmas.List.Elements.{Contains-get_or}
 use Rattle.std.proofs.lemmas.Option.{slice_get-map, slice_get_within}
 use Rattle.program.specs.declared.program.Program.{Program}
 use Rattle.base.specs.declared.marked_cycles.edge.MarkedEdge.{MarkedEdge}
-use Rattle.base.specs.MarkedCircles.{IsEdge, IsWithin}
+use Rattle.base.specs.MarkedCycles.{IsEdge, IsWithin}
 use Rattle.type_check.specs.ClausesInstances as I
 use Rattle.type_check.specs.Judged.{instance_of}
 use Rattle.type_check.specs.declared.clauses.instance.Instance.{Instance}
@@ -39,14 +39,14 @@ pub closed_begins : (program : Program) (c : Closure) → IsKeyed c.known → c.
 closed_begins program c keyed untyped unsettled edges judged = record {
   keyed = keyed;
   within = omega arith;
-  untyped = record { told = ap (λ (xs : List Bool). length xs) untyped; each = λ n i lt at. absurd (omega (arith, lt)) };
-  unsettled = record { told = ap (λ (xs : List Bool). length xs) unsettled; each = λ n i lt at. absurd (omega (arith, lt)) };
+  untyped = record { size = ap (λ (xs : List Bool). length xs) untyped; each = λ n i lt at. absurd (omega (arith, lt)) };
+  unsettled = record { size = ap (λ (xs : List Bool). length xs) unsettled; each = λ n i lt at. absurd (omega (arith, lt)) };
   linked = record {
     unmarked = λ i j e. none i j true e;
     sound = λ n m e. absurd (none n m false e);
     closed = λ n i j lt at l. absurd (omega (arith, lt));
   };
-  owners = record { told = ap (λ (xs : List (Vec JudgedClause)). length xs) judged; each = λ n i of lt at there. absurd (omega (arith, lt)) };
+  owners = record { size = ap (λ (xs : List (Vec JudgedClause)). length xs) judged; each = λ n i of lt at there. absurd (omega (arith, lt)) };
 }
   where
     none : (i j : ℕ) (marked : Bool) → IsEdge c.edges.items i j marked → ⊥
@@ -69,11 +69,11 @@ edges_within program known edges done linked = λ k d lt.
       ends = slice_get_within known e.to w.next w.next_is;
     })
 
-pub told_broken : (program : Program) (rule : ClauseRule) (old new : List I.Instance) (edges : List MarkedEdge) (marks found : List Bool) → Grows old new → AreLinked program new edges (length new)
+pub known_broken : (program : Program) (rule : ClauseRule) (old new : List I.Instance) (edges : List MarkedEdge) (marks found : List Bool) → Grows old new → AreLinked program new edges (length new)
     → AreJudged program rule new marks (length new) → ((n : ℕ) → n < length marks → IsTrue (slice_index_or found n false) ↔ LeadsToMark edges marks n) → TellBroken program rule old found
-told_broken program rule old new edges marks found grows linked judged leads n i at =
+known_broken program rule old new edges marks found grows linked judged leads n i at =
     let there = get_grown old new grows.0 n i grows.1 at in
-    let lt : n < length marks = (let within = slice_get_within new n i there in let size = judged.told in omega (arith, within, size)) in
+    let lt : n < length marks = (let within = slice_get_within new n i there in let size = judged.size in omega (arith, within, size)) in
     let first = leads n lt in
     let second = tells program new edges linked rule marks judged n i there in
     ((λ h. second.0 (first.0 h)), (λ h. first.1 (second.1 h)))

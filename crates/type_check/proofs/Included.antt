@@ -11,10 +11,10 @@ use Rattle.program.specs.declared.program.Program.{Program}
 use Rattle.program.specs.Same.{same_schema}
 use Rattle.typing_rules.specs.Answers.{System}
 use Rattle.typing_rules.specs.Clauses.{schema_names}
-use Rattle.typing_rules.specs.Faults.{IsStanding, OfSchema, Standing}
+use Rattle.typing_rules.specs.Faults.{IsStated, OfSchema, Stated}
 use Rattle.body_types.specs.SpecTyped.{SpecTypingSays}
 use Rattle.type_check.specs.ClausesInstances.{Includes, Instance}
-use Rattle.type_check.specs.Judged.{standing}
+use Rattle.type_check.specs.Judged.{stated}
 use Rattle.type_check.specs.declared.clauses.judged.JudgedClause.{JudgedClause}
 use Rattle.type_check.proofs.Moved.{included_instance}
 use Rattle.type_check.specs.SchemasInstances.{OwnerOf}
@@ -36,10 +36,10 @@ abbrev pub TellAll : Vec JudgedClause → List TypeTable → Type 0
 TellAll judged tables = Paired Tells judged.items tables
 
 -- the clauses of a schema that a clause of the program includes
-included_settled : (program : Program) → IsDetermined program → (c : Standing) (i : Instance) (declared : Schema) → IsStanding program c → Includes program c i → lookup (same_schema i.schema) program.schemas ≡ Some declared
+included_settled : (program : Program) → IsDetermined program → (c : Stated) (i : Instance) (declared : Schema) → IsStated program c → Includes program c i → lookup (same_schema i.schema) program.schemas ≡ Some declared
     → AreSettled program (schema_names declared i.types) i.block i.types declared.clauses
 included_settled program determined c i declared stands includes found lets k clause are at =
-    let d = standing (schema_names declared i.types (take k lets)) i.block i.types clause c.place in
+    let d = stated (schema_names declared i.types (take k lets)) i.block i.types clause c.span in
     settled_clause program determined d (OfSchema c d stands (included_instance program c d i includes (record {
       declared = declared;
       lookup_is = found;
@@ -50,7 +50,7 @@ included_settled program determined c i declared stands includes found lets k cl
       names_are = refl;
       block_is = refl;
       types_are = refl;
-      place_is = refl;
+      span_is = refl;
     })))
 
 -- the judgment of a clause of an included instance, with others before and after it
@@ -60,7 +60,7 @@ instance_typed program determined instances are front of back parts one there =
     let n = length front in
     let known = listed instances.known in
     let at : slice_get instances.judged.items n ≡ Some of = ap (λ (xs : List (Vec JudgedClause)). slice_get xs n) parts ∙ get_front front of back in
-    let lt : n < length known = (let within = slice_get_within instances.judged.items n of at in let size = are.owners.told in omega (arith, within, size)) in
+    let lt : n < length known = (let within = slice_get_within instances.judged.items n of at in let size = are.owners.size in omega (arith, within, size)) in
     let i = some_at known n lt in
     let w = are.only i.0 (at_contained known n i.0 i.1) in
     let declared = w.2.declared in
@@ -70,7 +70,7 @@ instance_typed program determined instances are front of back parts one there =
 
 -- the tables of each of these
 tables_of : (program : Program) (known : List Instance) (judged : List (Vec JudgedClause)) (tables : List (List TypeTable)) → length judged ≡ length known
-    → ((i : Instance) → Contains known i → (c : Standing) × IsStanding program c × Includes program c i)
+    → ((i : Instance) → Contains known i → (c : Stated) × IsStated program c × Includes program c i)
     → ((n : ℕ) (i : Instance) (of : Vec JudgedClause) → n < length known → slice_get known n ≡ Some i → slice_get judged n ≡ Some of → OwnerOf program i of.items)
     → Paired TellAll judged tables → Paired (AreTablesOf program) known tables
 tables_of program [] [] [] size only each p = tt
@@ -97,5 +97,5 @@ instances_tabled program instances are clauses p = record {
   keyed = are.keyed;
   all = are.all;
   only = are.only;
-  typed = tables_of program (listed instances.known) instances.judged.items clauses.items are.owners.told are.only are.owners.each p;
+  typed = tables_of program (listed instances.known) instances.judged.items clauses.items are.owners.size are.only are.owners.each p;
 }

@@ -9,9 +9,9 @@ use Rattle.program.specs.declared.declaration.Schema.{Schema}
 use Rattle.program.specs.declared.program.Program.{Program}
 use Rattle.program.specs.Same.{same_schema}
 use Rattle.typing_rules.specs.Clauses as C
-use Rattle.typing_rules.specs.Faults.{Standing}
+use Rattle.typing_rules.specs.Faults.{Stated}
 use Rattle.type_check.specs.ClausesInstances.{Instance, Includes, IsOfInstance}
-use Rattle.type_check.specs.Judged.{ClauseBreaks, ClauseSays, IncludedSays, OwnerSays, instance_of, standing}
+use Rattle.type_check.specs.Judged.{ClauseBreaks, ClauseSays, IncludedSays, OwnerSays, instance_of, stated}
 use Rattle.type_check.specs.declared.clauses.instance.Instance.{Instance as IncludedInstance}
 use Rattle.type_check.specs.declared.clauses.judged.JudgedClause.{JudgedClause}
 use Rattle.type_check.proofs.Unique.{one_instance, one_lets}
@@ -22,49 +22,49 @@ use Rattle.type_check.specs.Including.{InstanceBreaks, Leads}
 use Rattle.type_check.proofs.SchemasLists.{at_contained, contained_at, some_at, some_inside}
 
 -- clauses with equal components are equal
-same_standing : (c : Standing) (names : C.Names) (block : C.Block) (types : TypesData) → c.names ≡ names → c.block ≡ block → c.types ≡ types → c ≡ standing names block types c.clause c.place
-same_standing c names block types e f g = λ i. record { names = e i; block = f i; types = g i; clause = c.clause; place = c.place }
+same_stated : (c : Stated) (names : C.Names) (block : C.Block) (types : TypesData) → c.names ≡ names → c.block ≡ block → c.types ≡ types → c ≡ stated names block types c.clause c.span
+same_stated c names block types e f g = λ i. record { names = e i; block = f i; types = g i; clause = c.clause; span = c.span }
 
 module _ (program : Program) (i : Instance) (judged : List JudgedClause) where
   -- a clause of the instance, with its judgment
-  record Told : Type 0 where
-    each : (place : Span) (c : Standing) → IsOfInstance program i place c → (one : JudgedClause) × (Contains judged one × ClauseSays program c one)
-    back : (one : JudgedClause) → Contains judged one → (place : Span) × ((c : Standing) × (IsOfInstance program i place c × ClauseSays program c one))
+  record KnownTypes : Type 0 where
+    each : (span : Span) (c : Stated) → IsOfInstance program i span c → (one : JudgedClause) × (Contains judged one × ClauseSays program c one)
+    back : (one : JudgedClause) → Contains judged one → (span : Span) × ((c : Stated) × (IsOfInstance program i span c × ClauseSays program c one))
 
-  breaks_if : (rule : ClauseRule) (IsSo : JudgedClause → Type 0) → Told → ((c : Standing) (one : JudgedClause) → ClauseSays program c one → IsSo one ↔ ClauseBreaks program rule c)
+  breaks_if : (rule : ClauseRule) (IsSo : JudgedClause → Type 0) → KnownTypes → ((c : Stated) (one : JudgedClause) → ClauseSays program c one → IsSo one ↔ ClauseBreaks program rule c)
       → IsAny IsSo judged ↔ InstanceBreaks program rule i
-  breaks_if rule IsSo told same = (
-    (λ w. let b = told.back w.0 w.1 in record { place = b.0; clause = b.1.0; is_of = b.1.1.0; breaks = (same b.1.0 w.0 b.1.1.1).0 w.2 }),
-    (λ b. let w = told.each b.place b.clause b.is_of in (w.0, w.1.0, (same b.clause w.0 w.1.1).1 b.breaks)),
+  breaks_if rule IsSo known same = (
+    (λ w. let b = known.back w.0 w.1 in record { span = b.0; clause = b.1.0; is_of = b.1.1.0; breaks = (same b.1.0 w.0 b.1.1.1).0 w.2 }),
+    (λ b. let w = known.each b.span b.clause b.is_of in (w.0, w.1.0, (same b.clause w.0 w.1.1).1 b.breaks)),
   )
 
-  included_is : (c : Standing) (j : Instance) (one : Option IncludedInstance) → IncludedSays program c one → Includes program c j
+  included_is : (c : Stated) (j : Instance) (one : Option IncludedInstance) → IncludedSays program c one → Includes program c j
       → (k : IncludedInstance) × ((one ≡ Some k) × (instance_of k ≡ j))
   included_is c j None says h = absurd (says j h)
   included_is c j (Some k) says h = (k, (refl, one_instance program c (instance_of k) j says h))
 
-  leads_if : Told → (j : Instance) → IsAny (λ one. (k : IncludedInstance) × (one.included ≡ Some k) × (instance_of k ≡ j)) judged ↔ Leads program i j
-  leads_if told j = (
+  leads_if : KnownTypes → (j : Instance) → IsAny (λ one. (k : IncludedInstance) × (one.included ≡ Some k) × (instance_of k ≡ j)) judged ↔ Leads program i j
+  leads_if known j = (
     (λ w.
-        let b = told.back w.0 w.1 in
+        let b = known.back w.0 w.1 in
         let says : IncludedSays program b.1.0 (Some w.2.0) = subst (λ (o : Option IncludedInstance). IncludedSays program b.1.0 o) w.2.1 b.1.1.1.included in
-        record { place = b.0; clause = b.1.0; is_of = b.1.1.0; includes = subst (λ (k : Instance). Includes program b.1.0 k) w.2.2 says }),
+        record { span = b.0; clause = b.1.0; is_of = b.1.1.0; includes = subst (λ (k : Instance). Includes program b.1.0 k) w.2.2 says }),
     (λ l.
-        let w = told.each l.place l.clause l.is_of in
+        let w = known.each l.span l.clause l.is_of in
         let k = included_is l.clause j w.0.included w.1.1.included l.includes in
         (w.0, w.1.0, (k.0, k.1.0, k.1.1))),
   )
 
-  says : Told → InstanceSays program i judged
-  says told = record {
-    untyped = breaks_if Typing (λ one. IsTrue one.is_untyped) told (λ c one s. s.untyped);
-    unsettled = breaks_if Settling (λ one. IsTrue one.is_unsettled) told (λ c one s. s.unsettled);
-    leads = leads_if told;
+  says : KnownTypes → InstanceSays program i judged
+  says known = record {
+    untyped = breaks_if Typing (λ one. IsTrue one.is_untyped) known (λ c one s. s.untyped);
+    unsettled = breaks_if Settling (λ one. IsTrue one.is_unsettled) known (λ c one s. s.unsettled);
+    leads = leads_if known;
   }
 
-  told_of : (declared : Schema) → lookup (same_schema i.schema) program.schemas ≡ Some declared → OwnerSays program (C.schema_names declared i.types) i.block i.types declared.clauses judged → Told
-  told_of declared found owner = record {
-    each = λ place c of.
+  known_of : (declared : Schema) → lookup (same_schema i.schema) program.schemas ≡ Some declared → OwnerSays program (C.schema_names declared i.types) i.block i.types declared.clauses judged → KnownTypes
+  known_of declared found owner = record {
+    each = λ span c of.
         let same : of.declared ≡ declared = some_inside of.declared declared (sym of.lookup_is ∙ found) in
         let at : slice_get declared.clauses of.number ≡ Some c.clause = subst (λ (d : Schema). slice_get d.clauses of.number ≡ Some c.clause) same of.one in
         let lets : of.lets ≡ owner.lets = one_lets (λ before. C.clause_system program (C.schema_names declared i.types before) i.block i.types) declared.clauses of.lets owner.lets
@@ -76,18 +76,18 @@ module _ (program : Program) (i : Instance) (judged : List JudgedClause) where
           one.0,
           (
             at_contained judged of.number one.0 one.1,
-            subst (λ (d : Standing). ClauseSays program d one.0) (sym (same_standing c _ i.block i.types names of.block_is of.types_are))
-                (owner.each of.number c.clause one.0 c.place at one.1).0,
+            subst (λ (d : Stated). ClauseSays program d one.0) (sym (same_stated c _ i.block i.types names of.block_is of.types_are))
+                (owner.each of.number c.clause one.0 c.span at one.1).0,
           ),
         );
     back = λ one contained.
         let at = contained_at judged one contained in
         let lt : at.0 < length declared.clauses = (let within = slice_get_within judged at.0 one at.1 in let size = owner.same_length in omega (arith, within, size)) in
         let clause = some_at declared.clauses at.0 lt in
-        let place : Span = clause.0.block in (
-          place,
+        let span : Span = clause.0.block in (
+          span,
           (
-            standing (C.schema_names declared i.types (take at.0 owner.lets)) i.block i.types clause.0 place,
+            stated (C.schema_names declared i.types (take at.0 owner.lets)) i.block i.types clause.0 span,
             (
               record {
                 declared = declared;
@@ -99,9 +99,9 @@ module _ (program : Program) (i : Instance) (judged : List JudgedClause) where
                 names_are = refl;
                 block_is = refl;
                 types_are = refl;
-                place_is = refl;
+                span_is = refl;
               },
-              (owner.each at.0 clause.0 one place clause.1 at.1).0,
+              (owner.each at.0 clause.0 one span clause.1 at.1).0,
             ),
           ),
         );
@@ -109,10 +109,10 @@ module _ (program : Program) (i : Instance) (judged : List JudgedClause) where
 
   pub instance_says : (declared : Schema) → lookup (same_schema i.schema) program.schemas ≡ Some declared
       → OwnerSays program (C.schema_names declared i.types) i.block i.types declared.clauses judged → InstanceSays program i judged
-  instance_says declared found owner = says (told_of declared found owner)
+  instance_says declared found owner = says (known_of declared found owner)
 
 pub none_says : (program : Program) (i : Instance) → lookup (same_schema i.schema) program.schemas ≡ None → InstanceSays program i []
 none_says program i none = says program i [] (record {
-  each = λ place c of. absurd (let e : None ≡ Some of.declared = sym none ∙ of.lookup_is in cc);
+  each = λ span c of. absurd (let e : None ≡ Some of.declared = sym none ∙ of.lookup_is in cc);
   back = λ one contained. absurd (let b = contained.1 in omega (arith, b));
 })

@@ -21,7 +21,7 @@ use Rattle.body_types.specs.declared.spec.typing.SpecTyping.TheVariants.{Untypab
 typed_not_ambiguous : (s : System) (types : List TypeData) → IsTyped s types → IsAmbiguous s → ⊥
 typed_not_ambiguous s types typed ambiguous = elim ambiguous.why [
   | inl head ↦ typed.whole head
-  | inr place ↦ (let h = typed.each place.0 place.1 in place.2 (λ t u a b. h.each t a ∙ sym (h.each u b)))
+  | inr span ↦ (let h = typed.each span.0 span.1 in span.2 (λ t u a b. h.each t a ∙ sym (h.each u b)))
 ]
 
 pub not_ambiguous : (s : System) (pool : List PoolType) (typing : SpecTyping) → SpecTypingSays s pool typing → ((x : _) → typing ≡ Ambiguous x → ⊥) → IsAmbiguous s → ⊥
@@ -47,7 +47,7 @@ false_not false h = refl
 
 pub improper_if : (program : Program) (form : ClauseForm) (schema : SchemaId) (types : TypesData) (given : List ℕ) (declared : Schema) (b : Bool) → form ≡ Include schema types given
     → Some declared ≡ lookup (same_schema schema) program.schemas → b ≡ variables_are_proper program declared → IsTrue (not b) ↔ IncludesImproper program form
-improper_if program form schema types given declared b is found told = (
+improper_if program form schema types given declared b is found known = (
   (λ h. record {
     schema = schema;
     types = types;
@@ -55,12 +55,12 @@ improper_if program form schema types given declared b is found told = (
     form_is = is;
     declared = declared;
     lookup_is = sym found;
-    improper = sym told ∙ not_false b h;
+    improper = sym known ∙ not_false b h;
   }),
   (λ h.
       let same : h.schema ≡ schema = schema_is h.schema schema h.types types h.given given (sym h.form_is ∙ is) in
       let one : declared ≡ h.declared = same_declared declared h.declared _ found (subst (λ (s : SchemaId). lookup (same_schema s) program.schemas ≡ Some h.declared) same h.lookup_is) in
-      false_not b (told ∙ ap (λ (d : Schema). variables_are_proper program d) one ∙ h.improper)),
+      false_not b (known ∙ ap (λ (d : Schema). variables_are_proper program d) one ∙ h.improper)),
 )
 
 pub not_improper : (program : Program) (form : ClauseForm) (schema : SchemaId) (types : TypesData) (given : List ℕ) → form ≡ Include schema types given

@@ -4,7 +4,7 @@ use Rattle.std.specs.Prelude.{◌↔◌, IsTrue, Contains, All, slice_index_or}
 use Rattle.std.proofs.lemmas.List.Elements.{All-contains, Contains-append_cases, Contains-append_left, Contains-append_right, Contains-get_or, Contains-push, Contains-push_cases}
 use Rattle.std.proofs.lemmas.Bool.{cases_lt}
 use Rattle.base.specs.declared.marked_cycles.edge.MarkedEdge.{MarkedEdge}
-use Rattle.base.specs.MarkedCircles as M
+use Rattle.base.specs.MarkedCycles as M
 use Rattle.type_check.specs.Leading.{Path, End, Along, LeadsToMark, AreUnmarked, HasLast, edge}
 
 from_is : (i j k l : ℕ) (m n : Bool) → edge i j m ≡ edge k l n → i ≡ k
@@ -58,8 +58,8 @@ module _ (edges all : List MarkedEdge) (marks : List Bool) (h : HasLast edges ma
     ]
   ]
 
-  pub circle_is : (n : ℕ) → n < N → M.IsOnMarkedCircle all n ↔ LeadsToMark edges marks n
-  circle_is n lt = (
+  pub cycle_is : (n : ℕ) → n < N → M.IsOnMarkedCycle all n ↔ LeadsToMark edges marks n
+  cycle_is n lt = (
     (λ c. elim (away n n true lt c) [ inl w ↦ w | inr none ↦ absurd (true_false none) ]),
     (λ w. toward n n w.last lt w.within w.marked),
   )

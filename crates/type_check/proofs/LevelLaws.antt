@@ -7,7 +7,7 @@ use Rattle.std.proofs.lemmas.Bool.{cases_lt}
 use Rattle.std.proofs.lemmas.Option.{slice_get_within}
 use Rattle.program.specs.declared.program.Program.{Program}
 use Rattle.base.specs.declared.marked_cycles.edge.MarkedEdge.{MarkedEdge}
-use Rattle.base.specs.MarkedCircles.{IsEdge}
+use Rattle.base.specs.MarkedCycles.{IsEdge}
 use Rattle.type_check.specs.ClausesInstances.{Instance}
 use Rattle.type_check.specs.Judged.{instance_of}
 use Rattle.type_check.specs.declared.clauses.instance.Instance.{Instance as IncludedInstance}
@@ -22,7 +22,7 @@ use Rattle.type_check.specs.Known.{IsKeyed, listed}
 use Rattle.type_check.specs.Leading.{AreUnmarked}
 use Rattle.type_check.specs.declared.schemas.closing.Closure.{Closure}
 use Rattle.type_check.proofs.KeyLaws.{last_there}
-use Rattle.type_check.proofs.StandingLaws.{reaches_more}
+use Rattle.type_check.proofs.PresentLaws.{reaches_more}
 use Rattle.type_check.proofs.SchemasLists.{at_contained, contained_at, flag_before, flag_last, get_grown, get_old, last_is, length_pushed, longer, some_at, some_inside}
 
 pub grows_not : (xs : List Instance) → Grows xs xs
@@ -36,19 +36,19 @@ grows_twice a b c g h = (g.0 ++ h.0, h.1 ∙ ap (λ (xs : List Instance). xs ++ 
 -- the judgment of one more instance
 judged_more : (program : Program) (rule : ClauseRule) (old new : List Instance) (marks : List Bool) (n : ℕ) (i : Instance) (b : Bool) → Grows old new → slice_get old n ≡ Some i
     → AreJudged program rule old marks n → (IsTrue b ↔ InstanceBreaks program rule i) → AreJudged program rule new (marks ++ b ∷ []) (suc n)
-judged_more program rule old new marks n i b grows at judged told = record {
-  told = length_pushed marks b n judged.told;
+judged_more program rule old new marks n i b grows at judged known = record {
+  size = length_pushed marks b n judged.size;
   each = λ k j lt there.
       let within = slice_get_within old n i at in
       elim (last_is k n lt) [
         | inl below ↦
-            let size = judged.told in
+            let size = judged.size in
             subst (λ (flag : Bool). IsTrue flag ↔ InstanceBreaks program rule j) (sym (flag_before marks b k (omega (arith, below, size))))
             (judged.each k j below (get_old old new grows.0 k j grows.1 (omega (arith, below, within)) there))
         | inr here ↦
             let same : i ≡ j = some_inside i j (sym at ∙ ap (λ (m : ℕ). slice_get old m) (sym here) ∙ get_old old new grows.0 k j grows.1 (omega (arith, here, within)) there) in
-            subst (λ (flag : Bool). IsTrue flag ↔ InstanceBreaks program rule j) (sym (ap (λ (m : ℕ). slice_index_or (marks ++ b ∷ []) m false) (here ∙ sym judged.told) ∙ flag_last marks b))
-            (subst (λ (x : Instance). IsTrue b ↔ InstanceBreaks program rule x) same told)
+            subst (λ (flag : Bool). IsTrue flag ↔ InstanceBreaks program rule j) (sym (ap (λ (m : ℕ). slice_index_or (marks ++ b ∷ []) m false) (here ∙ sym judged.size) ∙ flag_last marks b))
+            (subst (λ (x : Instance). IsTrue b ↔ InstanceBreaks program rule x) same known)
       ];
 }
 
@@ -113,18 +113,18 @@ module _ (program : Program) (old new : List Instance) (before after : List Mark
 -- the judgments of the clauses of one more instance
 owners_more : (program : Program) (old new : List Instance) (judged : List (Vec JudgedClause)) (n : ℕ) (i : Instance) (of : Vec JudgedClause) → Grows old new → slice_get old n ≡ Some i
     → AreOwners program old judged n → OwnerOf program i of.items → AreOwners program new (judged ++ of ∷ []) (suc n)
-owners_more program old new judged n i of grows at owners told = record {
-  told = length_pushed judged of n owners.told;
+owners_more program old new judged n i of grows at owners known = record {
+  size = length_pushed judged of n owners.size;
   each = λ k j one lt there stands.
       let within = slice_get_within old n i at in
-      let size = owners.told in
+      let size = owners.size in
       elim (last_is k n lt) [
         | inl below ↦ owners.each k j one below (get_old old new grows.0 k j grows.1 (omega (arith, below, within)) there)
             (get_old judged (judged ++ of ∷ []) (of ∷ []) k one refl (omega (arith, below, size)) stands)
         | inr here ↦
             let same : i ≡ j = some_inside i j (sym at ∙ ap (λ (m : ℕ). slice_get old m) (sym here) ∙ get_old old new grows.0 k j grows.1 (omega (arith, here, within)) there) in
             let last : of ≡ one = some_inside of one (sym (last_there judged of) ∙ ap (λ (m : ℕ). slice_get (judged ++ of ∷ []) m) (size ∙ sym here) ∙ stands) in
-            subst (λ (x : Vec JudgedClause). OwnerOf program j x.items) last (subst (λ (x : Instance). OwnerOf program x of.items) same told)
+            subst (λ (x : Vec JudgedClause). OwnerOf program j x.items) last (subst (λ (x : Instance). OwnerOf program x of.items) same known)
       ];
 }
 

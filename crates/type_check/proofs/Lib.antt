@@ -4,7 +4,7 @@ pub mod Pushed
 pub mod Renamed
 pub mod Splits
 pub mod Steps
-pub mod Told
+pub mod KnownTypes
 pub mod Typings
 pub mod FaultLaws
 pub mod SpecFirsts
@@ -25,7 +25,7 @@ pub mod LevelLaws
 pub mod LinkLaws
 pub mod SchemasLists
 pub mod PathLaws
-pub mod StandingLaws
+pub mod PresentLaws
 mod Chains
 mod Rules
 mod Included

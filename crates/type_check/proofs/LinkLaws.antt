@@ -6,7 +6,7 @@ use Rattle.std.proofs.lemmas.List.{append-nil, length-append}
 use Rattle.std.proofs.lemmas.List.Elements.{Contains-append_left, Contains-push, Contains-push_cases}
 use Rattle.std.proofs.lemmas.Option.{slice_get_within}
 use Rattle.base.specs.declared.marked_cycles.edge.MarkedEdge.{MarkedEdge}
-use Rattle.base.specs.MarkedCircles.{IsEdge}
+use Rattle.base.specs.MarkedCycles.{IsEdge}
 use Rattle.type_check.specs.ClausesInstances.{Instance}
 use Rattle.type_check.specs.Judged.{instance_of}
 use Rattle.type_check.specs.declared.clauses.instance.Instance.{Instance as IncludedInstance}

@@ -24,14 +24,14 @@ use Rattle.type_check.specs.declared.typed_program.TypeTable.{TypeTable}
 -- ---- the type of a type variable in a table
 
 module _ (s : System) (table : TypeTable) (is : IsTable s table) where
-  pub place_within : (p : ℕ) → p < s.places → p < length table.types
-  place_within p lt = (let size = is.0.same_length in let mapped = length-map table.types (type_at (types table.pool)) in omega (arith, lt, size, mapped))
+  pub variable_within : (p : ℕ) → p < s.variables → p < length table.types
+  variable_within p lt = (let size = is.0.same_length in let mapped = length-map table.types (type_at (types table.pool)) in omega (arith, lt, size, mapped))
 
   pub number_within : (p n : ℕ) → slice_get table.types p ≡ Some n → n < length table.pool
   number_within p n at = All-contains (λ (m : ℕ). m < length table.pool) table.types n is.1 (at_contained table.types p n at)
 
-  pub place_type : (p n : ℕ) → slice_get table.types p ≡ Some n → HasType s p (type_at (types table.pool) n)
-  place_type p n at =
+  pub variable_type : (p n : ℕ) → slice_get table.types p ≡ Some n → HasType s p (type_at (types table.pool) n)
+  variable_type p n at =
       let within = slice_get_within table.types p n at in
       let size = is.0.same_length in
       let mapped = length-map table.types (type_at (types table.pool)) in
@@ -43,10 +43,10 @@ module _ (s : System) (table : TypeTable) (is : IsTable s table) where
 -- ---- locals
 
 -- a local has a type variable
-pub local_within : (program : Program) (f : Function) (l : ℕ) → l < length f.locals → length f.body.nodes + l < (function_system program f).places
+pub local_within : (program : Program) (f : Function) (l : ℕ) → l < length f.locals → length f.body.nodes + l < (function_system program f).variables
 local_within program f l lt =
-    let places : (function_system program f).places ≡ (length f.body.nodes + length f.locals) + sum_by (node_arity program) f.body.nodes = refl in
-    omega (arith, lt, places)
+    let variables : (function_system program f).variables ≡ (length f.body.nodes + length f.locals) + sum_by (node_arity program) f.body.nodes = refl in
+    omega (arith, lt, variables)
 
 pub are_locals : (program : Program) (f : Function) (count : ℕ) (locals : List TypeData) → count ≡ length f.locals
     → TypesTo (function_system program f) (length f.body.nodes) (length f.body.nodes + count) locals → AreLocals program f locals
@@ -64,12 +64,12 @@ module _ (program : Program) (f : Function) (table : TypeTable) (is : IsTable (f
   locals_to zero lt = ([], subst (λ (p : ℕ). TypesTo (function_system program f) first p []) (omega arith) (no_types (function_system program f) first [] refl))
   locals_to (suc count) lt =
       let before = locals_to count (omega (arith, lt)) in
-      let place = first + count in
-      let number = some_at table.types place (place_within (function_system program f) table is place (local_within program f count (omega (arith, lt)))) in
+      let span = first + count in
+      let number = some_at table.types span (variable_within (function_system program f) table is span (local_within program f count (omega (arith, lt)))) in
       let of = type_at (types table.pool) number.0 in (
         before.0 ++ of ∷ [],
         subst (λ (p : ℕ). TypesTo (function_system program f) first p (before.0 ++ of ∷ [])) (omega arith)
-            (more_types (function_system program f) first place before.0 (before.0 ++ of ∷ []) of refl (place_type (function_system program f) table is place number.0 number.1) before.1),
+            (more_types (function_system program f) first span before.0 (before.0 ++ of ∷ []) of refl (variable_type (function_system program f) table is span number.0 number.1) before.1),
       )
 
   pub no_loops : (tables : List TypeTable) → f.loop_clauses ≡ [] → tables ≡ [] → AreLoopTables program f tables

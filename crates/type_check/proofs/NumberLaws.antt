@@ -65,7 +65,7 @@ more_numbered judged old new roots roots2 n one root number at numbered is root_
         | inl below ↦
             let size = numbered.same_length in
             let old_is = numbered.each k other r below there (sym (get_before roots (root ∷ []) k (omega (arith, below, size))) ∙ stands2) in
-            record { place = old_is.place; untyped = old_is.untyped; unsettled = old_is.unsettled; included = stands_grown old new other.included r.included is.grows old_is.included }
+            record { span = old_is.span; untyped = old_is.untyped; unsettled = old_is.unsettled; included = stands_grown old new other.included r.included is.grows old_is.included }
         | inr here ↦
             let same : one ≡ other = some_inside one other (sym at ∙ ap (λ (m : ℕ). slice_get judged m) (sym here) ∙ there) in
             let own : root ≡ r = some_inside root r (sym (last_there roots root) ∙ ap (λ (m : ℕ). slice_get (roots ++ root ∷ []) m) (numbered.same_length ∙ sym here) ∙ stands2) in

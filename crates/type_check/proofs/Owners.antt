@@ -16,9 +16,9 @@ use Rattle.program.specs.declared.program.ModuleId.{ModuleId}
 use Rattle.program.specs.declared.program.Program.{Program}
 use Rattle.typing_rules.specs.Answers.{System}
 use Rattle.typing_rules.specs.Clauses.{Block, FunctionBlock, LoopBlock, ModuleBlock, StructBlock, Names, LetType, clause_system, function_names, loop_names, module_names, struct_names}
-use Rattle.typing_rules.specs.Faults.{IsOwned, IsStanding, OfFunction, OfLoop, OfModule, OfStruct, Standing}
+use Rattle.typing_rules.specs.Faults.{IsOwned, IsStated, OfFunction, OfLoop, OfModule, OfStruct, Stated}
 use Rattle.body_types.specs.SpecTyped.{SpecTypingSays}
-use Rattle.type_check.specs.Judged.{OwnerSays, standing}
+use Rattle.type_check.specs.Judged.{OwnerSays, stated}
 use Rattle.type_check.specs.declared.clauses.judged.JudgedClause.{JudgedClause}
 use Rattle.type_check.proofs.SchemasLists.{at_contained, contained_at, some_at}
 use Rattle.type_check.specs.Answers.{IsDetermined}
@@ -58,10 +58,10 @@ module _ (program : Program) (names : List (Option LetType) → Names) (block : 
 -- ---- settings of clauses
 
 module _ (program : Program) (determined : IsDetermined program) where
-  owned_settled : (block : Block) (names : List (Option LetType) → Names) (clauses : List Clause) → ((c : Standing) → IsOwned program block names clauses c → IsStanding program c)
+  owned_settled : (block : Block) (names : List (Option LetType) → Names) (clauses : List Clause) → ((c : Stated) → IsOwned program block names clauses c → IsStated program c)
       → AreSettled program names block NoTypes clauses
   owned_settled block names clauses stands lets k clause are at =
-      let c = standing (names (take k lets)) block NoTypes clause clause.block in
+      let c = stated (names (take k lets)) block NoTypes clause clause.block in
       settled_clause program determined c (stands c (record {
         lets = lets;
         are_lets = are;
@@ -70,7 +70,7 @@ module _ (program : Program) (determined : IsDetermined program) where
         names_are = refl;
         block_is = refl;
         types_are = refl;
-        place_is = refl;
+        span_is = refl;
       }))
 
   pub function_settled : (id : FunctionId) (f : Function) → Contains program.functions (id, f) → AreSettled program (function_names f) FunctionBlock NoTypes f.clauses
@@ -85,7 +85,7 @@ module _ (program : Program) (determined : IsDetermined program) where
   pub loop_settled : (id : FunctionId) (f : Function) (locals : List TypeData) (k : ℕ) (l : LoopClause) → Contains program.functions (id, f) → AreLocals program f locals → slice_get f.loop_clauses k ≡ Some l
       → IsSettled (clause_system program (loop_names f.result locals) LoopBlock NoTypes l.clause)
   loop_settled id f locals k l there are at =
-      let c = standing (loop_names f.result locals) LoopBlock NoTypes l.clause l.clause.block in
+      let c = stated (loop_names f.result locals) LoopBlock NoTypes l.clause l.clause.block in
       settled_clause program determined c (OfLoop id f c there (record {
         locals = locals;
         same_length = are.same_length;
@@ -94,5 +94,5 @@ module _ (program : Program) (determined : IsDetermined program) where
         block_is = refl;
         types_are = refl;
         one = at_contained (map (λ x. x.clause) f.loop_clauses) k l.clause (slice_get-map (λ (x : LoopClause). x.clause) f.loop_clauses k ∙ ap (option_map (λ (x : LoopClause). x.clause)) at);
-        place_is = refl;
+        span_is = refl;
       }))

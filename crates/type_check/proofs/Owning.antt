@@ -15,7 +15,7 @@ use Rattle.typing_rules.specs.Answers.{System, HasType}
 use Rattle.typing_rules.specs.Clauses as C
 use Rattle.type_constraints.specs.SpecSettings.{let_of}
 use Rattle.type_constraints.specs.declared.spec.setting.LetType.{LetType}
-use Rattle.type_check.specs.Judged.{ClauseSays, ClauseTold, FirstSay, OwnerSays, standing}
+use Rattle.type_check.specs.Judged.{ClauseSays, ClauseKnown, FirstSay, OwnerSays, stated}
 use Rattle.type_check.specs.Lets.{LetSays, LetsSay}
 use Rattle.type_check.specs.declared.clauses.judged.JudgedClause.{JudgedClause}
 use Rattle.type_check.proofs.Unique.{one_type}
@@ -56,10 +56,10 @@ module _ (program : Program) (names : List (Option C.LetType) → C.Names) (bloc
 
   pub none_said : FirstSay program names block types clauses [] [] 0
   none_said = record {
-    lets_told = refl;
-    all_told = refl;
+    lets_known = refl;
+    all_known = refl;
     lets_say = λ k clause of lt e f. absurd (omega (arith, lt));
-    each = λ k clause one place lt e f. absurd (omega (arith, lt));
+    each = λ k clause one span lt e f. absurd (omega (arith, lt));
   }
 
   same_clause : (n : ℕ) (clause other : Clause) → slice_get clauses n ≡ Some clause → slice_get clauses n ≡ Some other → clause ≡ other
@@ -80,31 +80,31 @@ module _ (program : Program) (names : List (Option C.LetType) → C.Names) (bloc
 
   each_more : (lets : List (Option C.LetType)) (judged : List JudgedClause) (n : ℕ) (clause : Clause) (of : Option C.LetType) (one : JudgedClause) → length lets ≡ n → length judged ≡ n
       → slice_get clauses n ≡ Some clause
-      → ((k : ℕ) (other : Clause) (j : JudgedClause) (place : Span) → k < n → slice_get clauses k ≡ Some other → slice_get judged k ≡ Some j → ClauseSays program (standing (names (take k lets)) block types other place) j × (j.place ≡ other.block))
-      → ((place : Span) → ClauseSays program (standing (names lets) block types clause place) one) → one.place ≡ clause.block
-      → (k : ℕ) (other : Clause) (j : JudgedClause) (place : Span) → k < suc n → slice_get clauses k ≡ Some other → slice_get (judged ++ one ∷ []) k ≡ Some j
-      → ClauseSays program (standing (names (take k (lets ++ of ∷ []))) block types other place) j × (j.place ≡ other.block)
-  each_more lets judged n clause of one size told at said says placed k other j place lt e f = elim (last_is k n lt) [
-    | inl below ↦ subst (λ (before : List (Option C.LetType)). ClauseSays program (standing (names before) block types other place) j × (j.place ≡ other.block))
+      → ((k : ℕ) (other : Clause) (j : JudgedClause) (span : Span) → k < n → slice_get clauses k ≡ Some other → slice_get judged k ≡ Some j → ClauseSays program (stated (names (take k lets)) block types other span) j × (j.span ≡ other.block))
+      → ((span : Span) → ClauseSays program (stated (names lets) block types clause span) one) → one.span ≡ clause.block
+      → (k : ℕ) (other : Clause) (j : JudgedClause) (span : Span) → k < suc n → slice_get clauses k ≡ Some other → slice_get (judged ++ one ∷ []) k ≡ Some j
+      → ClauseSays program (stated (names (take k (lets ++ of ∷ []))) block types other span) j × (j.span ≡ other.block)
+  each_more lets judged n clause of one size known at said says placed k other j span lt e f = elim (last_is k n lt) [
+    | inl below ↦ subst (λ (before : List (Option C.LetType)). ClauseSays program (stated (names before) block types other span) j × (j.span ≡ other.block))
         (sym (take-append-le k lets (of ∷ []) (omega (arith, below, size))))
-        (said k other j place below e (sym (get_pushed judged one k (omega (arith, below, told))) ∙ f))
+        (said k other j span below e (sym (get_pushed judged one k (omega (arith, below, known))) ∙ f))
     | inr here ↦
         let same : clause ≡ other = same_clause n clause other at (ap (λ (m : ℕ). slice_get clauses m) (sym here) ∙ e) in
-        let stands : one ≡ j = some_inside one j (sym (get_last judged one) ∙ ap (λ (m : ℕ). slice_get (judged ++ one ∷ []) m) (told ∙ sym here) ∙ f) in
+        let stands : one ≡ j = some_inside one j (sym (get_last judged one) ∙ ap (λ (m : ℕ). slice_get (judged ++ one ∷ []) m) (known ∙ sym here) ∙ f) in
         let before : take k (lets ++ of ∷ []) ≡ lets = ap (λ (m : ℕ). take m (lets ++ of ∷ [])) (here ∙ sym size) ∙ take-append_seam lets (of ∷ []) in
-        subst (λ (b : List (Option C.LetType)). ClauseSays program (standing (names b) block types other place) j × (j.place ≡ other.block)) (sym before)
-        (subst (λ (d : Clause). ClauseSays program (standing (names lets) block types d place) j × (j.place ≡ d.block)) same
-        (subst (λ (i : JudgedClause). ClauseSays program (standing (names lets) block types clause place) i × (i.place ≡ clause.block)) stands (says place, placed)))
+        subst (λ (b : List (Option C.LetType)). ClauseSays program (stated (names b) block types other span) j × (j.span ≡ other.block)) (sym before)
+        (subst (λ (d : Clause). ClauseSays program (stated (names lets) block types d span) j × (j.span ≡ d.block)) same
+        (subst (λ (i : JudgedClause). ClauseSays program (stated (names lets) block types clause span) i × (i.span ≡ clause.block)) stands (says span, placed)))
   ]
 
   pub first_more : (lets : List (Option C.LetType)) (judged : List JudgedClause) (n : ℕ) (clause : Clause) (of : Option LetType) (one : JudgedClause)
-      → FirstSay program names block types clauses lets judged n → slice_get clauses n ≡ Some clause → ClauseTold program (names lets) block types clause one of
+      → FirstSay program names block types clauses lets judged n → slice_get clauses n ≡ Some clause → ClauseKnown program (names lets) block types clause one of
       → FirstSay program names block types clauses (lets ++ let_of of ∷ []) (judged ++ one ∷ []) (suc n)
-  first_more lets judged n clause of one first at told = record {
-    lets_told = length_pushed lets (let_of of) n first.lets_told;
-    all_told = length_pushed judged one n first.all_told;
-    lets_say = lets_more lets n clause (let_of of) first.lets_told at first.lets_say told.of_let;
-    each = each_more lets judged n clause (let_of of) one first.lets_told first.all_told at first.each told.says told.place_is;
+  first_more lets judged n clause of one first at known = record {
+    lets_known = length_pushed lets (let_of of) n first.lets_known;
+    all_known = length_pushed judged one n first.all_known;
+    lets_say = lets_more lets n clause (let_of of) first.lets_known at first.lets_say known.of_let;
+    each = each_more lets judged n clause (let_of of) one first.lets_known first.all_known at first.each known.says known.span_is;
   }
 
   -- ---- all of them
@@ -125,7 +125,7 @@ module _ (program : Program) (names : List (Option C.LetType) → C.Names) (bloc
   are_lets : (lets : List (Option C.LetType)) → length lets ≡ length clauses → LetsSay system clauses lets (length clauses) → C.AreLets system clauses lets
   are_lets lets size said = record {
     same_length = size;
-    told = λ k is_post of e.
+    known = λ k is_post of e.
         (let lt : k < length clauses = (let within = slice_get_within lets k _ e in omega (arith, within, size)) in
         let at = clause_at k lt in
         let w = said k at.0 (Some (is_post, of)) lt at.1 e in
@@ -139,9 +139,9 @@ module _ (program : Program) (names : List (Option C.LetType) → C.Names) (bloc
   pub all_said : (lets : List (Option C.LetType)) (judged : List JudgedClause) (n : ℕ) → length clauses ≡ n → FirstSay program names block types clauses lets judged n → OwnerSays program names block types clauses judged
   all_said lets judged n size first = record {
     lets = lets;
-    are_lets = are_lets lets (first.lets_told ∙ sym size) (subst (λ (m : ℕ). LetsSay system clauses lets m) (sym size) first.lets_say);
-    same_length = first.all_told ∙ sym size;
-    each = λ k clause one place e f. first.each k clause one place (let within = slice_get_within clauses k clause e in omega (arith, within, size)) e f;
+    are_lets = are_lets lets (first.lets_known ∙ sym size) (subst (λ (m : ℕ). LetsSay system clauses lets m) (sym size) first.lets_say);
+    same_length = first.all_known ∙ sym size;
+    each = λ k clause one span e f. first.each k clause one span (let within = slice_get_within clauses k clause e in omega (arith, within, size)) e f;
   }
 
 -- the same for equal lists

@@ -33,7 +33,7 @@ module _ (program : Program) (known : List Instance) (edges : List MarkedEdge) (
       → LeadsToMark edges marks n ↔ ReachesBroken program rule i
   tells rule marks judged n i at = (
     (λ w.
-        let lt : w.last < length known = (let size = judged.told in let below = inside marks w.last w.marked in omega (arith, size, below)) in
+        let lt : w.last < length known = (let size = judged.size in let below = inside marks w.last w.marked in omega (arith, size, below)) in
         let x = some_at known w.last lt in
         record { last = x.0; reaches = reached n w.last i x.0 at x.1 w.within; breaks = (judged.each w.last x.0 lt x.1).0 w.marked }),
     (λ b.

@@ -10,15 +10,15 @@ use Rattle.typing_rules.specs.Faults.{BreaksAbility, LackingFunction, LackingStr
 use Rattle.type_check.specs.Split.{FunctionAt, StructAt}
 
 abbrev Lacking : Program → Span → Type 0
-Lacking program place = FunctionAt program (λ id f. FunctionLacksAbility program f) place ⊎ StructAt program (StructLacksAbility program) place
+Lacking program span = FunctionAt program (λ id f. FunctionLacksAbility program f) span ⊎ StructAt program (StructLacksAbility program) span
 
-lacking : (program : Program) (place : Span) → Lacking program place → BreaksAbility program place
-lacking program place (inl h) = LackingFunction h.0.0 h.0.1 h.1 h.2 h.3
-lacking program place (inr h) = LackingStruct h.0.0 h.0.1 h.1 h.2 h.3
+lacking : (program : Program) (span : Span) → Lacking program span → BreaksAbility program span
+lacking program span (inl h) = LackingFunction h.0.0 h.0.1 h.1 h.2 h.3
+lacking program span (inr h) = LackingStruct h.0.0 h.0.1 h.1 h.2 h.3
 
-of_lacking : (program : Program) (place : Span) → BreaksAbility program place → Lacking program place
-of_lacking program place (LackingFunction id f d p l) = inl ((id, f), d, p, l)
-of_lacking program place (LackingStruct id s d p l) = inr ((id, s), d, p, l)
+of_lacking : (program : Program) (span : Span) → BreaksAbility program span → Lacking program span
+of_lacking program span (LackingFunction id f d p l) = inl ((id, f), d, p, l)
+of_lacking program span (LackingStruct id s d p l) = inr ((id, s), d, p, l)
 
 pub abilities_named : (program : Program) (found : Option Span) → IsFirstOrNone (Lacking program) found → IsFirstOrNone (BreaksAbility program) found
 abilities_named program found first = first_renamed (Lacking program) (BreaksAbility program) found (lacking program) (of_lacking program) first
@@ -26,6 +26,6 @@ abilities_named program found first = first_renamed (Lacking program) (BreaksAbi
 pub acquires_named : (program : Program) (found : Option Span) → IsFirstOrNone (FunctionAt program (LacksAcquires program)) found → IsFirstOrNone (BreaksAcquires program) found
 acquires_named program found first =
     first_renamed (FunctionAt program (LacksAcquires program)) (BreaksAcquires program) found
-    (λ place h. record { id = h.0.0; function = h.0.1; declared = h.1; place_is = h.2; lacks = h.3 })
-    (λ place b. ((b.id, b.function), b.declared, b.place_is, b.lacks))
+    (λ span h. record { id = h.0.0; function = h.0.1; declared = h.1; span_is = h.2; lacks = h.3 })
+    (λ span b. ((b.id, b.function), b.declared, b.span_is, b.lacks))
     first

@@ -24,8 +24,8 @@ use Rattle.type_check.specs.Reached as R
 use Rattle.type_check.specs.declared.clauses.judged.ClauseRule.{ClauseRule}
 use Rattle.type_check.specs.SpecFaults.{FunctionBreaksAt, SpecFunctionBreaks}
 use Rattle.type_check.proofs.SpecFirsts.{Among}
-use Rattle.typing_rules.specs.Faults.{Standing, IsOwned, IsOfLoop}
-use Rattle.type_check.specs.Judged.{ClauseSays, OwnerSays, standing}
+use Rattle.typing_rules.specs.Faults.{Stated, IsOwned, IsOfLoop}
+use Rattle.type_check.specs.Judged.{ClauseSays, OwnerSays, stated}
 use Rattle.type_check.specs.declared.clauses.judged.JudgedClause.{JudgedClause}
 use Rattle.type_check.proofs.Unique.{one_lets, one_type}
 use Rattle.type_check.proofs.KeyLaws.{last_there}
@@ -33,17 +33,17 @@ use Rattle.type_check.proofs.SchemasLists.{at_contained, contained_at, get_befor
 use Rattle.type_check.specs.Roots.{IsOfFunction, IsOfModule, IsOfStruct, LocalsSay, LoopsSay, OfSome, TellsOf}
 
 -- clauses with equal components are equal
-same_standing : (c : Standing) (names : C.Names) (block : C.Block) (types : TypesData) → c.names ≡ names → c.block ≡ block → c.types ≡ types → c ≡ standing names block types c.clause c.place
-same_standing c names block types e f g = λ i. record { names = e i; block = f i; types = g i; clause = c.clause; place = c.place }
+same_stated : (c : Stated) (names : C.Names) (block : C.Block) (types : TypesData) → c.names ≡ names → c.block ≡ block → c.types ≡ types → c ≡ stated names block types c.clause c.span
+same_stated c names block types e f g = λ i. record { names = e i; block = f i; types = g i; clause = c.clause; span = c.span }
 
 none_contained : {A : Type 0} (x : A) → Contains [] x → ⊥
 none_contained x c = let b = c.1 in omega arith
 
 module _ (program : Program) where
-  pub tells_none : (Are : Standing → Type 0) → ((c : Standing) → Are c → ⊥) → TellsOf program Are []
+  pub tells_none : (Are : Stated → Type 0) → ((c : Stated) → Are c → ⊥) → TellsOf program Are []
   tells_none Are none = record { sound = λ one h. absurd (none_contained one h); all = λ c h. absurd (none c h) }
 
-  pub tells_both : (Are Other : Standing → Type 0) (xs ys : List JudgedClause) → TellsOf program Are xs → TellsOf program Other ys → TellsOf program (λ c. Are c ⊎ Other c) (xs ++ ys)
+  pub tells_both : (Are Other : Stated → Type 0) (xs ys : List JudgedClause) → TellsOf program Are xs → TellsOf program Other ys → TellsOf program (λ c. Are c ⊎ Other c) (xs ++ ys)
   tells_both Are Other xs ys a b = record {
     sound = λ one h. elim (Contains-append_cases xs ys one h) [
       | inl left ↦ (let w = a.sound one left in (w.0, (inl w.1.0, w.1.1, w.1.2)))
@@ -55,7 +55,7 @@ module _ (program : Program) where
     ];
   }
 
-  pub tells_same : (Are Other : Standing → Type 0) (xs : List JudgedClause) → ((c : Standing) → Are c → Other c) → ((c : Standing) → Other c → Are c) → TellsOf program Are xs → TellsOf program Other xs
+  pub tells_same : (Are Other : Stated → Type 0) (xs : List JudgedClause) → ((c : Stated) → Are c → Other c) → ((c : Stated) → Other c → Are c) → TellsOf program Are xs → TellsOf program Other xs
   tells_same Are Other xs there back a = record {
     sound = λ one h. (let w = a.sound one h in (w.0, (there w.0 w.1.0, w.1.1, w.1.2)));
     all = λ c h. a.all c (back c h);
@@ -71,7 +71,7 @@ module _ (program : Program) where
         let lt : at.0 < length clauses = (let within = slice_get_within judged at.0 one at.1 in let size = owner.same_length in omega (arith, within, size)) in
         let clause = some_at clauses at.0 lt in
         let says = owner.each at.0 clause.0 one clause.0.block clause.1 at.1 in (
-          standing (names (take at.0 owner.lets)) block NoTypes clause.0 clause.0.block,
+          stated (names (take at.0 owner.lets)) block NoTypes clause.0 clause.0.block,
           (
             record {
               lets = owner.lets;
@@ -81,7 +81,7 @@ module _ (program : Program) where
               names_are = refl;
               block_is = refl;
               types_are = refl;
-              place_is = refl;
+              span_is = refl;
             },
             sym says.1,
             says.0,
@@ -92,19 +92,19 @@ module _ (program : Program) where
         let one = some_at judged own.number lt in
         let lets = one_lets (λ before. C.clause_system program (names before) block NoTypes) clauses own.lets owner.lets own.are_lets owner.are_lets in
         let named : c.names ≡ names (take own.number owner.lets) = own.names_are ∙ ap (λ (ls : List (Option C.LetType)). names (take own.number ls)) lets in
-        let says = owner.each own.number c.clause one.0 c.place own.one one.1 in (
+        let says = owner.each own.number c.clause one.0 c.span own.one one.1 in (
           one.0,
           (
             at_contained judged own.number one.0 one.1,
-            own.place_is ∙ sym says.1,
-            subst (λ (d : Standing). ClauseSays program d one.0) (sym (same_standing c _ block NoTypes named own.block_is own.types_are)) says.0,
+            own.span_is ∙ sym says.1,
+            subst (λ (d : Stated). ClauseSays program d one.0) (sym (same_stated c _ block NoTypes named own.block_is own.types_are)) says.0,
           ),
         );
   }
 
   -- ---- the clauses of loops
 
-  one_locals : (f : Function) (types : List TypeData) → LocalsSay program f (Some types) → (c : Standing) (of : IsOfLoop program f c) → of.locals ≡ types
+  one_locals : (f : Function) (types : List TypeData) → LocalsSay program f (Some types) → (c : Stated) (of : IsOfLoop program f c) → of.locals ≡ types
   one_locals f types says c of =
       let d : TypeData = TupleType NoTypes in
       let own = of.same_length in
@@ -131,7 +131,7 @@ module _ (program : Program) where
         let lt : at.0 < length f.loop_clauses = (let within = slice_get_within judged at.0 one at.1 in let size = loops.same_length in omega (arith, within, size)) in
         let l = some_at f.loop_clauses at.0 lt in
         let says = loops.each at.0 l.0 one l.1 at.1 in (
-          standing (C.loop_names f.result types) C.LoopBlock NoTypes l.0.clause l.0.clause.block,
+          stated (C.loop_names f.result types) C.LoopBlock NoTypes l.0.clause l.0.clause.block,
           (
             record {
               locals = types;
@@ -141,7 +141,7 @@ module _ (program : Program) where
               block_is = refl;
               types_are = refl;
               one = number_clause f at.0 l.0 l.1;
-              place_is = refl;
+              span_is = refl;
             },
             sym says.1,
             says.0,
@@ -155,27 +155,27 @@ module _ (program : Program) where
         let one = some_at judged w.0 lt in
         let says = loops.each w.0 l one.0 w.1.1.0 one.1 in
         let named : c.names ≡ C.loop_names f.result types = of.names_are ∙ ap (λ (ts : List TypeData). C.loop_names f.result ts) (one_locals f types locals c of) in
-        let placed : c.place ≡ l.clause.block = of.place_is ∙ ap (λ (x : Clause). x.block) (sym same) in
-        let is : c ≡ standing (C.loop_names f.result types) C.LoopBlock NoTypes l.clause l.clause.block =
-        λ i. record { names = named i; block = of.block_is i; types = of.types_are i; clause = sym same i; place = placed i } in (
+        let placed : c.span ≡ l.clause.block = of.span_is ∙ ap (λ (x : Clause). x.block) (sym same) in
+        let is : c ≡ stated (C.loop_names f.result types) C.LoopBlock NoTypes l.clause l.clause.block =
+        λ i. record { names = named i; block = of.block_is i; types = of.types_are i; clause = sym same i; span = placed i } in (
           one.0,
-          (at_contained judged w.0 one.0 one.1, placed ∙ sym says.1, subst (λ (d : Standing). ClauseSays program d one.0) (sym is) says.0),
+          (at_contained judged w.0 one.0 one.1, placed ∙ sym says.1, subst (λ (d : Stated). ClauseSays program d one.0) (sym is) says.0),
         );
   }
 
-  pub no_local : (f : Function) → LocalsSay program f None → (c : Standing) → IsOfLoop program f c → ⊥
+  pub no_local : (f : Function) → LocalsSay program f None → (c : Stated) → IsOfLoop program f c → ⊥
   no_local f says c of =
       let d : TypeData = TupleType NoTypes in
       let size = of.same_length in
       let lt = says.1.0 in
       says.1.1 (get_or of.locals says.0 d) (of.each says.0 (get_or of.locals says.0 d) (slice_get-get_or of.locals says.0 d (omega (arith, lt, size))))
 
-  pub no_loop : (f : Function) → f.loop_clauses ≡ [] → (c : Standing) → IsOfLoop program f c → ⊥
+  pub no_loop : (f : Function) → f.loop_clauses ≡ [] → (c : Stated) → IsOfLoop program f c → ⊥
   no_loop f none c of = none_contained c.clause (subst (λ (ls : List LoopClause). Contains (map (λ l. l.clause) ls) c.clause) none of.one)
 
   -- ---- declarations one after another
 
-  module _ {K D : Type 0} (IsOf : D → Standing → Type 0) (entries : List (K × D)) where
+  module _ {K D : Type 0} (IsOf : D → Stated → Type 0) (entries : List (K × D)) where
     one_more : (n : ℕ) (e : K × D) → slice_get entries n ≡ Some e → take (n + 1) entries ≡ take n entries ++ e ∷ []
     one_more n e h =
         ap (λ m. take m entries) (add-one n) ∙ take-suc entries n e (slice_get_within entries n e h)
@@ -183,7 +183,7 @@ module _ (program : Program) where
 
     pub some_more : (n : ℕ) (e : K × D) (xs : List JudgedClause) → slice_get entries n ≡ Some e
         → TellsOf program (λ c. OfSome IsOf (take n entries) c ⊎ IsOf e.1 c) xs → TellsOf program (OfSome IsOf (take (n + 1) entries)) xs
-    some_more n e xs at told =
+    some_more n e xs at known =
         let same = one_more n e at in
         subst (λ (es : List (K × D)). TellsOf program (OfSome IsOf es) xs) (sym same)
         (tells_same _ _ xs
@@ -194,47 +194,47 @@ module _ (program : Program) where
         (λ c b. elim (Contains-push_cases (take n entries) e b.0 b.1.0) [
           | inl there ↦ inl (b.0, (there, b.1.1))
           | inr is ↦ inr (subst (λ (x : K × D). IsOf x.1 c) (sym is) b.1.1)
-        ]) told)
+        ]) known)
 
     pub some_none : (xs : List JudgedClause) → xs ≡ [] → TellsOf program (OfSome IsOf (take 0 entries)) xs
     some_none xs e = subst (λ (ys : List JudgedClause). TellsOf program (OfSome IsOf (take 0 entries)) ys) (sym e) (tells_none (OfSome IsOf (take 0 entries)) (λ c b. none_contained b.0 b.1.0))
 
     pub some_all : (n : ℕ) (xs : List JudgedClause) → length entries ≤ n → TellsOf program (OfSome IsOf (take n entries)) xs → TellsOf program (OfSome IsOf entries) xs
-    some_all n xs le told = subst (λ (es : List (K × D)). TellsOf program (OfSome IsOf es) xs) (take_all n entries le) told
+    some_all n xs le known = subst (λ (es : List (K × D)). TellsOf program (OfSome IsOf es) xs) (take_all n entries le) known
 
 -- ---- the clauses of loops one after another
 
 pub record LoopsTo (program : Program) (f : Function) (locals : List TypeData) (judged : List JudgedClause) (n : ℕ) : Type 0 where
-  pub told : length judged ≡ n
+  pub known : length judged ≡ n
   pub each : (k : ℕ) (l : LoopClause) (one : JudgedClause) → k < n → slice_get f.loop_clauses k ≡ Some l → slice_get judged k ≡ Some one
-      → ClauseSays program (standing (C.loop_names f.result locals) C.LoopBlock NoTypes l.clause l.clause.block) one × (one.place ≡ l.clause.block)
+      → ClauseSays program (stated (C.loop_names f.result locals) C.LoopBlock NoTypes l.clause l.clause.block) one × (one.span ≡ l.clause.block)
 
 pub no_loops : (program : Program) (f : Function) (locals : List TypeData) (judged : List JudgedClause) → judged ≡ [] → LoopsTo program f locals judged 0
-no_loops program f locals judged e = record { told = ap (λ (js : List JudgedClause). length js) e; each = λ k l one lt at there. absurd (omega (arith, lt)) }
+no_loops program f locals judged e = record { known = ap (λ (js : List JudgedClause). length js) e; each = λ k l one lt at there. absurd (omega (arith, lt)) }
 
 last_is : (k n : ℕ) → k < n + 1 → (k < n) ⊎ (k ≡ n)
 last_is k n lt = elim (cases_lt k n) [ inl below ↦ inl below | inr other ↦ inr (omega (arith, lt, other)) ]
 
 pub more_loops : (program : Program) (f : Function) (locals : List TypeData) (judged new : List JudgedClause) (n : ℕ) (l : LoopClause) (one : JudgedClause) → slice_get f.loop_clauses n ≡ Some l
-    → ClauseSays program (standing (C.loop_names f.result locals) C.LoopBlock NoTypes l.clause l.clause.block) one → one.place ≡ l.clause.block → new ≡ judged ++ one ∷ []
+    → ClauseSays program (stated (C.loop_names f.result locals) C.LoopBlock NoTypes l.clause l.clause.block) one → one.span ≡ l.clause.block → new ≡ judged ++ one ∷ []
     → LoopsTo program f locals judged n → LoopsTo program f locals new (n + 1)
 more_loops program f locals judged new n l one at says placed e to = record {
-  told = (let a = ap (λ (js : List JudgedClause). length js) e in let b = length-append judged (one ∷ []) in let c = to.told in omega (arith, a, b, c));
+  known = (let a = ap (λ (js : List JudgedClause). length js) e in let b = length-append judged (one ∷ []) in let c = to.known in omega (arith, a, b, c));
   each = λ k x j lt there stands.
       let stands2 : slice_get (judged ++ one ∷ []) k ≡ Some j = ap (λ (js : List JudgedClause). slice_get js k) (sym e) ∙ stands in
       elim (last_is k n lt) [
-        | inl below ↦ (let size = to.told in to.each k x j below there (sym (get_before judged (one ∷ []) k (omega (arith, below, size))) ∙ stands2))
+        | inl below ↦ (let size = to.known in to.each k x j below there (sym (get_before judged (one ∷ []) k (omega (arith, below, size))) ∙ stands2))
         | inr here ↦
             let same : l ≡ x = some_inside l x (sym at ∙ ap (λ (m : ℕ). slice_get f.loop_clauses m) (sym here) ∙ there) in
-            let own : one ≡ j = some_inside one j (sym (last_there judged one) ∙ ap (λ (m : ℕ). slice_get (judged ++ one ∷ []) m) (to.told ∙ sym here) ∙ stands2) in
-            subst (λ (y : LoopClause). ClauseSays program (standing (C.loop_names f.result locals) C.LoopBlock NoTypes y.clause y.clause.block) j × (j.place ≡ y.clause.block)) same
-            (subst (λ (i : JudgedClause). ClauseSays program (standing (C.loop_names f.result locals) C.LoopBlock NoTypes l.clause l.clause.block) i × (i.place ≡ l.clause.block)) own (says, placed))
+            let own : one ≡ j = some_inside one j (sym (last_there judged one) ∙ ap (λ (m : ℕ). slice_get (judged ++ one ∷ []) m) (to.known ∙ sym here) ∙ stands2) in
+            subst (λ (y : LoopClause). ClauseSays program (stated (C.loop_names f.result locals) C.LoopBlock NoTypes y.clause y.clause.block) j × (j.span ≡ y.clause.block)) same
+            (subst (λ (i : JudgedClause). ClauseSays program (stated (C.loop_names f.result locals) C.LoopBlock NoTypes l.clause l.clause.block) i × (i.span ≡ l.clause.block)) own (says, placed))
       ];
 }
 
 pub all_loops : (program : Program) (f : Function) (locals : List TypeData) (judged : List JudgedClause) (n : ℕ) → n ≡ length f.loop_clauses → LoopsTo program f locals judged n → LoopsSay program f locals judged
 all_loops program f locals judged n size to = record {
-  same_length = to.told ∙ size;
+  same_length = to.known ∙ size;
   each = λ k l one at there. to.each k l one (let within = slice_get_within f.loop_clauses k l at in omega (arith, within, size)) at there;
 }
 
@@ -249,9 +249,9 @@ or_improper s false true wanted a e = (
 or_improper s false false wanted a e = ((λ h. inr (sym e)), (λ h. refl))
 
 pub functions_break : (program : Program) (rule : ClauseRule) (found : Option Span)
-    → IsFirstOrNone (Among (λ (d : FunctionId × SpecFunction). d.1.place) (λ d. SpecFunctionBreaks program rule d.1) program.spec_functions) found → IsFirstOrNone (FunctionBreaksAt program rule) found
+    → IsFirstOrNone (Among (λ (d : FunctionId × SpecFunction). d.1.span) (λ d. SpecFunctionBreaks program rule d.1) program.spec_functions) found → IsFirstOrNone (FunctionBreaksAt program rule) found
 functions_break program rule found first =
-    first_renamed (Among (λ (d : FunctionId × SpecFunction). d.1.place) (λ d. SpecFunctionBreaks program rule d.1) program.spec_functions) (FunctionBreaksAt program rule) found
+    first_renamed (Among (λ (d : FunctionId × SpecFunction). d.1.span) (λ d. SpecFunctionBreaks program rule d.1) program.spec_functions) (FunctionBreaksAt program rule) found
     (λ p h. (h.0, (h.1, h.2, h.3))) (λ p h. (h.0, h.1.0, h.1.1, h.1.2)) first
 
 -- ---- the clauses of all declarations
@@ -262,13 +262,13 @@ all_roots program xs ys zs all a b c e =
     subst (λ (js : List JudgedClause). TellsOf program (IsRoot program) js) (sym e)
     (tells_same program _ (IsRoot program) ((xs ++ ys) ++ zs) there back (tells_both program _ _ (xs ++ ys) zs (tells_both program _ _ xs ys a b) c))
   where
-    there : (r : Standing) → ((OfSome (IsOfFunction program) program.functions r ⊎ OfSome (IsOfStruct program) program.structs r) ⊎ OfSome (IsOfModule program) program.modules r) → IsRoot program r
+    there : (r : Stated) → ((OfSome (IsOfFunction program) program.functions r ⊎ OfSome (IsOfStruct program) program.structs r) ⊎ OfSome (IsOfModule program) program.modules r) → IsRoot program r
     there r (inl (inl (d, (has, inl own)))) = R.OfFunction d.0 d.1 has own
     there r (inl (inl (d, (has, inr own)))) = R.OfLoop d.0 d.1 has own
     there r (inl (inr (d, (has, own)))) = R.OfStruct d.0 d.1 has own
     there r (inr (d, (has, own))) = R.OfModule d.0 d.1 has own
 
-    back : (r : Standing) → IsRoot program r → ((OfSome (IsOfFunction program) program.functions r ⊎ OfSome (IsOfStruct program) program.structs r) ⊎ OfSome (IsOfModule program) program.modules r)
+    back : (r : Stated) → IsRoot program r → ((OfSome (IsOfFunction program) program.functions r ⊎ OfSome (IsOfStruct program) program.structs r) ⊎ OfSome (IsOfModule program) program.modules r)
     back r (R.OfFunction id f has own) = inl (inl ((id, f), (has, inl own)))
     back r (R.OfLoop id f has own) = inl (inl ((id, f), (has, inr own)))
     back r (R.OfStruct id s has own) = inl (inr ((id, s), (has, own)))

@@ -13,7 +13,7 @@ use Rattle.program.specs.CodeNodes.{CodeNode}
 use Rattle.typing_rules.specs.Answers.{System}
 use Rattle.typing_rules.specs.CodeSystems.{constant_system, function_system}
 use Rattle.typing_rules.specs.Clauses.{spec_function_system}
-use Rattle.typing_rules.specs.Faults.{IsStanding, NoClause, NoConstant, NoFunction, NoSpecFunction, OpenClause, OpenConstant, OpenFunction, OpenSpecFunction, Standing, standing_system}
+use Rattle.typing_rules.specs.Faults.{IsStated, NoClause, NoConstant, NoFunction, NoSpecFunction, OpenClause, OpenConstant, OpenFunction, OpenSpecFunction, Stated, stated_system}
 use Rattle.body_types.specs.CodeTyped.{TypingSays}
 use Rattle.type_check.specs.Functions.{AreTypings, IsTypingOf}
 use Rattle.type_check.specs.declared.code.functions.FunctionTyping.{FunctionTyping}
@@ -26,26 +26,26 @@ use Rattle.type_check.proofs.TypedProgramLists.{get_front}
 module _ (program : Program) (determined : IsDetermined program) where
   pub settled_function : (id : FunctionId) (f : Function) → Contains program.functions (id, f) → IsSettled (function_system program f)
   settled_function id f there = (
-    (λ none. determined.typed f.place (NoFunction id f there refl none)),
-    (λ unsettled. determined.settled f.place (OpenFunction id f there refl unsettled)),
+    (λ none. determined.typed f.span (NoFunction id f there refl none)),
+    (λ unsettled. determined.settled f.span (OpenFunction id f there refl unsettled)),
   )
 
   pub settled_constant : (id : ConstantId) (c : Constant) → Contains program.constants (id, c) → IsSettled (constant_system program c)
   settled_constant id c there = (
-    (λ none. determined.typed c.place (NoConstant id c there refl none)),
-    (λ unsettled. determined.settled c.place (OpenConstant id c there refl unsettled)),
+    (λ none. determined.typed c.span (NoConstant id c there refl none)),
+    (λ unsettled. determined.settled c.span (OpenConstant id c there refl unsettled)),
   )
 
   pub settled_spec_function : (id : FunctionId) (f : SpecFunction) → Contains program.spec_functions (id, f) → IsSettled (spec_function_system program f)
   settled_spec_function id f there = (
-    (λ none. determined.typed f.place (NoSpecFunction id f there refl none)),
-    (λ unsettled. determined.settled f.place (OpenSpecFunction id f there refl unsettled)),
+    (λ none. determined.typed f.span (NoSpecFunction id f there refl none)),
+    (λ unsettled. determined.settled f.span (OpenSpecFunction id f there refl unsettled)),
   )
 
-  pub settled_clause : (c : Standing) → IsStanding program c → IsSettled (standing_system program c)
+  pub settled_clause : (c : Stated) → IsStated program c → IsSettled (stated_system program c)
   settled_clause c stands = (
-    (λ none. determined.typed c.place (NoClause c stands refl none)),
-    (λ unsettled. determined.settled c.place (OpenClause c stands refl unsettled)),
+    (λ none. determined.typed c.span (NoClause c stands refl none)),
+    (λ unsettled. determined.settled c.span (OpenClause c stands refl unsettled)),
   )
 
   -- the typing of one of all functions, with others before and after it

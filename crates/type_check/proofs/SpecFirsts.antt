@@ -16,27 +16,27 @@ irreflexive p (inr h) = let s = h.1 in omega arith
 not_true : IsTrue false → ⊥
 not_true h = cc
 
-module _ {A : Type 0} (place_of : A → Span) (IsSo : A → Type 0) where
+module _ {A : Type 0} (span_of : A → Span) (IsSo : A → Type 0) where
   -- one of these items, with this span, has the property
   abbrev pub Among : List A → Span → Type 0
-  Among xs place = (x : A) × Contains xs x × (place_of x ≡ place) × IsSo x
+  Among xs span = (x : A) × Contains xs x × (span_of x ≡ span) × IsSo x
 
   none_contained : (x : A) → Contains [] x → ⊥
   none_contained x c = let b = c.1 in omega arith
 
   pub none_yet : IsFirstOrNone (Among []) None
-  none_yet = λ place h. none_contained h.0 h.1
+  none_yet = λ span h. none_contained h.0 h.1
 
   only : (x y : A) → Contains (x ∷ []) y → x ≡ y
   only x y h = elim (Contains-push_cases [] x y h) [ inl n ↦ absurd (none_contained y n) | inr e ↦ e ]
 
-  of_one : (x : A) (b : Bool) → (IsTrue b ↔ IsSo x) → IsFirstOrNone (Among (x ∷ [])) (if b then Some (place_of x) else None)
-  of_one x false v = λ place h. not_true (v.1 (subst IsSo (sym (only x h.0 h.1)) h.3))
+  of_one : (x : A) (b : Bool) → (IsTrue b ↔ IsSo x) → IsFirstOrNone (Among (x ∷ [])) (if b then Some (span_of x) else None)
+  of_one x false v = λ span h. not_true (v.1 (subst IsSo (sym (only x h.0 h.1)) h.3))
   of_one x true v = record {
     one = (x, Contains-push [] x, refl, v.0 refl);
     first = λ other h b.
-        (let same : other ≡ place_of x = sym h.2 ∙ ap place_of (sym (only x h.0 h.1)) in
-        irreflexive (place_of x) (subst (λ (o : Span). IsBefore o (place_of x)) same b));
+        (let same : other ≡ span_of x = sym h.2 ∙ ap span_of (sym (only x h.0 h.1)) in
+        irreflexive (span_of x) (subst (λ (o : Span). IsBefore o (span_of x)) same b));
   }
 
   of_both : (xs ys : List A) (a b o : Option Span) → IsFirstOrNone (Among xs) a → IsFirstOrNone (Among ys) b → IsEarlier a b o → IsFirstOrNone (Among (xs ++ ys)) o
@@ -59,7 +59,7 @@ module _ {A : Type 0} (place_of : A → Span) (IsSo : A → Type 0) where
 
   -- one more item, for which the property is decided
   pub next : (xs : List A) (n : ℕ) (x : A) (b : Bool) (found one o : Option Span) → slice_get xs n ≡ Some x → (IsTrue b ↔ IsSo x)
-      → one ≡ (if b then Some (place_of x) else None) → IsFirstOrNone (Among (take n xs)) found → IsEarlier found one o → IsFirstOrNone (Among (take (n + 1) xs)) o
+      → one ≡ (if b then Some (span_of x) else None) → IsFirstOrNone (Among (take n xs)) found → IsEarlier found one o → IsFirstOrNone (Among (take (n + 1) xs)) o
   next xs n x b found one o h v is first e =
       subst (λ (ys : List A). IsFirstOrNone (Among ys) o) (sym (one_more xs n x h))
       (of_both (take n xs) (x ∷ []) found one o first (subst (λ (p : Option Span). IsFirstOrNone (Among (x ∷ [])) p) (sym is) (of_one x b v)) e)

@@ -5,45 +5,45 @@ use Rattle.std.proofs.lemmas.Option.{slice_get-get_or, slice_get_read, slice_get
 use Rattle.base.specs.declared.types.FunctionId.{FunctionId}
 use Rattle.program.specs.declared.declaration.Function.{Function}
 use Rattle.program.specs.declared.program.Program.{Program}
-use Rattle.definite_assignment.specs.Told.{AreTypedBy, IsTypedBy}
-use Rattle.definite_assignment.specs.declared.whole_program.told.FunctionTypes.{FunctionTypes}
-use Rattle.ability_rules.specs.Told.{AreTold, IsTold}
-use Rattle.ability_rules.specs.declared.polymorphic_recursion.told.PlaceTypes.{PlaceTypes}
+use Rattle.definite_assignment.specs.KnownState.{AreTypedBy, IsTypedBy}
+use Rattle.definite_assignment.specs.declared.whole_program.known.FunctionTypes.{FunctionTypes}
+use Rattle.ability_rules.specs.KnownTypes.{AreKnown, IsListed}
+use Rattle.ability_rules.specs.declared.polymorphic_recursion.known.VariableTypes.{VariableTypes}
 use Rattle.type_check.specs.Functions.{AreTypings, IsTypingOf}
 use Rattle.type_check.specs.Typed.{HasUntyped, IsUntyped}
 use Rattle.type_check.specs.declared.code.functions.FunctionTyping.{FunctionTyping}
 
 -- a property of the element that was read holds of the entry of the list
-pub one_told : {A : Type 0} (xs : List A) (n : ℕ) (read x : A) → n < length xs → read ≡ get_or xs n read → slice_get xs n ≡ Some x → (P : A → Type 0) → P read → P x
-one_told {A} xs n read x b is at P h = subst P (is ∙ get_or_from_slice_get xs n x read at) h
+pub one_known : {A : Type 0} (xs : List A) (n : ℕ) (read x : A) → n < length xs → read ≡ get_or xs n read → slice_get xs n ≡ Some x → (P : A → Type 0) → P read → P x
+one_known {A} xs n read x b is at P h = subst P (is ∙ get_or_from_slice_get xs n x read at) h
 
 there : {A : Type 0} (xs : List A) (n : ℕ) → n < length xs → (x : A) × (slice_get xs n ≡ Some x)
 there [] n b = absurd (omega arith)
 there (x ∷ xs) n b = (get_or (x ∷ xs) n x, slice_get-get_or (x ∷ xs) n x b)
 
 -- what each typing determines holds of each function
-told_by : {T : Type 0} (Is : Program → Function → T → Type 0) (program : Program) (typings : List FunctionTyping) (told : List T) → AreTypings program typings → length told ≡ length typings
-    → ((n : ℕ) (p : T) → slice_get told n ≡ Some p → (t : FunctionTyping) → slice_get typings n ≡ Some t → (program : Program) (f : Function) → IsTypingOf program f t → Is program f p)
-    → (n : ℕ) (p : T) → slice_get told n ≡ Some p → (id : FunctionId) (f : Function) → slice_get program.functions n ≡ Some (id, f) → Is program f p
-told_by {T} Is program typings told are long each n p at id f declared =
-    let inside = slice_get_within told n p at in
+known_by : {T : Type 0} (Is : Program → Function → T → Type 0) (program : Program) (typings : List FunctionTyping) (known : List T) → AreTypings program typings → length known ≡ length typings
+    → ((n : ℕ) (p : T) → slice_get known n ≡ Some p → (t : FunctionTyping) → slice_get typings n ≡ Some t → (program : Program) (f : Function) → IsTypingOf program f t → Is program f p)
+    → (n : ℕ) (p : T) → slice_get known n ≡ Some p → (id : FunctionId) (f : Function) → slice_get program.functions n ≡ Some (id, f) → Is program f p
+known_by {T} Is program typings known are long each n p at id f declared =
+    let inside = slice_get_within known n p at in
     let t = there typings n (omega (arith, inside, long)) in
     each n p at t.0 t.1 program f (are.each n t.0 t.1 id f declared)
 
-pub all_told : (program : Program) (typings : List FunctionTyping) (told : List PlaceTypes) → AreTypings program typings → length told ≡ length typings
-    → ((n : ℕ) (p : PlaceTypes) → slice_get told n ≡ Some p → (t : FunctionTyping) → slice_get typings n ≡ Some t → (program : Program) (f : Function) → IsTypingOf program f t → IsTold program f p)
-    → AreTold program told
-all_told program typings told are long each = record {
+pub all_known : (program : Program) (typings : List FunctionTyping) (known : List VariableTypes) → AreTypings program typings → length known ≡ length typings
+    → ((n : ℕ) (p : VariableTypes) → slice_get known n ≡ Some p → (t : FunctionTyping) → slice_get typings n ≡ Some t → (program : Program) (f : Function) → IsTypingOf program f t → IsListed program f p)
+    → AreKnown program known
+all_known program typings known are long each = record {
   same_length = long ∙ are.same_length;
-  each = told_by (λ program f p. IsTold program f p) program typings told are long each;
+  each = known_by (λ program f p. IsListed program f p) program typings known are long each;
 }
 
-pub all_typed : (program : Program) (typings : List FunctionTyping) (told : List FunctionTypes) → AreTypings program typings → length told ≡ length typings
-    → ((n : ℕ) (p : FunctionTypes) → slice_get told n ≡ Some p → (t : FunctionTyping) → slice_get typings n ≡ Some t → (program : Program) (f : Function) → IsTypingOf program f t → IsTypedBy program f p)
-    → AreTypedBy program told
-all_typed program typings told are long each = record {
+pub all_typed : (program : Program) (typings : List FunctionTyping) (known : List FunctionTypes) → AreTypings program typings → length known ≡ length typings
+    → ((n : ℕ) (p : FunctionTypes) → slice_get known n ≡ Some p → (t : FunctionTyping) → slice_get typings n ≡ Some t → (program : Program) (f : Function) → IsTypingOf program f t → IsTypedBy program f p)
+    → AreTypedBy program known
+all_typed program typings known are long each = record {
   same_length = long ∙ are.same_length;
-  each = told_by (λ program f p. IsTypedBy program f p) program typings told are long each;
+  each = known_by (λ program f p. IsTypedBy program f p) program typings known are long each;
 }
 
 -- if the typing with this number is that of no typed function, the program has a function that is not typed

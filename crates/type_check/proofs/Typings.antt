@@ -33,6 +33,6 @@ either false b P Q d e = (
 )
 
 -- a decided property is not its opposite
-pub not_so : (told is : Bool) → told ≡ is → Decides (not told) (is ≡ false)
+pub not_so : (known is : Bool) → known ≡ is → Decides (not known) (is ≡ false)
 not_so true is h = (λ t. absurd (cc), λ f. absurd (cc))
 not_so false is h = (λ t. sym h, λ f. refl)

@@ -14,7 +14,7 @@ use Rattle.program.specs.declared.program.Program.{Program}
 use Rattle.program.specs.declared.program.SchemaId.{SchemaId}
 use Rattle.typing_rules.specs.Answers.{System, HasType}
 use Rattle.typing_rules.specs.Clauses.{Block, LetType, AreLets, schema_arity}
-use Rattle.typing_rules.specs.Faults.{Standing, standing_system}
+use Rattle.typing_rules.specs.Faults.{Stated, stated_system}
 use Rattle.type_check.specs.ClausesInstances.{Instance, Includes}
 
 pub one_type : (s : System) (p : ℕ) (a b : TypeData) → HasType s p a → HasType s p b → a ≡ b
@@ -27,10 +27,10 @@ some_inside x y e = cc
 
 module _ (system : List (Option LetType) → Clause → System) (clauses : List Clause) where
   -- if the `let`s before are equal, a `let` of one list is one of the other
-  told_too : (a b : List (Option LetType)) → AreLets system clauses a → AreLets system clauses b → (k : ℕ) → take k a ≡ take k b
+  known_too : (a b : List (Option LetType)) → AreLets system clauses a → AreLets system clauses b → (k : ℕ) → take k a ≡ take k b
       → (l : LetType) → slice_get a k ≡ Some (Some l) → slice_get b k ≡ Some (Some l)
-  told_too a b of_a of_b k same l e =
-      let w = of_a.told k l.0 l.1 e in
+  known_too a b of_a of_b k same l e =
+      let w = of_a.known k l.0 l.1 e in
       of_b.typed k w.0 l.0 w.1 l.1 w.2 w.3 (subst (λ (before : List (Option LetType)). HasType (system before w.0) w.1 l.1) same w.4)
 
   no_other : {A : Type 0} (l : LetType) → Some None ≡ Some (Some l) → A
@@ -39,8 +39,8 @@ module _ (system : List (Option LetType) → Clause → System) (clauses : List 
   one_at : (a b : List (Option LetType)) → AreLets system clauses a → AreLets system clauses b → (k : ℕ) → take k a ≡ take k b
       → (x y : Option LetType) → slice_get a k ≡ Some x → slice_get b k ≡ Some y → x ≡ y
   one_at a b of_a of_b k same None None e f = refl
-  one_at a b of_a of_b k same (Some l) y e f = some_inside (Some l) y (sym (told_too a b of_a of_b k same l e) ∙ f)
-  one_at a b of_a of_b k same None (Some l) e f = no_other l (sym e ∙ told_too b a of_b of_a k (sym same) l f)
+  one_at a b of_a of_b k same (Some l) y e f = some_inside (Some l) y (sym (known_too a b of_a of_b k same l e) ∙ f)
+  one_at a b of_a of_b k same None (Some l) e f = no_other l (sym e ∙ known_too b a of_b of_a k (sym same) l f)
 
   same_first : (a b : List (Option LetType)) → AreLets system clauses a → AreLets system clauses b → (k : ℕ) → k ≤ length clauses → take k a ≡ take k b
   same_first a b of_a of_b zero le = refl
@@ -86,12 +86,12 @@ instance_same : (s t : SchemaId) (ts us : TypesData) (a b : Block) → s ≡ t �
     → instance_with s ts a ≡ instance_with t us b
 instance_same s t ts us a b e f g = λ i. record { schema = e i; types = f i; block = g i }
 
-pub one_instance : (program : Program) (c : Standing) (i j : Instance) → Includes program c i → Includes program c j → i ≡ j
+pub one_instance : (program : Program) (c : Stated) (i j : Instance) → Includes program c i → Includes program c j → i ≡ j
 one_instance program c i j a b =
     let schema : i.schema ≡ j.schema = schema_inside i.schema j.schema a.types b.types a.given b.given (sym a.form_is ∙ b.form_is) in
     let declared : a.declared ≡ b.declared = one_declared a.declared b.declared _ (subst (λ (s : SchemaId). lookup (same_schema s) program.schemas ≡ Some a.declared) schema a.lookup_is) b.lookup_is in
     let size : length (list_of_types i.types) ≡ length (list_of_types j.types) = sym a.same_length ∙ ap (λ (d : Schema). schema_arity (Some d)) declared ∙ b.same_length in
-    let types : list_of_types i.types ≡ list_of_types j.types = same_types (standing_system program c) _ _ _ size a.arguments b.arguments in
+    let types : list_of_types i.types ≡ list_of_types j.types = same_types (stated_system program c) _ _ _ size a.arguments b.arguments in
     instance_same i.schema j.schema i.types j.types i.block j.block schema
     (sym (types_of-list_of_types i.types) ∙ ap types_of types ∙ types_of-list_of_types j.types)
     (a.block_is ∙ sym b.block_is)

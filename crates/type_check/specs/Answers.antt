@@ -27,10 +27,10 @@ pub record IsWellFormed (program : Program) : Type 0 where
 
 -- the span is the first one that breaks the rule, and the rules before it are kept everywhere
 abbrev pub FaultSays : Program → TypeFault → Type 0
-FaultSays program (NoTyping place) = IsFirst (BreaksTyping program) place
-FaultSays program (Ambiguous place) = BreaksNone (BreaksTyping program) × IsFirst (IsUnsettled program) place
-FaultSays program (Ability place) = IsDetermined program × IsFirst (BreaksAbility program) place
-FaultSays program (Acquires place) = IsDetermined program × BreaksNone (BreaksAbility program) × IsFirst (BreaksAcquires program) place
-FaultSays program (unassigned_at place) = IsWellTyped program × IsFirst (BreaksLocals program Unassigned) place
-FaultSays program (undropped_at place) = IsWellTyped program × BreaksNone (BreaksLocals program Unassigned) × IsFirst (BreaksLocals program Undropped) place
+FaultSays program (NoTyping span) = IsFirst (BreaksTyping program) span
+FaultSays program (Ambiguous span) = BreaksNone (BreaksTyping program) × IsFirst (IsUnsettled program) span
+FaultSays program (Ability span) = IsDetermined program × IsFirst (BreaksAbility program) span
+FaultSays program (Acquires span) = IsDetermined program × BreaksNone (BreaksAbility program) × IsFirst (BreaksAcquires program) span
+FaultSays program (unassigned_at span) = IsWellTyped program × IsFirst (BreaksLocals program Unassigned) span
+FaultSays program (undropped_at span) = IsWellTyped program × BreaksNone (BreaksLocals program Unassigned) × IsFirst (BreaksLocals program Undropped) span
 FaultSays program NoMemory = Unit {0}

@@ -5,7 +5,7 @@ use Rattle.base.specs.TypeData.{TypeData, TypesData, NoTypes}
 use Rattle.program.specs.declared.clause.Clause.{Clause}
 use Rattle.program.specs.declared.declaration.Function.{Function}
 use Rattle.program.specs.declared.program.Program.{Program}
-use Rattle.typing_rules.specs.Settings.{local_place}
+use Rattle.typing_rules.specs.Settings.{variable_of_local}
 use Rattle.typing_rules.specs.Answers.{System, HasType}
 use Rattle.typing_rules.specs.CodeSystems.{function_setting, function_system}
 use Rattle.typing_rules.specs.Clauses.{Block, FunctionBlock, LoopBlock, Names, LetType, AreLets, clause_system, function_names, loop_names}
@@ -27,7 +27,7 @@ pub record AreClauseTables (program : Program) (names : List (Option LetType) �
 -- the types that the typing of a function gives to its locals
 pub record AreLocals (program : Program) (f : Function) (locals : List TypeData) : Type 0 where
   pub same_length : length locals ≡ length f.locals
-  pub each : (l : ℕ) (of : TypeData) → slice_get locals l ≡ Some of → HasType (function_system program f) (local_place (function_setting program f) l) of
+  pub each : (l : ℕ) (of : TypeData) → slice_get locals l ≡ Some of → HasType (function_system program f) (variable_of_local (function_setting program f) l) of
 
 -- the tables of the clauses of the loops of a function, in their order, where its locals have these types
 abbrev pub AreLoopTablesWith : Program → Function → List TypeData → List TypeTable → Type 0

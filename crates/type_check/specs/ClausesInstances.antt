@@ -9,9 +9,9 @@ use Rattle.program.specs.declared.program.Program.{Program}
 use Rattle.program.specs.declared.program.SchemaId.{SchemaId}
 use Rattle.program.specs.Same.{same_schema}
 use Rattle.typing_rules.specs.Answers.{HasType}
-use Rattle.typing_rules.specs.SpecConstraints.{spec_place_count}
+use Rattle.typing_rules.specs.SpecConstraints.{spec_variable_count}
 use Rattle.typing_rules.specs.Clauses.{Block, LetType, AreLets, clause_setting, clause_system, schema_arity, schema_names}
-use Rattle.typing_rules.specs.Faults.{Standing, standing_system}
+use Rattle.typing_rules.specs.Faults.{Stated, stated_system}
 
 -- a schema, with the types substituted for its type parameters, in a block of this kind
 pub record Instance : Type 0 where
@@ -20,7 +20,7 @@ pub record Instance : Type 0 where
   pub block : Block
 
 -- a clause includes the instance, with the types of the type arguments given there
-pub record Includes (program : Program) (from : Standing) (i : Instance) : Type 0 where
+pub record Includes (program : Program) (from : Stated) (i : Instance) : Type 0 where
   pub types : TypesData
   pub given : List ℕ
   pub form_is : from.clause.form ≡ Include i.schema types given
@@ -28,11 +28,11 @@ pub record Includes (program : Program) (from : Standing) (i : Instance) : Type 
   pub lookup_is : lookup (same_schema i.schema) program.schemas ≡ Some declared
   pub same_length : schema_arity (Some declared) ≡ length (list_of_types i.types)
   pub arguments : (k : ℕ) (of : TypeData) → slice_get (list_of_types i.types) k ≡ Some of
-      → HasType (standing_system program from) (spec_place_count (clause_setting program from.names from.block from.types from.clause) + k) of
+      → HasType (stated_system program from) (spec_variable_count (clause_setting program from.names from.block from.types from.clause) + k) of
   pub block_is : i.block ≡ from.block
 
 -- a clause of the instance, with the span of its block
-pub record IsOfInstance (program : Program) (i : Instance) (place : Span) (c : Standing) : Type 0 where
+pub record IsOfInstance (program : Program) (i : Instance) (span : Span) (c : Stated) : Type 0 where
   pub declared : Schema
   pub lookup_is : lookup (same_schema i.schema) program.schemas ≡ Some declared
   pub lets : List (Option LetType)
@@ -42,4 +42,4 @@ pub record IsOfInstance (program : Program) (i : Instance) (place : Span) (c : S
   pub names_are : c.names ≡ schema_names declared i.types (take number lets)
   pub block_is : c.block ≡ i.block
   pub types_are : c.types ≡ i.types
-  pub place_is : c.place ≡ place
+  pub span_is : c.span ≡ span

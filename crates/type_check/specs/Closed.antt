@@ -2,7 +2,7 @@
 use Rattle.std.specs.Prelude.{◌≡◌, ◌⊎◌, ◌↔◌, ℕ, suc, ◌<◌, ◌≤◌, Bool, false, IsTrue, List, length, Contains, Some, slice_get}
 use Rattle.program.specs.declared.program.Program.{Program}
 use Rattle.base.specs.declared.marked_cycles.edge.MarkedEdge.{MarkedEdge}
-use Rattle.base.specs.MarkedCircles.{IsEdge}
+use Rattle.base.specs.MarkedCycles.{IsEdge}
 use Rattle.type_check.specs.ClausesInstances.{Instance}
 use Rattle.type_check.specs.Judged.{instance_of}
 use Rattle.type_check.specs.declared.clauses.judged.JudgedClause.{JudgedClause}

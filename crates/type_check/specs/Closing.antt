@@ -2,7 +2,7 @@
 use Rattle.std.specs.Prelude.{◌≡◌, ◌↔◌, ℕ, ◌<◌, ◌≤◌, ◌++◌, Bool, false, IsTrue, List, length, Contains, Some, slice_get, slice_index_or}
 use Rattle.program.specs.declared.program.Program.{Program}
 use Rattle.base.specs.declared.marked_cycles.edge.MarkedEdge.{MarkedEdge}
-use Rattle.base.specs.MarkedCircles.{IsEdge}
+use Rattle.base.specs.MarkedCycles.{IsEdge}
 use Rattle.type_check.specs.ClausesInstances.{Instance}
 use Rattle.type_check.specs.declared.clauses.judged.ClauseRule.{ClauseRule}
 use Rattle.type_check.specs.Including.{Leads, Reaches, InstanceBreaks, ReachesBroken, IsShallow}
@@ -10,7 +10,7 @@ use Rattle.type_check.specs.Leading.{AreUnmarked}
 
 -- for the first so many instances, whether they break the rule
 pub record AreJudged (program : Program) (rule : ClauseRule) (known : List Instance) (marks : List Bool) (done : ℕ) : Type 0 where
-  pub told : length marks ≡ done
+  pub size : length marks ≡ done
   pub each : (n : ℕ) (i : Instance) → n < done → slice_get known n ≡ Some i → IsTrue (slice_index_or marks n false) ↔ InstanceBreaks program rule i
 
 -- an edge from one instance to one that it includes

@@ -15,5 +15,5 @@ pub record AreEarlier (left right found : CodeFaults) : Type 0 where
   pub unsettled : IsEarlier left.unsettled right.unsettled found.unsettled
 
 -- the span, if a rule is broken
-abbrev pub place_if : Bool → Span → Option Span
-place_if broken place = if broken then Some place else None
+abbrev pub span_if : Bool → Span → Option Span
+span_if broken span = if broken then Some span else None

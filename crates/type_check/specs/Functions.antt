@@ -3,7 +3,7 @@ use Rattle.std.specs.Prelude.{◌≡◌, ℕ, List, length, map, replicate, Opti
 use Rattle.base.specs.declared.types.FunctionId.{FunctionId}
 use Rattle.program.specs.declared.declaration.Function.{Function}
 use Rattle.program.specs.declared.program.Program.{Program}
-use Rattle.typing_rules.specs.Settings.{place_count}
+use Rattle.typing_rules.specs.Settings.{variable_count}
 use Rattle.typing_rules.specs.CodeSystems.{function_setting, function_system}
 use Rattle.body_types.specs.CodeTyped.{TypingSays}
 use Rattle.body_types.specs.declared.code.typing.CodeTyping.{CodeTyping}
@@ -11,10 +11,10 @@ use Rattle.body_types.specs.declared.code.typing.CodeTyping.TheVariants.{Untypab
 use Rattle.type_check.specs.declared.code.functions.FunctionTyping.{FunctionTyping}
 
 -- the numbers that the typing of a function gives its so many type variables
-abbrev pub places_of : ℕ → CodeTyping → List (Option ℕ)
-places_of count Untypable = replicate count None
-places_of count (Ambiguous numbers judged) = numbers.items
-places_of count (Typed numbers judged) = map Some numbers
+abbrev pub variables_of : ℕ → CodeTyping → List (Option ℕ)
+variables_of count Untypable = replicate count None
+variables_of count (Ambiguous numbers judged) = numbers.items
+variables_of count (Typed numbers judged) = map Some numbers
 
 abbrev pub read_of : CodeTyping → ℕ
 read_of Untypable = 0
@@ -24,7 +24,7 @@ read_of (Typed numbers judged) = judged.read
 -- it is the typing of the function, in a pool of its own
 pub record IsTypingOf (program : Program) (f : Function) (t : FunctionTyping) : Type 0 where
   pub says : TypingSays (function_system program f) f.body.nodes t.pool t.typing
-  pub places_are : t.places.items ≡ places_of (place_count (function_setting program f)) t.typing
+  pub variables_are : t.variables.items ≡ variables_of (variable_count (function_setting program f)) t.typing
   pub read_is : t.read ≡ read_of t.typing
 
 -- for each function of the program, in their order

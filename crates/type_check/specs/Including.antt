@@ -10,16 +10,16 @@ use Rattle.program.specs.declared.declaration.Schema.{Schema}
 use Rattle.program.specs.declared.program.Program.{Program}
 use Rattle.program.specs.declared.program.SchemaId.{SchemaId}
 use Rattle.program.specs.Same.{same_schema}
-use Rattle.typing_rules.specs.Faults.{Standing}
+use Rattle.typing_rules.specs.Faults.{Stated}
 use Rattle.type_check.specs.ClausesInstances.{Instance, Includes, IsOfInstance}
 use Rattle.type_check.specs.Judged.{ClauseBreaks}
 use Rattle.type_check.specs.declared.clauses.judged.ClauseRule.{ClauseRule}
 
 -- a clause of the one includes the other
 pub record Leads (program : Program) (i j : Instance) : Type 0 where
-  pub place : Span
-  pub clause : Standing
-  pub is_of : IsOfInstance program i place clause
+  pub span : Span
+  pub clause : Stated
+  pub is_of : IsOfInstance program i span clause
   pub includes : Includes program clause j
 
 -- over any number of includes
@@ -29,9 +29,9 @@ pub data Reaches (program : Program) : Instance → Instance → Type 0 where
 
 -- a clause of the instance breaks the rule
 pub record InstanceBreaks (program : Program) (rule : ClauseRule) (i : Instance) : Type 0 where
-  pub place : Span
-  pub clause : Standing
-  pub is_of : IsOfInstance program i place clause
+  pub span : Span
+  pub clause : Stated
+  pub is_of : IsOfInstance program i span clause
   pub breaks : ClauseBreaks program rule clause
 
 -- it reaches an instance that breaks the rule

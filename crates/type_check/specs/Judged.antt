@@ -12,7 +12,7 @@ use Rattle.program.specs.declared.program.SchemaId.{SchemaId}
 use Rattle.program.specs.Same.{same_schema}
 use Rattle.typing_rules.specs.Answers.{IsUntypable, IsAmbiguous}
 use Rattle.typing_rules.specs.Clauses as C
-use Rattle.typing_rules.specs.Faults.{Standing, standing_system, variables_are_proper}
+use Rattle.typing_rules.specs.Faults.{Stated, stated_system, variables_are_proper}
 use Rattle.type_constraints.specs.SpecSettings.{let_of}
 use Rattle.type_constraints.specs.Blocks.{block_of}
 use Rattle.type_constraints.specs.declared.spec.setting.LetType.{LetType}
@@ -37,9 +37,9 @@ pub record IncludesImproper (program : Program) (form : ClauseForm) : Type 0 whe
   pub improper : variables_are_proper program declared ≡ false
 
 -- the clause breaks the rule in its block
-abbrev pub ClauseBreaks : Program → ClauseRule → Standing → Type 0
-ClauseBreaks program Typing c = IsUntypable (standing_system program c) ⊎ IncludesImproper program c.clause.form
-ClauseBreaks program Settling c = IsAmbiguous (standing_system program c)
+abbrev pub ClauseBreaks : Program → ClauseRule → Stated → Type 0
+ClauseBreaks program Typing c = IsUntypable (stated_system program c) ⊎ IncludesImproper program c.clause.form
+ClauseBreaks program Settling c = IsAmbiguous (stated_system program c)
 
 -- ---- judgments
 
@@ -48,40 +48,40 @@ abbrev pub instance_of : Instance → I.Instance
 instance_of i = record { schema = i.schema; types = types_of i.types.items; block = block_of i.block }
 
 -- the instance that a clause includes, if it includes one and all type arguments have types
-abbrev pub IncludedSays : Program → Standing → Option Instance → Type 0
+abbrev pub IncludedSays : Program → Stated → Option Instance → Type 0
 IncludedSays program c included = MatchOption included ((i : I.Instance) → I.Includes program c i → ⊥) (λ i. I.Includes program c (instance_of i))
 
 -- exactly which rules the clause breaks, what it includes, and its typing
-pub record ClauseSays (program : Program) (c : Standing) (judged : JudgedClause) : Type 0 where
+pub record ClauseSays (program : Program) (c : Stated) (judged : JudgedClause) : Type 0 where
   pub untyped : IsTrue judged.is_untyped ↔ ClauseBreaks program Typing c
   pub unsettled : IsTrue judged.is_unsettled ↔ ClauseBreaks program Settling c
   pub included : IncludedSays program c judged.included
-  pub typing : SpecTypingSays (standing_system program c) judged.pool judged.typing
+  pub typing : SpecTypingSays (stated_system program c) judged.pool judged.typing
 
 -- a clause in its setting, with this span of its block
-abbrev pub standing : C.Names → C.Block → TypesData → Clause → Span → Standing
-standing names block types clause place = record { names = names; block = block; types = types; clause = clause; place = place }
+abbrev pub stated : C.Names → C.Block → TypesData → Clause → Span → Stated
+stated names block types clause span = record { names = names; block = block; types = types; clause = clause; span = span }
 
 -- the judgment of a clause, whatever the span of its block, and the type of its `let`
-pub record ClauseTold (program : Program) (names : C.Names) (block : C.Block) (types : TypesData) (clause : Clause) (judged : JudgedClause) (of : Option LetType) : Type 0 where
-  pub says : (place : Span) → ClauseSays program (standing names block types clause place) judged
-  pub place_is : judged.place ≡ clause.block
+pub record ClauseKnown (program : Program) (names : C.Names) (block : C.Block) (types : TypesData) (clause : Clause) (judged : JudgedClause) (of : Option LetType) : Type 0 where
+  pub says : (span : Span) → ClauseSays program (stated names block types clause span) judged
+  pub span_is : judged.span ≡ clause.block
   pub of_let : LetSays (C.clause_system program names block types clause) clause.form (let_of of)
 
 -- ---- the clauses of an owner
 
 -- the first so many clauses, with the `let`s of the clauses before it in scope of each
 pub record FirstSay (program : Program) (names : List (Option C.LetType) → C.Names) (block : C.Block) (types : TypesData) (clauses : List Clause) (lets : List (Option C.LetType)) (judged : List JudgedClause) (n : ℕ) : Type 0 where
-  pub lets_told : length lets ≡ n
-  pub all_told : length judged ≡ n
+  pub lets_known : length lets ≡ n
+  pub all_known : length judged ≡ n
   pub lets_say : LetsSay (λ before. C.clause_system program (names before) block types) clauses lets n
-  pub each : (k : ℕ) (clause : Clause) (one : JudgedClause) (place : Span) → k < n → slice_get clauses k ≡ Some clause → slice_get judged k ≡ Some one
-      → ClauseSays program (standing (names (take k lets)) block types clause place) one × (one.place ≡ clause.block)
+  pub each : (k : ℕ) (clause : Clause) (one : JudgedClause) (span : Span) → k < n → slice_get clauses k ≡ Some clause → slice_get judged k ≡ Some one
+      → ClauseSays program (stated (names (take k lets)) block types clause span) one × (one.span ≡ clause.block)
 
 -- all of them
 pub record OwnerSays (program : Program) (names : List (Option C.LetType) → C.Names) (block : C.Block) (types : TypesData) (clauses : List Clause) (judged : List JudgedClause) : Type 0 where
   pub lets : List (Option C.LetType)
   pub are_lets : C.AreLets (λ before. C.clause_system program (names before) block types) clauses lets
   pub same_length : length judged ≡ length clauses
-  pub each : (k : ℕ) (clause : Clause) (one : JudgedClause) (place : Span) → slice_get clauses k ≡ Some clause → slice_get judged k ≡ Some one
-      → ClauseSays program (standing (names (take k lets)) block types clause place) one × (one.place ≡ clause.block)
+  pub each : (k : ℕ) (clause : Clause) (one : JudgedClause) (span : Span) → slice_get clauses k ≡ Some clause → slice_get judged k ≡ Some one
+      → ClauseSays program (stated (names (take k lets)) block types clause span) one × (one.span ≡ clause.block)

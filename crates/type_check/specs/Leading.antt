@@ -1,7 +1,7 @@
 -- Which vertices of a graph reach marked ones.
 use Rattle.std.specs.Prelude.{◌≡◌, ◌⊎◌, ℕ, ◌<◌, Bool, true, false, IsTrue, List, Contains, slice_index_or}
 use Rattle.base.specs.declared.marked_cycles.edge.MarkedEdge.{MarkedEdge}
-use Rattle.base.specs.MarkedCircles.{IsEdge}
+use Rattle.base.specs.MarkedCycles.{IsEdge}
 
 -- over any number of edges
 pub data Path (edges : List MarkedEdge) : ℕ → ℕ → Type 0 where

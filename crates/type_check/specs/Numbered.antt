@@ -23,7 +23,7 @@ pub record IsNumberOf (old new : List I.Instance) (included : Option Instance) (
 
 -- a root has the components of the judgment of its clause
 pub record IsRootOf (known : List I.Instance) (one : JudgedClause) (root : RootClause) : Type 0 where
-  pub place : root.place ≡ one.place
+  pub span : root.span ≡ one.span
   pub untyped : root.is_untyped ≡ one.is_untyped
   pub unsettled : root.is_unsettled ≡ one.is_unsettled
   pub included : StandsAt known one.included root.included
@@ -44,5 +44,5 @@ is_so_itself Settling root = root.is_unsettled
 
 -- a root with this span breaks the rule
 abbrev pub BreaksAmong : ClauseRule → List Bool → List RootClause → Span → Type 0
-BreaksAmong rule broken roots place =
-    (root : RootClause) × Contains roots root × (root.place ≡ place) × RootIsBroken (is_so_itself rule root) root.included broken
+BreaksAmong rule broken roots span =
+    (root : RootClause) × Contains roots root × (root.span ≡ span) × RootIsBroken (is_so_itself rule root) root.included broken

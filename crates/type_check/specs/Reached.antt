@@ -8,16 +8,16 @@ use Rattle.program.specs.declared.declaration.Struct.{Struct}
 use Rattle.program.specs.declared.program.ModuleId.{ModuleId}
 use Rattle.program.specs.declared.program.Program.{Program}
 use Rattle.typing_rules.specs.Clauses.{FunctionBlock, StructBlock, ModuleBlock, function_names, struct_names, module_names}
-use Rattle.typing_rules.specs.Faults.{Standing, IsOwned, IsOfLoop, IsIncluded}
+use Rattle.typing_rules.specs.Faults.{Stated, IsOwned, IsOfLoop, IsIncluded}
 
 -- a clause of a declaration itself
-pub data IsRoot (program : Program) (c : Standing) : Type 0 where
+pub data IsRoot (program : Program) (c : Stated) : Type 0 where
   OfFunction : (id : FunctionId) (f : Function) → Contains program.functions (id, f) → IsOwned program FunctionBlock (function_names f) f.clauses c → IsRoot program c
   OfLoop : (id : FunctionId) (f : Function) → Contains program.functions (id, f) → IsOfLoop program f c → IsRoot program c
   OfStruct : (id : StructId) (s : Struct) → Contains program.structs (id, s) → IsOwned program StructBlock (struct_names s) s.clauses c → IsRoot program c
   OfModule : (id : ModuleId) (m : Module) → Contains program.modules (id, m) → IsOwned program ModuleBlock module_names m.clauses c → IsRoot program c
 
 -- the clause itself, and those of the schemas that it includes, over any number of includes
-pub data IsReached (program : Program) (from : Standing) : Standing → Type 0 where
+pub data IsReached (program : Program) (from : Stated) : Stated → Type 0 where
   Here : IsReached program from from
-  Over : (c d : Standing) → IsReached program from c → IsIncluded program c d → IsReached program from d
+  Over : (c d : Stated) → IsReached program from c → IsIncluded program c d → IsReached program from d

@@ -21,7 +21,7 @@ OwnerOf program i judged = (declared : Schema) → lookup (same_schema i.schema)
 
 -- for the first so many instances
 pub record AreOwners (program : Program) (known : List Instance) (judged : List (Vec JudgedClause)) (done : ℕ) : Type 0 where
-  pub told : length judged ≡ done
+  pub size : length judged ≡ done
   pub each : (n : ℕ) (i : Instance) (of : Vec JudgedClause) → n < done → slice_get known n ≡ Some i → slice_get judged n ≡ Some of → OwnerOf program i of.items
 
 -- the first ones and all that they reach, with the judgments of their clauses

@@ -19,20 +19,20 @@ use Rattle.typing_rules.specs.CodeSystems.{function_system, constant_system}
 use Rattle.typing_rules.specs.Clauses.{spec_function_system}
 use Rattle.typing_rules.specs.Fitting.{Misfits}
 use Rattle.typing_rules.specs.Calls.{IsWrapping}
-use Rattle.typing_rules.specs.Faults.{Standing, IsStanding, standing_system, RunFails, fields_are_proper, spec_signature_is_proper, variables_are_proper}
+use Rattle.typing_rules.specs.Faults.{Stated, IsStated, stated_system, RunFails, fields_are_proper, spec_signature_is_proper, variables_are_proper}
 
 -- one of these declarations, which are identified by their first tokens, has this span and the property
 abbrev pub OneAt : {A : Type 0} → (A → Span) → (A → Type 0) → List A → Span → Type 0
-OneAt {A} place_of IsSo declarations place = (d : A) × Contains declarations d × (place_of d ≡ place) × IsSo d
+OneAt {A} span_of IsSo declarations span = (d : A) × Contains declarations d × (span_of d ≡ span) × IsSo d
 
 abbrev pub FunctionAt : Program → (FunctionId → Function → Type 0) → Span → Type 0
-FunctionAt program IsSo = OneAt (λ d. d.1.place) (λ d. IsSo d.0 d.1) program.functions
+FunctionAt program IsSo = OneAt (λ d. d.1.span) (λ d. IsSo d.0 d.1) program.functions
 
 abbrev pub ConstantAt : Program → (Constant → Type 0) → Span → Type 0
-ConstantAt program IsSo = OneAt (λ d. d.1.place) (λ d. IsSo d.1) program.constants
+ConstantAt program IsSo = OneAt (λ d. d.1.span) (λ d. IsSo d.1) program.constants
 
 abbrev pub StructAt : Program → (Struct → Type 0) → Span → Type 0
-StructAt program IsSo = OneAt (λ d. d.1.place) (λ d. IsSo d.1) program.structs
+StructAt program IsSo = OneAt (λ d. d.1.span) (λ d. IsSo d.1) program.structs
 
 -- ---- code
 
@@ -52,8 +52,8 @@ StructBreaks program s = fields_are_proper program s ≡ false
 -- a function or a constant has no typing, or one in which a number literal does not fit its type, or a function has
 -- polymorphic recursion, or a run of a constant fails, or a field has a type that it may not have
 abbrev pub CodeBreaksTyping : Program → Span → Type 0
-CodeBreaksTyping program place =
-    FunctionAt program (FunctionBreaks program) place ⊎ (ConstantAt program (ConstantBreaks program) place ⊎ StructAt program (StructBreaks program) place)
+CodeBreaksTyping program span =
+    FunctionAt program (FunctionBreaks program) span ⊎ (ConstantAt program (ConstantBreaks program) span ⊎ StructAt program (StructBreaks program) span)
 
 abbrev pub FunctionIsOpen : Program → FunctionId → Function → Type 0
 FunctionIsOpen program id f = IsAmbiguous (function_system program f)
@@ -63,19 +63,19 @@ ConstantIsOpen program c = IsAmbiguous (constant_system program c)
 
 -- a function or a constant has typings, and a head is open, or the type of a type variable is not forced
 abbrev pub CodeIsUnsettled : Program → Span → Type 0
-CodeIsUnsettled program place = FunctionAt program (FunctionIsOpen program) place ⊎ ConstantAt program (ConstantIsOpen program) place
+CodeIsUnsettled program span = FunctionAt program (FunctionIsOpen program) span ⊎ ConstantAt program (ConstantIsOpen program) span
 
 -- ---- specifications
 
 -- a spec function or a clause has no typing, or a specification declares a type that it may not declare
-pub data SpecBreaksTyping (program : Program) (place : Span) : Type 0 where
-  NoSpecFunction : (id : FunctionId) (f : SpecFunction) → Contains program.spec_functions (id, f) → f.place ≡ place → IsUntypable (spec_function_system program f) → SpecBreaksTyping program place
-  BadSpecFunction : (id : FunctionId) (f : SpecFunction) → Contains program.spec_functions (id, f) → f.place ≡ place → spec_signature_is_proper program f ≡ false → SpecBreaksTyping program place
-  NoClause : (c : Standing) → IsStanding program c → c.place ≡ place → IsUntypable (standing_system program c) → SpecBreaksTyping program place
-  BadSchema : (c : Standing) (schema : SchemaId) (types : TypesData) (given : List ℕ) (s : Schema) → IsStanding program c → c.place ≡ place
-      → c.clause.form ≡ Include schema types given → lookup (same_schema schema) program.schemas ≡ Some s → variables_are_proper program s ≡ false → SpecBreaksTyping program place
+pub data SpecBreaksTyping (program : Program) (span : Span) : Type 0 where
+  NoSpecFunction : (id : FunctionId) (f : SpecFunction) → Contains program.spec_functions (id, f) → f.span ≡ span → IsUntypable (spec_function_system program f) → SpecBreaksTyping program span
+  BadSpecFunction : (id : FunctionId) (f : SpecFunction) → Contains program.spec_functions (id, f) → f.span ≡ span → spec_signature_is_proper program f ≡ false → SpecBreaksTyping program span
+  NoClause : (c : Stated) → IsStated program c → c.span ≡ span → IsUntypable (stated_system program c) → SpecBreaksTyping program span
+  BadSchema : (c : Stated) (schema : SchemaId) (types : TypesData) (given : List ℕ) (s : Schema) → IsStated program c → c.span ≡ span
+      → c.clause.form ≡ Include schema types given → lookup (same_schema schema) program.schemas ≡ Some s → variables_are_proper program s ≡ false → SpecBreaksTyping program span
 
 -- a spec function or a clause has typings, and a head is open, or the type of a type variable is not forced
-pub data SpecIsUnsettled (program : Program) (place : Span) : Type 0 where
-  OpenSpecFunction : (id : FunctionId) (f : SpecFunction) → Contains program.spec_functions (id, f) → f.place ≡ place → IsAmbiguous (spec_function_system program f) → SpecIsUnsettled program place
-  OpenClause : (c : Standing) → IsStanding program c → c.place ≡ place → IsAmbiguous (standing_system program c) → SpecIsUnsettled program place
+pub data SpecIsUnsettled (program : Program) (span : Span) : Type 0 where
+  OpenSpecFunction : (id : FunctionId) (f : SpecFunction) → Contains program.spec_functions (id, f) → f.span ≡ span → IsAmbiguous (spec_function_system program f) → SpecIsUnsettled program span
+  OpenClause : (c : Stated) → IsStated program c → c.span ≡ span → IsAmbiguous (stated_system program c) → SpecIsUnsettled program span

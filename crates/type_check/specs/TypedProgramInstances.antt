@@ -6,7 +6,7 @@ use Rattle.program.specs.declared.declaration.Schema.{Schema}
 use Rattle.program.specs.declared.program.Program.{Program}
 use Rattle.program.specs.Same.{same_schema}
 use Rattle.typing_rules.specs.Clauses.{schema_names}
-use Rattle.typing_rules.specs.Faults.{Standing, IsStanding}
+use Rattle.typing_rules.specs.Faults.{Stated, IsStated}
 use Rattle.type_check.specs.ClausesInstances.{Instance, Includes}
 use Rattle.type_check.specs.Known.{IsKeyed, listed}
 use Rattle.type_check.specs.Clauses.{AreClauseTables}
@@ -22,6 +22,6 @@ pub record AreTablesOf (program : Program) (i : Instance) (tables : List TypeTab
 -- the tables of exactly the instances that some clause of the program includes
 pub record AreInstanceTables (program : Program) (instances : InstanceTables) : Type 0 where
   pub keyed : IsKeyed instances.known
-  pub all : (c : Standing) (i : Instance) → IsStanding program c → Includes program c i → Contains (listed instances.known) i
-  pub only : (i : Instance) → Contains (listed instances.known) i → (c : Standing) × IsStanding program c × Includes program c i
+  pub all : (c : Stated) (i : Instance) → IsStated program c → Includes program c i → Contains (listed instances.known) i
+  pub only : (i : Instance) → Contains (listed instances.known) i → (c : Stated) × IsStated program c × Includes program c i
   pub typed : Paired (AreTablesOf program) (listed instances.known) instances.clauses.items

@@ -4,5 +4,5 @@ pub mod faults;
 pub mod functions;
 mod judged;
 pub mod law;
-pub mod places;
 pub mod typed;
+pub mod variables;

@@ -3,5 +3,5 @@
 pub mod first;
 mod functions;
 mod loops;
-mod places;
 mod roots;
+mod spans;

@@ -6,7 +6,7 @@ mod locals;
 mod tables;
 
 ghost use Rattle.std.specs.Prelude.{IfOk, MatchResult};
-ghost use Rattle.declaration_cycles.specs.Circular.{HasNoCircle, schema_kind};
+ghost use Rattle.declaration_cycles.specs.Circular.{HasNoCycle, schema_kind};
 ghost use Rattle.type_check.specs.Functions.{AreTypings};
 ghost use Rattle.type_check.specs.Included.{AreIncluded};
 ghost use Rattle.type_check.specs.Answers.{FaultSays, IsDetermined, IsWellFormed};
@@ -106,7 +106,7 @@ fn with_tables(
 /// Each rule if and only if it is the first that is broken, with the span of the first declaration that breaks it; a
 /// clause is identified by its spec block. Schemas must not include themselves.
 pub fn type_program(alloc: Global, program: Program) -> Result<TypedProgram, TypeFault>
-    requires { HasNoCircle (schema_kind program) }
+    requires { HasNoCycle (schema_kind program) }
     ensures well { MatchResult result (λ _. IsWellFormed program) (FaultSays program) }
     ensures typed { IfOk result (IsTypedProgram program) }
 {

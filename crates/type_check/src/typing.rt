@@ -2,26 +2,26 @@
 
 ghost use Rattle.std.specs.Prelude.{◌≡◌, IfOk, MatchResult};
 ghost use Rattle.program.specs.declared.program.Program.{Program as ProgramData};
-ghost use Rattle.declaration_cycles.specs.Circular.{HasNoCircle, schema_kind};
+ghost use Rattle.declaration_cycles.specs.Circular.{HasNoCycle, schema_kind};
 ghost use Rattle.program.specs.Order.{IsFirstOrNone};
 ghost use Rattle.typing_rules.specs.Faults.{BreaksTyping, IsUnsettled};
 ghost use Rattle.body_types.specs.Plain.{AreCodeTypes};
-ghost use Rattle.definite_assignment.specs.Told.{AreTypedBy};
+ghost use Rattle.definite_assignment.specs.KnownState.{AreTypedBy};
 ghost use Rattle.type_check.specs.Functions.{AreTypings};
 ghost use Rattle.type_check.specs.Included.{AreIncluded};
 ghost use Rattle.type_check.specs.Answers.{FaultSays, IsDetermined, IsWellFormed, IsWellTyped};
 
 use crate::code::faults::code_faults;
 use crate::code::functions::{FunctionTyping, type_functions};
-use crate::code::places::place_types;
 use crate::code::typed::{ability_fault, acquires_fault, function_types};
+use crate::code::variables::variable_types;
 use crate::schemas::broken::JudgedInstances;
 use crate::spec::first::{JudgedSpecifications, judge_specifications};
 use base::memory::NoMemory;
 use base::span::Span;
 use body_types::code::plain::{CodeTypes, code_types};
 use definite_assignment::whole_program::flow::{FlowFault, flow_fault};
-use definite_assignment::whole_program::told::FunctionTypes;
+use definite_assignment::whole_program::known::FunctionTypes;
 use program::order::earlier;
 use program::program::Program;
 use std::alloc::Global;
@@ -67,8 +67,8 @@ fn determined_by(
     ensures determined { (program : ProgramData) → IsFirstOrNone (BreaksTyping program) untyped → IsFirstOrNone (IsUnsettled program) unsettled → MatchResult result (λ _. IsDetermined program) (FaultSays program) }
 {
     match (untyped, unsettled) {
-        (Some(place), _) => Err(TypeFault::NoTyping(place)),
-        (None, Some(place)) => Err(TypeFault::Ambiguous(place)),
+        (Some(span), _) => Err(TypeFault::NoTyping(span)),
+        (None, Some(span)) => Err(TypeFault::Ambiguous(span)),
         (None, None) => Ok(instances),
     }
 }
@@ -86,13 +86,13 @@ fn check_determined(
 ) -> Result<JudgedInstances, TypeFault>
     requires types { AreCodeTypes types.now }
     requires typings { AreTypings program.now typings.now }
-    requires circles { HasNoCircle (schema_kind program.now) }
+    requires acyclic { HasNoCycle (schema_kind program.now) }
     ensures determined { MatchResult result (λ _. IsDetermined program.now) (FaultSays program.now) }
     ensures included { IfOk result (AreIncluded program.now) }
 {
-    let told = place_types(alloc, typings)?;
+    let known = variable_types(alloc, typings)?;
     let code = code_faults(alloc, types, program, typings)?;
-    let specifications = judge_specifications(alloc, types, program, &told)?;
+    let specifications = judge_specifications(alloc, types, program, &known)?;
     let JudgedSpecifications { faults, instances } = specifications;
     let untyped = earlier(code.untyped, faults.untyped);
     let unsettled = earlier(code.unsettled, faults.unsettled);
@@ -107,18 +107,18 @@ fn check_determined(
 fn check_abilities(
     alloc: Global,
     program: &Program,
-    told: &[FunctionTypes<'_>],
+    known: &[FunctionTypes<'_>],
 ) -> Result<(), TypeFault>
-    requires told { AreTypedBy program.now told.now }
+    requires known { AreTypedBy program.now known.now }
     requires determined { IsDetermined program.now }
     ensures { MatchResult result (λ _. IsWellTyped program.now) (FaultSays program.now) }
 {
-    if let Some(place) = ability_fault(alloc, program, told)? {
-        return Err(TypeFault::Ability(place));
+    if let Some(span) = ability_fault(alloc, program, known)? {
+        return Err(TypeFault::Ability(span));
     }
-    match acquires_fault(alloc, program, told)? {
+    match acquires_fault(alloc, program, known)? {
         None => Ok(()),
-        Some(place) => Err(TypeFault::Acquires(place)),
+        Some(span) => Err(TypeFault::Acquires(span)),
     }
 }
 
@@ -130,16 +130,16 @@ fn check_abilities(
 fn check_locals(
     alloc: Global,
     program: &Program,
-    told: &[FunctionTypes<'_>],
+    known: &[FunctionTypes<'_>],
 ) -> Result<(), TypeFault>
-    requires told { AreTypedBy program.now told.now }
+    requires known { AreTypedBy program.now known.now }
     requires typed { IsWellTyped program.now }
     ensures { MatchResult result (λ _. IsWellFormed program.now) (FaultSays program.now) }
 {
-    match flow_fault(alloc, program, told)? {
+    match flow_fault(alloc, program, known)? {
         None => Ok(()),
-        Some(FlowFault::Unassigned(place)) => Err(TypeFault::Unassigned(place)),
-        Some(FlowFault::Undropped(place)) => Err(TypeFault::Undropped(place)),
+        Some(FlowFault::Unassigned(span)) => Err(TypeFault::Unassigned(span)),
+        Some(FlowFault::Undropped(span)) => Err(TypeFault::Undropped(span)),
     }
 }
 
@@ -153,9 +153,9 @@ fn check_typed(
     requires determined { IsDetermined program.now }
     ensures { MatchResult result (λ _. IsWellFormed program.now) (FaultSays program.now) }
 {
-    if let Some(told) = function_types(alloc, typings)? {
-        check_abilities(alloc, program, &told)?;
-        check_locals(alloc, program, &told)?;
+    if let Some(known) = function_types(alloc, typings)? {
+        check_abilities(alloc, program, &known)?;
+        check_locals(alloc, program, &known)?;
     }
     Ok(())
 }
@@ -176,7 +176,7 @@ pub struct ProgramTyping {
 /// Each rule if and only if it is the first that is broken, with the span of the first declaration that breaks it; a
 /// clause is identified by its spec block. Schemas must not include themselves.
 pub fn program_typing(alloc: Global, program: &Program) -> Result<ProgramTyping, TypeFault>
-    requires { HasNoCircle (schema_kind program.now) }
+    requires { HasNoCycle (schema_kind program.now) }
     ensures well { MatchResult result (λ _. IsWellFormed program.now) (FaultSays program.now) }
     ensures types { IfOk result (λ typing. AreTypings program.now typing.functions.items) }
     ensures included { IfOk result (λ typing. AreIncluded program.now typing.instances) }
@@ -197,7 +197,7 @@ pub fn program_typing(alloc: Global, program: &Program) -> Result<ProgramTyping,
 ///
 /// Those of `program_typing`.
 pub fn type_program(alloc: Global, program: &Program) -> Result<Vec<FunctionTyping>, TypeFault>
-    requires { HasNoCircle (schema_kind program.now) }
+    requires { HasNoCycle (schema_kind program.now) }
     ensures well { MatchResult result (λ _. IsWellFormed program.now) (FaultSays program.now) }
     ensures types { IfOk result (λ typings. AreTypings program.now typings.items) }
 {

@@ -7,7 +7,7 @@ use Rattle.std.proofs.lemmas.List.Folds.{list_any-append}
 use Rattle.std.proofs.lemmas.Option.{get_or_from_slice_get, slice_get_within}
 use Rattle.program.specs.CodeNodes.{CodeNode}
 use Rattle.typing_rules.specs.Jumps.{loop_body, stands_in_body}
-use Rattle.type_constraints.specs.CodeTold.{TellsLoops}
+use Rattle.type_constraints.specs.CodeKnown.{TellsLoops}
 
 any_case : {X : Type 0} (p : X → Bool) (x : X) (b : Bool) → p x ≡ b → list_any p (x ∷ []) ≡ p x
 any_case p x true e = rw e refl
@@ -26,10 +26,10 @@ any_more {X} p xs k x e =
     ∙ ap (λ (b : Bool). list_any p (take k xs) || b) (any_one p (get_or xs k x) ∙ ap p same)
 
 pub tells_more : (old new : List Bool) (nodes : List CodeNode) (k : ℕ) (node : CodeNode) → slice_get nodes k ≡ Some node → length new ≡ length old → TellsLoops old nodes (take k nodes) → ((n : ℕ) → n < length old → slice_index_or new n false ≡ (slice_index_or old n false || stands_in_body nodes n (loop_body node))) → TellsLoops new nodes (take (k + 1) nodes)
-tells_more old new nodes k node e len told marked = record {
+tells_more old new nodes k node e len known marked = record {
   each = λ i h.
       let within : i < length old = omega arith in
       marked i within
-      ∙ ap (λ (b : Bool). b || stands_in_body nodes i (loop_body node)) (told.each i within)
+      ∙ ap (λ (b : Bool). b || stands_in_body nodes i (loop_body node)) (known.each i within)
       ∙ sym (any_more (λ n. stands_in_body nodes i (loop_body n)) nodes k node e);
 }

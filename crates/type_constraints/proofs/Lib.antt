@@ -9,5 +9,5 @@ pub mod Named
 pub mod SpecGiven
 pub mod Sums
 pub mod Stood
-pub mod Places
+pub mod Variables
 pub mod TypedNodesReading

@@ -8,9 +8,9 @@ use Rattle.std.proofs.lemmas.Grind.{flat_map-append}
 use Rattle.std.proofs.lemmas.List.{append-nil, get_or_append_left, length-append}
 use Rattle.std.proofs.lemmas.List.Sums.{sum_by-append}
 use Rattle.std.proofs.lemmas.Option.{get_or_from_slice_get, slice_get_within}
-use Rattle.typing_rules.specs.SpecConstraints.{SpecNode, SpecSetting, bind_constraints, binds_in, declared_variables, spec_first_argument, spec_node_arity, spec_place_count}
+use Rattle.typing_rules.specs.SpecConstraints.{SpecNode, SpecSetting, bind_constraints, binds_in, declared_variables, spec_first_argument, spec_node_arity, spec_variable_count}
 use Rattle.type_constraints.specs.SpecSettings.{variables_of}
-use Rattle.type_constraints.specs.SpecTold.{ArePlaces}
+use Rattle.type_constraints.specs.SpecKnown.{AreVariables}
 
 pub take_more : {X : Type 0} (xs : List X) (k : ℕ) (x : X) → slice_get xs k ≡ Some x → take (k + 1) xs ≡ take k xs ++ x ∷ []
 take_more xs k x e =
@@ -29,7 +29,7 @@ first_more s n node e =
     omega arith
 
 -- no type variable comes after those of the last node
-pub first_last : (s : SpecSetting) → spec_first_argument s (length s.nodes) ≡ spec_place_count s
+pub first_last : (s : SpecSetting) → spec_first_argument s (length s.nodes) ≡ spec_variable_count s
 first_last s = ap (λ (nodes : List SpecNode). (length s.nodes + s.variables) + sum_by (spec_node_arity s.program) nodes) (take-length s.nodes)
 
 pub variables_more : (nodes : List SpecNode) (n : ℕ) (node : SpecNode) → slice_get nodes n ≡ Some node → variables_of (take (n + 1) nodes) ≡ variables_of (take n nodes) + length (binds_in node)
@@ -60,17 +60,17 @@ pub declared_last : (s : SpecSetting) → flat_map (bind_constraints s) (flat_ma
 declared_last s = ap (λ (ns : List SpecNode). flat_map (bind_constraints s) (flat_map binds_in ns)) (take-length s.nodes)
 
 -- the type variables of the first type arguments of the first nodes, and of one more
-pub places_more : (s : SpecSetting) (places : List ℕ) (next : ℕ) → next ≡ spec_first_argument s (length places) → ArePlaces s places → ArePlaces s (places ++ next ∷ [])
-places_more s places next e are = record {
+pub type_variables_more : (s : SpecSetting) (variables : List ℕ) (next : ℕ) → next ≡ spec_first_argument s (length variables) → AreVariables s variables → AreVariables s (variables ++ next ∷ [])
+type_variables_more s variables next e are = record {
   each = λ n lt.
-      elim (eqb_tells n (length places)) [
-        | inl h ↦ subst (λ (q : ℕ). get_or (places ++ next ∷ []) q 0 ≡ spec_first_argument s q) (sym h.1) (get_or-append_seam places next [] 0 ∙ e)
-        | inr h ↦ (let lower : n < length places = omega (arith, lt, h.1, length-append places (next ∷ [])) in get_or_append_left places (next ∷ []) 0 n lower ∙ are.each n lower)
+      elim (eqb_tells n (length variables)) [
+        | inl h ↦ subst (λ (q : ℕ). get_or (variables ++ next ∷ []) q 0 ≡ spec_first_argument s q) (sym h.1) (get_or-append_seam variables next [] 0 ∙ e)
+        | inr h ↦ (let lower : n < length variables = omega (arith, lt, h.1, length-append variables (next ∷ [])) in get_or_append_left variables (next ∷ []) 0 n lower ∙ are.each n lower)
       ];
 }
 
 -- the last of them is the number of type variables
-pub places_last : (s : SpecSetting) (places : List ℕ) (next : ℕ) → length places ≡ length s.nodes → next ≡ spec_first_argument s (length places) → get_or (places ++ next ∷ []) (length s.nodes) 0 ≡ spec_place_count s
-places_last s places next len e =
-    subst (λ (n : ℕ). get_or (places ++ next ∷ []) n 0 ≡ spec_place_count s) len
-    (get_or-append_seam places next [] 0 ∙ e ∙ ap (spec_first_argument s) len ∙ first_last s)
+pub type_variables_last : (s : SpecSetting) (variables : List ℕ) (next : ℕ) → length variables ≡ length s.nodes → next ≡ spec_first_argument s (length variables) → get_or (variables ++ next ∷ []) (length s.nodes) 0 ≡ spec_variable_count s
+type_variables_last s variables next len e =
+    subst (λ (n : ℕ). get_or (variables ++ next ∷ []) n 0 ≡ spec_variable_count s) len
+    (get_or-append_seam variables next [] 0 ∙ e ∙ ap (spec_first_argument s) len ∙ first_last s)

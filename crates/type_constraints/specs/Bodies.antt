@@ -2,7 +2,7 @@
 use Rattle.std.specs.Prelude.{◌≡◌, List, length}
 use Rattle.program.specs.Trees.{trees}
 use Rattle.program.specs.CodeNodes.{CodeNode}
-use Rattle.type_constraints.specs.CodeTold.{TellsBreaks, TellsLoops}
+use Rattle.type_constraints.specs.CodeKnown.{TellsBreaks, TellsLoops}
 use Rattle.type_constraints.specs.declared.code.body.LoopTables.{LoopTables}
 
 pub record AreTablesOf (nodes : List CodeNode) (tables : LoopTables) : Type 0 where

@@ -2,11 +2,11 @@ pub mod Seen
 pub mod Signatures
 pub mod CodeSettings
 pub mod Ways
-pub mod CodeTold
+pub mod CodeKnown
 pub mod Bodies
 pub mod SpecSettings
 pub mod Packs
-pub mod SpecTold
+pub mod SpecKnown
 pub mod Blocks
 pub mod Includes
 pub mod Functions

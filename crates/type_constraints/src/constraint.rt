@@ -118,8 +118,8 @@ pub fn add_unless<'a>(constraints: &mut Vec<Constraint<'a>>, fine: bool) -> Resu
 }
 
 /// A type variable has a type of the language itself.
-pub fn has<'a>(place: usize, plain: PlainType) -> Constraint<'a>
-    ensures { seen result ≡ has place (plain_type plain) }
+pub fn has<'a>(variable: usize, plain: PlainType) -> Constraint<'a>
+    ensures { seen result ≡ has variable (plain_type plain) }
 {
-    Constraint::Has(place, TypeForm::Plain(plain))
+    Constraint::Has(variable, TypeForm::Plain(plain))
 }

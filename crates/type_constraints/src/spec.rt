@@ -6,7 +6,7 @@ pub mod inner;
 pub mod leaf;
 pub mod names;
 pub mod node;
-pub mod places;
 pub mod quantified;
 pub mod setting;
 pub mod structs;
+pub mod variables;

@@ -5,7 +5,7 @@ use Rattle.program.specs.declared.declaration.Function.{Function}
 use Rattle.program.specs.declared.program.Program.{Program}
 use Rattle.program.specs.CodeNodes.{CodeNode}
 use Rattle.typing_rules.specs.Constraint.{Constraint, Returns, Written}
-use Rattle.typing_rules.specs.Settings.{CodeSetting, place_count}
+use Rattle.typing_rules.specs.Settings.{CodeSetting, variable_count}
 use Rattle.typing_rules.specs.CodeConstraints.{barred_unless, constraints_from, has}
 use Rattle.typing_rules.specs.CodeSystems.{constant_setting, constant_system, function_setting, function_system, is_constant_type, last_by, signature_constraints, values_from}
 use Rattle.typing_rules.specs.FieldBars.{first_steps}
@@ -103,18 +103,18 @@ value_whole w m n a b c e begun first last after s d whole same start one more e
 
 -- ---- systems
 
-pub function_walked : (program : Program) (f : Function) (k places : ℕ) (s : CodeSetting) (declared : List Constraint) (whole : Constraint) (slots : List Slot) (progress : Progress) →
-    s ≡ function_setting program f → declared ≡ signature_constraints s f → whole ≡ last_by (λ n. Returns n (Written f.result)) f.body.nodes 0 → places ≡ place_count s →
-    IsWalk (code_reading program.structs) places (take (suc k) (declared ∷ (constraints_from s 0 s.nodes ++ (whole ∷ []) ∷ []))) slots progress →
+pub function_walked : (program : Program) (f : Function) (k variables : ℕ) (s : CodeSetting) (declared : List Constraint) (whole : Constraint) (slots : List Slot) (progress : Progress) →
+    s ≡ function_setting program f → declared ≡ signature_constraints s f → whole ≡ last_by (λ n. Returns n (Written f.result)) f.body.nodes 0 → variables ≡ variable_count s →
+    IsWalk (code_reading program.structs) variables (take (suc k) (declared ∷ (constraints_from s 0 s.nodes ++ (whole ∷ []) ∷ []))) slots progress →
     Walked (first_steps (function_system program f) (suc k)) slots progress
-function_walked program f k places s declared whole slots progress es ed ew ep is =
+function_walked program f k variables s declared whole slots progress es ed ew ep is =
     let w = code_reading program.structs in
     let last : Constraint = last_by (λ n. Returns n (Written f.result)) f.body.nodes 0 in
     walked (first_steps (function_system program f) (suc k)) slots progress
-    (subst (λ (x : CodeSetting). IsWalk w (place_count x) (take (suc k) (signature_constraints x f ∷ (constraints_from x 0 x.nodes ++ (last ∷ []) ∷ []))) slots progress) es
+    (subst (λ (x : CodeSetting). IsWalk w (variable_count x) (take (suc k) (signature_constraints x f ∷ (constraints_from x 0 x.nodes ++ (last ∷ []) ∷ []))) slots progress) es
     (subst (λ (n : ℕ). IsWalk w n (take (suc k) (signature_constraints s f ∷ (constraints_from s 0 s.nodes ++ (last ∷ []) ∷ []))) slots progress) ep
-    (subst (λ (d : List Constraint). IsWalk w places (take (suc k) (d ∷ (constraints_from s 0 s.nodes ++ (last ∷ []) ∷ []))) slots progress) ed
-    (subst (λ (x : Constraint). IsWalk w places (take (suc k) (declared ∷ (constraints_from s 0 s.nodes ++ (x ∷ []) ∷ []))) slots progress) ew is))))
+    (subst (λ (d : List Constraint). IsWalk w variables (take (suc k) (d ∷ (constraints_from s 0 s.nodes ++ (last ∷ []) ∷ []))) slots progress) ed
+    (subst (λ (x : Constraint). IsWalk w variables (take (suc k) (declared ∷ (constraints_from s 0 s.nodes ++ (x ∷ []) ∷ []))) slots progress) ew is))))
 
 -- if more are requested than there are nodes, the first steps of a function are all its steps
 pub all_walked : (program : Program) (f : Function) (k : ℕ) (slots : List Slot) (progress : Progress) → length f.body.nodes < k → Walked (first_steps (function_system program f) (suc k)) slots progress →
@@ -125,18 +125,18 @@ all_walked program f k slots progress lt is =
     let count : length nodes ≡ length f.body.nodes = constraints_count s 0 s.nodes in
     let last : List Constraint = last_by (λ n. Returns n (Written f.result)) s.nodes 0 ∷ [] in
     let whole = function_system program f in
-    subst (λ (xs : List (List Constraint)). Walked (record { reading = whole.reading; steps = xs; places = whole.places; dropped = whole.dropped; open_integer = whole.open_integer }) slots progress)
+    subst (λ (xs : List (List Constraint)). Walked (record { reading = whole.reading; steps = xs; variables = whole.variables; dropped = whole.dropped; open_integer = whole.open_integer }) slots progress)
     (all_taken (signature_constraints s f) nodes last k (omega (arith, count, lt))) is
 
-pub constant_walked : (program : Program) (c : Constant) (places : ℕ) (s : CodeSetting) (declared : List Constraint) (whole : Constraint) (slots : List Slot) (progress : Progress) →
-    s ≡ constant_setting program c → declared ≡ barred_unless (is_constant_type c.annotation) → whole ≡ last_by (λ n. has n c.annotation) c.value.nodes 0 → places ≡ place_count s →
-    IsWalk (code_reading program.structs) places (declared ∷ (values_from s 0 s.nodes ++ (whole ∷ []) ∷ [])) slots progress → Walked (constant_system program c) slots progress
-constant_walked program c places s declared whole slots progress es ed ew ep is =
+pub constant_walked : (program : Program) (c : Constant) (variables : ℕ) (s : CodeSetting) (declared : List Constraint) (whole : Constraint) (slots : List Slot) (progress : Progress) →
+    s ≡ constant_setting program c → declared ≡ barred_unless (is_constant_type c.annotation) → whole ≡ last_by (λ n. has n c.annotation) c.value.nodes 0 → variables ≡ variable_count s →
+    IsWalk (code_reading program.structs) variables (declared ∷ (values_from s 0 s.nodes ++ (whole ∷ []) ∷ [])) slots progress → Walked (constant_system program c) slots progress
+constant_walked program c variables s declared whole slots progress es ed ew ep is =
     let w = code_reading program.structs in
     let last : Constraint = last_by (λ n. has n c.annotation) c.value.nodes 0 in
     let first : List Constraint = barred_unless (is_constant_type c.annotation) in
     walked (constant_system program c) slots progress
-    (subst (λ (x : CodeSetting). IsWalk w (place_count x) (first ∷ (values_from x 0 x.nodes ++ (last ∷ []) ∷ [])) slots progress) es
+    (subst (λ (x : CodeSetting). IsWalk w (variable_count x) (first ∷ (values_from x 0 x.nodes ++ (last ∷ []) ∷ [])) slots progress) es
     (subst (λ (n : ℕ). IsWalk w n (first ∷ (values_from s 0 s.nodes ++ (last ∷ []) ∷ [])) slots progress) ep
-    (subst (λ (d : List Constraint). IsWalk w places (d ∷ (values_from s 0 s.nodes ++ (last ∷ []) ∷ [])) slots progress) ed
-    (subst (λ (x : Constraint). IsWalk w places (declared ∷ (values_from s 0 s.nodes ++ (x ∷ []) ∷ [])) slots progress) ew is))))
+    (subst (λ (d : List Constraint). IsWalk w variables (d ∷ (values_from s 0 s.nodes ++ (last ∷ []) ∷ [])) slots progress) ed
+    (subst (λ (x : Constraint). IsWalk w variables (declared ∷ (values_from s 0 s.nodes ++ (x ∷ []) ∷ [])) slots progress) ew is))))

@@ -8,11 +8,11 @@ use Rattle.unification.specs.Heads as H
 use Rattle.unification.specs.Slots.{Typing, value, grouped, Meets, TermWithin}
 use Rattle.unification.specs.Terms.{AllWithin as TermsWithin}
 use Rattle.unification.specs.declared.type_variables.slots.Group.TheVariants.{Tuple}
-use Rattle.type_solver.specs.Within.{PlacesWithin}
+use Rattle.type_solver.specs.Within.{VariablesWithin}
 use Rattle.unification.specs.declared.type_variables.slots.Wrap.{Wrap}
 use Rattle.unification.specs.declared.type_variables.slots.Wrap.TheVariants.{Vector, Shared, Mutable}
 use Rattle.unification.specs.declared.type_variables.slots.Term.{Term}
-use Rattle.unification.specs.declared.type_variables.slots.Term.TheVariants.{Place, Made}
+use Rattle.unification.specs.declared.type_variables.slots.Term.TheVariants.{Variable, Made}
 use Rattle.typing_rules.specs.declared.sort.Sort.{Sort as RuleSort}
 use Rattle.typing_rules.specs.declared.sort.Wrap.{Wrap as RuleWrap}
 use Rattle.type_solver.specs.Words.{sort_word, wrap_word}
@@ -103,7 +103,7 @@ target_never w a b p e s lt = record {
   within = tt;
 }
 
-pub target_equal : (w : TypeReading) (a b : List Slot) (p e : ℕ) (k : Wrap) (x : Term) → KindSaid a b e (To k x) → e < length a → p < length a → Says w a b (D.TargetOf p e) (Equal x (Place p))
+pub target_equal : (w : TypeReading) (a b : List Slot) (p e : ℕ) (k : Wrap) (x : Term) → KindSaid a b e (To k x) → e < length a → p < length a → Says w a b (D.TargetOf p e) (Equal x (Variable p))
 target_equal w a b p e k x s lt lp = record {
   to = λ t m h. some_same (value t x) (t p) (sym (to_target a b e k x s t m) ∙ h);
   from = λ t m h. to_target a b e k x s t m ∙ ap Some h;
@@ -206,8 +206,8 @@ behind_to w a b e Mutable x s lt = behind_mutable w a b e x s lt
 
 -- ---- comparisons
 
-pub place_more : (a b : List Slot) (p : ℕ) → Keeps a b → p < length a → p < length b
-place_more a b p g lt = let le = g.longer in omega (arith, lt, le)
+pub variable_more : (a b : List Slot) (p : ℕ) → Keeps a b → p < length a → p < length b
+variable_more a b p g lt = let le = g.longer in omega (arith, lt, le)
 
 pub alike_two : (w : TypeReading) (a b : List Slot) (p q : ℕ) (k j : Wrap) (x y : Term) → KindSaid a b p (To k x) → KindSaid a b q (To j y) → p < length a → q < length a →
     Says w a b (D.Alike p q) (Equal x y)
@@ -223,30 +223,30 @@ alike_two w a b p q k j x y s r lp lq = record {
 
 -- if one of them is not settled to be a reference, they are of one type
 alike_equal : (w : TypeReading) (a b : List Slot) (p q : ℕ) → Keeps a b → p < length a → q < length a →
-    ((t : Typing) → Meets b t → Agree (Meets a) R.kind p → Agree (Meets a) R.kind q → PointAtOne (t p) (t q) → ⊥) → Says w a b (D.Alike p q) (Equal (Place p) (Place q))
+    ((t : Typing) → Meets b t → Agree (Meets a) R.kind p → Agree (Meets a) R.kind q → PointAtOne (t p) (t q) → ⊥) → Says w a b (D.Alike p q) (Equal (Variable p) (Variable q))
 alike_equal w a b p q g lp lq never = record {
   to = λ t m h. elim h [ inl e ↦ e | inr o ↦ absurd (never t m o.0 o.1 o.2) ];
   from = λ t m e. inl e;
   settled = tt;
-  within = (place_more a b p g lp, place_more a b q g lq);
+  within = (variable_more a b p g lp, variable_more a b q g lq);
 }
 
-pub alike_left_unsettled : (w : TypeReading) (a b : List Slot) (p q : ℕ) → KindSaid a b p Unsettled → p < length a → q < length a → Says w a b (D.Alike p q) (Equal (Place p) (Place q))
+pub alike_left_unsettled : (w : TypeReading) (a b : List Slot) (p q : ℕ) → KindSaid a b p Unsettled → p < length a → q < length a → Says w a b (D.Alike p q) (Equal (Variable p) (Variable q))
 alike_left_unsettled w a b p q s lp lq = alike_equal w a b p q s.grows lp lq (λ t m ap_ aq o. kind_unsettled a b p s t (earlier a b s.grows t m) ap_)
 
-pub alike_left_plain : (w : TypeReading) (a b : List Slot) (p q : ℕ) → KindSaid a b p Plain → p < length a → q < length a → Says w a b (D.Alike p q) (Equal (Place p) (Place q))
+pub alike_left_plain : (w : TypeReading) (a b : List Slot) (p q : ℕ) → KindSaid a b p Plain → p < length a → q < length a → Says w a b (D.Alike p q) (Equal (Variable p) (Variable q))
 alike_left_plain w a b p q s lp lq = alike_equal w a b p q s.grows lp lq (λ t m ap_ aq o. (let z = sym (plain_target (t p) (plain_kind a b p s t m)) ∙ o.1 in cc))
 
-pub alike_right_unsettled : (w : TypeReading) (a b : List Slot) (p q : ℕ) → KindSaid a b q Unsettled → p < length a → q < length a → Says w a b (D.Alike p q) (Equal (Place p) (Place q))
+pub alike_right_unsettled : (w : TypeReading) (a b : List Slot) (p q : ℕ) → KindSaid a b q Unsettled → p < length a → q < length a → Says w a b (D.Alike p q) (Equal (Variable p) (Variable q))
 alike_right_unsettled w a b p q s lp lq = alike_equal w a b p q s.grows lp lq (λ t m ap_ aq o. kind_unsettled a b q s t (earlier a b s.grows t m) aq)
 
-pub alike_right_plain : (w : TypeReading) (a b : List Slot) (p q : ℕ) → KindSaid a b q Plain → p < length a → q < length a → Says w a b (D.Alike p q) (Equal (Place p) (Place q))
+pub alike_right_plain : (w : TypeReading) (a b : List Slot) (p q : ℕ) → KindSaid a b q Plain → p < length a → q < length a → Says w a b (D.Alike p q) (Equal (Variable p) (Variable q))
 alike_right_plain w a b p q s lp lq = alike_equal w a b p q s.grows lp lq (λ t m ap_ aq o. (let z = sym (plain_target (t q) (plain_kind a b q s t m)) ∙ o.2 in cc))
 
 -- ---- given values
 
 given_equal : (a b : List Slot) (e : ℕ) (x : Term) → e < length b → TermWithin (length b) x →
-    ((t : Typing) → Meets b t → Agree (Meets a) R.kind e → (of : TypeData) → t e ≡ MutableType of → ⊥) → GivenSays a b e x (Equal (Place e) x)
+    ((t : Typing) → Meets b t → Agree (Meets a) R.kind e → (of : TypeData) → t e ≡ MutableType of → ⊥) → GivenSays a b e x (Equal (Variable e) x)
 given_equal a b e x lt within never = record {
   to = λ t m h. elim h [ inl same ↦ same | inr o ↦ absurd (never t m o.0 o.1.0 o.1.1) ];
   from = λ t m same. inl same;
@@ -254,16 +254,16 @@ given_equal a b e x lt within never = record {
   settled = refl;
 }
 
-pub given_unsettled : (a b : List Slot) (e : ℕ) (x : Term) → KindSaid a b e Unsettled → e < length b → TermWithin (length b) x → GivenSays a b e x (Equal (Place e) x)
+pub given_unsettled : (a b : List Slot) (e : ℕ) (x : Term) → KindSaid a b e Unsettled → e < length b → TermWithin (length b) x → GivenSays a b e x (Equal (Variable e) x)
 given_unsettled a b e x s lt within = given_equal a b e x lt within (λ t m agree of is. kind_unsettled a b e s t (earlier a b s.grows t m) agree)
 
-pub given_plain : (a b : List Slot) (e : ℕ) (x : Term) → KindSaid a b e Plain → e < length b → TermWithin (length b) x → GivenSays a b e x (Equal (Place e) x)
+pub given_plain : (a b : List Slot) (e : ℕ) (x : Term) → KindSaid a b e Plain → e < length b → TermWithin (length b) x → GivenSays a b e x (Equal (Variable e) x)
 given_plain a b e x s lt within = given_equal a b e x lt within (λ t m agree of is. (let z = sym (plain_kind a b e s t m) ∙ ap R.kind is in cc))
 
-pub given_shared : (a b : List Slot) (e : ℕ) (y x : Term) → KindSaid a b e (To Shared y) → e < length b → TermWithin (length b) x → GivenSays a b e x (Equal (Place e) x)
+pub given_shared : (a b : List Slot) (e : ℕ) (y x : Term) → KindSaid a b e (To Shared y) → e < length b → TermWithin (length b) x → GivenSays a b e x (Equal (Variable e) x)
 given_shared a b e y x s lt within = given_equal a b e x lt within (λ t m agree of is. (let z = sym (shared_kind a b e y s t m) ∙ is in cc))
 
-pub given_vector : (a b : List Slot) (e : ℕ) (y x : Term) → KindSaid a b e (To Vector y) → e < length b → TermWithin (length b) x → GivenSays a b e x (Equal (Place e) x)
+pub given_vector : (a b : List Slot) (e : ℕ) (y x : Term) → KindSaid a b e (To Vector y) → e < length b → TermWithin (length b) x → GivenSays a b e x (Equal (Variable e) x)
 given_vector a b e y x s lt within = given_equal a b e x lt within (λ t m agree of is. no_vector a b e y s t m)
 
 mutable_same : (x y : TypeData) → MutableType x ≡ MutableType y → x ≡ y
@@ -304,27 +304,27 @@ takes_emits w a b c e form x q said g given = says_emits w a c (D.Takes e form) 
 
 -- ---- types of variables
 
-pub has_equal : (w : TypeReading) (a b : List Slot) (p : ℕ) (form : D.TypeForm) (x : Term) → TermSaid a b x (λ t. D.form_type t form) → p < length a → Says w a b (D.Has p form) (Equal (Place p) x)
+pub has_equal : (w : TypeReading) (a b : List Slot) (p : ℕ) (form : D.TypeForm) (x : Term) → TermSaid a b x (λ t. D.form_type t form) → p < length a → Says w a b (D.Has p form) (Equal (Variable p) x)
 has_equal w a b p form x said lt = record {
   to = λ t m h. h ∙ sym (said.is t m);
   from = λ t m h. h ∙ said.is t m;
   settled = tt;
-  within = (place_more a b p said.grows lt, said.within);
+  within = (variable_more a b p said.grows lt, said.within);
 }
 
-pub places_within : (n : ℕ) (parts : List ℕ) (terms : List Term) → terms ≡ map Place parts → PlacesWithin n parts → TermsWithin n terms
-places_within n parts terms e h = subst (λ (xs : List Term). TermsWithin n xs) (sym e) (all_in parts h)
+pub variables_within : (n : ℕ) (parts : List ℕ) (terms : List Term) → terms ≡ map Variable parts → VariablesWithin n parts → TermsWithin n terms
+variables_within n parts terms e h = subst (λ (xs : List Term). TermsWithin n xs) (sym e) (all_in parts h)
   where
-    all_in : (ps : List ℕ) → PlacesWithin n ps → TermsWithin n (map Place ps)
+    all_in : (ps : List ℕ) → VariablesWithin n ps → TermsWithin n (map Variable ps)
     all_in [] h = tt
     all_in (p ∷ ps) h = (h.0, all_in ps h.1)
 
-values_of : (t : Typing) (parts : List ℕ) → map (value t) (map Place parts) ≡ map t parts
+values_of : (t : Typing) (parts : List ℕ) → map (value t) (map Variable parts) ≡ map t parts
 values_of t [] = refl
 values_of t (p ∷ parts) = ap (λ (ts : List TypeData). t p ∷ ts) (values_of t parts)
 
-pub tuple_equal : (w : TypeReading) (a b : List Slot) (p : ℕ) (parts : List ℕ) (x : Term) (terms : List Term) → terms ≡ map Place parts → Keeps a b → TermWithin (length b) x →
-    ((t : Typing) → Meets b t → value t x ≡ grouped Tuple (types_of (map (value t) terms))) → p < length a → Says w a b (D.TupleOf p parts) (Equal (Place p) x)
+pub tuple_equal : (w : TypeReading) (a b : List Slot) (p : ℕ) (parts : List ℕ) (x : Term) (terms : List Term) → terms ≡ map Variable parts → Keeps a b → TermWithin (length b) x →
+    ((t : Typing) → Meets b t → value t x ≡ grouped Tuple (types_of (map (value t) terms))) → p < length a → Says w a b (D.TupleOf p parts) (Equal (Variable p) x)
 tuple_equal w a b p parts x terms e g within is lt =
     let there : (t : Typing) → Meets b t → value t x ≡ TupleType (types_of (map t parts)) =
     λ t m. is t m ∙ ap (λ (xs : List Term). TupleType (types_of (map (value t) xs))) e ∙ ap (λ (ts : List TypeData). TupleType (types_of ts)) (values_of t parts) in
@@ -332,10 +332,10 @@ tuple_equal w a b p parts x terms e g within is lt =
       to = λ t m h. h ∙ sym (there t m);
       from = λ t m h. h ∙ there t m;
       settled = tt;
-      within = (place_more a b p g lt, within);
+      within = (variable_more a b p g lt, within);
     }
 
-pub same_says : (w : TypeReading) (a : List Slot) (p q : ℕ) → p < length a → q < length a → Says w a a (D.Same p q) (Equal (Place p) (Place q))
+pub same_says : (w : TypeReading) (a : List Slot) (p q : ℕ) → p < length a → q < length a → Says w a a (D.Same p q) (Equal (Variable p) (Variable q))
 same_says w a p q lp lq = record {
   to = λ t m h. h;
   from = λ t m h. h;
@@ -351,7 +351,7 @@ barred_says w a = record {
   within = tt;
 }
 
-pub made_says : (w : TypeReading) (a : List Slot) (p e : ℕ) (wrap : RuleWrap) → p < length a → e < length a → Says w a a (D.MadeOf p wrap e) (Equal (Place p) (Made (wrap_word wrap) e))
+pub made_says : (w : TypeReading) (a : List Slot) (p e : ℕ) (wrap : RuleWrap) → p < length a → e < length a → Says w a a (D.MadeOf p wrap e) (Equal (Variable p) (Made (wrap_word wrap) e))
 made_says w a p e wrap lp le = record {
   to = λ t m h. h ∙ sym (made_same wrap (t e));
   from = λ t m h. h ∙ made_same wrap (t e);

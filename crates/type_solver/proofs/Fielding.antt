@@ -13,7 +13,7 @@ use Rattle.typing_rules.specs.Rules.{TypeReading, Agree, field_of, field_type}
 use Rattle.unification.specs.Heads as H
 use Rattle.unification.specs.Slots.{Typing, value, list_at, Meets}
 use Rattle.unification.specs.declared.type_variables.slots.Term.{Term}
-use Rattle.unification.specs.declared.type_variables.slots.Term.TheVariants.{Place}
+use Rattle.unification.specs.declared.type_variables.slots.Term.TheVariants.{Variable}
 use Rattle.unification.specs.declared.type_variables.slots.Slot.{Slot}
 use Rattle.unification.specs.declared.type_variables.slots.Wrap.{Wrap}
 use Rattle.unification.specs.declared.type_variables.heads.KindSeen.TheVariants.{Unsettled, Plain, To}
@@ -24,19 +24,19 @@ use Rattle.type_solver.specs.Equations.{Keeps, KindSaid, Says, HeadOpen, TermSai
 use Rattle.type_solver.specs.Owners.{OwnerSaid, OwnerOpen, StructSaid}
 use Rattle.type_solver.specs.declared.equation.Equation.TheVariants.{Never, Equal}
 use Rattle.type_solver.proofs.Bridges.{plain_behind}
-use Rattle.type_solver.proofs.Emitting.{earlier, agree_back, kind_unsettled, plain_kind, plain_agree, to_agree, to_behind, place_more, some_same}
+use Rattle.type_solver.proofs.Emitting.{earlier, agree_back, kind_unsettled, plain_kind, plain_agree, to_agree, to_behind, variable_more, some_same}
 
 -- ---- owners
 
 pub owner_open : (a b : List Slot) (e : ℕ) → KindSaid a b e Unsettled → OwnerOpen a e
 owner_open a b e s = record { differ = kind_unsettled a b e s }
 
-pub owner_plain : (a b : List Slot) (e : ℕ) → KindSaid a b e Plain → e < length a → OwnerSaid a b e (Place e)
+pub owner_plain : (a b : List Slot) (e : ℕ) → KindSaid a b e Plain → e < length a → OwnerSaid a b e (Variable e)
 owner_plain a b e s lt = record {
   grows = s.grows;
   settled = plain_agree a b e s lt;
   is = λ t m. plain_behind (t e) (plain_kind a b e s t m);
-  within = place_more a b e s.grows lt;
+  within = variable_more a b e s.grows lt;
 }
 
 pub owner_to : (a b : List Slot) (e : ℕ) (w : Wrap) (x : Term) → KindSaid a b e (To w x) → e < length a → OwnerSaid a b e x
@@ -138,7 +138,7 @@ field_absent w a b p e name x id base count o lt of none = record {
 
 pub field_known : (w : TypeReading) (a b c : List Slot) (p e : ℕ) (name : List ℕ) (x y : Term) (id : StructId) (base count : ℕ) (field : TypeData) → OwnerSaid a b e x → e < length a → p < length b →
     ((t : Typing) → Meets b t → value t x ≡ StructType id (types_of (list_at t base count))) → field_of (lookup (same_struct id) w.structs) name ≡ Some field →
-    TermSaid b c y (λ t. instance (D.arguments t base count) (read_type w.is_spec field)) → Says w a c (D.FieldOf p e name) (Equal (Place p) y)
+    TermSaid b c y (λ t. instance (D.arguments t base count) (read_type w.is_spec field)) → Says w a c (D.FieldOf p e name) (Equal (Variable p) y)
 field_known w a b c p e name x y id base count field o lt lp of found said =
     let there : (t : Typing) → Meets c t → field_type w (R.behind (t e)) name ≡ Some (value t y) =
     λ t m. (let mb = earlier b c said.grows t m in
@@ -148,7 +148,7 @@ field_known w a b c p e name x y id base count field o lt lp of found said =
       to = λ t m h. some_same (t p) (value t y) (sym h ∙ there t m);
       from = λ t m h. there t m ∙ ap Some (sym h);
       settled = known_agree a b e x id base count of o lt;
-      within = (place_more b c p said.grows lp, said.within);
+      within = (variable_more b c p said.grows lp, said.within);
     }
 
 pub owner_head_open : (a : List Slot) (p e : ℕ) (name : List ℕ) → OwnerOpen a e → HeadOpen a (D.FieldOf p e name)

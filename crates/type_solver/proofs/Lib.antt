@@ -7,7 +7,7 @@ pub mod Fielding
 pub mod Moving
 pub mod Stepping
 pub mod Reading
-pub mod Standing
+pub mod Stated
 pub mod Parts
 pub mod Steps
 pub mod CodeSystemsWhole

@@ -8,7 +8,7 @@ use Rattle.typing_rules.specs.Rules.{TypeReading, Agree, PointAtOne, Fits, Parts
 use Rattle.unification.specs.Slots.{Typing}
 use Rattle.unification.specs.Grown.{SameTo}
 use Rattle.unification.proofs.Growing.{arguments_same}
-use Rattle.type_solver.specs.Within.{FormWithin, IsWritten, PlacesWithin, ConstraintWithin, AllWithin}
+use Rattle.type_solver.specs.Within.{FormWithin, IsWritten, VariablesWithin, ConstraintWithin, AllWithin}
 
 pub written_within : (n : ℕ) (form : TypeForm) → IsWritten form → FormWithin n form
 written_within n (Written of) h = tt
@@ -113,7 +113,7 @@ form_kept n t u (Written of) same le = refl
 form_kept n t u (Declared of first count) same le = ap (λ (s : ℕ → TypeData). instance s of) (λ i k. arguments_same n t u first count le same k i)
 form_kept n t u (Applied s first count) same le = ap (StructType s) (types_kept n t u first count same le)
 
-map_kept : (n : ℕ) (t u : Typing) (parts : List ℕ) → SameTo n t u → PlacesWithin n parts → map u parts ≡ map t parts
+map_kept : (n : ℕ) (t u : Typing) (parts : List ℕ) → SameTo n t u → VariablesWithin n parts → map u parts ≡ map t parts
 map_kept n t u [] same lt = refl
 map_kept n t u (p ∷ parts) same lt = λ i. same p lt.0 i ∷ map_kept n t u parts same lt.1 i
 

@@ -275,20 +275,20 @@ whole_typing w steps t s h = typing_after w AnyTyping steps [] t s (subst (λ (x
 typing_whole : (w : TypeReading) (steps : List (List Constraint)) (t : Typing) → After w AnyTyping steps t → IsTyping w steps t
 typing_whole w steps t h = subst (λ (xs : List (List Constraint)). IsTypingFrom w AnyTyping xs t) (none_behind steps) (after_typing w AnyTyping steps [] t h)
 
-whole_says : (s : System) (slots : List Slot) (count : ℕ) → ReadsAll s.reading s.places s.steps slots count → WalkSays s slots Whole
+whole_says : (s : System) (slots : List Slot) (count : ℕ) → ReadsAll s.reading s.variables s.steps slots count → WalkSays s slots Whole
 whole_says s slots count r = (
-  knows_of s.places slots (After s.reading AnyTyping s.steps) (Typings s) r.knows (λ t h. typing_whole s.reading s.steps t h) (λ t h. whole_typing s.reading s.steps t r.settled h),
+  knows_of s.variables slots (After s.reading AnyTyping s.steps) (Typings s) r.knows (λ t h. typing_whole s.reading s.steps t h) (λ t h. whole_typing s.reading s.steps t r.settled h),
   λ h. stops_after s.reading AnyTyping s.steps [] r.settled (subst (λ (xs : List (List Constraint)). StopsFrom s.reading AnyTyping xs) (sym (none_behind s.steps)) h),
 )
 
-stopped_typing : (s : System) (slots : List Slot) (count : ℕ) (r : StopsAt s.reading s.places s.steps slots count) (t : Typing) → Typings s t → After s.reading AnyTyping r.before t
+stopped_typing : (s : System) (slots : List Slot) (count : ℕ) (r : StopsAt s.reading s.variables s.steps slots count) (t : Typing) → Typings s t → After s.reading AnyTyping r.before t
 stopped_typing s slots count r t h =
     before_of s.reading (After s.reading AnyTyping r.before) (r.here ∷ r.after) t (typing_after s.reading AnyTyping r.before (r.here ∷ r.after) t r.settled
     (subst (λ (xs : List (List Constraint)). IsTypingFrom s.reading AnyTyping xs t) r.split h))
 
-stopped_says : (s : System) (slots : List Slot) (count : ℕ) → StopsAt s.reading s.places s.steps slots count → WalkSays s slots Stopped
+stopped_says : (s : System) (slots : List Slot) (count : ℕ) → StopsAt s.reading s.variables s.steps slots count → WalkSays s slots Stopped
 stopped_says s slots count r = (
-  knows_of s.places slots (After s.reading AnyTyping r.before) (Typings s) r.knows
+  knows_of s.variables slots (After s.reading AnyTyping r.before) (Typings s) r.knows
       (λ t h. subst (λ (xs : List (List Constraint)). IsTypingFrom s.reading AnyTyping xs t) (sym r.split) (after_typing s.reading AnyTyping r.before (r.here ∷ r.after) t (h, λ settled. absurd (r.differ t h settled))))
       (stopped_typing s slots count r),
   λ t h. subst (λ (xs : List (List Constraint)). StopsFrom s.reading AnyTyping xs) (sym r.split)
@@ -301,12 +301,12 @@ clash_says s count r t h =
     let both = before_of s.reading (With s.reading (After s.reading AnyTyping r.before) r.here) r.after t (from_here.1 r.heads) in
     r.none t both.0 both.1
 
-says_by : (s : System) (slots : List Slot) (count : ℕ) (reading : Reading) → ReadingSays s.reading s.places s.steps slots count reading → WalkSays s slots reading
+says_by : (s : System) (slots : List Slot) (count : ℕ) (reading : Reading) → ReadingSays s.reading s.variables s.steps slots count reading → WalkSays s slots reading
 says_by s slots count Whole r = whole_says s slots count r
 says_by s slots count Stopped r = stopped_says s slots count r
 says_by s slots count Clash r = clash_says s count r
 
-done_by : (s : System) (slots : List Slot) (count : ℕ) (reading : Reading) → ReadingSays s.reading s.places s.steps slots count reading → (m : ℕ) → m < count → IsRead s.reading s.steps m
+done_by : (s : System) (slots : List Slot) (count : ℕ) (reading : Reading) → ReadingSays s.reading s.variables s.steps slots count reading → (m : ℕ) → m < count → IsRead s.reading s.steps m
 done_by s slots count Whole r m lt = subst (λ (xs : List (List Constraint)). IsReadFrom s.reading AnyTyping xs m) (none_behind s.steps)
     (read_before s.reading AnyTyping s.steps [] m r.settled (let e = r.counts in omega (arith, lt, e)))
 done_by s slots count Stopped r m lt = subst (λ (xs : List (List Constraint)). IsReadFrom s.reading AnyTyping xs m) (sym r.split)
@@ -314,14 +314,14 @@ done_by s slots count Stopped r m lt = subst (λ (xs : List (List Constraint)). 
 done_by s slots count Clash r m lt = subst (λ (xs : List (List Constraint)). IsReadFrom s.reading AnyTyping xs m) (sym r.split)
     (read_here s.reading AnyTyping r.before r.here r.after m r.settled r.heads (let e = r.counts in omega (arith, lt, e)))
 
-left_by : (s : System) (slots : List Slot) (count : ℕ) (reading : Reading) → ReadingSays s.reading s.places s.steps slots count reading → (t : Typing) → Typings s t → (m : ℕ) → count ≤ m → IsRead s.reading s.steps m → ⊥
+left_by : (s : System) (slots : List Slot) (count : ℕ) (reading : Reading) → ReadingSays s.reading s.variables s.steps slots count reading → (t : Typing) → Typings s t → (m : ℕ) → count ≤ m → IsRead s.reading s.steps m → ⊥
 left_by s slots count Whole r t h m le read_ = read_past s.reading AnyTyping s.steps m (let e = r.counts in omega (arith, le, e)) read_
 left_by s slots count Stopped r t h m le read_ = r.differ t (stopped_typing s slots count r t h)
     (read_after s.reading AnyTyping r.before r.here r.after m (let e = r.counts in omega (arith, le, e)) (subst (λ (xs : List (List Constraint)). IsReadFrom s.reading AnyTyping xs m) r.split read_))
 left_by s slots count Clash r t h m le read_ = clash_says s count r t h
 
 -- a walk over all steps of a system
-pub walked : (s : System) (slots : List Slot) (progress : Progress) → IsWalk s.reading s.places s.steps slots progress → Walked s slots progress
+pub walked : (s : System) (slots : List Slot) (progress : Progress) → IsWalk s.reading s.variables s.steps slots progress → Walked s slots progress
 walked s slots progress is = record {
   says = says_by s slots progress.count progress.reading is.says;
   done = done_by s slots progress.count progress.reading is.says;

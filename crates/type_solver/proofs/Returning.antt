@@ -17,7 +17,7 @@ use Rattle.unification.specs.declared.type_variables.slots.Group.TheVariants.{Tu
 use Rattle.unification.specs.declared.type_variables.slots.Slot.{Slot}
 use Rattle.unification.specs.declared.type_variables.slots.Wrap.TheVariants.{Vector, Shared, Mutable}
 use Rattle.unification.specs.declared.type_variables.slots.Term.{Term}
-use Rattle.unification.specs.declared.type_variables.slots.Term.TheVariants.{Place}
+use Rattle.unification.specs.declared.type_variables.slots.Term.TheVariants.{Variable}
 use Rattle.unification.specs.declared.type_variables.heads.KindSeen.TheVariants.{Unsettled, Plain, To}
 use Rattle.unification.proofs.Growing.{grown}
 use Rattle.type_solver.specs.Within.{IsWritten}
@@ -26,7 +26,7 @@ use Rattle.type_solver.specs.Tuples.{is_shared, TupleSaid, PartAt, PartSaid, Par
 use Rattle.type_solver.specs.declared.tuples.Parts.{Parts}
 use Rattle.type_solver.specs.declared.equation.Equation.{Equation}
 use Rattle.type_solver.specs.declared.equation.Equation.TheVariants.{Equal}
-use Rattle.type_solver.proofs.Emitting.{earlier, agree_back, agree_on, kind_unsettled, plain_kind, shared_kind, mutable_kind, no_vector, place_more}
+use Rattle.type_solver.proofs.Emitting.{earlier, agree_back, agree_on, kind_unsettled, plain_kind, shared_kind, mutable_kind, no_vector, variable_more}
 
 -- ---- lists of types
 
@@ -107,26 +107,26 @@ parts_push a b e i p j q (b0 ∷ types) (y ∷ terms) of x ej eq s one =
 
 -- a part that is not lent
 part_same : (a b : List Slot) (e i p : ℕ) (of : TypeData) →
-    ((t : Typing) → Meets b t → Agree (Meets a) (R.part_kind i) e → (inner : TypeData) → t p ≡ MutableType inner → of ≡ SharedType inner → ⊥) → PartSaid a b e i p of (Place p)
+    ((t : Typing) → Meets b t → Agree (Meets a) (R.part_kind i) e → (inner : TypeData) → t p ≡ MutableType inner → of ≡ SharedType inner → ⊥) → PartSaid a b e i p of (Variable p)
 part_same a b e i p of never = record {
   to = λ t m h. elim h [ inl same ↦ same | inr o ↦ absurd (never t m o.0 o.1.0 o.1.1 o.1.2) ];
   from = λ t m same. inl same;
 }
 
-pub part_kept : (a b : List Slot) (e i p : ℕ) (of : TypeData) → is_shared of ≡ false → PartSaid a b e i p of (Place p)
+pub part_kept : (a b : List Slot) (e i p : ℕ) (of : TypeData) → is_shared of ≡ false → PartSaid a b e i p of (Variable p)
 part_kept a b e i p of plain = part_same a b e i p of (λ t m agree inner is shared. (let z = sym plain ∙ ap is_shared shared in cc))
 
-pub part_unsettled : (a b c : List Slot) (e i p : ℕ) (of : TypeData) → PartAt a b e i p → KindSaid b c p Unsettled → PartSaid a c e i p of (Place p)
+pub part_unsettled : (a b c : List Slot) (e i p : ℕ) (of : TypeData) → PartAt a b e i p → KindSaid b c p Unsettled → PartSaid a c e i p of (Variable p)
 part_unsettled a b c e i p of at s = part_same a c e i p of (λ t m agree inner is shared.
     kind_unsettled b c p s t (earlier b c s.grows t m) (λ u v mu mv. sym (at.is u mu) ∙ agree u v (earlier a b at.grows u mu) (earlier a b at.grows v mv) ∙ at.is v mv))
 
-pub part_plain : (a b c : List Slot) (e i p : ℕ) (of : TypeData) → KindSaid b c p Plain → PartSaid a c e i p of (Place p)
+pub part_plain : (a b c : List Slot) (e i p : ℕ) (of : TypeData) → KindSaid b c p Plain → PartSaid a c e i p of (Variable p)
 part_plain a b c e i p of s = part_same a c e i p of (λ t m agree inner is shared. (let z = sym (plain_kind b c p s t m) ∙ ap R.kind is in cc))
 
-pub part_shared : (a b c : List Slot) (e i p : ℕ) (of : TypeData) (y : Term) → KindSaid b c p (To Shared y) → PartSaid a c e i p of (Place p)
+pub part_shared : (a b c : List Slot) (e i p : ℕ) (of : TypeData) (y : Term) → KindSaid b c p (To Shared y) → PartSaid a c e i p of (Variable p)
 part_shared a b c e i p of y s = part_same a c e i p of (λ t m agree inner is shared. (let z = sym (shared_kind b c p y s t m) ∙ is in cc))
 
-pub part_vector : (a b c : List Slot) (e i p : ℕ) (of : TypeData) (y : Term) → KindSaid b c p (To Vector y) → PartSaid a c e i p of (Place p)
+pub part_vector : (a b c : List Slot) (e i p : ℕ) (of : TypeData) (y : Term) → KindSaid b c p (To Vector y) → PartSaid a c e i p of (Variable p)
 part_vector a b c e i p of y s = part_same a c e i p of (λ t m agree inner is shared. no_vector b c p y s t m)
 
 mutable_same : (x y : TypeData) → MutableType x ≡ MutableType y → x ≡ y
@@ -185,7 +185,7 @@ parts_next a b c d e i parts types of terms more x lt at count g h s one pushed 
 
 -- it fits only as a whole
 whole_says : (w : TypeReading) (a b : List Slot) (e : ℕ) (of : TypeData) (types : TypesData) (x : Term) → Keeps a b → e < length a → TermWithin (length b) x → ((t : Typing) → value t x ≡ of) → of ≡ TupleType types →
-    ((t : Typing) → Meets b t → (ones : TypesData) → t e ≡ TupleType ones → PartsFit (Meets a) e 0 ones types → ones ≡ types) → Says w a b (D.Returns e (D.Written of)) (Equal (Place e) x)
+    ((t : Typing) → Meets b t → (ones : TypesData) → t e ≡ TupleType ones → PartsFit (Meets a) e 0 ones types → ones ≡ types) → Says w a b (D.Returns e (D.Written of)) (Equal (Variable e) x)
 whole_says w a b e of types x g lt within is tuple same = record {
   to = λ t m h. elim h [
     | inl fits ↦ elim fits [ inl one ↦ one ∙ sym (is t) | inr o ↦ absurd (let z = sym tuple ∙ o.1.2 in cc) ]
@@ -194,16 +194,16 @@ whole_says w a b e of types x g lt within is tuple same = record {
   ];
   from = λ t m h. inl (inl (h ∙ is t));
   settled = tt;
-  within = (place_more a b e g lt, within);
+  within = (variable_more a b e g lt, within);
 }
 
 pub open_emits : (w : TypeReading) (a b : List Slot) (e : ℕ) (of : TypeData) (types : List TypeData) (x : Term) → Keeps a b → e < length a → TermWithin (length b) x → ((t : Typing) → value t x ≡ of) → of ≡ TupleType (types_of types) →
-    ((t : Typing) → Meets b t → (ts : TypesData) → t e ≡ TupleType ts → (i : ℕ) → Agree (Meets b) (R.part_kind i) e → ⊥) → Says w a b (D.Returns e (D.Written of)) (Equal (Place e) x)
+    ((t : Typing) → Meets b t → (ts : TypesData) → t e ≡ TupleType ts → (i : ℕ) → Agree (Meets b) (R.part_kind i) e → ⊥) → Says w a b (D.Returns e (D.Written of)) (Equal (Variable e) x)
 open_emits w a b e of types x g lt within is tuple none = whole_says w a b e of (types_of types) x g lt within is tuple
     (λ t m ones at fit. parts_open (Meets a) e 0 ones (types_of types) (λ i agree. none t m ones at i (agree_on (R.part_kind i) a b e g agree)) fit)
 
 pub other_emits : (w : TypeReading) (a b : List Slot) (e : ℕ) (parts : Parts) (of : TypeData) (types : List TypeData) (x : Term) → TupleSaid a b e parts → TermWithin (length b) x → ((t : Typing) → value t x ≡ of) → of ≡ TupleType (types_of types) →
-    (parts.count ≡ length types → ⊥) → Says w a b (D.Returns e (D.Written of)) (Equal (Place e) x)
+    (parts.count ≡ length types → ⊥) → Says w a b (D.Returns e (D.Written of)) (Equal (Variable e) x)
 other_emits w a b e parts of types x s within is tuple differ = whole_says w a b e of (types_of types) x s.grows s.inside within is tuple
     (λ t m ones at fit. absurd (differ (
     sym (list_at_length t parts.first parts.count) ∙ sym (ap length (list_of_types-types_of (list_at t parts.first parts.count)))

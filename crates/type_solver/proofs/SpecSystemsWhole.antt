@@ -10,7 +10,7 @@ use Rattle.typing_rules.specs.CodeSystems.{last_by}
 use Rattle.typing_rules.specs.Constraint.{Constraint}
 use Rattle.typing_rules.specs.Instances.{spec_type}
 use Rattle.typing_rules.specs.Rules.{TypeReading}
-use Rattle.typing_rules.specs.SpecConstraints.{SpecSetting, declared_variables, spec_constraints_from, spec_place_count}
+use Rattle.typing_rules.specs.SpecConstraints.{SpecSetting, declared_variables, spec_constraints_from, spec_variable_count}
 use Rattle.unification.specs.declared.type_variables.slots.Slot.{Slot}
 use Rattle.type_solver.specs.Walking.{IsWalk}
 use Rattle.type_solver.specs.Walked.{Walked}
@@ -42,42 +42,42 @@ steps_whole w m n a b c e begun first last after s declared whole same ed start 
 
 -- ---- systems
 
-spec_walked : (there s : SpecSetting) (more places : ℕ) (required whole : List Constraint) (slots : List Slot) (progress : Progress) → s ≡ there → places ≡ spec_place_count s + more → whole ≡ required →
-    IsWalk (spec_reading there.program.structs) places (steps_of s whole) slots progress → Walked (spec_system there more required) slots progress
-spec_walked there s more places required whole slots progress es ep ew is =
+spec_walked : (there s : SpecSetting) (more variables : ℕ) (required whole : List Constraint) (slots : List Slot) (progress : Progress) → s ≡ there → variables ≡ spec_variable_count s + more → whole ≡ required →
+    IsWalk (spec_reading there.program.structs) variables (steps_of s whole) slots progress → Walked (spec_system there more required) slots progress
+spec_walked there s more variables required whole slots progress es ep ew is =
     let w = spec_reading there.program.structs in
     walked (spec_system there more required) slots progress
-    (subst (λ (x : SpecSetting). IsWalk w (spec_place_count x + more) (steps_of x required) slots progress) es
+    (subst (λ (x : SpecSetting). IsWalk w (spec_variable_count x + more) (steps_of x required) slots progress) es
     (subst (λ (n : ℕ). IsWalk w n (steps_of s required) slots progress) ep
-    (subst (λ (d : List Constraint). IsWalk w places (steps_of s d) slots progress) ew is)))
+    (subst (λ (d : List Constraint). IsWalk w variables (steps_of s d) slots progress) ew is)))
 
-pub function_walked : (program : Program) (f : SpecFunction) (s : SpecSetting) (places : ℕ) (whole : Constraint) (slots : List Slot) (progress : Progress) → s ≡ spec_function_setting program f → places ≡ spec_place_count s →
-    whole ≡ last_by (λ n. has n (spec_type f.result)) f.body.nodes 0 → IsWalk (spec_reading program.structs) places (steps_of s (whole ∷ [])) slots progress → Walked (spec_function_system program f) slots progress
-function_walked program f s places whole slots progress es ep ew is =
+pub function_walked : (program : Program) (f : SpecFunction) (s : SpecSetting) (variables : ℕ) (whole : Constraint) (slots : List Slot) (progress : Progress) → s ≡ spec_function_setting program f → variables ≡ spec_variable_count s →
+    whole ≡ last_by (λ n. has n (spec_type f.result)) f.body.nodes 0 → IsWalk (spec_reading program.structs) variables (steps_of s (whole ∷ [])) slots progress → Walked (spec_function_system program f) slots progress
+function_walked program f s variables whole slots progress es ep ew is =
     let last : Constraint = last_by (λ n. has n (spec_type f.result)) f.body.nodes 0 in
-    let count : places ≡ spec_place_count s + 0 = omega (arith, ep) in
-    spec_walked (spec_function_setting program f) s 0 places (last ∷ []) (whole ∷ []) slots progress es count (ap (λ (d : Constraint). d ∷ []) ew) is
+    let count : variables ≡ spec_variable_count s + 0 = omega (arith, ep) in
+    spec_walked (spec_function_setting program f) s 0 variables (last ∷ []) (whole ∷ []) slots progress es count (ap (λ (d : Constraint). d ∷ []) ew) is
 
-pub function_places : (program : Program) (f : SpecFunction) (s : SpecSetting) (places : ℕ) → s ≡ spec_function_setting program f → places ≡ spec_place_count s → places ≡ (spec_function_system program f).places
-function_places program f s places es ep =
-    let count : places ≡ spec_place_count s + 0 = omega (arith, ep) in
-    count ∙ ap (λ (x : SpecSetting). spec_place_count x + 0) es
+pub function_variables : (program : Program) (f : SpecFunction) (s : SpecSetting) (variables : ℕ) → s ≡ spec_function_setting program f → variables ≡ spec_variable_count s → variables ≡ (spec_function_system program f).variables
+function_variables program f s variables es ep =
+    let count : variables ≡ spec_variable_count s + 0 = omega (arith, ep) in
+    count ∙ ap (λ (x : SpecSetting). spec_variable_count x + 0) es
 
 -- the type variables of a clause, and those of the type arguments of an include
-clause_count : (program : Program) (clause : Clause) (s : SpecSetting) (first more places : ℕ) → first ≡ spec_place_count s → more ≡ form_arguments program clause.form → places ≡ first + more →
-    places ≡ spec_place_count s + form_arguments program clause.form
-clause_count program clause s first more places ef em ep = ep ∙ ap (λ (n : ℕ). n + more) ef ∙ ap (λ (n : ℕ). spec_place_count s + n) em
+clause_count : (program : Program) (clause : Clause) (s : SpecSetting) (first more variables : ℕ) → first ≡ spec_variable_count s → more ≡ form_arguments program clause.form → variables ≡ first + more →
+    variables ≡ spec_variable_count s + form_arguments program clause.form
+clause_count program clause s first more variables ef em ep = ep ∙ ap (λ (n : ℕ). n + more) ef ∙ ap (λ (n : ℕ). spec_variable_count s + n) em
 
-pub clause_walked : (program : Program) (names : Names) (block : Block) (types : TypesData) (clause : Clause) (s : SpecSetting) (first more places : ℕ) (whole : List Constraint) (slots : List Slot) (progress : Progress) →
-    s ≡ clause_setting program names block types clause → first ≡ spec_place_count s → more ≡ form_arguments program clause.form → places ≡ first + more → whole ≡ whole_constraints s block first clause.form →
-    IsWalk (spec_reading program.structs) places (steps_of s whole) slots progress → Walked (clause_system program names block types clause) slots progress
-clause_walked program names block types clause s first more places whole slots progress es ef em ep ew is =
+pub clause_walked : (program : Program) (names : Names) (block : Block) (types : TypesData) (clause : Clause) (s : SpecSetting) (first more variables : ℕ) (whole : List Constraint) (slots : List Slot) (progress : Progress) →
+    s ≡ clause_setting program names block types clause → first ≡ spec_variable_count s → more ≡ form_arguments program clause.form → variables ≡ first + more → whole ≡ whole_constraints s block first clause.form →
+    IsWalk (spec_reading program.structs) variables (steps_of s whole) slots progress → Walked (clause_system program names block types clause) slots progress
+clause_walked program names block types clause s first more variables whole slots progress es ef em ep ew is =
     let there = clause_setting program names block types clause in
-    spec_walked there s (form_arguments program clause.form) places (whole_constraints there block (spec_place_count there) clause.form) whole slots progress es
-    (clause_count program clause s first more places ef em ep)
-    (ew ∙ ap (λ (n : ℕ). whole_constraints s block n clause.form) ef ∙ ap (λ (x : SpecSetting). whole_constraints x block (spec_place_count x) clause.form) es) is
+    spec_walked there s (form_arguments program clause.form) variables (whole_constraints there block (spec_variable_count there) clause.form) whole slots progress es
+    (clause_count program clause s first more variables ef em ep)
+    (ew ∙ ap (λ (n : ℕ). whole_constraints s block n clause.form) ef ∙ ap (λ (x : SpecSetting). whole_constraints x block (spec_variable_count x) clause.form) es) is
 
-pub clause_places : (program : Program) (names : Names) (block : Block) (types : TypesData) (clause : Clause) (s : SpecSetting) (first more places : ℕ) → s ≡ clause_setting program names block types clause →
-    first ≡ spec_place_count s → more ≡ form_arguments program clause.form → places ≡ first + more → places ≡ (clause_system program names block types clause).places
-clause_places program names block types clause s first more places es ef em ep =
-    clause_count program clause s first more places ef em ep ∙ ap (λ (x : SpecSetting). spec_place_count x + form_arguments program clause.form) es
+pub clause_variables : (program : Program) (names : Names) (block : Block) (types : TypesData) (clause : Clause) (s : SpecSetting) (first more variables : ℕ) → s ≡ clause_setting program names block types clause →
+    first ≡ spec_variable_count s → more ≡ form_arguments program clause.form → variables ≡ first + more → variables ≡ (clause_system program names block types clause).variables
+clause_variables program names block types clause s first more variables es ef em ep =
+    clause_count program clause s first more variables ef em ep ∙ ap (λ (x : SpecSetting). spec_variable_count x + form_arguments program clause.form) es

@@ -18,7 +18,7 @@ use Rattle.unification.proofs.Growing.{grown, grown_beside, grown_said, value_ke
 use Rattle.unification.proofs.Instancing.{term_more}
 use Rattle.type_constraints.specs.Seen.{seen, seen_all}
 use Rattle.type_constraints.specs.declared.constraint.Constraint.{Constraint}
-use Rattle.type_solver.specs.Within.{FormWithin, PlacesWithin, ConstraintWithin, AllWithin}
+use Rattle.type_solver.specs.Within.{FormWithin, VariablesWithin, ConstraintWithin, AllWithin}
 use Rattle.type_solver.specs.Equations.{Keeps, KindSaid, Says, HeadOpen, Emits, Solved, EachSolved, EquationWithin, EquationsWithin, is_unsettled}
 use Rattle.type_solver.specs.Steps.{AllSay, HeadsOpen, SettleSays, StepMade, StepSays, step_of}
 use Rattle.type_solver.specs.declared.step.Step.{Step}
@@ -71,15 +71,15 @@ form_within n m (D.Written of) le h = tt
 form_within n m (D.Declared of first count) le h = omega (arith, le, h)
 form_within n m (D.Applied s first count) le h = omega (arith, le, h)
 
-places_within : (n m : ℕ) (parts : List ℕ) → n ≤ m → PlacesWithin n parts → PlacesWithin m parts
-places_within n m [] le h = tt
-places_within n m (p ∷ parts) le h = (let x = h.0 in omega (arith, le, x), places_within n m parts le h.1)
+variables_within : (n m : ℕ) (parts : List ℕ) → n ≤ m → VariablesWithin n parts → VariablesWithin m parts
+variables_within n m [] le h = tt
+variables_within n m (p ∷ parts) le h = (let x = h.0 in omega (arith, le, x), variables_within n m parts le h.1)
 
 pub constraint_more : (n m : ℕ) (d : D.Constraint) → n ≤ m → ConstraintWithin n d → ConstraintWithin m d
 constraint_more n m (D.Same a b) le h = (let x = h.0 in omega (arith, le, x), let y = h.1 in omega (arith, le, y))
 constraint_more n m (D.Has p form) le h = (let x = h.0 in omega (arith, le, x), form_within n m form le h.1)
 constraint_more n m (D.MadeOf p k e) le h = (let x = h.0 in omega (arith, le, x), let y = h.1 in omega (arith, le, y))
-constraint_more n m (D.TupleOf p parts) le h = (let x = h.0 in omega (arith, le, x), places_within n m parts le h.1)
+constraint_more n m (D.TupleOf p parts) le h = (let x = h.0 in omega (arith, le, x), variables_within n m parts le h.1)
 constraint_more n m (D.IsOf sort p) le h = omega (arith, le, h)
 constraint_more n m (D.Alike a b) le h = (let x = h.0 in omega (arith, le, x), let y = h.1 in omega (arith, le, y))
 constraint_more n m (D.Takes e form) le h = (let x = h.0 in omega (arith, le, x), form_within n m form le h.1)

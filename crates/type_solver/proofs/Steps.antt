@@ -4,7 +4,7 @@ use Rattle.std.specs.Prelude.{slice_get}
 use Rattle.std.proofs.lemmas.List.Sums.{sum_by_push}
 use Rattle.program.specs.CodeNodes.{CodeNode}
 use Rattle.typing_rules.specs.Constraint.{Constraint, Barred}
-use Rattle.typing_rules.specs.Settings.{CodeSetting, first_argument, place_count, node_arity}
+use Rattle.typing_rules.specs.Settings.{CodeSetting, first_argument, variable_count, node_arity}
 use Rattle.typing_rules.specs.CodeConstraints.{constraints_at, constraints_from}
 use Rattle.typing_rules.specs.CodeSystems.{is_constant_node, value_constraints, values_from}
 use Rattle.typing_rules.specs.Rules.{TypeReading}
@@ -68,7 +68,7 @@ next_argument s i next first node is at e =
     ∙ ap (sum_by (node_arity s.program)) (take_node s.nodes i node is) ∙ sum_by_push (node_arity s.program) (take i s.nodes) node in
     omega (arith, e, at, sum)
 
-pub all_arguments : (s : CodeSetting) (i first : ℕ) → length s.nodes ≤ i → first ≡ first_argument s i → first ≡ place_count s
+pub all_arguments : (s : CodeSetting) (i first : ℕ) → length s.nodes ≤ i → first ≡ first_argument s i → first ≡ variable_count s
 all_arguments s i first le at = at ∙ ap (λ (xs : List CodeNode). (length s.nodes + s.locals) + sum_by (node_arity s.program) xs) (take_nodes s.nodes i le)
 
 -- ---- walks

@@ -12,7 +12,7 @@ use Rattle.unification.specs.declared.type_variables.slots.Slot.{Slot}
 use Rattle.unification.specs.declared.type_variables.slots.Slot.TheVariants.{Open}
 use Rattle.unification.proofs.Becoming.{open_says}
 use Rattle.unification.proofs.Heading.{small, small_is}
-use Rattle.unification.proofs.Refill.{told_apart}
+use Rattle.unification.proofs.Refill.{distinguished}
 use Rattle.type_solver.specs.Tuples.{TupleIs, TupleSeen}
 use Rattle.type_solver.specs.declared.tuples.Parts.{Parts}
 
@@ -44,7 +44,7 @@ no_tuple : (s : Sort) (a : TypeData) (ts : TypesData) → IsTrue (is_of s a) →
 no_tuple s a ts h e same = (let z : IsTrue (is_of Single (TupleType ts)) = sym same ∙ sym (ap (is_of s) e) ∙ h in cc)
 
 pub open_seen : (slots : List Slot) (p at : ℕ) (s : Sort) → Fits slots → at < length slots → slot_at slots at ≡ Open s → ((t : Typing) → Meets slots t → t p ≡ t at) → TupleSeen slots p None
-open_seen slots p at Any fits lt free same t m ts is i = told_apart (R.part_kind i) small (tuple_or_small i) small_is (tuple_is i) slots p at Any fits free same (differs i) t m
+open_seen slots p at Any fits lt free same t m ts is i = distinguished (R.part_kind i) small (tuple_or_small i) small_is (tuple_is i) slots p at Any fits free same (differs i) t m
 open_seen slots p at Single fits lt free same t m ts is i = λ agree. no_tuple Single (t at) ts (open_says slots at Single t lt free m) (sym (same t m) ∙ is) refl
 open_seen slots p at Value fits lt free same t m ts is i = λ agree. no_tuple Value (t at) ts (open_says slots at Value t lt free m) (sym (same t m) ∙ is) refl
 open_seen slots p at Integer fits lt free same t m ts is i = λ agree. no_tuple Integer (t at) ts (open_says slots at Integer t lt free m) (sym (same t m) ∙ is) refl

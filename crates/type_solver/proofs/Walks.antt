@@ -5,11 +5,11 @@ use Rattle.std.proofs.lemmas.List.{get_or_read}
 use Rattle.std.proofs.Math.Seq.{take-length}
 use Rattle.typing_rules.specs.Constraint.{Constraint}
 use Rattle.typing_rules.specs.Rules.{TypeReading}
-use Rattle.typing_rules.specs.SpecConstraints.{SpecNode, SpecSetting, spec_constraints_at, spec_constraints_from, spec_first_argument, spec_place_count}
+use Rattle.typing_rules.specs.SpecConstraints.{SpecNode, SpecSetting, spec_constraints_at, spec_constraints_from, spec_first_argument, spec_variable_count}
 use Rattle.unification.specs.declared.type_variables.slots.Slot.{Slot}
 use Rattle.type_solver.specs.Walking.{IsWalk}
 use Rattle.type_solver.specs.declared.walk.Progress.{Progress}
-use Rattle.type_constraints.specs.SpecTold.{ArePlaces}
+use Rattle.type_constraints.specs.SpecKnown.{AreVariables}
 use Rattle.type_constraints.proofs.Sums.{take_more}
 
 some_node : (x y : SpecNode) → Some x ≡ Some y → x ≡ y
@@ -47,13 +47,13 @@ found_at (x ∷ nodes) (suc k) lt = found_at nodes k (omega (arith, lt))
 -- ---- type variables
 
 -- the type variable of the first type argument of a node, from the table
-pub first_told : (s : SpecSetting) (firsts : List ℕ) (k first : ℕ) → ArePlaces s firsts → k < length firsts → first ≡ get_or firsts k first → first ≡ spec_first_argument s k
-first_told s firsts k first told lt is = get_or_read firsts k first lt is 0 ∙ told.each k lt
+pub first_known : (s : SpecSetting) (firsts : List ℕ) (k first : ℕ) → AreVariables s firsts → k < length firsts → first ≡ get_or firsts k first → first ≡ spec_first_argument s k
+first_known s firsts k first known lt is = get_or_read firsts k first lt is 0 ∙ known.each k lt
 
 -- the number of type variables, which comes last in the table
-pub count_told : (s : SpecSetting) (firsts : List ℕ) (n count : ℕ) → length firsts ≡ length s.nodes + 1 → n ≡ length s.nodes → count ≡ get_or firsts n count → slice_index_or firsts (length s.nodes) 0 ≡ spec_place_count s →
-    count ≡ spec_place_count s
-count_told s firsts n count len at is last = get_or_read firsts n count (omega (arith, len, at)) is 0 ∙ ap (λ (k : ℕ). get_or firsts k 0) at ∙ last
+pub count_known : (s : SpecSetting) (firsts : List ℕ) (n count : ℕ) → length firsts ≡ length s.nodes + 1 → n ≡ length s.nodes → count ≡ get_or firsts n count → slice_index_or firsts (length s.nodes) 0 ≡ spec_variable_count s →
+    count ≡ spec_variable_count s
+count_known s firsts n count len at is last = get_or_read firsts n count (omega (arith, len, at)) is 0 ∙ ap (λ (k : ℕ). get_or firsts k 0) at ∙ last
 
 -- ---- walks
 

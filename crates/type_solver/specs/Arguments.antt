@@ -5,13 +5,13 @@ use Rattle.typing_rules.specs.Constraint.{arguments}
 use Rattle.typing_rules.specs.Instances.{argument_in}
 use Rattle.unification.specs.Slots.{Typing}
 use Rattle.type_solver.specs.declared.read.Arguments.{Arguments}
-use Rattle.type_solver.specs.declared.read.Arguments.TheVariants.{Types, Places}
+use Rattle.type_solver.specs.declared.read.Arguments.TheVariants.{Types, Variables}
 
-abbrev pub standing : Typing → Arguments → ℕ → TypeData
-standing t (Types types) = argument_in (types_of types.now)
-standing t (Places p) = arguments t p.base p.count
+abbrev pub stated : Typing → Arguments → ℕ → TypeData
+stated t (Types types) = argument_in (types_of types.now)
+stated t (Variables p) = arguments t p.base p.count
 
 -- their type variables are among the first n
 abbrev pub ArgumentsWithin : ℕ → Arguments → Type 0
 ArgumentsWithin n (Types types) = Unit {0}
-ArgumentsWithin n (Places p) = p.base + p.count ≤ n
+ArgumentsWithin n (Variables p) = p.base + p.count ≤ n

@@ -11,8 +11,8 @@ use Rattle.type_solver.specs.declared.walk.Progress.{Progress}
 
 -- The slots know the typings of the system, and no head is open; or one is, if there are typings; or there are none.
 abbrev pub WalkSays : System → List Slot → Reading → Type 0
-WalkSays s slots Whole = Knows slots s.places (Typings s) × (HasOpenHead s.reading s.steps → ⊥)
-WalkSays s slots Stopped = Knows slots s.places (Typings s) × ((t : Typing) → Typings s t → HasOpenHead s.reading s.steps)
+WalkSays s slots Whole = Knows slots s.variables (Typings s) × (HasOpenHead s.reading s.steps → ⊥)
+WalkSays s slots Stopped = Knows slots s.variables (Typings s) × ((t : Typing) → Typings s t → HasOpenHead s.reading s.steps)
 WalkSays s slots Clash = IsUntypable s
 
 -- and, if there are typings, exactly the first so many steps are read

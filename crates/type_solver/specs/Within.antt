@@ -12,15 +12,15 @@ IsWritten (Written of) = Unit {0}
 IsWritten (Declared of first count) = ⊥
 IsWritten (Applied s first count) = ⊥
 
-abbrev pub PlacesWithin : ℕ → List ℕ → Type 0
-PlacesWithin n [] = Unit {0}
-PlacesWithin n (p ∷ ps) = (p < n) × PlacesWithin n ps
+abbrev pub VariablesWithin : ℕ → List ℕ → Type 0
+VariablesWithin n [] = Unit {0}
+VariablesWithin n (p ∷ ps) = (p < n) × VariablesWithin n ps
 
 abbrev pub ConstraintWithin : ℕ → Constraint → Type 0
 ConstraintWithin n (Same a b) = (a < n) × (b < n)
 ConstraintWithin n (Has p form) = (p < n) × FormWithin n form
 ConstraintWithin n (MadeOf p wrap e) = (p < n) × (e < n)
-ConstraintWithin n (TupleOf p parts) = (p < n) × PlacesWithin n parts
+ConstraintWithin n (TupleOf p parts) = (p < n) × VariablesWithin n parts
 ConstraintWithin n (IsOf sort p) = p < n
 ConstraintWithin n (Alike a b) = (a < n) × (b < n)
 ConstraintWithin n (Takes e form) = (e < n) × FormWithin n form

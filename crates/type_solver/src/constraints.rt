@@ -23,18 +23,18 @@ use unification::type_variables::open::add_bound;
 use unification::type_variables::slots::{Slot, Term, Wrap};
 
 /// The equation that the first variable is the type that the second points at.
-pub fn target_of<'a>(slots: &mut Vec<Slot<'a>>, place: usize, from: usize) -> Equation<'a>
+pub fn target_of<'a>(slots: &mut Vec<Slot<'a>>, variable: usize, from: usize) -> Equation<'a>
     requires fits { Fits slots.old.items }
-    requires place { place < length slots.old.items }
+    requires variable { variable < length slots.old.items }
     requires from { from < length slots.old.items }
-    ensures emits { (w : TypeReading) → Emits w slots.old.items slots.new.items (D.TargetOf place from) result }
+    ensures emits { (w : TypeReading) → Emits w slots.old.items slots.new.items (D.TargetOf variable from) result }
     ensures keeps { Keeps slots.old.items slots.new.items }
 {
     let seen = kind_at(slots, from);
     match seen {
         KindSeen::Unsettled => Equation::Unsettled,
         KindSeen::Plain => Equation::Never,
-        KindSeen::To(_, to) => Equation::Equal(to, Term::Place(place)),
+        KindSeen::To(_, to) => Equation::Equal(to, Term::Variable(variable)),
     }
 }
 
@@ -49,13 +49,13 @@ fn written_through<'a>(wrap: Wrap) -> Equation<'a>
 }
 
 /// The equation of a write, or a mutable borrow, through the variable's type, if it is a reference.
-pub fn through<'a>(slots: &mut Vec<Slot<'a>>, place: usize) -> Equation<'a>
+pub fn through<'a>(slots: &mut Vec<Slot<'a>>, variable: usize) -> Equation<'a>
     requires fits { Fits slots.old.items }
-    requires place { place < length slots.old.items }
-    ensures emits { (w : TypeReading) → Emits w slots.old.items slots.new.items (D.Through place) result }
+    requires variable { variable < length slots.old.items }
+    ensures emits { (w : TypeReading) → Emits w slots.old.items slots.new.items (D.Through variable) result }
     ensures keeps { Keeps slots.old.items slots.new.items }
 {
-    let seen = kind_at(slots, place);
+    let seen = kind_at(slots, variable);
     match seen {
         KindSeen::Unsettled => Equation::Unsettled,
         KindSeen::Plain => Equation::Always,
@@ -64,13 +64,13 @@ pub fn through<'a>(slots: &mut Vec<Slot<'a>>, place: usize) -> Equation<'a>
 }
 
 /// The equation of a write to what the variable's type points at.
-pub fn behind<'a>(slots: &mut Vec<Slot<'a>>, place: usize) -> Equation<'a>
+pub fn behind<'a>(slots: &mut Vec<Slot<'a>>, variable: usize) -> Equation<'a>
     requires fits { Fits slots.old.items }
-    requires place { place < length slots.old.items }
-    ensures emits { (w : TypeReading) → Emits w slots.old.items slots.new.items (D.Behind place) result }
+    requires variable { variable < length slots.old.items }
+    ensures emits { (w : TypeReading) → Emits w slots.old.items slots.new.items (D.Behind variable) result }
     ensures keeps { Keeps slots.old.items slots.new.items }
 {
-    let seen = kind_at(slots, place);
+    let seen = kind_at(slots, variable);
     match seen {
         KindSeen::Unsettled => Equation::Unsettled,
         KindSeen::Plain => Equation::Never,
@@ -83,8 +83,8 @@ fn alike_to<'a>(to: Term<'a>, second: KindSeen<'a>, left: usize, right: usize) -
     ensures { (w : TypeReading) (old new : List SlotData) (wrap : Wrap) → KindSaid old new left (KindSeen.To wrap to.entry) → KindSaid old new right second.entry → left < length old → right < length old → Emits w old new (D.Alike left right) result }
 {
     match second {
-        KindSeen::Unsettled => Equation::Equal(Term::Place(left), Term::Place(right)),
-        KindSeen::Plain => Equation::Equal(Term::Place(left), Term::Place(right)),
+        KindSeen::Unsettled => Equation::Equal(Term::Variable(left), Term::Variable(right)),
+        KindSeen::Plain => Equation::Equal(Term::Variable(left), Term::Variable(right)),
         KindSeen::To(_, other) => Equation::Equal(to, other),
     }
 }
@@ -98,8 +98,8 @@ fn alike_by<'a>(
     ensures { (w : TypeReading) (old new : List SlotData) → KindSaid old new left first.entry → KindSaid old new right second.entry → left < length old → right < length old → Emits w old new (D.Alike left right) result }
 {
     match first {
-        KindSeen::Unsettled => Equation::Equal(Term::Place(left), Term::Place(right)),
-        KindSeen::Plain => Equation::Equal(Term::Place(left), Term::Place(right)),
+        KindSeen::Unsettled => Equation::Equal(Term::Variable(left), Term::Variable(right)),
+        KindSeen::Plain => Equation::Equal(Term::Variable(left), Term::Variable(right)),
         KindSeen::To(_, to) => alike_to(to, second, left, right),
     }
 }
@@ -129,9 +129,9 @@ fn lent<'a>(
     ensures keeps { IfOk result (λ q. Keeps slots.old.items slots.new.items) }
     ensures says { IfOk result (λ q. (old : List SlotData) (e : ℕ) → KindSaid old slots.old.items e (KindSeen.To Wrap.Mutable to.entry) → e < length old → GivenSays old slots.new.items e wanted.entry q) }
 {
-    let place = slots.len();
+    let variable = slots.len();
     add_bound(slots, wanted)?;
-    Ok(Equation::Lent(to, place))
+    Ok(Equation::Lent(to, variable))
 }
 
 /// The equation of a reference of this kind that is given.
@@ -139,20 +139,20 @@ fn given_to<'a>(
     slots: &mut Vec<Slot<'a>>,
     wrap: Wrap,
     to: Term<'a>,
-    place: usize,
+    variable: usize,
     wanted: Term<'a>,
 ) -> Result<Equation<'a>, NoMemory>
     requires fits { Fits slots.old.items }
     requires to { TermWithin (length slots.old.items) to }
-    requires place { place < length slots.old.items }
+    requires variable { variable < length slots.old.items }
     requires wanted { TermWithin (length slots.old.items) wanted }
     ensures keeps { IfOk result (λ q. Keeps slots.old.items slots.new.items) }
-    ensures says { IfOk result (λ q. (old : List SlotData) → KindSaid old slots.old.items place (KindSeen.To wrap to.entry) → place < length old → GivenSays old slots.new.items place wanted.entry q) }
+    ensures says { IfOk result (λ q. (old : List SlotData) → KindSaid old slots.old.items variable (KindSeen.To wrap to.entry) → variable < length old → GivenSays old slots.new.items variable wanted.entry q) }
 {
     match wrap {
         Wrap::Mutable => lent(slots, to, wanted),
-        Wrap::Vector => Ok(Equation::Equal(Term::Place(place), wanted)),
-        Wrap::Shared => Ok(Equation::Equal(Term::Place(place), wanted)),
+        Wrap::Vector => Ok(Equation::Equal(Term::Variable(variable), wanted)),
+        Wrap::Shared => Ok(Equation::Equal(Term::Variable(variable), wanted)),
     }
 }
 
@@ -160,20 +160,20 @@ fn given_to<'a>(
 pub fn given<'a>(
     slots: &mut Vec<Slot<'a>>,
     seen: KindSeen<'a>,
-    place: usize,
+    variable: usize,
     wanted: Term<'a>,
 ) -> Result<Equation<'a>, NoMemory>
     requires fits { Fits slots.old.items }
     requires seen { KindWithin (length slots.old.items) seen }
-    requires place { place < length slots.old.items }
+    requires variable { variable < length slots.old.items }
     requires wanted { TermWithin (length slots.old.items) wanted }
     ensures keeps { IfOk result (λ q. Keeps slots.old.items slots.new.items) }
-    ensures says { IfOk result (λ q. (old : List SlotData) → KindSaid old slots.old.items place seen.entry → place < length old → GivenSays old slots.new.items place wanted.entry q) }
+    ensures says { IfOk result (λ q. (old : List SlotData) → KindSaid old slots.old.items variable seen.entry → variable < length old → GivenSays old slots.new.items variable wanted.entry q) }
 {
     match seen {
-        KindSeen::Unsettled => Ok(Equation::Equal(Term::Place(place), wanted)),
-        KindSeen::Plain => Ok(Equation::Equal(Term::Place(place), wanted)),
-        KindSeen::To(wrap, to) => given_to(slots, wrap, to, place, wanted),
+        KindSeen::Unsettled => Ok(Equation::Equal(Term::Variable(variable), wanted)),
+        KindSeen::Plain => Ok(Equation::Equal(Term::Variable(variable), wanted)),
+        KindSeen::To(wrap, to) => given_to(slots, wrap, to, variable, wanted),
     }
 }
 
@@ -182,17 +182,17 @@ pub fn takes<'a>(
     alloc: Global,
     types: &'a PlainTypes,
     slots: &mut Vec<Slot<'a>>,
-    place: usize,
+    variable: usize,
     form: TypeForm<'a>,
 ) -> Result<Equation<'a>, NoMemory>
     requires types { ArePlain types.now }
     requires fits { Fits slots.old.items }
-    requires place { place < length slots.old.items }
+    requires variable { variable < length slots.old.items }
     requires form { FormWithin (length slots.old.items) (seen_form form) }
     ensures keeps { IfOk result (λ q. Keeps slots.old.items slots.new.items) }
-    ensures emits { IfOk result (λ q. (w : TypeReading) → Emits w slots.old.items slots.new.items (D.Takes place (seen_form form.entry)) q) }
+    ensures emits { IfOk result (λ q. (w : TypeReading) → Emits w slots.old.items slots.new.items (D.Takes variable (seen_form form.entry)) q) }
 {
     let wanted = form_term(alloc, types, slots, form)?;
-    let seen = kind_at(slots, place);
-    given(slots, seen, place, wanted)
+    let seen = kind_at(slots, variable);
+    given(slots, seen, variable, wanted)
 }

@@ -7,7 +7,7 @@ ghost use Rattle.typing_rules.specs.Rules.{TypeReading};
 ghost use Rattle.unification.specs.Slots.{Fits};
 ghost use Rattle.unification.specs.declared.type_variables.slots.Term.{Term as TermData};
 ghost use Rattle.type_solver.specs.Plain.{ArePlain};
-ghost use Rattle.type_solver.specs.Within.{ConstraintWithin, FormWithin, PlacesWithin};
+ghost use Rattle.type_solver.specs.Within.{ConstraintWithin, FormWithin, VariablesWithin};
 ghost use Rattle.type_solver.specs.Equations.{Keeps, Emits, reading_of};
 
 use crate::constraints::{alike, behind, takes, target_of, through};
@@ -40,27 +40,27 @@ fn has<'a>(
     alloc: Global,
     types: &'a PlainTypes,
     slots: &mut Vec<Slot<'a>>,
-    place: usize,
+    variable: usize,
     form: TypeForm<'a>,
 ) -> Result<Equation<'a>, NoMemory>
     requires types { ArePlain types.now }
     requires fits { Fits slots.old.items }
-    requires place { place < length slots.old.items }
+    requires variable { variable < length slots.old.items }
     requires form { FormWithin (length slots.old.items) (seen_form form) }
     ensures keeps { IfOk result (λ q. Keeps slots.old.items slots.new.items) }
-    ensures emits { IfOk result (λ q. (w : TypeReading) → Emits w slots.old.items slots.new.items (D.Has place (seen_form form.entry)) q) }
+    ensures emits { IfOk result (λ q. (w : TypeReading) → Emits w slots.old.items slots.new.items (D.Has variable (seen_form form.entry)) q) }
 {
     let term = form_term(alloc, types, slots, form)?;
-    Ok(Equation::Equal(Term::Place(place), term))
+    Ok(Equation::Equal(Term::Variable(variable), term))
 }
 
 /// Type variables as terms.
-fn place_terms<'a>(alloc: Global, parts: &[usize]) -> Result<Vec<Term<'a>>, NoMemory>
-    ensures { IfOk result (λ terms. terms.items ≡ map TermData.Place parts.now) }
+fn variable_terms<'a>(alloc: Global, parts: &[usize]) -> Result<Vec<Term<'a>>, NoMemory>
+    ensures { IfOk result (λ terms. terms.items ≡ map TermData.Variable parts.now) }
 {
     let mut terms = Vec::new(alloc);
     for part in parts {
-        terms.push(Term::Place(*part))?;
+        terms.push(Term::Variable(*part))?;
     }
     Ok(terms)
 }
@@ -69,18 +69,18 @@ fn place_terms<'a>(alloc: Global, parts: &[usize]) -> Result<Vec<Term<'a>>, NoMe
 fn tuple_of<'a>(
     alloc: Global,
     slots: &mut Vec<Slot<'a>>,
-    place: usize,
+    variable: usize,
     parts: &[usize],
 ) -> Result<Equation<'a>, NoMemory>
     requires fits { Fits slots.old.items }
-    requires place { place < length slots.old.items }
-    requires parts { PlacesWithin (length slots.old.items) parts.now }
+    requires variable { variable < length slots.old.items }
+    requires parts { VariablesWithin (length slots.old.items) parts.now }
     ensures keeps { IfOk result (λ q. Keeps slots.old.items slots.new.items) }
-    ensures emits { IfOk result (λ q. (w : TypeReading) → Emits w slots.old.items slots.new.items (D.TupleOf place parts.now) q) }
+    ensures emits { IfOk result (λ q. (w : TypeReading) → Emits w slots.old.items slots.new.items (D.TupleOf variable parts.now) q) }
 {
-    let terms = place_terms(alloc, parts)?;
+    let terms = variable_terms(alloc, parts)?;
     let term = group_terms(slots, Group::Tuple, &terms)?;
-    Ok(Equation::Equal(Term::Place(place), term))
+    Ok(Equation::Equal(Term::Variable(variable), term))
 }
 
 /// Returns the equation of a constraint.
@@ -97,20 +97,22 @@ pub fn emit<'a>(
     ensures emits { IfOk result (λ q. Emits (reading_of tables.entry) slots.old.items slots.new.items (seen constraint.entry) q) }
 {
     match constraint {
-        Constraint::Same(a, b) => Ok(Equation::Equal(Term::Place(a), Term::Place(b))),
-        Constraint::Has(place, form) => has(alloc, tables.types, slots, place, form),
-        Constraint::MadeOf(place, wrap, from) => {
-            Ok(Equation::Equal(Term::Place(place), Term::Made(wrap_word(wrap), from)))
+        Constraint::Same(a, b) => Ok(Equation::Equal(Term::Variable(a), Term::Variable(b))),
+        Constraint::Has(variable, form) => has(alloc, tables.types, slots, variable, form),
+        Constraint::MadeOf(variable, wrap, from) => {
+            Ok(Equation::Equal(Term::Variable(variable), Term::Made(wrap_word(wrap), from)))
         }
-        Constraint::TupleOf(place, parts) => tuple_of(alloc, slots, place, parts),
-        Constraint::IsOf(sort, place) => Ok(Equation::Sorted(sort_word(sort), place)),
+        Constraint::TupleOf(variable, parts) => tuple_of(alloc, slots, variable, parts),
+        Constraint::IsOf(sort, variable) => Ok(Equation::Sorted(sort_word(sort), variable)),
         Constraint::Alike(left, right) => Ok(alike(slots, left, right)),
-        Constraint::Takes(place, form) => takes(alloc, tables.types, slots, place, form),
-        Constraint::Returns(place, form) => returns(alloc, tables.types, slots, place, form),
-        Constraint::FieldOf(place, from, name) => { field(alloc, tables, slots, place, from, name) }
-        Constraint::TargetOf(place, from) => Ok(target_of(slots, place, from)),
-        Constraint::Through(place) => Ok(through(slots, place)),
-        Constraint::Behind(place) => Ok(behind(slots, place)),
+        Constraint::Takes(variable, form) => takes(alloc, tables.types, slots, variable, form),
+        Constraint::Returns(variable, form) => returns(alloc, tables.types, slots, variable, form),
+        Constraint::FieldOf(variable, from, name) => {
+            field(alloc, tables, slots, variable, from, name)
+        }
+        Constraint::TargetOf(variable, from) => Ok(target_of(slots, variable, from)),
+        Constraint::Through(variable) => Ok(through(slots, variable)),
+        Constraint::Behind(variable) => Ok(behind(slots, variable)),
         Constraint::Barred => Ok(Equation::Never),
     }
 }

@@ -49,12 +49,12 @@ fn field_type<'a>(
 
 /// The type of a variable, or the type that it points at if it is a reference. None where it is not known whether it is
 /// a reference.
-fn owner<'a>(seen: KindSeen<'a>, place: usize) -> Option<Term<'a>>
-    ensures { (old new : List SlotData) → KindSaid old new place seen.entry → place < length old → OwnerSays old new place result }
+fn owner<'a>(seen: KindSeen<'a>, variable: usize) -> Option<Term<'a>>
+    ensures { (old new : List SlotData) → KindSaid old new variable seen.entry → variable < length old → OwnerSays old new variable result }
 {
     match seen {
         KindSeen::Unsettled => None,
-        KindSeen::Plain => Some(Term::Place(place)),
+        KindSeen::Plain => Some(Term::Variable(variable)),
         KindSeen::To(_, to) => Some(to),
     }
 }
@@ -75,7 +75,7 @@ fn field_term<'a>(
     ensures said { IfOk result (λ term. TermSaid slots.old.items slots.new.items term (λ t. instance (arguments t parameters.base parameters.count) (read_type is_spec of.now))) }
 {
     if is_spec {
-        read(alloc, types, slots, of, Arguments::Places(parameters))
+        read(alloc, types, slots, of, Arguments::Variables(parameters))
     } else {
         declared(alloc, slots, of, parameters)
     }
@@ -87,15 +87,15 @@ fn field_in<'a>(
     tables: Tables<'a>,
     slots: &mut Vec<Slot<'a>>,
     seen: StructSeen<'a>,
-    place: usize,
+    variable: usize,
     name: &Name,
 ) -> Result<Equation<'a>, NoMemory>
     requires types { ArePlain tables.types.now }
     requires fits { Fits slots.old.items }
-    requires place { place < length slots.old.items }
+    requires variable { variable < length slots.old.items }
     requires seen { StructWithin (length slots.old.items) seen }
     ensures keeps { IfOk result (λ q. Keeps slots.old.items slots.new.items) }
-    ensures emits { IfOk result (λ q. (old : List SlotData) (from : ℕ) (owner : TermData) → StructSaid old slots.old.items from owner seen.entry → from < length old → Emits (reading_of tables.entry) old slots.new.items (D.FieldOf place from name.now) q) }
+    ensures emits { IfOk result (λ q. (old : List SlotData) (from : ℕ) (owner : TermData) → StructSaid old slots.old.items from owner seen.entry → from < length old → Emits (reading_of tables.entry) old slots.new.items (D.FieldOf variable from name.now) q) }
 {
     match seen {
         StructSeen::Unknown => Ok(Equation::Unsettled),
@@ -105,7 +105,7 @@ fn field_in<'a>(
             Some(of) => {
                 let parameters = Parameters { base, count };
                 let term = field_term(alloc, tables.types, tables.is_spec, slots, of, parameters)?;
-                Ok(Equation::Equal(Term::Place(place), term))
+                Ok(Equation::Equal(Term::Variable(variable), term))
             }
         },
     }
@@ -117,18 +117,18 @@ fn field_of_owner<'a>(
     tables: Tables<'a>,
     slots: &mut Vec<Slot<'a>>,
     term: Term<'a>,
-    place: usize,
+    variable: usize,
     name: &Name,
 ) -> Result<Equation<'a>, NoMemory>
     requires types { ArePlain tables.types.now }
     requires fits { Fits slots.old.items }
-    requires place { place < length slots.old.items }
+    requires variable { variable < length slots.old.items }
     requires term { TermWithin (length slots.old.items) term }
     ensures keeps { IfOk result (λ q. Keeps slots.old.items slots.new.items) }
-    ensures emits { IfOk result (λ q. (old : List SlotData) (from : ℕ) → OwnerSaid old slots.old.items from term.entry → from < length old → Emits (reading_of tables.entry) old slots.new.items (D.FieldOf place from name.now) q) }
+    ensures emits { IfOk result (λ q. (old : List SlotData) (from : ℕ) → OwnerSaid old slots.old.items from term.entry → from < length old → Emits (reading_of tables.entry) old slots.new.items (D.FieldOf variable from name.now) q) }
 {
     let seen = struct_seen(slots, term)?;
-    field_in(alloc, tables, slots, seen, place, name)
+    field_in(alloc, tables, slots, seen, variable, name)
 }
 
 /// The equation that the first variable is the type of the field of this name of the second.
@@ -136,20 +136,20 @@ pub fn field<'a>(
     alloc: Global,
     tables: Tables<'a>,
     slots: &mut Vec<Slot<'a>>,
-    place: usize,
+    variable: usize,
     from: usize,
     name: &Name,
 ) -> Result<Equation<'a>, NoMemory>
     requires types { ArePlain tables.types.now }
     requires fits { Fits slots.old.items }
-    requires place { place < length slots.old.items }
+    requires variable { variable < length slots.old.items }
     requires from { from < length slots.old.items }
     ensures keeps { IfOk result (λ q. Keeps slots.old.items slots.new.items) }
-    ensures emits { IfOk result (λ q. Emits (reading_of tables.entry) slots.old.items slots.new.items (D.FieldOf place from name.now) q) }
+    ensures emits { IfOk result (λ q. Emits (reading_of tables.entry) slots.old.items slots.new.items (D.FieldOf variable from name.now) q) }
 {
     let kind = kind_at(slots, from);
     match owner(kind, from) {
         None => Ok(Equation::Unsettled),
-        Some(term) => field_of_owner(alloc, tables, slots, term, place, name),
+        Some(term) => field_of_owner(alloc, tables, slots, term, variable, name),
     }
 }

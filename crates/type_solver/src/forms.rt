@@ -39,7 +39,7 @@ fn item<'a>(slots: &mut Vec<Slot<'a>>, parameters: Parameters) -> Result<Term<'a
     if parameters.count == 0 {
         return Err(NoMemory);
     }
-    Ok(Term::Place(parameters.base))
+    Ok(Term::Variable(parameters.base))
 }
 
 /// The term that a constructor makes of the one type parameter.
@@ -156,7 +156,7 @@ pub fn form_term<'a>(
         }
         TypeForm::DeclaredRead(of, base, count) => {
             let parameters = Parameters { base, count };
-            read(alloc, types, slots, of, Arguments::Places(parameters))
+            read(alloc, types, slots, of, Arguments::Variables(parameters))
         }
         TypeForm::Builtin(of, base, count) => {
             builtin(types, slots, of, Parameters { base, count })

@@ -9,7 +9,7 @@ ghost use Rattle.unification.specs.Grown.{Grows};
 ghost use Rattle.unification.specs.Terms.{AllWithin};
 ghost use Rattle.type_solver.specs.Plain.{ArePlain};
 ghost use Rattle.type_solver.specs.Equations.{Keeps, TermSaid};
-ghost use Rattle.type_solver.specs.Arguments.{ArgumentsWithin, standing};
+ghost use Rattle.type_solver.specs.Arguments.{ArgumentsWithin, stated};
 
 use crate::plain::PlainTypes;
 use base::memory::NoMemory;
@@ -23,7 +23,7 @@ use unification::type_variables::slots::{Group, Slot, Term, Wrap};
 #[derive(Clone, Copy)]
 pub enum Arguments<'a> {
     Types(&'a [TypeTerm]),
-    Places(Parameters),
+    Variables(Parameters),
 }
 
 /// The type substituted for a type parameter, among these types.
@@ -38,14 +38,19 @@ fn type_argument<'a>(of: &'a TypeTerm, number: u32, types: &'a [TypeTerm]) -> Te
 }
 
 /// The term substituted for a type parameter.
-fn argument<'a>(of: &'a TypeTerm, number: u32, arguments: Arguments<'a>, places: usize) -> Term<'a>
-    requires { ArgumentsWithin places arguments }
-    ensures within { TermWithin places result }
-    ensures is { (t : Typing) → of.now ≡ ParamType number → value t result ≡ standing t arguments.entry number }
+fn argument<'a>(
+    of: &'a TypeTerm,
+    number: u32,
+    arguments: Arguments<'a>,
+    variables: usize,
+) -> Term<'a>
+    requires { ArgumentsWithin variables arguments }
+    ensures within { TermWithin variables result }
+    ensures is { (t : Typing) → of.now ≡ ParamType number → value t result ≡ stated t arguments.entry number }
 {
     match arguments {
         Arguments::Types(types) => type_argument(of, number, types),
-        Arguments::Places(parameters) => parameter(of, number, parameters, places),
+        Arguments::Variables(parameters) => parameter(of, number, parameters, variables),
     }
 }
 
@@ -64,7 +69,7 @@ fn read_term<'a>(
     requires arguments { ArgumentsWithin (length slots.old.items) arguments }
     ensures grows { IfOk result (λ term. Grows slots.old.items (λ t. Unit {0}) slots.new.items (λ t. Unit {0})) }
     ensures within { IfOk result (λ term. TermWithin (length slots.new.items) term) }
-    ensures is { IfOk result (λ term. (t : Typing) → Meets slots.new.items t → value t term ≡ instance (standing t arguments.entry) (spec_type of.now)) }
+    ensures is { IfOk result (λ term. (t : Typing) → Meets slots.new.items t → value t term ≡ instance (stated t arguments.entry) (spec_type of.now)) }
 {
     match &of.node {
         TypeNode::Int(_) => Ok(Term::Closed(&plain.number)),
@@ -101,7 +106,7 @@ fn read_terms<'a>(
     requires arguments { ArgumentsWithin (length slots.old.items) arguments }
     ensures grows { IfOk result (λ terms. Grows slots.old.items (λ t. Unit {0}) slots.new.items (λ t. Unit {0})) }
     ensures within { IfOk result (λ terms. AllWithin (length slots.new.items) terms.items) }
-    ensures are { IfOk result (λ terms. (t : Typing) → Meets slots.new.items t → map (value t) terms.items ≡ map (λ of. instance (standing t arguments.entry) (spec_type of)) parts.now) }
+    ensures are { IfOk result (λ terms. (t : Typing) → Meets slots.new.items t → map (value t) terms.items ≡ map (λ of. instance (stated t arguments.entry) (spec_type of)) parts.now) }
 {
     let mut terms = Vec::new(alloc);
     for part in parts {
@@ -122,7 +127,7 @@ pub fn read<'a>(
     requires fits { Fits slots.old.items }
     requires arguments { ArgumentsWithin (length slots.old.items) arguments }
     ensures keeps { IfOk result (λ term. Keeps slots.old.items slots.new.items) }
-    ensures said { IfOk result (λ term. TermSaid slots.old.items slots.new.items term (λ t. instance (standing t arguments.entry) (spec_type of.now))) }
+    ensures said { IfOk result (λ term. TermSaid slots.old.items slots.new.items term (λ t. instance (stated t arguments.entry) (spec_type of.now))) }
 {
     Ok(read_term(alloc, plain, slots, of, arguments)?)
 }

@@ -38,23 +38,23 @@ fn is_shared(of: &TypeTerm) -> bool
 fn lent_to<'a>(
     slots: &mut Vec<Slot<'a>>,
     wrap: Wrap,
-    place: usize,
+    variable: usize,
     to: Term<'a>,
 ) -> Result<Term<'a>, NoMemory>
     requires fits { Fits slots.old.items }
-    requires place { place < length slots.old.items }
+    requires variable { variable < length slots.old.items }
     requires to { TermWithin (length slots.old.items) to }
     ensures keeps { IfOk result (λ term. Keeps slots.old.items slots.new.items) }
     ensures within { IfOk result (λ term. TermWithin (length slots.new.items) term) }
-    ensures said { IfOk result (λ term. (before seen : List SlotData) (e i : ℕ) (wanted : TypeData) → PartAt before seen e i place → KindSaid seen slots.old.items place (KindData.To wrap to.entry) → is_shared wanted ≡ true → PartSaid before slots.new.items e i place wanted term) }
+    ensures said { IfOk result (λ term. (before seen : List SlotData) (e i : ℕ) (wanted : TypeData) → PartAt before seen e i variable → KindSaid seen slots.old.items variable (KindData.To wrap to.entry) → is_shared wanted ≡ true → PartSaid before slots.new.items e i variable wanted term) }
 {
     match wrap {
         Wrap::Mutable => {
             let shared = wrap_term(slots, Wrap::Shared, to)?;
             Ok(shared)
         }
-        Wrap::Vector => Ok(Term::Place(place)),
-        Wrap::Shared => Ok(Term::Place(place)),
+        Wrap::Vector => Ok(Term::Variable(variable)),
+        Wrap::Shared => Ok(Term::Variable(variable)),
     }
 }
 
@@ -62,39 +62,39 @@ fn lent_to<'a>(
 fn lent_as<'a>(
     slots: &mut Vec<Slot<'a>>,
     kind: KindSeen<'a>,
-    place: usize,
+    variable: usize,
 ) -> Result<Term<'a>, NoMemory>
     requires fits { Fits slots.old.items }
-    requires place { place < length slots.old.items }
+    requires variable { variable < length slots.old.items }
     requires kind { KindWithin (length slots.old.items) kind }
     ensures keeps { IfOk result (λ term. Keeps slots.old.items slots.new.items) }
     ensures within { IfOk result (λ term. TermWithin (length slots.new.items) term) }
-    ensures said { IfOk result (λ term. (before seen : List SlotData) (e i : ℕ) (wanted : TypeData) → PartAt before seen e i place → KindSaid seen slots.old.items place kind.entry → is_shared wanted ≡ true → PartSaid before slots.new.items e i place wanted term) }
+    ensures said { IfOk result (λ term. (before seen : List SlotData) (e i : ℕ) (wanted : TypeData) → PartAt before seen e i variable → KindSaid seen slots.old.items variable kind.entry → is_shared wanted ≡ true → PartSaid before slots.new.items e i variable wanted term) }
 {
     match kind {
-        KindSeen::Unsettled => Ok(Term::Place(place)),
-        KindSeen::Plain => Ok(Term::Place(place)),
-        KindSeen::To(wrap, to) => lent_to(slots, wrap, place, to),
+        KindSeen::Unsettled => Ok(Term::Variable(variable)),
+        KindSeen::Plain => Ok(Term::Variable(variable)),
+        KindSeen::To(wrap, to) => lent_to(slots, wrap, variable, to),
     }
 }
 
 /// The type of a returned part where this type is returned: a shared reference instead of a mutable one if it is lent.
 fn lent_part<'a>(
     slots: &mut Vec<Slot<'a>>,
-    place: usize,
+    variable: usize,
     wanted: &TypeTerm,
 ) -> Result<Term<'a>, NoMemory>
     requires fits { Fits slots.old.items }
-    requires place { place < length slots.old.items }
+    requires variable { variable < length slots.old.items }
     ensures keeps { IfOk result (λ term. Keeps slots.old.items slots.new.items) }
     ensures within { IfOk result (λ term. TermWithin (length slots.new.items) term) }
-    ensures said { IfOk result (λ term. (before : List SlotData) (e i : ℕ) → PartAt before slots.old.items e i place → PartSaid before slots.new.items e i place wanted.now term) }
+    ensures said { IfOk result (λ term. (before : List SlotData) (e i : ℕ) → PartAt before slots.old.items e i variable → PartSaid before slots.new.items e i variable wanted.now term) }
 {
     if !is_shared(wanted) {
-        return Ok(Term::Place(place));
+        return Ok(Term::Variable(variable));
     }
-    let kind = kind_at(slots, place);
-    lent_as(slots, kind, place)
+    let kind = kind_at(slots, variable);
+    lent_as(slots, kind, variable)
 }
 
 /// The type of each returned part, where these types are returned.
@@ -103,12 +103,12 @@ fn lent_parts<'a>(
     slots: &mut Vec<Slot<'a>>,
     parts: Parts,
     types: &[TypeTerm],
-    places: usize,
+    variables: usize,
 ) -> Result<Vec<Term<'a>>, NoMemory>
     requires fits { Fits slots.old.items }
     requires count { parts.count ≡ length types.now }
-    requires within { parts.first + parts.count ≤ places }
-    requires places { places ≤ length slots.old.items }
+    requires within { parts.first + parts.count ≤ variables }
+    requires variables { variables ≤ length slots.old.items }
     ensures keeps { IfOk result (λ terms. Keeps slots.old.items slots.new.items) }
     ensures within { IfOk result (λ terms. AllWithin (length slots.new.items) terms.items) }
     ensures said { IfOk result (λ terms. (before : List SlotData) (e : ℕ) → TupleSaid before slots.old.items e parts → PartsSaid before slots.new.items e 0 parts.first types.now terms.items) }
@@ -124,23 +124,23 @@ fn lent_parts<'a>(
 fn returns_parts<'a>(
     alloc: Global,
     slots: &mut Vec<Slot<'a>>,
-    place: usize,
+    variable: usize,
     parts: Parts,
     of: &'a TypeTerm,
     types: &[TypeTerm],
 ) -> Result<Equation<'a>, NoMemory>
     requires fits { Fits slots.old.items }
-    requires place { place < length slots.old.items }
+    requires variable { variable < length slots.old.items }
     requires parts { parts.first + parts.count ≤ length slots.old.items }
     requires types { of.now ≡ TupleType (types_of types.now) }
     ensures keeps { IfOk result (λ q. Keeps slots.old.items slots.new.items) }
-    ensures emits { IfOk result (λ q. (w : TypeReading) (before : List SlotData) → TupleSaid before slots.old.items place parts → Emits w before slots.new.items (D.Returns place (D.Written of.now)) q) }
+    ensures emits { IfOk result (λ q. (w : TypeReading) (before : List SlotData) → TupleSaid before slots.old.items variable parts → Emits w before slots.new.items (D.Returns variable (D.Written of.now)) q) }
 {
     if parts.count != types.len() {
-        return Ok(Equation::Equal(Term::Place(place), Term::Closed(of)));
+        return Ok(Equation::Equal(Term::Variable(variable), Term::Closed(of)));
     }
-    let places = slots.len();
-    let terms = lent_parts(alloc, slots, parts, types, places)?;
+    let variables = slots.len();
+    let terms = lent_parts(alloc, slots, parts, types, variables)?;
     let term = group_terms(slots, Group::Tuple, &terms)?;
     Ok(Equation::Equal(term, Term::Closed(of)))
 }
@@ -149,20 +149,20 @@ fn returns_parts<'a>(
 fn returns_tuple<'a>(
     alloc: Global,
     slots: &mut Vec<Slot<'a>>,
-    place: usize,
+    variable: usize,
     of: &'a TypeTerm,
     types: &[TypeTerm],
 ) -> Result<Equation<'a>, NoMemory>
     requires fits { Fits slots.old.items }
-    requires place { place < length slots.old.items }
+    requires variable { variable < length slots.old.items }
     requires types { of.now ≡ TupleType (types_of types.now) }
     ensures keeps { IfOk result (λ q. Keeps slots.old.items slots.new.items) }
-    ensures emits { IfOk result (λ q. (w : TypeReading) → Emits w slots.old.items slots.new.items (D.Returns place (D.Written of.now)) q) }
+    ensures emits { IfOk result (λ q. (w : TypeReading) → Emits w slots.old.items slots.new.items (D.Returns variable (D.Written of.now)) q) }
 {
-    let seen = tuple_at(slots, place)?;
+    let seen = tuple_at(slots, variable)?;
     match seen {
-        None => Ok(Equation::Equal(Term::Place(place), Term::Closed(of))),
-        Some(parts) => returns_parts(alloc, slots, place, parts, of, types),
+        None => Ok(Equation::Equal(Term::Variable(variable), Term::Closed(of))),
+        Some(parts) => returns_parts(alloc, slots, variable, parts, of, types),
     }
 }
 
@@ -171,18 +171,18 @@ fn returns_written<'a>(
     alloc: Global,
     types: &'a PlainTypes,
     slots: &mut Vec<Slot<'a>>,
-    place: usize,
+    variable: usize,
     of: &'a TypeTerm,
 ) -> Result<Equation<'a>, NoMemory>
     requires types { ArePlain types.now }
     requires fits { Fits slots.old.items }
-    requires place { place < length slots.old.items }
+    requires variable { variable < length slots.old.items }
     ensures keeps { IfOk result (λ q. Keeps slots.old.items slots.new.items) }
-    ensures emits { IfOk result (λ q. (w : TypeReading) → Emits w slots.old.items slots.new.items (D.Returns place (D.Written of.now)) q) }
+    ensures emits { IfOk result (λ q. (w : TypeReading) → Emits w slots.old.items slots.new.items (D.Returns variable (D.Written of.now)) q) }
 {
     match tuple_types(of) {
-        None => takes(alloc, types, slots, place, TypeForm::Written(of)),
-        Some(parts) => returns_tuple(alloc, slots, place, of, parts),
+        None => takes(alloc, types, slots, variable, TypeForm::Written(of)),
+        Some(parts) => returns_tuple(alloc, slots, variable, of, parts),
     }
 }
 
@@ -192,19 +192,19 @@ pub fn returns<'a>(
     alloc: Global,
     types: &'a PlainTypes,
     slots: &mut Vec<Slot<'a>>,
-    place: usize,
+    variable: usize,
     form: TypeForm<'a>,
 ) -> Result<Equation<'a>, NoMemory>
     requires types { ArePlain types.now }
     requires fits { Fits slots.old.items }
-    requires place { place < length slots.old.items }
+    requires variable { variable < length slots.old.items }
     requires written { IsWritten (seen_form form) }
     ensures keeps { IfOk result (λ q. Keeps slots.old.items slots.new.items) }
-    ensures emits { IfOk result (λ q. (w : TypeReading) → Emits w slots.old.items slots.new.items (D.Returns place (seen_form form.entry)) q) }
+    ensures emits { IfOk result (λ q. (w : TypeReading) → Emits w slots.old.items slots.new.items (D.Returns variable (seen_form form.entry)) q) }
 {
     match form {
-        TypeForm::Written(of) => returns_written(alloc, types, slots, place, of),
+        TypeForm::Written(of) => returns_written(alloc, types, slots, variable, of),
         TypeForm::Read(_) => Err(NoMemory),
-        _ => takes(alloc, types, slots, place, form),
+        _ => takes(alloc, types, slots, variable, form),
     }
 }

@@ -18,8 +18,8 @@ use base::memory::NoMemory;
 use std::alloc::Global;
 use type_constraints::constraint::Constraint;
 use unification::type_variables::heads::KindSeen;
-use unification::type_variables::places::{is_of, one};
 use unification::type_variables::slots::{Slot, Term};
+use unification::type_variables::variables::{is_of, one};
 
 /// The result of solving the constraints of a node.
 #[derive(Clone, Copy, Debug, PartialEq, Eq)]
@@ -84,14 +84,14 @@ fn lend<'a>(
     alloc: Global,
     slots: &mut Vec<Slot<'a>>,
     term: Term<'a>,
-    place: usize,
+    variable: usize,
 ) -> Result<bool, NoMemory>
     requires fits { Fits slots.old.items }
     requires term { TermWithin (length slots.old.items) term }
-    requires place { place < length slots.old.items }
-    ensures { IfOk result (λ answer. Grows slots.old.items (λ t. Solved t (EquationData.Lent term.entry place)) slots.new.items (λ t. IsTrue answer)) }
+    requires variable { variable < length slots.old.items }
+    ensures { IfOk result (λ answer. Grows slots.old.items (λ t. Solved t (EquationData.Lent term.entry variable)) slots.new.items (λ t. IsTrue answer)) }
 {
-    let seen = kind_at(slots, place);
+    let seen = kind_at(slots, variable);
     match seen {
         KindSeen::Unsettled => Err(NoMemory),
         KindSeen::Plain => Ok(false),
@@ -114,8 +114,8 @@ fn apply<'a>(
         Equation::Never => Ok(false),
         Equation::Unsettled => Ok(false),
         Equation::Equal(left, right) => equal(alloc, slots, left, right),
-        Equation::Sorted(sort, place) => Ok(is_of(slots, place, sort)),
-        Equation::Lent(term, place) => lend(alloc, slots, term, place),
+        Equation::Sorted(sort, variable) => Ok(is_of(slots, variable, sort)),
+        Equation::Lent(term, variable) => lend(alloc, slots, term, variable),
     }
 }
 
@@ -158,20 +158,20 @@ fn settle<'a>(
     Ok(step_of(left))
 }
 
-/// Solves the constraints of a node, over the first `places` type variables.
+/// Solves the constraints of a node, over the first `variables` type variables.
 pub fn solve_constraints<'a>(
     alloc: Global,
     tables: Tables<'a>,
     slots: &mut Vec<Slot<'a>>,
     constraints: &[Constraint<'a>],
-    places: usize,
+    variables: usize,
 ) -> Result<Step, NoMemory>
     requires types { ArePlain tables.types.now }
     requires fits { Fits slots.old.items }
-    requires places { places ≤ length slots.old.items }
-    ensures { IfOk result (StepSays (reading_of tables.entry) places slots.old.items slots.new.items (seen_all constraints.now)) }
+    requires variables { variables ≤ length slots.old.items }
+    ensures { IfOk result (StepSays (reading_of tables.entry) variables slots.old.items slots.new.items (seen_all constraints.now)) }
 {
-    if !all_within(constraints, places) {
+    if !all_within(constraints, variables) {
         return Err(NoMemory);
     }
     let mut equations = Vec::new(alloc);

@@ -90,27 +90,27 @@ fn made_tuple<'a>(slots: &mut Vec<Slot<'a>>, term: Term<'a>) -> Result<Option<Pa
 }
 
 /// The representative of a type variable.
-fn root_in<'a>(slots: &mut Vec<Slot<'a>>, place: usize) -> usize
+fn root_in<'a>(slots: &mut Vec<Slot<'a>>, variable: usize) -> usize
     requires fits { Fits slots.old.items }
-    requires within { place < length slots.old.items }
+    requires within { variable < length slots.old.items }
     ensures keeps { Keeps slots.old.items slots.new.items }
     ensures within { result < length slots.new.items }
     ensures root { IsRoot (slot_at slots.new.items result) }
-    ensures same { (t : Typing) → Meets slots.new.items t → t place ≡ t result }
+    ensures same { (t : Typing) → Meets slots.new.items t → t variable ≡ t result }
 {
-    root(slots, place)
+    root(slots, variable)
 }
 
 /// Returns the parts of the type of a variable that is known to be a tuple. Type variables are added for those of a
 /// written one.
-pub fn tuple_at<'a>(slots: &mut Vec<Slot<'a>>, place: usize) -> Result<Option<Parts>, NoMemory>
+pub fn tuple_at<'a>(slots: &mut Vec<Slot<'a>>, variable: usize) -> Result<Option<Parts>, NoMemory>
     requires fits { Fits slots.old.items }
-    requires within { place < length slots.old.items }
+    requires within { variable < length slots.old.items }
     ensures keeps { IfOk result (λ parts. Keeps slots.old.items slots.new.items) }
-    ensures seen { IfOk result (λ parts. TupleSeen slots.new.items place parts) }
+    ensures seen { IfOk result (λ parts. TupleSeen slots.new.items variable parts) }
     ensures within { IfOk result (λ parts. PartsWithin (length slots.new.items) parts) }
 {
-    let at = root_in(slots, place);
+    let at = root_in(slots, variable);
     let slot = slots[at];
     match slot {
         Slot::Open(_) => Ok(None),

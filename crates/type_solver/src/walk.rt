@@ -75,38 +75,38 @@ fn read_next<'a>(
     tables: Tables<'a>,
     slots: &mut Vec<Slot<'a>>,
     count: usize,
-    places: usize,
+    variables: usize,
     constraints: &[Constraint<'a>],
 ) -> Result<Progress, NoMemory>
     requires types { ArePlain tables.types.now }
     requires fits { Fits slots.old.items }
-    requires places { places ≤ length slots.old.items }
-    ensures walk { IfOk result (λ after. (steps : List (List D.Constraint)) → ReadsAll (reading_of tables.entry) places steps slots.old.items count → IsWalk (reading_of tables.entry) places (steps ++ seen_all constraints.now ∷ []) slots.new.items after) }
+    requires variables { variables ≤ length slots.old.items }
+    ensures walk { IfOk result (λ after. (steps : List (List D.Constraint)) → ReadsAll (reading_of tables.entry) variables steps slots.old.items count → IsWalk (reading_of tables.entry) variables (steps ++ seen_all constraints.now ∷ []) slots.new.items after) }
     ensures fits { IfOk result (λ after. Fits slots.new.items) }
-    ensures places { IfOk result (λ after. places ≤ length slots.new.items) }
+    ensures variables { IfOk result (λ after. variables ≤ length slots.new.items) }
 {
-    let step = solve_constraints(alloc, tables, slots, constraints, places)?;
+    let step = solve_constraints(alloc, tables, slots, constraints, variables)?;
     after_step(step, count)
 }
 
-/// Reads a step over the first `places` type variables, unless reading ended before it.
+/// Reads a step over the first `variables` type variables, unless reading ended before it.
 pub fn read_step<'a>(
     alloc: Global,
     tables: Tables<'a>,
     slots: &mut Vec<Slot<'a>>,
     progress: Progress,
-    places: usize,
+    variables: usize,
     constraints: &[Constraint<'a>],
 ) -> Result<Progress, NoMemory>
     requires types { ArePlain tables.types.now }
     requires fits { Fits slots.old.items }
-    requires places { places ≤ length slots.old.items }
-    ensures walk { IfOk result (λ after. (steps : List (List D.Constraint)) → IsWalk (reading_of tables.entry) places steps slots.old.items progress → IsWalk (reading_of tables.entry) places (steps ++ seen_all constraints.now ∷ []) slots.new.items after) }
+    requires variables { variables ≤ length slots.old.items }
+    ensures walk { IfOk result (λ after. (steps : List (List D.Constraint)) → IsWalk (reading_of tables.entry) variables steps slots.old.items progress → IsWalk (reading_of tables.entry) variables (steps ++ seen_all constraints.now ∷ []) slots.new.items after) }
     ensures fits { IfOk result (λ after. Fits slots.new.items) }
-    ensures places { IfOk result (λ after. places ≤ length slots.new.items) }
+    ensures variables { IfOk result (λ after. variables ≤ length slots.new.items) }
 {
     match progress.reading {
-        Reading::Whole => read_next(alloc, tables, slots, progress.count, places, constraints),
+        Reading::Whole => read_next(alloc, tables, slots, progress.count, variables, constraints),
         Reading::Stopped => Ok(progress),
         Reading::Clash => Ok(progress),
     }

@@ -12,7 +12,7 @@ pub record System : Type 0 where
   pub reading : TypeReading
   pub steps : List (List Constraint)
   -- the number of type variables
-  pub places : ℕ
+  pub variables : ℕ
   -- the type variables of the whole values of `e;`
   pub dropped : List ℕ
   -- the default integer type; none in specifications, where no rule requires an integer type of Move
@@ -26,13 +26,13 @@ abbrev pub IsForced : (Typing → Type 0) → ℕ → Type 0
 IsForced These p = (t u : Typing) → These t → These u → t p ≡ u p
 
 -- all of these typings give the type variable an integer type
-abbrev pub IsIntegerPlace : (Typing → Type 0) → ℕ → Type 0
-IsIntegerPlace These p = (t : Typing) → These t → IsTrue (is_integer (t p))
+abbrev pub IsIntegerVariable : (Typing → Type 0) → ℕ → Type 0
+IsIntegerVariable These p = (t : Typing) → These t → IsTrue (is_integer (t p))
 
 -- A typing in which each type variable with an integer type that is not forced has the default type, if there is one
 pub record IsDefaulted (s : System) (t : Typing) : Type 0 where
   pub typing : Typings s t
-  pub integers : (of : TypeData) → s.open_integer ≡ Some of → (p : ℕ) → p < s.places → IsIntegerPlace (Typings s) p → (IsForced (Typings s) p → ⊥) → t p ≡ of
+  pub integers : (of : TypeData) → s.open_integer ≡ Some of → (p : ℕ) → p < s.variables → IsIntegerVariable (Typings s) p → (IsForced (Typings s) p → ⊥) → t p ≡ of
 
 -- and in which the whole value of an `e;`, where these typings do not force its type, has type `()` if it can
 pub record IsSettledTyping (s : System) (t : Typing) : Type 0 where
@@ -58,13 +58,13 @@ pub record HasType (s : System) (p : ℕ) (of : TypeData) : Type 0 where
 pub record IsTyped (s : System) (types : List TypeData) : Type 0 where
   pub whole : HasOpenHead s.reading s.steps → ⊥
   pub exists : HasTyping s
-  pub same_length : length types ≡ s.places
-  pub each : (p : ℕ) → p < s.places → HasType s p (slice_index_or types p unit_type)
+  pub same_length : length types ≡ s.variables
+  pub each : (p : ℕ) → p < s.variables → HasType s p (slice_index_or types p unit_type)
 
 -- typings exist, and a head is open, or the type of a type variable is not forced
 pub record IsAmbiguous (s : System) : Type 0 where
   pub exists : HasTyping s
-  pub why : HasOpenHead s.reading s.steps ⊎ ((p : ℕ) × (p < s.places) × (IsForced (IsSettledTyping s) p → ⊥))
+  pub why : HasOpenHead s.reading s.steps ⊎ ((p : ℕ) × (p < s.variables) × (IsForced (IsSettledTyping s) p → ⊥))
 
 -- the node with this number is read: the step before the first node is that of the declared types
 abbrev pub NodeIsRead : System → ℕ → Type 0

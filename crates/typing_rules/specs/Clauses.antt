@@ -28,7 +28,7 @@ use Rattle.typing_rules.specs.declared.sort.Sort.TheVariants.{Value}
 use Rattle.typing_rules.specs.Constraint.{Constraint, IsOf, Barred}
 use Rattle.typing_rules.specs.CodeConstraints.{has, barred_unless}
 use Rattle.typing_rules.specs.CodeSystems.{last_by}
-use Rattle.typing_rules.specs.SpecConstraints.{SpecNode, SpecSetting, binds_in, declared_variables, spec_argument_constraints, spec_constraints_from, spec_given_constraints, spec_place_count}
+use Rattle.typing_rules.specs.SpecConstraints.{SpecNode, SpecSetting, binds_in, declared_variables, spec_argument_constraints, spec_constraints_from, spec_given_constraints, spec_variable_count}
 use Rattle.typing_rules.specs.Answers.{System, HasType}
 
 -- ---- names
@@ -159,7 +159,7 @@ abbrev pub spec_system : SpecSetting → ℕ → List Constraint → System
 spec_system s more whole = record {
   reading = record { structs = s.program.structs; is_spec = true };
   steps = declared_variables s ∷ (spec_constraints_from s 0 s.nodes ++ whole ∷ []);
-  places = spec_place_count s + more;
+  variables = spec_variable_count s + more;
   dropped = [];
   open_integer = None;
 }
@@ -178,7 +178,7 @@ clause_setting program names block types c = record {
 abbrev pub clause_system : Program → Names → Block → TypesData → Clause → System
 clause_system program names block types c =
     let s = clause_setting program names block types c in
-    spec_system s (form_arguments program c.form) (whole_constraints s block (spec_place_count s) c.form)
+    spec_system s (form_arguments program c.form) (whole_constraints s block (spec_variable_count s) c.form)
 
 -- ---- names in scope of owners
 
@@ -225,7 +225,7 @@ spec_function_system program f =
 -- the `let`s of the clauses before it, if its value has a type; any other clause has none.
 pub record AreLets (system : List (Option LetType) → Clause → System) (clauses : List Clause) (lets : List (Option LetType)) : Type 0 where
   pub same_length : length lets ≡ length clauses
-  pub told : (k : ℕ) (is_post : Bool) (of : TypeData) → slice_get lets k ≡ Some (Some (is_post, of))
+  pub known : (k : ℕ) (is_post : Bool) (of : TypeData) → slice_get lets k ≡ Some (Some (is_post, of))
       → (clause : Clause) × (value : ℕ) × (slice_get clauses k ≡ Some clause) × (clause.form ≡ Let is_post value) × HasType (system (take k lets) clause) value of
   pub typed : (k : ℕ) (clause : Clause) (is_post : Bool) (value : ℕ) (of : TypeData) → slice_get clauses k ≡ Some clause → clause.form ≡ Let is_post value
       → HasType (system (take k lets) clause) value of → slice_get lets k ≡ Some (Some (is_post, of))

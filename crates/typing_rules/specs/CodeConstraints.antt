@@ -35,7 +35,7 @@ use Rattle.typing_rules.specs.declared.sort.Sort.TheVariants.{Single, Value, Int
 use Rattle.typing_rules.specs.ProperTypes.{is_proper, is_proper_value}
 use Rattle.typing_rules.specs.Constraint.{Written, Declared, Applied, Constraint, Same, Has, MadeOf, TupleOf, IsOf, Alike, Takes, Returns, FieldOf, TargetOf, Through, Behind, Barred}
 use Rattle.typing_rules.specs.Rules.{field_named}
-use Rattle.typing_rules.specs.Settings.{Signature, unit_type, u64_type, callee_signature, CodeSetting, local_place, first_argument, struct_arity}
+use Rattle.typing_rules.specs.Settings.{Signature, unit_type, u64_type, callee_signature, CodeSetting, variable_of_local, first_argument, struct_arity}
 use Rattle.typing_rules.specs.Jumps.{has_break, is_in_loop}
 
 -- ---- abbreviations
@@ -52,9 +52,9 @@ abbrev pub each_of : Sort → List ℕ → List Constraint
 each_of sort parts = map (IsOf sort) parts
 
 -- so many type variables, from this one on
-abbrev pub places_from : ℕ → ℕ → List ℕ
-places_from first zero = []
-places_from first (suc n) = first ∷ places_from (first + 1) n
+abbrev pub variables_from : ℕ → ℕ → List ℕ
+variables_from first zero = []
+variables_from first (suc n) = first ∷ variables_from (first + 1) n
 
 -- ---- written types
 
@@ -69,7 +69,7 @@ has_arguments structs first (t ∷ ts) = (if is_proper_value structs t then has 
 -- The type arguments of a node are neither references nor tuples. Either all are written, or none is.
 abbrev pub argument_constraints : Structs → ℕ → ℕ → List TypeData → List Constraint
 argument_constraints structs first arity types =
-    each_of Value (places_from first arity)
+    each_of Value (variables_from first arity)
     ++ (if (length types == 0) then [] else (if (length types == arity) then has_arguments structs first types else Barred ∷ []))
 
 -- ---- nodes without parts
@@ -94,12 +94,12 @@ abbrev pub leaf_constraints : CodeSetting → ℕ → CodeLeaf → List Constrai
 leaf_constraints s n (Number x) = number_constraints n x.width
 leaf_constraints s n (Truth value) = has n BoolType ∷ []
 leaf_constraints s n (Address value) = has n AddressType ∷ []
-leaf_constraints s n (Local kind l) = Same n (local_place s l) ∷ []
+leaf_constraints s n (Local kind l) = Same n (variable_of_local s l) ∷ []
 leaf_constraints s n (Constant c) = constant_constraints n (lookup (same_constant c) s.program.constants)
 leaf_constraints s n Return = barred_unless (is_unit s.result)
 leaf_constraints s n Break = barred_unless (is_in_loop s.nodes n)
 leaf_constraints s n Continue = barred_unless (is_in_loop s.nodes n)
-leaf_constraints s n (Bind l) = IsOf Single (local_place s l) ∷ Same n (local_place s l) ∷ []
+leaf_constraints s n (Bind l) = IsOf Single (variable_of_local s l) ∷ Same n (variable_of_local s l) ∷ []
 leaf_constraints s n Ignore = []
 
 -- ---- lvalues that are assigned or borrowed mutably

@@ -13,7 +13,7 @@ use Rattle.program.specs.declared.program.Program.{Program}
 use Rattle.program.specs.CodeNodes.{CodeNode}
 use Rattle.typing_rules.specs.ProperTypes.{is_proper, is_proper_single}
 use Rattle.typing_rules.specs.Constraint.{Constraint, Returns, Barred, Written}
-use Rattle.typing_rules.specs.Settings.{CodeSetting, local_place, first_argument, place_count, u64_type}
+use Rattle.typing_rules.specs.Settings.{CodeSetting, variable_of_local, first_argument, variable_count, u64_type}
 use Rattle.typing_rules.specs.CodeConstraints.{has, barred_unless, constraints_at, constraints_from}
 use Rattle.typing_rules.specs.Answers.{System}
 
@@ -28,7 +28,7 @@ abbrev pub code_system : CodeSetting → List Constraint → List (List Constrai
 code_system s declared nodes whole = record {
   reading = record { structs = s.program.structs; is_spec = false };
   steps = declared ∷ (nodes ++ whole ∷ []);
-  places = place_count s;
+  variables = variable_count s;
   dropped = flat_map dropped_by s.nodes;
   open_integer = Some u64_type;
 }
@@ -48,7 +48,7 @@ function_setting program f = record { program = program; nodes = f.body.nodes; l
 abbrev pub parameter_constraints : CodeSetting → ℕ → List TypedName → List Constraint
 parameter_constraints s l [] = []
 parameter_constraints s l (p ∷ ps) =
-    (if is_proper_single s.program.structs p.annotation then has (local_place s l) p.annotation else Barred) ∷ parameter_constraints s (l + 1) ps
+    (if is_proper_single s.program.structs p.annotation then has (variable_of_local s l) p.annotation else Barred) ∷ parameter_constraints s (l + 1) ps
 
 abbrev pub signature_constraints : CodeSetting → Function → List Constraint
 signature_constraints s f = parameter_constraints s 0 f.parameters ++ barred_unless (is_proper s.program.structs f.result)

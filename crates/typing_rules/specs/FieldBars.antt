@@ -23,7 +23,7 @@ use Rattle.typing_rules.specs.CodeSystems.{function_setting, function_system}
 
 -- the system of the first so many steps alone
 abbrev pub first_steps : System → ℕ → System
-first_steps s k = record { reading = s.reading; steps = take k s.steps; places = s.places; dropped = s.dropped; open_integer = s.open_integer }
+first_steps s k = record { reading = s.reading; steps = take k s.steps; variables = s.variables; dropped = s.dropped; open_integer = s.open_integer }
 
 -- The first so many nodes have typings, and the node with this number is among them and read.
 pub record IsJudged (s : System) (count node : ℕ) : Type 0 where

@@ -24,8 +24,8 @@ number_fits value _ = true
 
 -- a number literal at a node that is read is no value of its type, in every typing with default integer types
 pub record Misfits (s : System) (nodes : List CodeNode) : Type 0 where
-  pub place : ℕ
+  pub variable : ℕ
   pub number : NumberData
-  pub stands : slice_get nodes place ≡ Some (Leaf (Number number))
-  pub is_read : NodeIsRead s place
-  pub misfits : (t : Typing) → IsDefaulted s t → number_fits number.value (t place) ≡ false
+  pub stands : slice_get nodes variable ≡ Some (Leaf (Number number))
+  pub is_read : NodeIsRead s variable
+  pub misfits : (t : Typing) → IsDefaulted s t → number_fits number.value (t variable) ≡ false

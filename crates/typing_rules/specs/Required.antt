@@ -183,11 +183,11 @@ pub record LacksRequired (program : Program) (f : Function) : Type 0 where
   pub form : CodeNode
   pub stands : slice_get f.body.nodes node ≡ Some form
   pub is_read : NodeIsRead (function_system program f) node
-  pub place : ℕ
+  pub variable : ℕ
   pub ability : Ability
-  pub required : Contains (required_at f.body.nodes node (first_argument (function_setting program f) node) form) (place, ability)
+  pub required : Contains (required_at f.body.nodes node (first_argument (function_setting program f) node) form) (variable, ability)
   pub of : TypeData
-  pub is_type : HasType (function_system program f) place of
+  pub is_type : HasType (function_system program f) variable of
   pub lacks : has_ability ability (abilities_in program f of) ≡ false
 
 -- a type argument of a node that is read does not meet its constraint, or contains one that does not

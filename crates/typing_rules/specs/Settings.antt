@@ -105,13 +105,13 @@ abbrev pub node_arity : Program → CodeNode → ℕ
 node_arity program (Many form parts) = form_arity program form
 node_arity program _ = 0
 
-abbrev pub local_place : CodeSetting → ℕ → ℕ
-local_place s l = length s.nodes + l
+abbrev pub variable_of_local : CodeSetting → ℕ → ℕ
+variable_of_local s l = length s.nodes + l
 
 -- the type variable of the first type argument of the node with this number
 abbrev pub first_argument : CodeSetting → ℕ → ℕ
 first_argument s n = (length s.nodes + s.locals) + sum_by (node_arity s.program) (take n s.nodes)
 
 -- the number of type variables
-abbrev pub place_count : CodeSetting → ℕ
-place_count s = (length s.nodes + s.locals) + sum_by (node_arity s.program) s.nodes
+abbrev pub variable_count : CodeSetting → ℕ
+variable_count s = (length s.nodes + s.locals) + sum_by (node_arity s.program) s.nodes

@@ -38,7 +38,7 @@ use Rattle.typing_rules.specs.Instances.{argument_in, instance, spec_type}
 use Rattle.typing_rules.specs.ProperTypes.{is_proper_single, is_proper_value}
 use Rattle.typing_rules.specs.Constraint.{Declared, Applied, Constraint, Same, Has, MadeOf, IsOf, FieldOf, Barred}
 use Rattle.typing_rules.specs.Settings.{Signature, signature, item, unit_type, struct_arity, arity_of}
-use Rattle.typing_rules.specs.CodeConstraints.{has, barred_unless, each_of, names_each_once, places_from, same_constant}
+use Rattle.typing_rules.specs.CodeConstraints.{has, barred_unless, each_of, names_each_once, variables_from, same_constant}
 use Rattle.typing_rules.specs.Rules.{field_named}
 
 abbrev pub SpecNode : Type 0
@@ -87,14 +87,14 @@ abbrev pub spec_node_arity : Program → SpecNode → ℕ
 spec_node_arity program (Many form parts) = spec_form_arity program form
 spec_node_arity program _ = 0
 
-abbrev pub variable_place : SpecSetting → ℕ → ℕ
-variable_place s v = length s.nodes + v
+abbrev pub variable_of_name : SpecSetting → ℕ → ℕ
+variable_of_name s v = length s.nodes + v
 
 abbrev pub spec_first_argument : SpecSetting → ℕ → ℕ
 spec_first_argument s n = (length s.nodes + s.variables) + sum_by (spec_node_arity s.program) (take n s.nodes)
 
-abbrev pub spec_place_count : SpecSetting → ℕ
-spec_place_count s = (length s.nodes + s.variables) + sum_by (spec_node_arity s.program) s.nodes
+abbrev pub spec_variable_count : SpecSetting → ℕ
+spec_variable_count s = (length s.nodes + s.variables) + sum_by (spec_node_arity s.program) s.nodes
 
 -- ---- written type arguments, as specifications read them
 
@@ -105,7 +105,7 @@ has_spec_arguments s first (t ∷ ts) =
 
 abbrev pub spec_argument_constraints : SpecSetting → ℕ → ℕ → List TypeData → List Constraint
 spec_argument_constraints s first arity types =
-    each_of Value (places_from first arity)
+    each_of Value (variables_from first arity)
     ++ (if (length types == 0) then [] else (if (length types == arity) then has_spec_arguments s first types else Barred ∷ []))
 
 -- ---- nodes without parts
@@ -115,7 +115,7 @@ named_type n None = Barred ∷ []
 named_type n (Some of) = has n of ∷ []
 
 abbrev pub name_constraints : SpecSetting → ℕ → SpecName → List Constraint
-name_constraints s n (quantified_name v) = Same n (variable_place s v) ∷ []
+name_constraints s n (quantified_name v) = Same n (variable_of_name s v) ∷ []
 name_constraints s n (Parameter k) = named_type n (s.named (Parameter k))
 name_constraints s n (Local k) = named_type n (s.named (Local k))
 name_constraints s n (Result k) = named_type n (s.named (Result k))
@@ -238,8 +238,8 @@ spec_constraints_from s n (node ∷ rest) = spec_constraints_at s n (spec_first_
 -- a variable ranges over the values of its type; one with `in` over whole numbers
 abbrev pub variable_constraints : SpecSetting → ℕ → Domain → List Constraint
 variable_constraints s v (Of t) =
-    if is_proper_single s.program.structs t then has (variable_place s v) (read_there s.types t) ∷ [] else Barred ∷ []
-variable_constraints s v In = has (variable_place s v) NumType ∷ []
+    if is_proper_single s.program.structs t then has (variable_of_name s v) (read_there s.types t) ∷ [] else Barred ∷ []
+variable_constraints s v In = has (variable_of_name s v) NumType ∷ []
 
 abbrev pub bind_constraints : SpecSetting → Bind → List Constraint
 bind_constraints s b = variable_constraints s b.variable b.domain

@@ -11,7 +11,7 @@ use Rattle.unification.specs.Ranks.{EachIn}
 use Rattle.unification.specs.Grown.{SameTo, Grows}
 use Rattle.unification.specs.declared.type_variables.slots.Sort.TheVariants.{Any}
 use Rattle.unification.specs.declared.type_variables.slots.Term.{Term}
-use Rattle.unification.specs.declared.type_variables.slots.Term.TheVariants.{Place, Closed, Made, Grouped}
+use Rattle.unification.specs.declared.type_variables.slots.Term.TheVariants.{Variable, Closed, Made, Grouped}
 use Rattle.unification.specs.declared.type_variables.slots.Slot.{Slot}
 use Rattle.unification.specs.declared.type_variables.slots.Slot.TheVariants.{Open, Bound}
 use Rattle.unification.proofs.Refill.{value-same}
@@ -36,7 +36,7 @@ each_more P slots s new old p lt = elim (eqb_tells p (length slots)) [
 
 slot_fits-more : (n m p : ℕ) (s : Slot) → n ≤ m → SlotFits n p s → SlotFits m p s
 slot_fits-more n m p (Open s) le h = tt
-slot_fits-more n m p (Bound (Place q)) le h = h
+slot_fits-more n m p (Bound (Variable q)) le h = h
 slot_fits-more n m p (Bound (Closed of)) le h = tt
 slot_fits-more n m p (Bound (Made w q)) le h = omega (arith, le, h)
 slot_fits-more n m p (Bound (Grouped g first k)) le h = omega (arith, le, h)
@@ -55,30 +55,30 @@ pub meets_last : (slots : List Slot) (x : Term) (t : Typing) → Meets (slots ++
 meets_last slots x t m = let e : t (length slots) ≡ value t x = subst (λ (y : Slot). SlotMeets t (length slots) y) (last slots (Bound x)) (m.each (length slots) (omega (arith, length_more slots (Bound x)))) in e
 
 pub within_each : (n : ℕ) (x : Term) → TermWithin n x → EachIn (λ q. q < n) x
-within_each n (Place q) h = h
+within_each n (Variable q) h = h
 within_each n (Closed of) h = tt
 within_each n (Made w q) h = h
 within_each n (Grouped g first k) h = λ q a b. omega (arith, b, h)
 
 fits_each : (n p : ℕ) (x : Term) → p < n → TermFits n p x → EachIn (λ q. q < n) x
-fits_each n p (Place q) lt h = omega (arith, lt, h)
+fits_each n p (Variable q) lt h = omega (arith, lt, h)
 fits_each n p (Closed of) lt h = tt
 fits_each n p (Made w q) lt h = h
 fits_each n p (Grouped g first k) lt h = λ q a b. omega (arith, b, h)
 
 -- a typing with another type for one variable
-at_place : Typing → ℕ → TypeData → Typing
-at_place t n a p = (if eqb p n then a else t p)
+at_variable : Typing → ℕ → TypeData → Typing
+at_variable t n a p = (if eqb p n then a else t p)
 
-at_other : (t : Typing) (n : ℕ) (a : TypeData) (p : ℕ) → p < n → at_place t n a p ≡ t p
-unfolding at_place
+at_other : (t : Typing) (n : ℕ) (a : TypeData) (p : ℕ) → p < n → at_variable t n a p ≡ t p
+unfolding at_variable
 at_other t n a p lt = elim (eqb_tells p n) [
   | inl e ↦ absurd (let h : n < n = subst (λ (q : ℕ). q < n) e.1 lt in omega (arith, h))
   | inr e ↦ ap (λ (b : Bool). (if b then a else t p)) e.0
 ]
 
-at_same : (t : Typing) (n : ℕ) (a : TypeData) → at_place t n a n ≡ a
-unfolding at_place
+at_same : (t : Typing) (n : ℕ) (a : TypeData) → at_variable t n a n ≡ a
+unfolding at_variable
 at_same t n a = elim (eqb_tells n n) [
   | inl e ↦ ap (λ (b : Bool). (if b then a else t n)) e.0
   | inr e ↦ absurd (e.1 refl)
@@ -89,7 +89,7 @@ slot_kept t u n p (Open s) lt h same m = subst (λ (a : TypeData). IsTrue (is_of
 slot_kept t u n p (Bound x) lt h same m = same p lt ∙ m ∙ value-same (λ q. q < n) t u x (fits_each n p x lt h) (λ q lt'. sym (same q lt'))
 
 last_fits : (n : ℕ) (x : Term) → TermWithin n x → TermFits n n x
-last_fits n (Place q) h = h
+last_fits n (Variable q) h = h
 last_fits n (Closed of) h = tt
 last_fits n (Made w q) h = h
 last_fits n (Grouped g first k) h = h
@@ -101,7 +101,7 @@ added slots x fits within = record {
   longer = omega (arith, length_more slots (Bound x));
   opens = each_more (λ p s. IsOpen s → (p < length slots) × IsOpen (slot_at slots p)) slots (Bound x) (λ o. absurd o) (λ p lt o. (lt, o));
   forth = λ t m f.
-      let u : Typing = at_place t (length slots) (value t x) in
+      let u : Typing = at_variable t (length slots) (value t x) in
       let same : SameTo (length slots) t u = at_other t (length slots) (value t x) in (
         u,
         (

@@ -20,15 +20,15 @@ pub each_less : (t : Typing) (asks : List Ask) (a : Ask) → EachHas t (asks ++ 
 each_less t [] a h = (tt, h.0)
 each_less t (x ∷ asks) a h = let r = each_less t asks a h.1 in ((h.0, r.0), r.1)
 
-pub within_more : (n : ℕ) (asks : List Ask) (a : Ask) → AsksWithin n asks → a.place < n → TermWithin n a.term → AsksWithin n (asks ++ a ∷ [])
+pub within_more : (n : ℕ) (asks : List Ask) (a : Ask) → AsksWithin n asks → a.variable < n → TermWithin n a.term → AsksWithin n (asks ++ a ∷ [])
 within_more n [] a h p x = (p, x, tt)
 within_more n (y ∷ asks) a h p x = (h.0, h.1, within_more n asks a h.2 p x)
 
-within_split : (n : ℕ) (asks : List Ask) (a : Ask) → AsksWithin n (asks ++ a ∷ []) → (a.place < n) × TermWithin n a.term × AsksWithin n asks
+within_split : (n : ℕ) (asks : List Ask) (a : Ask) → AsksWithin n (asks ++ a ∷ []) → (a.variable < n) × TermWithin n a.term × AsksWithin n asks
 within_split n [] a h = (h.0, h.1, tt)
 within_split n (x ∷ asks) a h = let r = within_split n asks a h.2 in (r.0, r.1, (h.0, h.1, r.2))
 
-pub within_less : (n : ℕ) (all asks : List Ask) (a : Ask) → all ≡ asks ++ a ∷ [] → AsksWithin n all → (a.place < n) × TermWithin n a.term × AsksWithin n asks
+pub within_less : (n : ℕ) (all asks : List Ask) (a : Ask) → all ≡ asks ++ a ∷ [] → AsksWithin n all → (a.variable < n) × TermWithin n a.term × AsksWithin n asks
 within_less n all asks a e h = within_split n asks a (subst (λ (xs : List Ask). AsksWithin n xs) e h)
 
 pub work_pushed : (asks new : List Ask) (a : Ask) → new ≡ asks ++ a ∷ [] → asks_work new ≡ asks_work asks + ask_work a

@@ -10,7 +10,7 @@ use Rattle.unification.specs.Slots.{Typing, value, TermFits, TermWithin, SlotMee
 use Rattle.unification.specs.declared.type_variables.slots.Sort.{Sort}
 use Rattle.unification.specs.declared.type_variables.slots.Sort.TheVariants.{Any}
 use Rattle.unification.specs.declared.type_variables.slots.Term.{Term}
-use Rattle.unification.specs.declared.type_variables.slots.Term.TheVariants.{Place, Closed, Made, Grouped}
+use Rattle.unification.specs.declared.type_variables.slots.Term.TheVariants.{Variable, Closed, Made, Grouped}
 use Rattle.unification.specs.declared.type_variables.slots.Slot.{Slot}
 use Rattle.unification.specs.declared.type_variables.slots.Slot.TheVariants.{Open, Bound}
 
@@ -151,15 +151,15 @@ narrow_bound slots i sort x b fits h bound is = said slots _ _ fits
 
 -- an open slot is linked to a lower one, which is then restricted to its sort
 pub link_in : (slots : List Slot) (low high : ℕ) (sort : Sort) → Fits slots → low < high → high < length slots → slot_at slots high ≡ Open sort →
-    Becomes slots (λ t. t low ≡ t high) (set slots high (Bound (Place low))) (λ t. IsTrue (is_of sort (t low)))
-link_in slots low high sort fits below h free = written slots high (Bound (Place low)) _ _ fits h below (λ o. absurd o)
+    Becomes slots (λ t. t low ≡ t high) (set slots high (Bound (Variable low))) (λ t. IsTrue (is_of sort (t low)))
+link_in slots low high sort fits below h free = written slots high (Bound (Variable low)) _ _ fits h below (λ o. absurd o)
     (λ t m f. (sym f, subst (λ (y : TypeData). IsTrue (is_of sort y)) (sym f) (open_says slots high sort t h free m)))
     (λ t m s g. (subst (λ (y : Slot). SlotMeets t high y) (sym free) (subst (λ (y : TypeData). IsTrue (is_of sort y)) (sym s) g), sym s))
 
 -- a bound slot is linked to a lower one, which is then to have its term
 pub bound_in : (slots : List Slot) (low high : ℕ) (x : Term) → Fits slots → low < high → high < length slots → slot_at slots high ≡ Bound x →
-    Becomes slots (λ t. t low ≡ t high) (set slots high (Bound (Place low))) (λ t. t low ≡ value t x)
-bound_in slots low high x fits below h bound = written slots high (Bound (Place low)) _ _ fits h below (λ o. absurd o)
+    Becomes slots (λ t. t low ≡ t high) (set slots high (Bound (Variable low))) (λ t. t low ≡ value t x)
+bound_in slots low high x fits below h bound = written slots high (Bound (Variable low)) _ _ fits h below (λ o. absurd o)
     (λ t m f. (sym f, f ∙ bound_says slots high x t h bound m))
     (λ t m s g. (subst (λ (y : Slot). SlotMeets t high y) (sym bound) (let e : t high ≡ t low = s in e ∙ g), sym s))
 
@@ -179,38 +179,38 @@ pub work_written : (slots : List Slot) (i : ℕ) (old new : Slot) → i < length
 work_written slots i old new h e = subst (λ (x : Slot). work (set slots i new) + slot_work x ≡ work slots + slot_work new) e (work-set slots i new h)
 
 -- a variable refers to a smaller one
-pub bound_falls : (slots : List Slot) (p next : ℕ) → Fits slots → p < length slots → slot_at slots p ≡ Bound (Place next) → next < p
+pub bound_falls : (slots : List Slot) (p next : ℕ) → Fits slots → p < length slots → slot_at slots p ≡ Bound (Variable next) → next < p
 bound_falls slots p next fits h e = let f : next < p = subst (λ (y : Slot). SlotFits (length slots) p y) e (fits.each p h) in f
 
 -- a variable is linked past the next one
-pub halved : (slots : List Slot) (at next after : ℕ) → Fits slots → at < length slots → slot_at slots at ≡ Bound (Place next) → slot_at slots next ≡ Bound (Place after) →
-    Becomes slots (λ t. Unit {0}) (set slots at (Bound (Place after))) (λ t. Unit {0})
+pub halved : (slots : List Slot) (at next after : ℕ) → Fits slots → at < length slots → slot_at slots at ≡ Bound (Variable next) → slot_at slots next ≡ Bound (Variable after) →
+    Becomes slots (λ t. Unit {0}) (set slots at (Bound (Variable after))) (λ t. Unit {0})
 halved slots at next after fits h first second =
     let lt : next < at = bound_falls slots at next fits h first in
     let inside : next < length slots = omega (arith, lt, h) in
     let lower : after < next = bound_falls slots next after fits inside second in
-    written slots at (Bound (Place after)) _ _ fits h (omega (arith, lt, lower)) (λ o. absurd o)
-    (λ t m f. (bound_says slots at (Place next) t h first m ∙ bound_says slots next (Place after) t inside second m, tt))
-    (λ t m s g. let kept : t next ≡ t after = subst (λ (y : Slot). SlotMeets t next y) second (at_other slots at next (Bound (Place after)) t inside (λ e. absurd (omega (arith, e, lt))) m) in
+    written slots at (Bound (Variable after)) _ _ fits h (omega (arith, lt, lower)) (λ o. absurd o)
+    (λ t m f. (bound_says slots at (Variable next) t h first m ∙ bound_says slots next (Variable after) t inside second m, tt))
+    (λ t m s g. let kept : t next ≡ t after = subst (λ (y : Slot). SlotMeets t next y) second (at_other slots at next (Bound (Variable after)) t inside (λ e. absurd (omega (arith, e, lt))) m) in
     let e : t at ≡ t after = s in
     (subst (λ (y : Slot). SlotMeets t at y) (sym first) (e ∙ sym kept), tt))
 
-pub halved_same : (slots : List Slot) (at after : ℕ) (t : Typing) → at < length slots → Meets (set slots at (Bound (Place after))) t → t at ≡ t after
-halved_same slots at after t h m = let e : t at ≡ t after = at_written slots at (Bound (Place after)) t h m in e
+pub halved_same : (slots : List Slot) (at after : ℕ) (t : Typing) → at < length slots → Meets (set slots at (Bound (Variable after))) t → t at ≡ t after
+halved_same slots at after t h m = let e : t at ≡ t after = at_written slots at (Bound (Variable after)) t h m in e
 
-pub halved_stays : (slots : List Slot) (at next : ℕ) (s : Slot) → slot_at slots at ≡ Bound (Place next) → (p : ℕ) → IsRoot (slot_at slots p) → slot_at (set slots at s) p ≡ slot_at slots p
+pub halved_stays : (slots : List Slot) (at next : ℕ) (s : Slot) → slot_at slots at ≡ Bound (Variable next) → (p : ℕ) → IsRoot (slot_at slots p) → slot_at (set slots at s) p ≡ slot_at slots p
 halved_stays slots at next s bound p root = other slots at p s
-    (λ e. absurd (let r : IsRoot (Bound (Place next)) = subst (λ (y : Slot). IsRoot y) (ap (slot_at slots) e ∙ bound) root in r))
+    (λ e. absurd (let r : IsRoot (Bound (Variable next)) = subst (λ (y : Slot). IsRoot y) (ap (slot_at slots) e ∙ bound) root in r))
 
 -- the variables of a term that is no variable
 pub made_within : (n p : ℕ) (x : Term) → IsMade x → TermFits n p x → TermWithin n x
-made_within n p (Place q) m h = absurd m
+made_within n p (Variable q) m h = absurd m
 made_within n p (Closed of) m h = tt
 made_within n p (Made w q) m h = h
 made_within n p (Grouped g first k) m h = h
 
 pub within_fits : (n p : ℕ) (x : Term) → IsMade x → TermWithin n x → TermFits n p x
-within_fits n p (Place q) m h = absurd m
+within_fits n p (Variable q) m h = absurd m
 within_fits n p (Closed of) m h = tt
 within_fits n p (Made w q) m h = h
 within_fits n p (Grouped g first k) m h = h

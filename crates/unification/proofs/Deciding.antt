@@ -8,7 +8,7 @@ use Rattle.unification.specs.Slots.{Typing, Meets, Fits, IsRoot, slot_at}
 use Rattle.unification.specs.Ranks.{IsRank, refill_by}
 use Rattle.unification.specs.Knows.{Knows}
 use Rattle.unification.specs.declared.type_variables.slots.Sort.TheVariants.{Any, Single, Value, Integer}
-use Rattle.unification.specs.declared.type_variables.slots.Term.TheVariants.{Place, Closed, Made, Grouped}
+use Rattle.unification.specs.declared.type_variables.slots.Term.TheVariants.{Variable, Closed, Made, Grouped}
 use Rattle.unification.specs.declared.type_variables.slots.Slot.{Slot}
 use Rattle.unification.specs.declared.type_variables.slots.Slot.TheVariants.{Open, Bound}
 use Rattle.unification.proofs.Becoming.{bound_says}
@@ -21,21 +21,21 @@ use Rattle.typing_rules.specs.Answers.{System, Typings, IsSettledTyping, HasType
 use Rattle.typing_rules.specs.declared.type_pool.PoolType.{PoolType}
 use Rattle.typing_rules.specs.Pools.{type_at, types}
 use Rattle.unification.specs.Roots.{IsRootOf, AreRoots}
-use Rattle.unification.specs.Given.{IsGiven, GivesNoInteger, WidthOf, Gives, AnyPlace, IsDropped}
+use Rattle.unification.specs.Given.{IsGiven, GivesNoInteger, WidthOf, Gives, AnyVariable, IsDropped}
 use Rattle.unification.specs.Numbers.{number_at, AreParts, PartsSay, NumberSays, TableSays}
-use Rattle.unification.specs.Choices.{IsSound, DefaultsOf, WidthSays, PlaceSays, AreTypes, TypesSay, ChoosesNothing, TypesAsKnown, ChoiceSays}
+use Rattle.unification.specs.Choices.{IsSound, DefaultsOf, WidthSays, VariableSays, AreTypes, TypesSay, ChoosesNothing, TypesAsKnown, ChoiceSays}
 use Rattle.unification.specs.declared.solution.choice.Defaulted.{Defaulted}
 use Rattle.unification.proofs.Giving.{given_value, given_not_open, gives_fits, gives_rank, gives_ranking, gives_roots}
 use Rattle.unification.proofs.Refilling.{plain, plain_typing}
 use Rattle.unification.proofs.Defaulting.{defaults_known, made_no_integer, grouped_no_integer}
 use Rattle.unification.proofs.Settling.{settled_known}
 
-pub untypable : (slots : List Slot) → ((t : Typing) → Meets slots t → ⊥) → (s : System) → Knows slots s.places (Typings s) → IsUntypable s
+pub untypable : (slots : List Slot) → ((t : Typing) → Meets slots t → ⊥) → (s : System) → Knows slots s.variables (Typings s) → IsUntypable s
 untypable slots none s k t h = let u = k.to t h in none u.0 u.1.1
 
 -- ---- default integer types
 
-given_chosen : (slots given : List Slot) → Gives slots given Integer u64_type AnyPlace → (p : ℕ) → p < length given → slot_at given p ≡ Open Integer → ⊥
+given_chosen : (slots given : List Slot) → Gives slots given Integer u64_type AnyVariable → (p : ℕ) → p < length given → slot_at given p ≡ Open Integer → ⊥
 given_chosen slots given g p lt e =
     let inside : p < length slots = subst (λ (n : ℕ). p < n) g.same_length lt in
     elim (g.each p inside) [
@@ -44,7 +44,7 @@ given_chosen slots given g p lt e =
     ]
 
 pub first_defaults : (slots : List Slot) (d : Defaulted) → Fits slots → IsRanking slots d.ranking.ranks.items d.ranking.order.items → AreRoots slots d.roots.items (length slots) →
-    Gives slots d.slots.items Integer u64_type AnyPlace → DefaultsOf slots d
+    Gives slots d.slots.items Integer u64_type AnyVariable → DefaultsOf slots d
 first_defaults slots d fits is are g = record {
   sound = record {
     fits = gives_fits g fits;
@@ -72,7 +72,7 @@ plain_at slots r rank p q is (Open Any) e root free h = ap is_integer (is.same _
 plain_at slots r rank p q is (Open Single) e root free h = ap is_integer (is.same _ (plain_typing slots r rank) ∙ refill_by-open slots (λ a. plain) r q Single e)
 plain_at slots r rank p q is (Open Value) e root free h = ap is_integer (is.same _ (plain_typing slots r rank) ∙ refill_by-open slots (λ a. plain) r q Value e)
 plain_at slots r rank p q is (Open Integer) e root free h = absurd (free refl)
-plain_at slots r rank p q is (Bound (Place y)) e root free h = absurd root
+plain_at slots r rank p q is (Bound (Variable y)) e root free h = absurd root
 plain_at slots r rank p q is (Bound (Closed of)) e root free h =
     ap is_integer (is.same _ (plain_typing slots r rank) ∙ bound_says slots q (Closed of) _ is.within e (plain_typing slots r rank)) ∙ h
 plain_at slots r rank p q is (Bound (Made w y)) e root free h =
@@ -93,11 +93,11 @@ width_is_none d p sound lt none s has inside =
 
 -- ---- types of variables
 
-place_type : (s : System) (slots : List Slot) (pool : List PoolType) (r : ℕ → ℕ) → Knows slots s.places (IsSettledTyping s) → IsRank slots r → (p : ℕ) → p < s.places → (found : Option ℕ) →
-    NumberSays slots pool p found → PlaceSays s pool p found
-place_type s slots pool r k rank p lt None h = λ of has.
+variable_type : (s : System) (slots : List Slot) (pool : List PoolType) (r : ℕ → ℕ) → Knows slots s.variables (IsSettledTyping s) → IsRank slots r → (p : ℕ) → p < s.variables → (found : Option ℕ) →
+    NumberSays slots pool p found → VariableSays s pool p found
+variable_type s slots pool r k rank p lt None h = λ of has.
     h (refill_by slots (λ a. plain) r) (plain_typing slots r rank) (λ t u mt mu. has.each t (k.from t mt) ∙ sym (has.each u (k.from u mu)))
-place_type s slots pool r k rank p lt (Some n) h = (
+variable_type s slots pool r k rank p lt (Some n) h = (
   h.within,
   record {
     typing = refill_by slots (λ a. plain) r;
@@ -106,20 +106,20 @@ place_type s slots pool r k rank p lt (Some n) h = (
   },
 )
 
-types_settled : (s : System) (slots : List Slot) (places : ℕ) (pool : List PoolType) (numbers : List (Option ℕ)) (r : ℕ → ℕ) → Knows slots s.places (IsSettledTyping s) → IsRank slots r →
-    TableSays slots places pool numbers → s.places ≡ places → AreTypes s pool numbers
-types_settled s slots places pool numbers r k rank h count = record {
+types_settled : (s : System) (slots : List Slot) (variables : ℕ) (pool : List PoolType) (numbers : List (Option ℕ)) (r : ℕ → ℕ) → Knows slots s.variables (IsSettledTyping s) → IsRank slots r →
+    TableSays slots variables pool numbers → s.variables ≡ variables → AreTypes s pool numbers
+types_settled s slots variables pool numbers r k rank h count = record {
   settles = (refill_by slots (λ p. plain) r, k.from _ (plain_typing slots r rank));
   same_length = h.same_length ∙ sym count;
-  each = λ p lt. place_type s slots pool r k rank p lt (number_at numbers p) (h.each p (subst (λ (n : ℕ). p < n) count lt));
+  each = λ p lt. variable_type s slots pool r k rank p lt (number_at numbers p) (h.each p (subst (λ (n : ℕ). p < n) count lt));
 }
 
-pub types_say : (d : Defaulted) (slots : List Slot) (dropped : List ℕ) (places : ℕ) (pool : List PoolType) (numbers : List (Option ℕ)) → IsSound d →
-    ((k : ℕ) → k < length dropped → slice_index dropped k < places) → Gives d.slots.items slots Any unit_type (IsDropped d.roots.items dropped (length dropped)) →
-    TableSays slots places pool numbers → TypesSay d dropped places pool numbers
-types_say d slots dropped places pool numbers sound within g h = λ s has same count.
+pub types_say : (d : Defaulted) (slots : List Slot) (dropped : List ℕ) (variables : ℕ) (pool : List PoolType) (numbers : List (Option ℕ)) → IsSound d →
+    ((k : ℕ) → k < length dropped → slice_index dropped k < variables) → Gives d.slots.items slots Any unit_type (IsDropped d.roots.items dropped (length dropped)) →
+    TableSays slots variables pool numbers → TypesSay d dropped variables pool numbers
+types_say d slots dropped variables pool numbers sound within g h = λ s has same count.
     let r : ℕ → ℕ = rank_at d.ranking.ranks.items in
-    types_settled s slots places pool numbers r
+    types_settled s slots variables pool numbers r
     (settled_known s d.slots.items slots d.roots.items dropped r has.knows sound.ranking.is_rank sound.roots same (λ i li. subst (λ (n : ℕ). slice_index dropped i < n) (sym count) (within i li)) g)
     (gives_rank g r sound.ranking.is_rank) h count
 
@@ -141,17 +141,17 @@ settled_alone s t alone is = record {
   nothing = λ p has free u hu e. absurd (none_dropped p s.dropped alone.no_drop has);
 }
 
-pub types_alone : (slots : List Slot) (places : ℕ) (pool : List PoolType) (numbers : List (Option ℕ)) (r : ℕ → ℕ) → IsRank slots r → TableSays slots places pool numbers →
-    TypesAsKnown slots places pool numbers
-types_alone slots places pool numbers r rank h = λ s alone k count.
-    let settled : Knows slots s.places (IsSettledTyping s) = record {
+pub types_alone : (slots : List Slot) (variables : ℕ) (pool : List PoolType) (numbers : List (Option ℕ)) (r : ℕ → ℕ) → IsRank slots r → TableSays slots variables pool numbers →
+    TypesAsKnown slots variables pool numbers
+types_alone slots variables pool numbers r rank h = λ s alone k count.
+    let settled : Knows slots s.variables (IsSettledTyping s) = record {
       fits = k.fits;
       longer = k.longer;
       opens = k.opens;
       to = λ t is. k.to t is.defaulted.typing;
       from = λ t m. settled_alone s t alone (k.from t m);
     } in
-    types_settled s slots places pool numbers r settled rank h count
+    types_settled s slots variables pool numbers r settled rank h count
 
 -- ---- the types of all variables
 
@@ -164,10 +164,10 @@ type_in f [] p d lt = absurd (omega (arith, lt))
 type_in f (n ∷ ns) zero d lt = refl
 type_in f (n ∷ ns) (suc p) d lt = type_in f ns p d (omega (arith, lt))
 
-ambiguous : (s : System) (pool : List PoolType) (numbers : List (Option ℕ)) (p : ℕ) → AreTypes s pool numbers → p < s.places → number_at numbers p ≡ None → IsAmbiguous s
+ambiguous : (s : System) (pool : List PoolType) (numbers : List (Option ℕ)) (p : ℕ) → AreTypes s pool numbers → p < s.variables → number_at numbers p ≡ None → IsAmbiguous s
 ambiguous s pool numbers p are lt none =
     let t : Typing = are.settles.0 in
-    let says : PlaceSays s pool p None = subst (λ (o : Option ℕ). PlaceSays s pool p o) none (are.each p lt) in
+    let says : VariableSays s pool p None = subst (λ (o : Option ℕ). VariableSays s pool p o) none (are.each p lt) in
     record {
       exists = (t, are.settles.1.defaulted.typing);
       why = inr (p, lt, λ forced. says (t p) (record { typing = t; settled = are.settles.1; each = λ u is. forced u t is are.settles.1 }));
@@ -182,12 +182,12 @@ typed s pool numbers found are parts whole = record {
   each = λ p lt.
       let inside : p < length numbers = subst (λ (n : ℕ). p < n) (sym are.same_length) lt in
       let at : number_at numbers p ≡ Some (slice_index found p) = ap (number_at numbers) (let z : p ≡ 0 + p = omega arith in z) ∙ parts.each p inside in
-      let says : PlaceSays s pool p (Some (slice_index found p)) = subst (λ (o : Option ℕ). PlaceSays s pool p o) at (are.each p lt) in
+      let says : VariableSays s pool p (Some (slice_index found p)) = subst (λ (o : Option ℕ). VariableSays s pool p o) at (are.each p lt) in
       subst (λ (of : TypeData). HasType s p of) (sym (type_in (type_at (types pool)) found p unit_type (subst (λ (n : ℕ). p < n) (sym parts.same_length) inside))) says.1;
 }
 
-in_pool : (s : System) (pool : List PoolType) (p n : ℕ) (found : Option ℕ) → found ≡ Some n → PlaceSays s pool p found → n < length pool
-in_pool s pool p n found e h = let says : PlaceSays s pool p (Some n) = subst (λ (o : Option ℕ). PlaceSays s pool p o) e h in says.0
+in_pool : (s : System) (pool : List PoolType) (p n : ℕ) (found : Option ℕ) → found ≡ Some n → VariableSays s pool p found → n < length pool
+in_pool s pool p n found e h = let says : VariableSays s pool p (Some n) = subst (λ (o : Option ℕ). VariableSays s pool p o) e h in says.0
 
 all_in_pool : (s : System) (pool : List PoolType) (numbers : List (Option ℕ)) (found : List ℕ) → AreTypes s pool numbers → AreParts numbers 0 (length numbers) found → All (λ n. n < length pool) found
 all_in_pool s pool numbers found are parts = λ k d lt.

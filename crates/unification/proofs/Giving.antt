@@ -10,32 +10,32 @@ use Rattle.unification.specs.Slots.{Typing, SlotMeets, Meets, SlotFits, Fits, Is
 use Rattle.unification.specs.Ranks.{EachLed, Lower, IsRank}
 use Rattle.unification.specs.declared.type_variables.slots.Sort.{Sort}
 use Rattle.unification.specs.declared.type_variables.slots.Sort.TheVariants.{Any}
-use Rattle.unification.specs.declared.type_variables.slots.Term.TheVariants.{Place, Closed, Made, Grouped}
+use Rattle.unification.specs.declared.type_variables.slots.Term.TheVariants.{Variable, Closed, Made, Grouped}
 use Rattle.unification.specs.declared.type_variables.slots.Slot.{Slot}
 use Rattle.unification.specs.declared.type_variables.slots.Slot.TheVariants.{Open, Bound}
 use Rattle.unification.specs.Ranked.{rank_at, HasLower, IsRanking}
 use Rattle.unification.specs.Roots.{AreRoots}
-use Rattle.unification.specs.Given.{IsGiven, GivesOne, GivesTo, Gives, AnyPlace, IsDropped}
+use Rattle.unification.specs.Given.{IsGiven, GivesOne, GivesTo, Gives, AnyVariable, IsDropped}
 
 -- ---- a slot that has a written type
 
 pub given_value : (of : TypeData) (t : Typing) (p : ℕ) (x : Slot) → IsGiven of x → SlotMeets t p x → t p ≡ of
 given_value of t p (Open s) h m = absurd h
-given_value of t p (Bound (Place q)) h m = absurd h
+given_value of t p (Bound (Variable q)) h m = absurd h
 given_value of t p (Bound (Closed y)) h m = m ∙ h
 given_value of t p (Bound (Made w q)) h m = absurd h
 given_value of t p (Bound (Grouped g first n)) h m = absurd h
 
 given_meets : (of : TypeData) (t : Typing) (p : ℕ) (x : Slot) → IsGiven of x → t p ≡ of → SlotMeets t p x
 given_meets of t p (Open s) h e = absurd h
-given_meets of t p (Bound (Place q)) h e = absurd h
+given_meets of t p (Bound (Variable q)) h e = absurd h
 given_meets of t p (Bound (Closed y)) h e = e ∙ sym h
 given_meets of t p (Bound (Made w q)) h e = absurd h
 given_meets of t p (Bound (Grouped g first n)) h e = absurd h
 
 given_fits : (of : TypeData) (n p : ℕ) (x : Slot) → IsGiven of x → SlotFits n p x
 given_fits of n p (Open s) h = absurd h
-given_fits of n p (Bound (Place q)) h = absurd h
+given_fits of n p (Bound (Variable q)) h = absurd h
 given_fits of n p (Bound (Closed y)) h = tt
 given_fits of n p (Bound (Made w q)) h = absurd h
 given_fits of n p (Bound (Grouped g first k)) h = absurd h
@@ -49,14 +49,14 @@ given_not_open of s x h e = given_bound of x h (subst (λ (y : Slot). IsOpen y) 
 
 given_root : (of : TypeData) (x : Slot) → IsGiven of x → IsRoot x
 given_root of (Open s) h = absurd h
-given_root of (Bound (Place q)) h = absurd h
+given_root of (Bound (Variable q)) h = absurd h
 given_root of (Bound (Closed y)) h = tt
 given_root of (Bound (Made w q)) h = absurd h
 given_root of (Bound (Grouped g first n)) h = absurd h
 
 given_leads : (of : TypeData) (P : ℕ → Type 0) (x : Slot) → IsGiven of x → EachLed P x
 given_leads of P (Open s) h = absurd h
-given_leads of P (Bound (Place q)) h = absurd h
+given_leads of P (Bound (Variable q)) h = absurd h
 given_leads of P (Bound (Closed y)) h = tt
 given_leads of P (Bound (Made w q)) h = absurd h
 given_leads of P (Bound (Grouped g first n)) h = absurd h
@@ -159,7 +159,7 @@ gives_one old new sort of i from to lt e g h = record {
   ];
 }
 
-pub gives_each : (old new : List Slot) (sort : Sort) (of : TypeData) (n : ℕ) → n ≡ length old → GivesTo old new sort of n → Gives old new sort of AnyPlace
+pub gives_each : (old new : List Slot) (sort : Sort) (of : TypeData) (n : ℕ) → n ≡ length old → GivesTo old new sort of n → Gives old new sort of AnyVariable
 gives_each old new sort of n e g = record {
   same_length = g.count ∙ e;
   each = λ p lt. elim (g.each p (subst (λ (k : ℕ). p < k) (sym e) lt)) [

@@ -16,7 +16,7 @@ use Rattle.unification.specs.declared.type_variables.heads.KindSeen.TheVariants.
 use Rattle.unification.specs.declared.type_variables.heads.StructSeen.{StructSeen}
 use Rattle.unification.specs.declared.type_variables.heads.StructSeen.TheVariants.{Unknown, Other, Known}
 use Rattle.unification.proofs.Becoming.{bound_says, open_says}
-use Rattle.unification.proofs.Refill.{told_apart}
+use Rattle.unification.proofs.Refill.{distinguished}
 
 -- three types of each sort
 abbrev pub small : Sort → TypeData
@@ -66,11 +66,11 @@ struct_differs Integer l e = cc
 
 pub kind_open : (slots : List Slot) (p at : ℕ) (s : Sort) → kind_left s ≡ true → Fits slots → slot_at slots at ≡ Open s → ((t : Typing) → Meets slots t → t p ≡ t at) →
     (t : Typing) → Meets slots t → Agree (Meets slots) kind p → ⊥
-kind_open slots p at s l fits free same = told_apart kind small reference_or_small small_is reference_is slots p at s fits free same (kind_differs s l)
+kind_open slots p at s l fits free same = distinguished kind small reference_or_small small_is reference_is slots p at s fits free same (kind_differs s l)
 
 pub struct_open : (slots : List Slot) (p at : ℕ) (s : Sort) → struct_left s ≡ true → Fits slots → slot_at slots at ≡ Open s → ((t : Typing) → Meets slots t → t p ≡ t at) →
     (t : Typing) → Meets slots t → Agree (Meets slots) struct_in p → ⊥
-struct_open slots p at s l fits free same = told_apart struct_in small struct_or_small small_is struct_is slots p at s fits free same (struct_differs s l)
+struct_open slots p at s l fits free same = distinguished struct_in small struct_or_small small_is struct_is slots p at s fits free same (struct_differs s l)
 
 -- what a sort implies for a type
 no_kind : (s : Sort) (a : TypeData) → kind_left s ≡ false → IsTrue (is_of s a) → kind a ≡ None

@@ -8,14 +8,14 @@ use Rattle.unification.specs.Slots.{Typing, value, list_at, TermWithin}
 use Rattle.unification.specs.Instances.{instance, instances}
 use Rattle.unification.specs.Terms.{AllWithin}
 use Rattle.unification.specs.declared.type_variables.slots.Term.{Term}
-use Rattle.unification.specs.declared.type_variables.slots.Term.TheVariants.{Place, Closed, Made, Grouped}
+use Rattle.unification.specs.declared.type_variables.slots.Term.TheVariants.{Variable, Closed, Made, Grouped}
 
 pub instances_of : (s : ℕ → TypeData) (ts : List TypeData) → instances s (types_of ts) ≡ types_of (map (instance s) ts)
 instances_of s [] = refl
 instances_of s (t ∷ ts) = ap (λ (us : TypesData). MoreTypes (instance s t) us) (instances_of s ts)
 
 pub term_more : (n m : ℕ) (x : Term) → n ≤ m → TermWithin n x → TermWithin m x
-term_more n m (Place q) le h = omega (arith, le, h)
+term_more n m (Variable q) le h = omega (arith, le, h)
 term_more n m (Closed of) le h = tt
 term_more n m (Made w q) le h = omega (arith, le, h)
 term_more n m (Grouped g first k) le h = omega (arith, le, h)

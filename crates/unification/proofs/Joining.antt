@@ -4,7 +4,7 @@ use Rattle.std.proofs.Math.ListN.{set}
 use Rattle.unification.specs.Slots.{Typing, value, TermFits, SlotMeets, Meets, Fits, Becomes, slot_at, IsMade, HasParts, term_work}
 use Rattle.unification.specs.Asks.{Has, EachHas, required_work, Says}
 use Rattle.unification.specs.declared.type_variables.slots.Term.{Term}
-use Rattle.unification.specs.declared.type_variables.slots.Term.TheVariants.{Place, Closed, Made, Grouped}
+use Rattle.unification.specs.declared.type_variables.slots.Term.TheVariants.{Variable, Closed, Made, Grouped}
 use Rattle.unification.specs.declared.type_variables.slots.Slot.{Slot}
 use Rattle.unification.specs.declared.type_variables.slots.Slot.TheVariants.{Bound}
 use Rattle.unification.specs.declared.type_variables.slots.Ask.{Ask}
@@ -49,25 +49,25 @@ stood {b} F E H fits to from p = then (said b _ _ fits (λ t m f. (to t m f.0, f
 
 -- kinds of terms
 pub parts_left : (x : Term) → IsMade x → ((of : _) → x ≡ Closed of → ⊥) → HasParts x
-parts_left (Place q) m ne = absurd m
+parts_left (Variable q) m ne = absurd m
 parts_left (Closed of) m ne = absurd (ne of refl)
 parts_left (Made w q) m ne = tt
 parts_left (Grouped g first n) m ne = tt
 
-pub made_left : (x : Term) → ((q : ℕ) → x ≡ Place q → ⊥) → IsMade x
-made_left (Place q) ne = absurd (ne q refl)
+pub made_left : (x : Term) → ((q : ℕ) → x ≡ Variable q → ⊥) → IsMade x
+made_left (Variable q) ne = absurd (ne q refl)
 made_left (Closed of) ne = tt
 made_left (Made w q) ne = tt
 made_left (Grouped g first n) ne = tt
 
 pub required_made : (x : Term) → IsMade x → required_work x ≡ term_work x
-required_made (Place q) m = absurd m
+required_made (Variable q) m = absurd m
 required_made (Closed of) m = refl
 required_made (Made w q) m = refl
 required_made (Grouped g first n) m = refl
 
 pub made_work : (x : Term) → IsMade x → 0 < term_work x
-made_work (Place q) m = absurd m
+made_work (Variable q) m = absurd m
 made_work (Closed of) m = type_size_pos of.now
 made_work (Made w q) m = omega arith
 made_work (Grouped g first n) m = omega arith

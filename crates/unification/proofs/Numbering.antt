@@ -8,19 +8,19 @@ use Rattle.base.specs.TypeData.{TypeData}
 use Rattle.base.specs.TypeData.{types_of}
 use Rattle.typing_rules.specs.Sorts.{made}
 use Rattle.typing_rules.specs.declared.sort.Wrap.{Wrap}
-use Rattle.unification.specs.declared.type_variables.slots.Wrap.{Wrap as PlaceWrap}
+use Rattle.unification.specs.declared.type_variables.slots.Wrap.{Wrap as VariableWrap}
 use Rattle.unification.specs.declared.type_variables.slots.Group.{Group}
 use Rattle.unification.specs.Slots.{Typing, wrapped, grouped, list_at, Meets, Fits, TermFits, TermWithin, SlotFits, slot_at}
 use Rattle.unification.specs.Ranks.{EachIn, EachLed}
 use Rattle.unification.specs.Agree.{IsForced}
 use Rattle.unification.specs.declared.type_variables.slots.Sort.{Sort}
 use Rattle.unification.specs.declared.type_variables.slots.Term.{Term}
-use Rattle.unification.specs.declared.type_variables.slots.Term.TheVariants.{Place, Closed, Made, Grouped}
+use Rattle.unification.specs.declared.type_variables.slots.Term.TheVariants.{Variable, Closed, Made, Grouped}
 use Rattle.unification.specs.declared.type_variables.slots.Slot.{Slot}
 use Rattle.unification.specs.declared.type_variables.slots.Slot.TheVariants.{Open, Bound}
 use Rattle.unification.proofs.Asking.{wrapped_same, grouped_same}
 use Rattle.unification.proofs.Becoming.{bound_says}
-use Rattle.unification.proofs.Refill.{told_apart}
+use Rattle.unification.proofs.Refill.{distinguished}
 use Rattle.typing_rules.specs.declared.type_pool.PoolType.{PoolType}
 use Rattle.typing_rules.specs.Pools.{type_at, types}
 use Rattle.unification.specs.Ranked.{rank_at, HasLower, IsRanking}
@@ -65,7 +65,7 @@ types_at t f first (n ∷ parts) h =
 -- ---- one variable
 
 fits_within : (n p : ℕ) (x : Term) → p < n → TermFits n p x → TermWithin n x
-fits_within n p (Place q) lt h = omega (arith, lt, h)
+fits_within n p (Variable q) lt h = omega (arith, lt, h)
 fits_within n p (Closed of) lt h = tt
 fits_within n p (Made w q) lt h = h
 fits_within n p (Grouped g first count) lt h = h
@@ -108,19 +108,19 @@ list_same t u first (suc count) e q a b =
     ]
 
 some_each : (P Q : ℕ → Type 0) (x : Term) → SomeIn P x → EachIn Q x → (q : ℕ) × (P q × Q q)
-some_each P Q (Place q) h g = (q, (h, g))
+some_each P Q (Variable q) h g = (q, (h, g))
 some_each P Q (Closed of) h g = absurd h
 some_each P Q (Made w q) h g = (q, (h, g))
 some_each P Q (Grouped c first count) h g = (h.0, (h.1.2, g h.0 h.1.0 h.1.1))
 
 both_in : (P Q : ℕ → Type 0) (x : Term) → EachIn P x → EachIn Q x → EachIn (λ q. P q × Q q) x
-both_in P Q (Place q) h g = (h, g)
+both_in P Q (Variable q) h g = (h, g)
 both_in P Q (Closed of) h g = tt
 both_in P Q (Made w q) h g = (h, g)
 both_in P Q (Grouped c first count) h g = λ q a b. (h q a b, g q a b)
 
 forced_in : (slots : List Slot) (p : ℕ) (x : Term) → p < length slots → slot_at slots p ≡ Bound x → IsForced (Meets slots) p → EachIn (λ q. IsForced (Meets slots) q) x
-forced_in slots p (Place q) lt e f = λ t u mt mu. sym (bound_says slots p (Place q) t lt e mt) ∙ f t u mt mu ∙ bound_says slots p (Place q) u lt e mu
+forced_in slots p (Variable q) lt e f = λ t u mt mu. sym (bound_says slots p (Variable q) t lt e mt) ∙ f t u mt mu ∙ bound_says slots p (Variable q) u lt e mu
 forced_in slots p (Closed of) lt e f = tt
 forced_in slots p (Made w q) lt e f = λ t u mt mu. wrapped_same w (t q) (u q) (sym (bound_says slots p (Made w q) t lt e mt) ∙ f t u mt mu ∙ bound_says slots p (Made w q) u lt e mu)
 forced_in slots p (Grouped g first count) lt e f = λ q a b t u mt mu.
@@ -136,29 +136,29 @@ none_led slots pool numbers p x lt e says some t m forced =
     let none : NumberSays slots pool s.0 None = subst (λ (o : Option ℕ). NumberSays slots pool s.0 o) s.1.0 s.1.1.0 in
     none t m s.1.1.1
 
-pub place_says : (slots : List Slot) (old new : List PoolType) (numbers : List (Option ℕ)) (p : ℕ) (x : Term) (found : Option ℕ) → p < length slots → slot_at slots p ≡ Bound x →
+pub variable_says : (slots : List Slot) (old new : List PoolType) (numbers : List (Option ℕ)) (p : ℕ) (x : Term) (found : Option ℕ) → p < length slots → slot_at slots p ≡ Bound x →
     EachLed (λ q. NumberSays slots old q (number_at numbers q)) (slot_at slots p) → TermSays old new numbers x found → NumberSays slots new p found
-place_says slots old new numbers p x None lt e h says = λ t m forced.
+variable_says slots old new numbers p x None lt e h says = λ t m forced.
     none_led slots old numbers p x lt e (subst (λ (y : Slot). EachLed (λ q. NumberSays slots old q (number_at numbers q)) y) e h) says t m forced
-place_says slots old new numbers p x (Some n) lt e h says = record {
+variable_says slots old new numbers p x (Some n) lt e h says = record {
   within = says.0;
   is = λ t m. bound_says slots p x t lt e m ∙ says.1 t (parts_have slots old numbers x (subst (λ (y : Slot). EachLed (λ q. NumberSays slots old q (number_at numbers q)) y) e h) t m);
 }
 
 -- an open variable is not forced
 pub open_says_none : (slots : List Slot) (pool : List PoolType) (p : ℕ) (s : Sort) → Fits slots → slot_at slots p ≡ Open s → NumberSays slots pool p None
-open_says_none slots pool p s fits e = λ t m forced. told_apart (λ a. a) small wide small_is wide_is slots p p s fits e (λ v w. refl) widths_differ t m forced
+open_says_none slots pool p s fits e = λ t m forced. distinguished (λ a. a) small wide small_is wide_is slots p p s fits e (λ v w. refl) widths_differ t m forced
 
 -- ---- one term
 
-pub place_term : (old : List PoolType) (numbers : List (Option ℕ)) (q : ℕ) (found : Option ℕ) → IsInPool old (number_at numbers q) → found ≡ number_at numbers q → TermSays old old numbers (Place q) found
-place_term old numbers q None h e = sym e
-place_term old numbers q (Some n) h e = (
+pub variable_term : (old : List PoolType) (numbers : List (Option ℕ)) (q : ℕ) (found : Option ℕ) → IsInPool old (number_at numbers q) → found ≡ number_at numbers q → TermSays old old numbers (Variable q) found
+variable_term old numbers q None h e = sym e
+variable_term old numbers q (Some n) h e = (
   subst (λ (o : Option ℕ). IsInPool old o) (sym e) h,
   λ t is. subst (λ (o : Option ℕ). IsTypeAt old (t q) o) (sym e) is,
 )
 
-pub wrapped_term : (numbers : List (Option ℕ)) (old new : List PoolType) (of : Wrap) (wrap : PlaceWrap) (p m n : ℕ) → ((t : TypeData) → made of t ≡ wrapped wrap t) → number_at numbers p ≡ Some m →
+pub wrapped_term : (numbers : List (Option ℕ)) (old new : List PoolType) (of : Wrap) (wrap : VariableWrap) (p m n : ℕ) → ((t : TypeData) → made of t ≡ wrapped wrap t) → number_at numbers p ≡ Some m →
     n < length new → type_at (types new) n ≡ made of (type_at (types old) m) → TermSays old new numbers (Made wrap p) (Some n)
 wrapped_term numbers old new of wrap p m n same at within is = (
   within,
@@ -235,12 +235,12 @@ number_more slots old new order numbers top found is are k lt h =
     }
 
 -- the first so many variables
-pub table_says : (slots : List Slot) (pool : List PoolType) (order : List ℕ) (numbers found : List (Option ℕ)) (places : ℕ) → IsOrder slots order → AreNumbers slots pool order numbers (length order) →
-    places ≤ length slots → found ≡ take places numbers → TableSays slots places pool found
-table_says slots pool order numbers found places is are le e = subst (λ (ns : List (Option ℕ)). TableSays slots places pool ns) (sym e) (record {
-  same_length = (let a = length-take places numbers in let b = are.same_length in omega (arith, a, b, le));
+pub table_says : (slots : List Slot) (pool : List PoolType) (order : List ℕ) (numbers found : List (Option ℕ)) (variables : ℕ) → IsOrder slots order → AreNumbers slots pool order numbers (length order) →
+    variables ≤ length slots → found ≡ take variables numbers → TableSays slots variables pool found
+table_says slots pool order numbers found variables is are le e = subst (λ (ns : List (Option ℕ)). TableSays slots variables pool ns) (sym e) (record {
+  same_length = (let a = length-take variables numbers in let b = are.same_length in omega (arith, a, b, le));
   each = λ p lt.
       let h = is.all p (omega (arith, lt, le)) in
       let says : NumberSays slots pool p (number_at numbers p) = subst (λ (x : ℕ). NumberSays slots pool x (number_at numbers x)) h.1.1 (are.each h.0 h.1.0) in
-      subst (λ (o : Option ℕ). NumberSays slots pool p o) (sym (get_or-take places numbers p None lt)) says;
+      subst (λ (o : Option ℕ). NumberSays slots pool p o) (sym (get_or-take variables numbers p None lt)) says;
 })

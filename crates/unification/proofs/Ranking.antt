@@ -8,7 +8,7 @@ use Rattle.std.specs.Prelude.{slice_index}
 use Rattle.unification.specs.Slots.{Fits, SlotFits, slot_at}
 use Rattle.unification.specs.Ranks.{EachIn, EachLed, Lower, IsRank}
 use Rattle.unification.specs.declared.type_variables.slots.Term.{Term}
-use Rattle.unification.specs.declared.type_variables.slots.Term.TheVariants.{Place, Closed, Made, Grouped}
+use Rattle.unification.specs.declared.type_variables.slots.Term.TheVariants.{Variable, Closed, Made, Grouped}
 use Rattle.unification.specs.declared.type_variables.slots.Slot.{Slot}
 use Rattle.unification.specs.declared.type_variables.slots.Slot.TheVariants.{Open, Bound}
 use Rattle.unification.specs.Ranked.{rank_at, HasLower, IsRanked, IsRanking, left, unranked}
@@ -30,7 +30,7 @@ none_ranked slots ranks n e len =
     }
 
 each_in : (P Q : ℕ → Type 0) (x : Term) → ((q : ℕ) → P q → Q q) → EachIn P x → EachIn Q x
-each_in P Q (Place q) f h = f q h
+each_in P Q (Variable q) f h = f q h
 each_in P Q (Closed of) f h = tt
 each_in P Q (Made w q) f h = f q h
 each_in P Q (Grouped g first count) f h = λ q a b. f q (h q a b)
@@ -41,7 +41,7 @@ each_led P Q (Bound x) f h = each_in P Q x f h
 
 -- both hold of the variables of a slot
 both_in : (P Q : ℕ → Type 0) (x : Term) → EachIn P x → EachIn Q x → EachIn (λ q. P q × Q q) x
-both_in P Q (Place q) h g = (h, g)
+both_in P Q (Variable q) h g = (h, g)
 both_in P Q (Closed of) h g = tt
 both_in P Q (Made w q) h g = (h, g)
 both_in P Q (Grouped c first count) h g = λ q a b. (h q a b, g q a b)
@@ -53,7 +53,7 @@ both_led P Q (Bound x) h g = both_in P Q x h g
 -- the variables of a slot that fits exist
 fits_in : (n p : ℕ) (s : Slot) → p < n → SlotFits n p s → EachLed (λ q. q < n) s
 fits_in n p (Open s) lt h = tt
-fits_in n p (Bound (Place q)) lt h = omega (arith, lt, h)
+fits_in n p (Bound (Variable q)) lt h = omega (arith, lt, h)
 fits_in n p (Bound (Closed of)) lt h = tt
 fits_in n p (Bound (Made w q)) lt h = h
 fits_in n p (Bound (Grouped g first k)) lt h = λ q a b. omega (arith, b, h)

@@ -13,7 +13,7 @@ use Rattle.unification.specs.declared.type_variables.slots.Wrap.TheVariants.{Vec
 use Rattle.unification.specs.declared.type_variables.slots.Group.{Group}
 use Rattle.unification.specs.declared.type_variables.slots.Group.TheVariants.{Struct, Tuple}
 use Rattle.unification.specs.declared.type_variables.slots.Term.{Term}
-use Rattle.unification.specs.declared.type_variables.slots.Term.TheVariants.{Place, Closed, Made, Grouped}
+use Rattle.unification.specs.declared.type_variables.slots.Term.TheVariants.{Variable, Closed, Made, Grouped}
 use Rattle.unification.specs.declared.type_variables.slots.Slot.{Slot}
 use Rattle.unification.specs.declared.type_variables.slots.Slot.TheVariants.{Open, Bound}
 
@@ -24,7 +24,7 @@ list_at-same f g first (suc count) e =
 
 -- a term has one value in typings that give its variables the same types
 pub value-same : (P : ℕ → Type 0) (f g : Typing) (x : Term) → EachIn P x → ((q : ℕ) → P q → f q ≡ g q) → value f x ≡ value g x
-value-same P f g (Place q) h e = e q h
+value-same P f g (Variable q) h e = e q h
 value-same P f g (Closed of) h e = refl
 value-same P f g (Made w q) h e = ap (wrapped w) (e q h)
 value-same P f g (Grouped c first count) h e = ap (λ (ts : List TypeData). grouped c (types_of ts)) (list_at-same f g first count (λ q a b. e q (h q a b)))
@@ -42,8 +42,8 @@ fill-enough slots W r rank (suc n) (suc m) p h a b =
     filled-same (Lower (length slots) r (r p)) (fill slots W n) (fill slots W m) (W p) (slot_at slots p) (rank.each p h)
     (λ q lower. fill-enough slots W r rank n m q lower.0 (omega (arith, a, lower.1)) (omega (arith, b, lower.1)))
 
-place_falls : (n : ℕ) (a b : TypeData) (p q : ℕ) → a ≡ b → q < p → type_size b * n + q < type_size a * n + p
-place_falls n a b p q e h = subst (λ (x : TypeData). type_size x * n + q < type_size a * n + p) e (omega (arith, h))
+variable_falls : (n : ℕ) (a b : TypeData) (p q : ℕ) → a ≡ b → q < p → type_size b * n + q < type_size a * n + p
+variable_falls n a b p q e h = subst (λ (x : TypeData). type_size x * n + q < type_size a * n + p) e (omega (arith, h))
 
 made_falls : (n s k p q : ℕ) → q < n → s ≤ k → s * n + q < (1 + k) * n + p
 made_falls n s k p q h le = let g : s * n ≤ k * n = mul-le-mul_right n le in omega (arith, h, g)
@@ -71,7 +71,7 @@ part_falls n s k p q whole h le e = subst (λ (x : ℕ). s * n + q < x * n + p) 
 ranked_slot : (slots : List Slot) (t : Typing) (p : ℕ) (s : Slot) → p < length slots → SlotMeets t p s → SlotFits (length slots) p s →
     EachLed (Lower (length slots) (rank_by slots t) (rank_by slots t p)) s
 ranked_slot slots t p (Open s) lt m f = tt
-ranked_slot slots t p (Bound (Place q)) lt m f = (omega (arith, lt, f), place_falls (length slots) (t p) (t q) p q m f)
+ranked_slot slots t p (Bound (Variable q)) lt m f = (omega (arith, lt, f), variable_falls (length slots) (t p) (t q) p q m f)
 ranked_slot slots t p (Bound (Closed of)) lt m f = tt
 ranked_slot slots t p (Bound (Made w q)) lt m f =
     (f, part_falls (length slots) (type_size (t q)) (type_size (t q)) p q (t p) f (omega arith) (ap type_size m ∙ wrapped_size w (t q)))
@@ -107,10 +107,10 @@ pub refill_by-open : (slots : List Slot) (W : ℕ → Sort → TypeData) (r : �
 refill_by-open slots W r p s e = ap (λ (y : Slot). filled (fill slots W (r p)) (W p) y) e
 
 -- typings that fill the open variables in two ways do not agree on a property that distinguishes these
-pub told_apart : {A : Type 0} → (look : TypeData → A) (V W : Sort → TypeData) → ((s : Sort) → IsTrue (is_of s (V s))) → ((s : Sort) → IsTrue (is_of s (W s))) →
+pub distinguished : {A : Type 0} → (look : TypeData → A) (V W : Sort → TypeData) → ((s : Sort) → IsTrue (is_of s (V s))) → ((s : Sort) → IsTrue (is_of s (W s))) →
     (slots : List Slot) (p at : ℕ) (s : Sort) → Fits slots → slot_at slots at ≡ Open s → ((t : Typing) → Meets slots t → t p ≡ t at) →
     (look (V s) ≡ look (W s) → ⊥) → (t : Typing) → Meets slots t → Agree (Meets slots) look p → ⊥
-told_apart look V W vs ws slots p at s fits free same differ t m agree =
+distinguished look V W vs ws slots p at s fits free same differ t m agree =
     let rank : IsRank slots (rank_by slots t) = ranked slots t fits m in
     let u : Typing = refill_by slots (λ q. V) (rank_by slots t) in
     let v : Typing = refill_by slots (λ q. W) (rank_by slots t) in

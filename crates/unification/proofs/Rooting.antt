@@ -4,7 +4,7 @@ use Rattle.std.specs.Prelude.{slice_index}
 use Rattle.std.proofs.lemmas.Bool.Decides.{eqb_tells}
 use Rattle.std.proofs.lemmas.List.{get_or_push, get_or_append_left}
 use Rattle.unification.specs.Slots.{SlotMeets, SlotFits, Fits, IsRoot, slot_at}
-use Rattle.unification.specs.declared.type_variables.slots.Term.TheVariants.{Place}
+use Rattle.unification.specs.declared.type_variables.slots.Term.TheVariants.{Variable}
 use Rattle.unification.specs.declared.type_variables.slots.Slot.{Slot}
 use Rattle.unification.specs.declared.type_variables.slots.Slot.TheVariants.{Bound}
 use Rattle.unification.specs.Roots.{IsRootOf, AreRoots}
@@ -29,10 +29,10 @@ root_more slots roots i q are is = record {
 pub own_root : (slots : List Slot) (p : ℕ) → p < length slots → IsRoot (slot_at slots p) → IsRootOf slots p p
 own_root slots p lt is = record { within = lt; is_root = is; same = λ t m. refl }
 
-pub linked_below : (slots : List Slot) (p next : ℕ) → Fits slots → p < length slots → slot_at slots p ≡ Bound (Place next) → next < p
+pub linked_below : (slots : List Slot) (p next : ℕ) → Fits slots → p < length slots → slot_at slots p ≡ Bound (Variable next) → next < p
 linked_below slots p next fits lt e = let h : next < p = subst (λ (x : Slot). SlotFits (length slots) p x) e (fits.each p lt) in h
 
-pub linked_root : (slots : List Slot) (roots : List ℕ) (p next : ℕ) → Fits slots → AreRoots slots roots p → p < length slots → slot_at slots p ≡ Bound (Place next) →
+pub linked_root : (slots : List Slot) (roots : List ℕ) (p next : ℕ) → Fits slots → AreRoots slots roots p → p < length slots → slot_at slots p ≡ Bound (Variable next) →
     IsRootOf slots p (slice_index roots next)
 linked_root slots roots p next fits are lt e =
     let h = are.each next (linked_below slots p next fits lt e) in record {

@@ -12,7 +12,7 @@ use Rattle.unification.specs.declared.type_variables.slots.Sort.TheVariants.{Any
 use Rattle.unification.specs.declared.type_variables.slots.Wrap.{Wrap}
 use Rattle.unification.specs.declared.type_variables.slots.Wrap.TheVariants.{Vector, Shared, Mutable}
 use Rattle.unification.specs.declared.type_variables.slots.Group.TheVariants.{Struct, Tuple}
-use Rattle.unification.specs.declared.type_variables.slots.Term.TheVariants.{Place, Closed, Made, Grouped}
+use Rattle.unification.specs.declared.type_variables.slots.Term.TheVariants.{Variable, Closed, Made, Grouped}
 use Rattle.unification.specs.declared.type_variables.slots.Slot.{Slot}
 use Rattle.unification.specs.declared.type_variables.slots.Slot.TheVariants.{Open, Bound}
 use Rattle.unification.proofs.Becoming.{bound_says, open_says}
@@ -42,7 +42,7 @@ unit_at {slots} k p q lt is free v m u (Open Any) e root = refl
 unit_at {slots} k p q lt is free v m u (Open Single) e root = absurd (no_unit Single (v q) refl u (open_says slots q Single v is.within e m))
 unit_at {slots} k p q lt is free v m u (Open Value) e root = absurd (no_unit Value (v q) refl u (open_says slots q Value v is.within e m))
 unit_at {slots} k p q lt is free v m u (Open Integer) e root = absurd (no_unit Integer (v q) refl u (open_says slots q Integer v is.within e m))
-unit_at {slots} k p q lt is free v m u (Bound (Place y)) e root = absurd root
+unit_at {slots} k p q lt is free v m u (Bound (Variable y)) e root = absurd root
 unit_at {slots} k p q lt is free v m u (Bound (Closed of)) e root =
     absurd (free (forced_by k p lt (λ t w mt mw. is.same t mt ∙ bound_says slots q (Closed of) t is.within e mt ∙ sym (is.same w mw ∙ bound_says slots q (Closed of) w is.within e mw))))
 unit_at {slots} k p q lt is free v m u (Bound (Made w y)) e root =
@@ -54,9 +54,9 @@ unit_at {slots} k p q lt is free v m u (Bound (Grouped Tuple first zero)) e root
 unit_at {slots} k p q lt is free v m u (Bound (Grouped Tuple first (suc count))) e root =
     absurd (parts_no_unit _ _ (sym (bound_says slots q (Grouped Tuple first (suc count)) v is.within e m) ∙ u))
 
-pub settled_known : (s : System) (slots given : List Slot) (roots dropped : List ℕ) (r : ℕ → ℕ) → Knows slots s.places (IsDefaulted s) → IsRank slots r → AreRoots slots roots (length slots) →
-    s.dropped ≡ dropped → ((k : ℕ) → k < length dropped → slice_index dropped k < s.places) → Gives slots given Any unit_type (IsDropped roots dropped (length dropped)) →
-    Knows given s.places (IsSettledTyping s)
+pub settled_known : (s : System) (slots given : List Slot) (roots dropped : List ℕ) (r : ℕ → ℕ) → Knows slots s.variables (IsDefaulted s) → IsRank slots r → AreRoots slots roots (length slots) →
+    s.dropped ≡ dropped → ((k : ℕ) → k < length dropped → slice_index dropped k < s.variables) → Gives slots given Any unit_type (IsDropped roots dropped (length dropped)) →
+    Knows given s.variables (IsSettledTyping s)
 settled_known s slots given roots dropped r k rank are same within g = record {
   fits = gives_fits g k.fits;
   longer = (let a = k.longer in let b = g.same_length in omega (arith, a, b));
@@ -68,7 +68,7 @@ settled_known s slots given roots dropped r k rank are same within g = record {
       meets_new g u.0 u.1.1 (λ q lq required e.
           let i : ℕ = required.0 in
           let d : ℕ = slice_index dropped i in
-          let inside : d < s.places = within i required.1.0 in
+          let inside : d < s.variables = within i required.1.0 in
           let root : IsRootOf slots d q = subst (λ (x : ℕ). IsRootOf slots d x) required.1.1 (are.each d (let a = k.longer in omega (arith, inside, a))) in
           let v : Typing = refill_by slots (λ a. nothing) r in
           let mv : Meets slots v = nothing_typing slots r rank in
@@ -83,7 +83,7 @@ settled_known s slots given roots dropped r k rank are same within g = record {
         let c : Contains dropped p = subst (λ (ds : List ℕ). Contains ds p) same has in
         let i : ℕ = c.0 in
         let at : slice_index dropped i ≡ p = get_or_default dropped i 0 p c.1 ∙ c.2 in
-        let inside : p < s.places = subst (λ (x : ℕ). x < s.places) at (within i c.1) in
+        let inside : p < s.variables = subst (λ (x : ℕ). x < s.variables) at (within i c.1) in
         let root = are.each p (let a = k.longer in omega (arith, inside, a)) in
         let q : ℕ = slice_index roots p in
         let v = k.to u hu in

@@ -9,7 +9,7 @@ use Rattle.std.proofs.Math.Nat.{mul-le-mul_right}
 use Rattle.std.proofs.Math.ListN.{set, length-set}
 use Rattle.unification.specs.Slots.{Typing, Meets, Fits, SlotFits, slot_at}
 use Rattle.unification.specs.Ranks.{EachLed, Lower, IsRank, rank_by}
-use Rattle.unification.specs.declared.type_variables.slots.Term.TheVariants.{Place, Closed, Made, Grouped}
+use Rattle.unification.specs.declared.type_variables.slots.Term.TheVariants.{Variable, Closed, Made, Grouped}
 use Rattle.unification.specs.declared.type_variables.slots.Slot.{Slot}
 use Rattle.unification.specs.declared.type_variables.slots.Slot.TheVariants.{Open, Bound}
 use Rattle.unification.proofs.Refill.{ranked}
@@ -22,14 +22,14 @@ use Rattle.unification.proofs.Ranking.{other, here, zeros, none_ranked, settled_
 
 pub part_led : (P : ℕ → Type 0) (x : Slot) (q : ℕ) → EachLed P x → IsPart x q → P q
 part_led P (Open s) q h is = absurd (let a = is.1 in omega (arith, a))
-part_led P (Bound (Place p)) q h is = subst P (let a = is.0 in let b = is.1 in let e : p ≡ q = omega (arith, a, b) in e) h
+part_led P (Bound (Variable p)) q h is = subst P (let a = is.0 in let b = is.1 in let e : p ≡ q = omega (arith, a, b) in e) h
 part_led P (Bound (Closed of)) q h is = absurd (let a = is.1 in omega (arith, a))
 part_led P (Bound (Made w p)) q h is = subst P (let a = is.0 in let b = is.1 in let e : p ≡ q = omega (arith, a, b) in e) h
 part_led P (Bound (Grouped g first count)) q h is = h q is.0 is.1
 
 led_part : (P : ℕ → Type 0) (x : Slot) → ((q : ℕ) → IsPart x q → P q) → EachLed P x
 led_part P (Open s) h = tt
-led_part P (Bound (Place p)) h = h p (omega arith, omega arith)
+led_part P (Bound (Variable p)) h = h p (omega arith, omega arith)
 led_part P (Bound (Closed of)) h = tt
 led_part P (Bound (Made w p)) h = h p (omega arith, omega arith)
 led_part P (Bound (Grouped g first count)) h = λ q a b. h q (a, b)
@@ -40,7 +40,7 @@ parts_within slots p fits lt = go (slot_at slots p) (fits.each p lt)
   where
     go : (x : Slot) → SlotFits (length slots) p x → first_part x + part_count x ≤ length slots
     go (Open s) h = omega arith
-    go (Bound (Place q)) h = omega (arith, lt, h)
+    go (Bound (Variable q)) h = omega (arith, lt, h)
     go (Bound (Closed of)) h = omega arith
     go (Bound (Made w q)) h = omega (arith, h)
     go (Bound (Grouped g first count)) h = h
@@ -187,8 +187,8 @@ pub goes_settled : (slots : List Slot) (start at k : ℕ) (ranks order seen way 
     new.ranks.items ≡ set ranks at (length order + 1) → new.order.items ≡ order ++ at ∷ [] → new.seen.items ≡ set seen at k → reverse new.way.items ≡ way →
     Goes slots start ranks (at ∷ way) new
 goes_settled slots start at k ranks order seen way new fits w on all more er eo es ew =
-    let lt : at < length slots = on.places.0 in
-    let none : rank_at ranks at ≡ 0 = on.places.1 in
+    let lt : at < length slots = on.variables.0 in
+    let none : rank_at ranks at ≡ 0 = on.variables.1 in
     let r : ℕ = length order + 1 in
     let pos : 0 < r = omega arith in
     let inside : at < length ranks = subst (λ (n : ℕ). at < n) (sym w.ranked.same_length) lt in
@@ -200,7 +200,7 @@ goes_settled slots start at k ranks order seen way new fits w on all more er eo 
       walk = walk_is slots (set ranks at r) new.ranks.items (order ++ at ∷ []) new.order.items (set seen at k) new.seen.items er eo es
           (walk_settled slots ranks order (set seen at k) at r fits v lt none refl ranked);
       on_way = on_way_is slots start (set ranks at r) new.ranks.items way (reverse new.way.items) er ew (record {
-        places = way_settled slots ranks at r at way ranked none on.places.2 on.places.3;
+        variables = way_settled slots ranks at r at way ranked none on.variables.2 on.variables.3;
         begins = begins_settled start ranks at r way inside pos on.begins;
       });
       keeps = subst (λ (x : List ℕ). KeepsRanks ranks x) (sym er) (keeps_set ranks at r inside pos);
@@ -216,14 +216,14 @@ pub goes_further : (slots : List Slot) (start at k : ℕ) (ranks order seen way 
     new.ranks.items ≡ ranks → new.order.items ≡ order → new.seen.items ≡ set seen at k → reverse new.way.items ≡ (first_part (slot_at slots at) + k) ∷ at ∷ way →
     Goes slots start ranks (at ∷ way) new
 goes_further slots start at k ranks order seen way new fits w on less more none short er eo es ew =
-    let lt : at < length slots = on.places.0 in
+    let lt : at < length slots = on.variables.0 in
     let part : ℕ = first_part (slot_at slots at) + k in
     let inside : part < length slots = (let h = parts_within slots at fits lt in omega (arith, h, less)) in
     record {
       walk = walk_is slots ranks new.ranks.items order new.order.items (set seen at k) new.seen.items er eo es
           (walk_seen slots ranks order seen at k w lt (omega (arith, less)) more);
       on_way = on_way_is slots start ranks new.ranks.items (part ∷ at ∷ way) (reverse new.way.items) er ew (record {
-        places = (inside, none, (omega arith, omega (arith, less)), on.places);
+        variables = (inside, none, (omega arith, omega (arith, less)), on.variables);
         begins = on.begins;
       });
       keeps = subst (λ (x : List ℕ). KeepsRanks ranks x) (sym er) (λ p h. h);
@@ -234,7 +234,7 @@ goes_further slots start at k ranks order seen way new fits w on less more none 
 
 -- the path is longer than the number of type variables
 pub goes_round : (slots : List Slot) (start at : ℕ) (ranks way : List ℕ) → Fits slots → IsOnWay slots start ranks (at ∷ way) → length slots ≤ length way → (t : Typing) → Meets slots t → ⊥
-goes_round slots start at ranks way fits on long = too_long slots ranks (at ∷ way) fits on.places (omega (arith, long))
+goes_round slots start at ranks way fits on long = too_long slots ranks (at ∷ way) fits on.variables (omega (arith, long))
 
 -- ---- the whole traversal
 
@@ -255,7 +255,7 @@ walk_start slots ranks seen n m er es lr ls =
 -- the path before the first step
 pub way_start : (slots : List Slot) (start : ℕ) (ranks way : List ℕ) → way ≡ start ∷ [] → start < length slots → rank_at ranks start ≡ 0 → IsOnWay slots start ranks way
 way_start slots start ranks way e lt none = subst (λ (w : List ℕ). IsOnWay slots start ranks w) (sym e) (record {
-  places = (lt, none, tt, tt);
+  variables = (lt, none, tt, tt);
   begins = refl;
 })
 

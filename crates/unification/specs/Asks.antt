@@ -2,12 +2,12 @@
 use Rattle.std.specs.Prelude.{◌≡◌, ℕ, ◌<◌, Bool, true, false, List, [], ◌∷◌, sum_by}
 use Rattle.unification.specs.Slots.{Typing, value, TermWithin, term_work}
 use Rattle.unification.specs.declared.type_variables.slots.Term.{Term}
-use Rattle.unification.specs.declared.type_variables.slots.Term.TheVariants.{Place, Closed, Made, Grouped}
+use Rattle.unification.specs.declared.type_variables.slots.Term.TheVariants.{Variable, Closed, Made, Grouped}
 use Rattle.unification.specs.declared.type_variables.slots.Ask.{Ask}
 
 -- the type variable has the type of the term
 abbrev pub Has : Typing → Ask → Type 0
-Has t a = t a.place ≡ value t a.term
+Has t a = t a.variable ≡ value t a.term
 
 abbrev pub EachHas : Typing → List Ask → Type 0
 EachHas t [] = Unit {0}
@@ -15,10 +15,10 @@ EachHas t (a ∷ as_) = Has t a × EachHas t as_
 
 abbrev pub AsksWithin : ℕ → List Ask → Type 0
 AsksWithin n [] = Unit {0}
-AsksWithin n (a ∷ as_) = (a.place < n) × TermWithin n a.term × AsksWithin n as_
+AsksWithin n (a ∷ as_) = (a.variable < n) × TermWithin n a.term × AsksWithin n as_
 
 abbrev pub required_work : Term → ℕ
-required_work (Place q) = 1
+required_work (Variable q) = 1
 required_work (Closed of) = term_work (Closed of)
 required_work (Made w q) = term_work (Made w q)
 required_work (Grouped g first n) = term_work (Grouped g first n)

@@ -32,7 +32,7 @@ pub record IsSound (d : Defaulted) : Type 0 where
 -- the system has typings, and the slots know exactly those with default integer types
 pub record HasDefaults (s : System) (d : Defaulted) : Type 0 where
   pub exists : HasTyping s
-  pub knows : Knows d.slots.items s.places (IsDefaulted s)
+  pub knows : Knows d.slots.items s.variables (IsDefaulted s)
 
 -- where an integer type is open, its default is `u64`
 abbrev pub ChoosesU64 : System → List Slot → Type 0
@@ -40,11 +40,11 @@ ChoosesU64 s slots = (p : ℕ) → p < length slots → slot_at slots p ≡ Open
 
 pub record DefaultsOf (slots : List Slot) (d : Defaulted) : Type 0 where
   pub sound : IsSound d
-  pub has : (s : System) → ChoosesU64 s slots → Knows slots s.places (Typings s) → HasDefaults s d
+  pub has : (s : System) → ChoosesU64 s slots → Knows slots s.variables (Typings s) → HasDefaults s d
 
 -- no system whose typings the slots know has a typing
 abbrev pub LeavesNoTyping : List Slot → Type 0
-LeavesNoTyping slots = (s : System) → Knows slots s.places (Typings s) → IsUntypable s
+LeavesNoTyping slots = (s : System) → Knows slots s.variables (Typings s) → IsUntypable s
 
 -- for each system whose typings the slots know
 abbrev pub DefaultsSay : List Slot → Option Defaulted → Type 0
@@ -53,23 +53,23 @@ DefaultsSay slots (Some d) = DefaultsOf slots d
 
 -- whether the type of a type variable is an integer type, and of which width
 abbrev pub WidthSays : Defaulted → ℕ → Option Width → Type 0
-WidthSays d p None = (s : System) → HasDefaults s d → p < s.places → (t : Typing) × (IsDefaulted s t × (is_integer (t p) ≡ false))
-WidthSays d p (Some w) = (s : System) → HasDefaults s d → p < s.places → (t : Typing) → IsDefaulted s t → t p ≡ IntType w
+WidthSays d p None = (s : System) → HasDefaults s d → p < s.variables → (t : Typing) × (IsDefaulted s t × (is_integer (t p) ≡ false))
+WidthSays d p (Some w) = (s : System) → HasDefaults s d → p < s.variables → (t : Typing) → IsDefaulted s t → t p ≡ IntType w
 
 -- the number of the type of the variable, or it has none
-abbrev pub PlaceSays : System → List PoolType → ℕ → Option ℕ → Type 0
-PlaceSays s pool p None = (of : TypeData) → HasType s p of → ⊥
-PlaceSays s pool p (Some n) = (n < length pool) × HasType s p (type_at (types pool) n)
+abbrev pub VariableSays : System → List PoolType → ℕ → Option ℕ → Type 0
+VariableSays s pool p None = (of : TypeData) → HasType s p of → ⊥
+VariableSays s pool p (Some n) = (n < length pool) × HasType s p (type_at (types pool) n)
 
 -- typings exist, and the numbers are those of the types of the variables that have one
 pub record AreTypes (s : System) (pool : List PoolType) (numbers : List (Option ℕ)) : Type 0 where
   pub settles : (t : Typing) × IsSettledTyping s t
-  pub same_length : length numbers ≡ s.places
-  pub each : (p : ℕ) → p < s.places → PlaceSays s pool p (number_at numbers p)
+  pub same_length : length numbers ≡ s.variables
+  pub each : (p : ℕ) → p < s.variables → VariableSays s pool p (number_at numbers p)
 
 -- for each system whose typings with default integer types are known
 abbrev pub TypesSay : Defaulted → List ℕ → ℕ → List PoolType → List (Option ℕ) → Type 0
-TypesSay d dropped places pool numbers = (s : System) → HasDefaults s d → s.dropped ≡ dropped → s.places ≡ places → AreTypes s pool numbers
+TypesSay d dropped variables pool numbers = (s : System) → HasDefaults s d → s.dropped ≡ dropped → s.variables ≡ variables → AreTypes s pool numbers
 
 -- a system without defaults: no default integer type, and no dropped value
 pub record ChoosesNothing (s : System) : Type 0 where
@@ -78,7 +78,7 @@ pub record ChoosesNothing (s : System) : Type 0 where
 
 -- for each such system whose typings the slots know
 abbrev pub TypesAsKnown : List Slot → ℕ → List PoolType → List (Option ℕ) → Type 0
-TypesAsKnown slots places pool numbers = (s : System) → ChoosesNothing s → Knows slots s.places (Typings s) → s.places ≡ places → AreTypes s pool numbers
+TypesAsKnown slots variables pool numbers = (s : System) → ChoosesNothing s → Knows slots s.variables (Typings s) → s.variables ≡ variables → AreTypes s pool numbers
 
 -- the numbers are those of the types of all type variables, each of which is in the pool, or the type of one is not
 -- forced

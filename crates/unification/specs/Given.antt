@@ -5,14 +5,14 @@ use Rattle.base.specs.declared.types.Width.{Width}
 use Rattle.typing_rules.specs.Sorts.{is_integer}
 use Rattle.unification.specs.Slots.{slot_at}
 use Rattle.unification.specs.declared.type_variables.slots.Sort.{Sort}
-use Rattle.unification.specs.declared.type_variables.slots.Term.TheVariants.{Place, Closed, Made, Grouped}
+use Rattle.unification.specs.declared.type_variables.slots.Term.TheVariants.{Variable, Closed, Made, Grouped}
 use Rattle.unification.specs.declared.type_variables.slots.Slot.{Slot}
 use Rattle.unification.specs.declared.type_variables.slots.Slot.TheVariants.{Open, Bound}
 
 -- the slot has this type, as a written one
 abbrev pub IsGiven : TypeData → Slot → Type 0
 IsGiven of (Open s) = ⊥
-IsGiven of (Bound (Place q)) = ⊥
+IsGiven of (Bound (Variable q)) = ⊥
 IsGiven of (Bound (Closed x)) = x.now ≡ of
 IsGiven of (Bound (Made w q)) = ⊥
 IsGiven of (Bound (Grouped g first n)) = ⊥
@@ -20,7 +20,7 @@ IsGiven of (Bound (Grouped g first n)) = ⊥
 -- the slot has no written integer type
 abbrev pub GivesNoInteger : Slot → Type 0
 GivesNoInteger (Open s) = Unit {0}
-GivesNoInteger (Bound (Place q)) = Unit {0}
+GivesNoInteger (Bound (Variable q)) = Unit {0}
 GivesNoInteger (Bound (Closed x)) = is_integer x.now ≡ false
 GivesNoInteger (Bound (Made w q)) = Unit {0}
 GivesNoInteger (Bound (Grouped g first n)) = Unit {0}
@@ -46,8 +46,8 @@ pub record Gives (old new : List Slot) (sort : Sort) (of : TypeData) (Required :
   pub given : (p : ℕ) → p < length old → Required p → slot_at old p ≡ Open sort → IsGiven of (slot_at new p)
   pub only : (p : ℕ) → p < length old → slot_at old p ≡ Open sort → IsGiven of (slot_at new p) → Required p
 
-abbrev pub AnyPlace : ℕ → Type 0
-AnyPlace p = Unit {0}
+abbrev pub AnyVariable : ℕ → Type 0
+AnyVariable p = Unit {0}
 
 -- the type variable is the representative of one of the first so many dropped ones
 abbrev pub IsDropped : List ℕ → List ℕ → ℕ → ℕ → Type 0

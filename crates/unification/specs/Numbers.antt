@@ -5,7 +5,7 @@ use Rattle.unification.specs.Slots.{Typing, value, Meets, slot_at}
 use Rattle.unification.specs.Ranks.{EachIn, EachLed}
 use Rattle.unification.specs.Agree.{IsForced}
 use Rattle.unification.specs.declared.type_variables.slots.Term.{Term}
-use Rattle.unification.specs.declared.type_variables.slots.Term.TheVariants.{Place, Closed, Made, Grouped}
+use Rattle.unification.specs.declared.type_variables.slots.Term.TheVariants.{Variable, Closed, Made, Grouped}
 use Rattle.unification.specs.declared.type_variables.slots.Slot.{Slot}
 use Rattle.typing_rules.specs.Pools.{type_at, types}
 use Rattle.typing_rules.specs.declared.type_pool.PoolType.{PoolType}
@@ -41,7 +41,7 @@ IsTypeAt pool of (Some n) = of ≡ type_at (types pool) n
 
 -- a type variable of the term
 abbrev pub SomeIn : (ℕ → Type 0) → Term → Type 0
-SomeIn P (Place q) = P q
+SomeIn P (Variable q) = P q
 SomeIn P (Closed of) = ⊥
 SomeIn P (Made w q) = P q
 SomeIn P (Grouped g first count) = (q : ℕ) × ((first ≤ q) × (q < first + count) × P q)
@@ -77,6 +77,6 @@ pub record AreNumbers (slots : List Slot) (pool : List PoolType) (order : List �
   pub each : (k : ℕ) → k < n → NumberSays slots pool (slice_index order k) (number_at numbers (slice_index order k))
 
 -- the numbers of the first so many type variables
-pub record TableSays (slots : List Slot) (places : ℕ) (pool : List PoolType) (numbers : List (Option ℕ)) : Type 0 where
-  pub same_length : length numbers ≡ places
-  pub each : (p : ℕ) → p < places → NumberSays slots pool p (number_at numbers p)
+pub record TableSays (slots : List Slot) (variables : ℕ) (pool : List PoolType) (numbers : List (Option ℕ)) : Type 0 where
+  pub same_length : length numbers ≡ variables
+  pub each : (p : ℕ) → p < variables → NumberSays slots pool p (number_at numbers p)

@@ -4,13 +4,13 @@ use Rattle.base.specs.TypeData.{TypeData, BoolType, type_size}
 use Rattle.unification.specs.Slots.{Typing, value, slot_at}
 use Rattle.unification.specs.declared.type_variables.slots.Sort.{Sort}
 use Rattle.unification.specs.declared.type_variables.slots.Term.{Term}
-use Rattle.unification.specs.declared.type_variables.slots.Term.TheVariants.{Place, Closed, Made, Grouped}
+use Rattle.unification.specs.declared.type_variables.slots.Term.TheVariants.{Variable, Closed, Made, Grouped}
 use Rattle.unification.specs.declared.type_variables.slots.Slot.{Slot}
 use Rattle.unification.specs.declared.type_variables.slots.Slot.TheVariants.{Open, Bound}
 
 -- each type variable of a term
 abbrev pub EachIn : (ℕ → Type 0) → Term → Type 0
-EachIn P (Place q) = P q
+EachIn P (Variable q) = P q
 EachIn P (Closed of) = Unit {0}
 EachIn P (Made w q) = P q
 EachIn P (Grouped g first count) = (q : ℕ) → first ≤ q → q < first + count → P q

@@ -8,7 +8,7 @@ use Rattle.unification.specs.declared.type_variables.slots.Wrap.TheVariants.{Vec
 use Rattle.unification.specs.declared.type_variables.slots.Group.{Group}
 use Rattle.unification.specs.declared.type_variables.slots.Group.TheVariants.{Struct, Tuple}
 use Rattle.unification.specs.declared.type_variables.slots.Term.{Term}
-use Rattle.unification.specs.declared.type_variables.slots.Term.TheVariants.{Place, Closed, Made, Grouped}
+use Rattle.unification.specs.declared.type_variables.slots.Term.TheVariants.{Variable, Closed, Made, Grouped}
 use Rattle.unification.specs.declared.type_variables.slots.Slot.{Slot}
 use Rattle.unification.specs.declared.type_variables.slots.Slot.TheVariants.{Open, Bound}
 
@@ -32,7 +32,7 @@ list_at t first (suc n) = t first ∷ list_at t (first + 1) n
 
 -- the type that a term has in a typing
 abbrev pub value : Typing → Term → TypeData
-value t (Place p) = t p
+value t (Variable p) = t p
 value t (Closed of) = of.now
 value t (Made w p) = wrapped w (t p)
 value t (Grouped g first n) = grouped g (types_of (list_at t first n))
@@ -50,14 +50,14 @@ pub record Meets (slots : List Slot) (t : Typing) : Type 0 where
 
 -- the variables of a term are among the first n
 abbrev pub TermWithin : ℕ → Term → Type 0
-TermWithin n (Place q) = q < n
+TermWithin n (Variable q) = q < n
 TermWithin n (Closed of) = Unit {0}
 TermWithin n (Made w q) = q < n
 TermWithin n (Grouped g first m) = first + m ≤ n
 
 -- a type variable is bound to a smaller one, or to a term over existing ones
 abbrev pub TermFits : ℕ → ℕ → Term → Type 0
-TermFits n p (Place q) = q < p
+TermFits n p (Variable q) = q < p
 TermFits n p (Closed of) = Unit {0}
 TermFits n p (Made w q) = q < n
 TermFits n p (Grouped g first m) = first + m ≤ n
@@ -83,14 +83,14 @@ pub record Becomes (old : List Slot) (F : Typing → Type 0) (new : List Slot) (
 
 -- a term that is no type variable
 abbrev pub IsMade : Term → Type 0
-IsMade (Place q) = ⊥
+IsMade (Variable q) = ⊥
 IsMade (Closed of) = Unit {0}
 IsMade (Made w q) = Unit {0}
 IsMade (Grouped g first m) = Unit {0}
 
 -- a term made of the types of type variables
 abbrev pub HasParts : Term → Type 0
-HasParts (Place q) = ⊥
+HasParts (Variable q) = ⊥
 HasParts (Closed of) = ⊥
 HasParts (Made w q) = Unit {0}
 HasParts (Grouped g first m) = Unit {0}
@@ -102,7 +102,7 @@ IsRoot (Bound x) = IsMade x
 
 -- the work that a slot may still cause: one for itself, and its parts
 abbrev pub term_work : Term → ℕ
-term_work (Place q) = 0
+term_work (Variable q) = 0
 term_work (Closed of) = type_size of.now
 term_work (Made w q) = 2
 term_work (Grouped g first n) = 1 + n

@@ -1,7 +1,7 @@
 -- The depth-first traversal of the type variables that type variables refer to.
 use Rattle.std.specs.Prelude.{◌≡◌, ℕ, ◌+◌, ◌-◌, ◌*◌, ◌<◌, ◌≤◌, Bool, true, false, List, [], ◌∷◌, length, reverse, slice_index}
 use Rattle.unification.specs.Slots.{Typing, Meets, slot_at}
-use Rattle.unification.specs.declared.type_variables.slots.Term.TheVariants.{Place, Closed, Made, Grouped}
+use Rattle.unification.specs.declared.type_variables.slots.Term.TheVariants.{Variable, Closed, Made, Grouped}
 use Rattle.unification.specs.declared.type_variables.slots.Slot.{Slot}
 use Rattle.unification.specs.declared.type_variables.slots.Slot.TheVariants.{Open, Bound}
 use Rattle.unification.specs.Ranked.{rank_at, IsRanked, unranked}
@@ -10,14 +10,14 @@ use Rattle.unification.specs.declared.walk.Walk.{Walk}
 -- a slot refers to consecutive type variables: the first of them, and how many
 abbrev pub first_part : Slot → ℕ
 first_part (Open s) = 0
-first_part (Bound (Place q)) = q
+first_part (Bound (Variable q)) = q
 first_part (Bound (Closed of)) = 0
 first_part (Bound (Made w q)) = q
 first_part (Bound (Grouped g first count)) = first
 
 abbrev pub part_count : Slot → ℕ
 part_count (Open s) = 0
-part_count (Bound (Place q)) = 1
+part_count (Bound (Variable q)) = 1
 part_count (Bound (Closed of)) = 0
 part_count (Bound (Made w q)) = 1
 part_count (Bound (Grouped g first count)) = count
@@ -50,7 +50,7 @@ BeginsAt start ranks (p ∷ []) = p ≡ start
 BeginsAt start ranks (p ∷ q ∷ way) = BeginsAt start ranks (q ∷ way)
 
 pub record IsOnWay (slots : List Slot) (start : ℕ) (ranks way : List ℕ) : Type 0 where
-  pub places : IsWay slots ranks way
+  pub variables : IsWay slots ranks way
   pub begins : BeginsAt start ranks way
 
 -- no rank is lost

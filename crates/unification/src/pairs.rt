@@ -7,9 +7,9 @@ ghost use Rattle.unification.specs.Unifiers.{apply, HasNoUnifier};
 ghost use Rattle.unification.specs.Solved.{Solves};
 
 use crate::type_variables::open::open_slots;
-use crate::type_variables::places::one;
 use crate::type_variables::signature::{Parameters, instance};
 use crate::type_variables::slots::Slot;
+use crate::type_variables::variables::one;
 use base::types::TypeTerm;
 use std::alloc::{AllocError, Global};
 

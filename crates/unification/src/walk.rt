@@ -30,13 +30,13 @@ fn term_parts<'a>(term: Term<'a>) -> Parts
     ensures count { result.count ≡ part_count (Slot.Bound term.entry) }
 {
     match term {
-        Term::Place(place) => Parts {
-            first: place,
+        Term::Variable(variable) => Parts {
+            first: variable,
             count: 1,
         },
         Term::Closed(_) => Parts { first: 0, count: 0 },
-        Term::Made(_, place) => Parts {
-            first: place,
+        Term::Made(_, variable) => Parts {
+            first: variable,
             count: 1,
         },
         Term::Grouped(_, first, count) => Parts { first, count },
@@ -72,15 +72,15 @@ fn ranked_parts(ranks: &[usize], parts: Parts, known: usize) -> usize
 
 impl Walk {
     /// Gives the next rank to a type variable of which all parts have ranks.
-    fn settle(&mut self, place: usize) -> Result<(), AllocError>
-        requires { place < length self.old.ranks.items }
-        ensures ranks { OnOk result (self.new.ranks.items ≡ slice_set self.old.ranks.items place (length self.old.order.items + 1)) }
-        ensures order { OnOk result (self.new.order.items ≡ self.old.order.items ++ place ∷ []) }
+    fn settle(&mut self, variable: usize) -> Result<(), AllocError>
+        requires { variable < length self.old.ranks.items }
+        ensures ranks { OnOk result (self.new.ranks.items ≡ slice_set self.old.ranks.items variable (length self.old.order.items + 1)) }
+        ensures order { OnOk result (self.new.order.items ≡ self.old.order.items ++ variable ∷ []) }
         ensures seen { OnOk result (self.new.seen.items ≡ self.old.seen.items) }
         ensures way { OnOk result (self.new.way.items ≡ self.old.way.items) }
     {
-        self.order.push(place)?;
-        self.ranks[place] = self.order.len();
+        self.order.push(variable)?;
+        self.ranks[variable] = self.order.len();
         Ok(())
     }
 

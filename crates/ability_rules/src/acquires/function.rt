@@ -27,10 +27,10 @@ pub fn lacks_acquires(
     id: &FunctionId,
     function: &Function,
     pool: &TypePool,
-    places: &[usize],
+    variables: &[usize],
 ) -> Result<bool, NoMemory>
-    requires typed { IsTyped (function_system program.now function.now) (map (type_at (types pool.now)) places.now) }
-    requires within { All (λ n. n < length pool.now) places.now }
+    requires typed { IsTyped (function_system program.now function.now) (map (type_at (types pool.now)) variables.now) }
+    requires within { All (λ n. n < length pool.now) variables.now }
     ensures { IfOk result (λ lacks. IsTrue lacks ↔ LacksAcquires program.now id.now function.now) }
 {
     let own = Home::of_function(id).to_id(alloc)?;
@@ -40,16 +40,16 @@ pub fn lacks_acquires(
         own: &own,
         listed: &listed,
         pool,
-        places,
+        variables,
     };
     let mut seen = Table::new(alloc);
-    let mut first = first_of_all(function, places.len());
-    for place in 0..function.body.len() {
-        let lacks = node_lacks(alloc, look, &mut seen, first, function.body.node(place))?;
+    let mut first = first_of_all(function, variables.len());
+    for index in 0..function.body.len() {
+        let lacks = node_lacks(alloc, look, &mut seen, first, function.body.node(index))?;
         if lacks {
             return Ok(true);
         }
-        first = first_of_next(program, function, place, first, places.len());
+        first = first_of_next(program, function, index, first, variables.len());
     }
     Ok(false)
 }

@@ -13,5 +13,5 @@ pub(crate) struct Look<'a> {
     pub own: &'a ModuleId,
     pub listed: &'a Table<StructId, ()>,
     pub pool: &'a TypePool,
-    pub places: &'a [usize],
+    pub variables: &'a [usize],
 }

@@ -5,8 +5,8 @@ ghost use Rattle.base.specs.TypeData.{TypeData};
 ghost use Rattle.base.specs.declared.types.StructId.{StructId};
 ghost use Rattle.typing_rules.specs.Acquires.{Takes};
 ghost use Rattle.typing_rules.specs.Pools.{type_of};
-ghost use Rattle.type_constraints.specs.Storage.{IsStorage, IsStorageCall, IsStorageNode};
-ghost use Rattle.ability_rules.specs.Missing.{CallLacks, FormLacks, IsMissing, IsSetOf, NodeLacks, Tells, type_of_place};
+ghost use Rattle.type_constraints.specs.Storage.{IsStorageCall, IsStorageNode};
+ghost use Rattle.ability_rules.specs.Missing.{CallLacks, IsMissing, IsSetOf, NodeLacks, Tells, type_of_variable};
 
 use crate::acquires::callee::callee_lacks;
 use crate::acquires::listed::has_struct;
@@ -38,22 +38,20 @@ fn is_missing(set: &Table<StructId, ()>, of: &PoolType) -> bool
     ensures { (listed : List StructId) → IsSetOf set.now listed → (ts : List TypeData) → IsTrue result ↔ IsMissing listed (type_of ts of.now) }
 {
     match of {
-        PoolType::Plain(_) => false,
-        PoolType::Made(_, _) => false,
         PoolType::Struct(id, _) => !has_struct(set, id),
-        PoolType::Tuple(_) => false,
+        _ => false,
     }
 }
 
 /// Decides whether a storage operation, whose type argument is the type variable `first`, takes or borrows a struct
 /// that is not listed.
 fn storage_lacks<'a>(look: Look<'a>, first: usize, operation: StorageOperation) -> bool
-    requires first { first < length look.places.now }
-    requires within { All (λ n. n < length look.pool.now) look.places.now }
-    ensures { (listed : List StructId) → IsSetOf look.entry.listed.now listed → IsTrue result ↔ Takes operation × IsMissing listed (type_of_place look.entry.pool.now look.entry.places.now first) }
+    requires first { first < length look.variables.now }
+    requires within { All (λ n. n < length look.pool.now) look.variables.now }
+    ensures { (listed : List StructId) → IsSetOf look.entry.listed.now listed → IsTrue result ↔ Takes operation × IsMissing listed (type_of_variable look.entry.pool.now look.entry.variables.now first) }
 {
     if takes(operation) {
-        is_missing(look.listed, look.pool.entry(look.places[first]))
+        is_missing(look.listed, look.pool.entry(look.variables[first]))
     } else {
         false
     }
@@ -66,30 +64,13 @@ fn call_lacks<'a>(
     first: usize,
     callee: &Callee,
 ) -> Result<bool, NoMemory>
-    requires first { IsStorageCall callee.now → first < length look.places.now }
-    requires within { All (λ n. n < length look.pool.now) look.places.now }
-    ensures { IfOk result (Tells look.entry.program.now look.entry.own.now look.entry.listed.now seen.old seen.new (λ listed. CallLacks look.entry.program.now look.entry.own.now listed (type_of_place look.entry.pool.now look.entry.places.now first) callee.now)) }
+    requires first { IsStorageCall callee.now → first < length look.variables.now }
+    requires within { All (λ n. n < length look.pool.now) look.variables.now }
+    ensures { IfOk result (Tells look.entry.program.now look.entry.own.now look.entry.listed.now seen.old seen.new (λ listed. CallLacks look.entry.program.now look.entry.own.now listed (type_of_variable look.entry.pool.now look.entry.variables.now first) callee.now)) }
 {
     match callee {
         Callee::Function(id) => callee_lacks(alloc, look, seen, id),
         Callee::Storage(operation) => Ok(storage_lacks(look, first, *operation)),
-        _ => Ok(false),
-    }
-}
-
-fn form_lacks<'a>(
-    alloc: Global,
-    look: Look<'a>,
-    seen: &mut Table<FunctionId, ()>,
-    first: usize,
-    form: &CodeMany,
-) -> Result<bool, NoMemory>
-    requires first { IsStorage form.now → first < length look.places.now }
-    requires within { All (λ n. n < length look.pool.now) look.places.now }
-    ensures { IfOk result (Tells look.entry.program.now look.entry.own.now look.entry.listed.now seen.old seen.new (λ listed. FormLacks look.entry.program.now look.entry.own.now listed (type_of_place look.entry.pool.now look.entry.places.now first) form.now)) }
-{
-    match form {
-        CodeMany::Call(call) => call_lacks(alloc, look, seen, first, &call.get().callee),
         _ => Ok(false),
     }
 }
@@ -103,12 +84,14 @@ pub(crate) fn node_lacks<'a>(
     first: usize,
     node: &Node<CodeLeaf, CodeUnary, CodeBinary, CodeMany>,
 ) -> Result<bool, NoMemory>
-    requires first { IsStorageNode node.now → first < length look.places.now }
-    requires within { All (λ n. n < length look.pool.now) look.places.now }
-    ensures { IfOk result (Tells look.entry.program.now look.entry.own.now look.entry.listed.now seen.old seen.new (λ listed. NodeLacks look.entry.program.now look.entry.own.now listed (type_of_place look.entry.pool.now look.entry.places.now first) node.now)) }
+    requires first { IsStorageNode node.now → first < length look.variables.now }
+    requires within { All (λ n. n < length look.pool.now) look.variables.now }
+    ensures { IfOk result (Tells look.entry.program.now look.entry.own.now look.entry.listed.now seen.old seen.new (λ listed. NodeLacks look.entry.program.now look.entry.own.now listed (type_of_variable look.entry.pool.now look.entry.variables.now first) node.now)) }
 {
     match node {
-        Node::Many(form, _) => form_lacks(alloc, look, seen, first, form),
+        Node::Many(CodeMany::Call(call), _) => {
+            call_lacks(alloc, look, seen, first, &call.get().callee)
+        }
         _ => Ok(false),
     }
 }

@@ -3,13 +3,13 @@
 ghost use Rattle.std.specs.Prelude.{◌≡◌, ◌≤◌, ◌<◌, ◌+◌, ◌++◌, ℕ, All, length, slice_get, Some, IfOk, OnOk};
 ghost use Rattle.typing_rules.specs.Settings.{arity_of, callee_signature, node_arity};
 ghost use Rattle.typing_rules.specs.Pools.{IsBelow};
-ghost use Rattle.ability_rules.specs.declared.polymorphic_recursion.told.PlaceTypes.{PlaceTypes as PlaceTypesData};
+ghost use Rattle.ability_rules.specs.declared.polymorphic_recursion.known.VariableTypes.{VariableTypes as VariableTypesData};
 ghost use Rattle.ability_rules.specs.Edges.{argument_edge, argument_edges, at_entry, at_function, at_node, callee_edges, edges_of, entry_edges, is_number, node_edges, of_option, part_edges, pieces, plain_edges, type_node};
 ghost use Rattle.ability_rules.specs.Rows.{IsNumbering, PartsAreBelow, row_end};
-ghost use Rattle.ability_rules.specs.Told.{IsTold};
+ghost use Rattle.ability_rules.specs.KnownTypes.{IsListed};
 
+use crate::polymorphic_recursion::known::VariableTypes;
 use crate::polymorphic_recursion::rows::{Numbering, Row};
-use crate::polymorphic_recursion::told::PlaceTypes;
 use base::marked_cycles::edge::MarkedEdge;
 use base::memory::NoMemory;
 use program::arena::Node;
@@ -106,18 +106,18 @@ fn push_entries(
 /// Appends the edge from a type argument, if its type is known, to the type parameter that it is for.
 fn push_argument(
     row: Row,
-    told: PlaceTypes<'_>,
-    place: usize,
+    given: VariableTypes<'_>,
+    variable: usize,
     count: usize,
     to: usize,
     into: &mut Vec<MarkedEdge>,
 ) -> Result<(), NoMemory>
-    requires place { place < length told.types.now }
-    requires known { (q n : ℕ) → slice_get told.types.now q ≡ Some (Some n) → n < length told.pool.now }
-    requires within { row_end row told ≤ count }
-    ensures { OnOk result (into.new.items ≡ into.old.items ++ of_option (argument_edge row to) (slice_get told.entry.types.now place)) }
+    requires variable { variable < length given.types.now }
+    requires known { (q n : ℕ) → slice_get given.types.now q ≡ Some (Some n) → n < length given.pool.now }
+    requires within { row_end row given ≤ count }
+    ensures { OnOk result (into.new.items ≡ into.old.items ++ of_option (argument_edge row to) (slice_get given.entry.types.now variable)) }
 {
-    if let Some(number) = told.types[place] {
+    if let Some(number) = given.types[variable] {
         into.push(MarkedEdge {
             from: row.first + row.parameters + number,
             to,
@@ -131,20 +131,20 @@ fn push_argument(
 /// callee.
 fn push_arguments(
     row: Row,
-    told: PlaceTypes<'_>,
+    given: VariableTypes<'_>,
     first: usize,
     count: usize,
     to: Row,
     into: &mut Vec<MarkedEdge>,
 ) -> Result<(), NoMemory>
-    requires places { first + to.parameters ≤ length told.types.now }
-    requires known { (q n : ℕ) → slice_get told.types.now q ≡ Some (Some n) → n < length told.pool.now }
-    requires within { row_end row told ≤ count }
+    requires variables { first + to.parameters ≤ length given.types.now }
+    requires known { (q n : ℕ) → slice_get given.types.now q ≡ Some (Some n) → n < length given.pool.now }
+    requires within { row_end row given ≤ count }
     requires called { to.first + to.parameters ≤ count }
-    ensures { OnOk result (into.new.items ≡ into.old.items ++ argument_edges row told.entry.types.now first to) }
+    ensures { OnOk result (into.new.items ≡ into.old.items ++ argument_edges row given.entry.types.now first to) }
 {
     for number in 0..to.parameters {
-        push_argument(row, told, first + number, count, to.first + number, into)?;
+        push_argument(row, given, first + number, count, to.first + number, into)?;
     }
     Ok(())
 }
@@ -153,21 +153,21 @@ fn push_arguments(
 fn push_callee(
     all: Numbering<'_>,
     row: Row,
-    told: PlaceTypes<'_>,
+    given: VariableTypes<'_>,
     first: usize,
     callee: &Callee,
     into: &mut Vec<MarkedEdge>,
 ) -> Result<(), NoMemory>
     requires all { IsNumbering all }
-    requires places { first + arity_of (callee_signature all.program.now callee.now) ≤ length told.types.now }
-    requires known { (q n : ℕ) → slice_get told.types.now q ≡ Some (Some n) → n < length told.pool.now }
-    requires within { row_end row told ≤ all.count }
-    ensures { OnOk result (into.new.items ≡ into.old.items ++ callee_edges all.entry.program.now all.entry.rows.now row told.entry.types.now first callee.now) }
+    requires variables { first + arity_of (callee_signature all.program.now callee.now) ≤ length given.types.now }
+    requires known { (q n : ℕ) → slice_get given.types.now q ≡ Some (Some n) → n < length given.pool.now }
+    requires within { row_end row given ≤ all.count }
+    ensures { OnOk result (into.new.items ≡ into.old.items ++ callee_edges all.entry.program.now all.entry.rows.now row given.entry.types.now first callee.now) }
 {
     if let Callee::Function(id) = callee {
         if let Some(number) = all.program.functions.number(id) {
             if let Some(to) = all.rows.get(number) {
-                push_arguments(row, told, first, all.count, *to, into)?;
+                push_arguments(row, given, first, all.count, *to, into)?;
             }
         }
     }
@@ -178,20 +178,20 @@ fn push_callee(
 fn push_node(
     all: Numbering<'_>,
     row: Row,
-    told: PlaceTypes<'_>,
+    given: VariableTypes<'_>,
     first: usize,
     node: &Node<CodeLeaf, CodeUnary, CodeBinary, CodeMany>,
     into: &mut Vec<MarkedEdge>,
 ) -> Result<(), NoMemory>
     requires all { IsNumbering all }
-    requires places { first + node_arity all.program.now node.now ≤ length told.types.now }
-    requires known { (q n : ℕ) → slice_get told.types.now q ≡ Some (Some n) → n < length told.pool.now }
-    requires within { row_end row told ≤ all.count }
-    ensures { OnOk result (into.new.items ≡ into.old.items ++ node_edges all.entry.program.now all.entry.rows.now row told.entry.types.now first node.now) }
+    requires variables { first + node_arity all.program.now node.now ≤ length given.types.now }
+    requires known { (q n : ℕ) → slice_get given.types.now q ≡ Some (Some n) → n < length given.pool.now }
+    requires within { row_end row given ≤ all.count }
+    ensures { OnOk result (into.new.items ≡ into.old.items ++ node_edges all.entry.program.now all.entry.rows.now row given.entry.types.now first node.now) }
 {
     match node {
         Node::Many(form, _) => match form {
-            CodeMany::Call(call) => push_callee(all, row, told, first, &call.get().callee, into),
+            CodeMany::Call(call) => push_callee(all, row, given, first, &call.get().callee, into),
             _ => Ok(()),
         },
         _ => Ok(()),
@@ -202,20 +202,20 @@ fn push_node(
 fn push_nodes(
     all: Numbering<'_>,
     row: Row,
-    told: PlaceTypes<'_>,
+    known: VariableTypes<'_>,
     function: &Function,
     into: &mut Vec<MarkedEdge>,
 ) -> Result<(), NoMemory>
     requires all { IsNumbering all }
-    requires told { IsTold all.program.now function.now told }
-    requires within { row_end row told ≤ all.count }
-    ensures { OnOk result (into.new.items ≡ into.old.items ++ pieces (at_node all.entry.program.now all.entry.rows.now row function.now told.entry) (length function.now.body.nodes)) }
+    requires known { IsListed all.program.now function.now known }
+    requires within { row_end row known ≤ all.count }
+    ensures { OnOk result (into.new.items ≡ into.old.items ++ pieces (at_node all.entry.program.now all.entry.rows.now row function.now known.entry) (length function.now.body.nodes)) }
 {
     let mut first = function.body.len() + function.locals.as_slice().len();
     for number in 0..function.body.len() {
         let node = function.body.node(number);
-        if number < told.read {
-            push_node(all, row, told, first, node, into)?;
+        if number < known.read {
+            push_node(all, row, known, first, node, into)?;
         }
         first = match first.checked_add(node_arity(all.program, node)) {
             Some(next) => next,
@@ -242,16 +242,16 @@ fn push_function(
     into: &mut Vec<MarkedEdge>,
 ) -> Result<(), NoMemory>
     requires all { IsNumbering all }
-    requires number { number < length all.told.now }
-    ensures edges { OnOk result (into.new.items ≡ into.old.items ++ at_function all.entry.program.now all.entry.rows.now all.entry.told.now number) }
-    ensures below { OnOk result ((p : PlaceTypesData) → slice_get all.entry.told.now number ≡ Some p → PartsAreBelow p.pool.now) }
+    requires number { number < length all.known.now }
+    ensures edges { OnOk result (into.new.items ≡ into.old.items ++ at_function all.entry.program.now all.entry.rows.now all.entry.known.now number) }
+    ensures below { OnOk result ((p : VariableTypesData) → slice_get all.entry.known.now number ≡ Some p → PartsAreBelow p.pool.now) }
 {
     let row = all.rows[number];
-    let told = all.told[number];
-    push_entries(row, told.pool, all.count, into)?;
+    let known = all.known[number];
+    push_entries(row, known.pool, all.count, into)?;
     if let Some((id, function)) = all.program.functions.entry(number) {
         if is_number(number, all.program.functions.number(id)) {
-            push_nodes(all, row, told, function, into)?;
+            push_nodes(all, row, known, function, into)?;
         }
     }
     Ok(())
@@ -260,11 +260,11 @@ fn push_function(
 /// Returns the edges of all functions.
 pub(crate) fn edges_of(alloc: Global, all: Numbering<'_>) -> Result<Vec<MarkedEdge>, NoMemory>
     requires all { IsNumbering all }
-    ensures edges { IfOk result (λ edges. edges.items ≡ edges_of all.entry.program.now all.entry.rows.now all.entry.told.now) }
-    ensures below { IfOk result (λ edges. (k : ℕ) → (p : PlaceTypesData) → slice_get all.entry.told.now k ≡ Some p → PartsAreBelow p.pool.now) }
+    ensures edges { IfOk result (λ edges. edges.items ≡ edges_of all.entry.program.now all.entry.rows.now all.entry.known.now) }
+    ensures below { IfOk result (λ edges. (k : ℕ) → (p : VariableTypesData) → slice_get all.entry.known.now k ≡ Some p → PartsAreBelow p.pool.now) }
 {
     let mut edges = Vec::new(alloc);
-    for number in 0..all.told.len() {
+    for number in 0..all.known.len() {
         push_function(all, number, &mut edges)?;
     }
     Ok(edges)

@@ -3,10 +3,11 @@
 ghost use Rattle.std.specs.Prelude.{◌≡◌, length, IfOk};
 ghost use Rattle.ability_rules.specs.Rows.{AreRows, ParameterCount, row_end};
 
-use crate::polymorphic_recursion::told::PlaceTypes;
+use crate::polymorphic_recursion::known::VariableTypes;
 use base::memory::NoMemory;
 use program::program::Program;
 use std::alloc::Global;
+use type_constraints::numbers::sum;
 
 /// The number of a function's first type parameter, and how many it has. They are followed by the numbers of the types
 /// in its pool.
@@ -20,7 +21,7 @@ pub(crate) struct Row {
 #[derive(Clone, Copy)]
 pub(crate) struct Numbering<'a> {
     pub(crate) program: &'a Program,
-    pub(crate) told: &'a [PlaceTypes<'a>],
+    pub(crate) known: &'a [VariableTypes<'a>],
     pub(crate) rows: &'a [Row],
     pub(crate) count: usize,
 }
@@ -37,34 +38,28 @@ fn parameter_count(program: &Program, number: usize) -> usize
 
 /// The number after all of a function's. `NoMemory` where it exceeds `usize`, as only with more types than any memory
 /// holds.
-fn row_end(row: Row, told: PlaceTypes<'_>) -> Result<usize, NoMemory>
-    ensures { IfOk result (λ count. count ≡ row_end row told.entry) }
+fn row_end(row: Row, known: VariableTypes<'_>) -> Result<usize, NoMemory>
+    ensures { IfOk result (λ count. count ≡ row_end row known.entry) }
 {
-    match row.first.checked_add(row.parameters) {
-        Some(types) => match types.checked_add(told.pool.len()) {
-            Some(count) => Ok(count),
-            None => Err(NoMemory),
-        },
-        None => Err(NoMemory),
-    }
+    sum(sum(row.first, row.parameters)?, known.pool.len())
 }
 
 /// Returns where the numbers of each function begin, and how many there are.
 pub(crate) fn rows_of(
     alloc: Global,
     program: &Program,
-    told: &[PlaceTypes<'_>],
+    known: &[VariableTypes<'_>],
 ) -> Result<(Vec<Row>, usize), NoMemory>
-    ensures { IfOk result (λ made. AreRows program.now told.now made.0.items (length told.now) made.1) }
+    ensures { IfOk result (λ made. AreRows program.now known.now made.0.items (length known.now) made.1) }
 {
     let mut rows = Vec::new(alloc);
     let mut count = 0;
-    for number in 0..told.len() {
+    for number in 0..known.len() {
         let row = Row {
             first: count,
             parameters: parameter_count(program, number),
         };
-        count = row_end(row, told[number])?;
+        count = row_end(row, known[number])?;
         rows.push(row)?;
     }
     Ok((rows, count))

@@ -5,12 +5,12 @@ ghost use Rattle.base.specs.declared.types.FunctionId.{FunctionId as FunctionIdD
 ghost use Rattle.program.specs.declared.declaration.Function.{Function as FunctionData};
 ghost use Rattle.typing_rules.specs.Calls.{IsWrapping};
 ghost use Rattle.ability_rules.specs.Rows.{FoundAt, IsNumbering};
-ghost use Rattle.ability_rules.specs.Told.{AreTold};
+ghost use Rattle.ability_rules.specs.KnownTypes.{AreKnown};
 
 use crate::polymorphic_recursion::edges::edges_of;
+use crate::polymorphic_recursion::known::VariableTypes;
 use crate::polymorphic_recursion::rows::{Numbering, Row, rows_of};
-use crate::polymorphic_recursion::told::PlaceTypes;
-use base::marked_cycles::on_cycle::on_marked_circle;
+use base::marked_cycles::on_cycle::on_marked_cycle;
 use base::memory::NoMemory;
 use program::program::Program;
 use std::alloc::Global;
@@ -48,14 +48,14 @@ fn is_found_at(all: Numbering<'_>, number: usize, found: &[bool]) -> bool
 fn found_functions(alloc: Global, all: Numbering<'_>, found: &[bool]) -> Result<Vec<bool>, NoMemory>
     requires all { IsNumbering all }
     requires found { length found.now ≡ all.count }
-    ensures len { IfOk result (λ told. length told.items ≡ length all.entry.told.now) }
-    ensures found { IfOk result (λ told. (n : ℕ) → n < length told.items → FoundAt all.entry found.now n (slice_index_or told.items n false)) }
+    ensures len { IfOk result (λ known. length known.items ≡ length all.entry.known.now) }
+    ensures found { IfOk result (λ known. (n : ℕ) → n < length known.items → FoundAt all.entry found.now n (slice_index_or known.items n false)) }
 {
-    let mut told = Vec::new(alloc);
-    for number in 0..all.told.len() {
-        told.push(is_found_at(all, number, found))?;
+    let mut known = Vec::new(alloc);
+    for number in 0..all.known.len() {
+        known.push(is_found_at(all, number, found))?;
     }
-    Ok(told)
+    Ok(known)
 }
 
 /// Decides for each function of a program, in their order, whether it has polymorphic recursion: a type parameter of it
@@ -63,20 +63,20 @@ fn found_functions(alloc: Global, all: Numbering<'_>, found: &[bool]) -> Result<
 pub fn wrapping_functions(
     alloc: Global,
     program: &Program,
-    told: &[PlaceTypes<'_>],
+    known: &[VariableTypes<'_>],
 ) -> Result<Vec<bool>, NoMemory>
-    requires { AreTold program.now told.now }
-    ensures len { IfOk result (λ found. length found.items ≡ length told.now) }
+    requires { AreKnown program.now known.now }
+    ensures len { IfOk result (λ found. length found.items ≡ length known.now) }
     ensures found { IfOk result (λ found. (n : ℕ) (id : FunctionIdData) (f : FunctionData) → slice_get program.now.functions n ≡ Some (id, f) → IsTrue (slice_index_or found.items n false) ↔ IsWrapping program.now id) }
 {
-    let (rows, count) = rows_of(alloc, program, told)?;
+    let (rows, count) = rows_of(alloc, program, known)?;
     let all = Numbering {
         program,
-        told,
+        known,
         rows: rows.as_slice(),
         count,
     };
     let edges = edges_of(alloc, all)?;
-    let found = on_marked_circle(alloc, count, &edges)?;
+    let found = on_marked_cycle(alloc, count, &edges)?;
     found_functions(alloc, all, &found)
 }

@@ -2,15 +2,13 @@
 
 ghost use Rattle.std.specs.Prelude.{◌≡◌, ◌↔◌, ◌-◌, ◌<◌, ◌≤◌, All, IsTrue, length, not};
 ghost use Rattle.std.specs.List.{list_any};
-ghost use Rattle.std.specs.Map.{lookup};
-ghost use Rattle.program.specs.Same.{same_function, same_struct};
-ghost use Rattle.typing_rules.specs.Required.{callee_parameters, is_constrained, maybe_type, node_parameters, type_parameters_of};
-ghost use Rattle.ability_rules.specs.Entries.{IsTold};
-ghost use Rattle.ability_rules.specs.Bodies.{LacksArgument, is_argument, place_told, writes_lacking};
+ghost use Rattle.typing_rules.specs.Required.{callee_parameters, is_constrained, maybe_type, node_parameters};
+ghost use Rattle.ability_rules.specs.Entries.{IsListed};
+ghost use Rattle.ability_rules.specs.Bodies.{LacksArgument, is_argument, judged_variable, writes_lacking};
 
-use crate::required::body::{JudgedBody, told};
+use crate::required::body::{JudgedBody, known};
 use crate::required::declared::judge;
-use crate::required::entry::meets_parameter;
+use crate::required::entry::{meets_parameter, struct_parameters};
 use base::types::{StructId, TypeTerm};
 use program::arena::Node;
 use program::boxed::Boxed;
@@ -18,15 +16,6 @@ use program::code::{Callee, CodeBinary, CodeLeaf, CodeMany, CodeUnary};
 use program::declaration::{AbilitySet, Struct, TypeParameter};
 use program::program::Program;
 use program::table::Table;
-
-fn struct_parameters<'a>(structs: &'a Table<StructId, Struct>, id: &StructId) -> &'a [TypeParameter]
-    ensures { result.now ≡ type_parameters_of (lookup (same_struct id.now) structs.now) }
-{
-    match structs.get(id) {
-        Some(found) => found.type_parameters.as_slice(),
-        None => &[],
-    }
-}
 
 fn callee_parameters<'a>(program: &'a Program, callee: &Callee) -> &'a [TypeParameter]
     ensures { result.now ≡ callee_parameters program.now callee.now }
@@ -63,14 +52,14 @@ pub(crate) fn node_parameters<'a>(
 fn is_argument<'a>(
     judged: JudgedBody<'a>,
     parameters: &[TypeParameter],
-    place: usize,
+    variable: usize,
     number: usize,
 ) -> bool
-    requires within { place < length judged.places.now }
-    requires told { All (IsTold judged.table.now) judged.places.now }
-    ensures { result ≡ is_argument (place_told judged.entry.table.now judged.entry.places.now place) parameters.now number }
+    requires within { variable < length judged.variables.now }
+    requires known { All (IsListed judged.table.now) judged.variables.now }
+    ensures { result ≡ is_argument (judged_variable judged.entry.table.now judged.entry.variables.now variable) parameters.now number }
 {
-    let of = told(judged, place);
+    let of = known(judged, variable);
     of.is_constrained && meets_parameter(parameters, number, of.abilities)
 }
 
@@ -82,12 +71,12 @@ pub(crate) fn lacks_argument<'a>(
     first: usize,
     next: usize,
 ) -> bool
-    requires within { next ≤ length judged.places.now }
-    requires told { All (IsTold judged.table.now) judged.places.now }
-    ensures { IsTrue result ↔ LacksArgument (place_told judged.entry.table.now judged.entry.places.now) parameters.now first (next - first) }
+    requires within { next ≤ length judged.variables.now }
+    requires known { All (IsListed judged.table.now) judged.variables.now }
+    ensures { IsTrue result ↔ LacksArgument (judged_variable judged.entry.table.now judged.entry.variables.now) parameters.now first (next - first) }
 {
-    for place in first..next {
-        let is_able = is_argument(judged, parameters, place, place - first);
+    for variable in first..next {
+        let is_able = is_argument(judged, parameters, variable, variable - first);
         if !is_able {
             return true;
         }

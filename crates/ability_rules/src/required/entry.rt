@@ -6,10 +6,10 @@ ghost use Rattle.base.specs.declared.types.StructId.{StructId};
 ghost use Rattle.program.specs.declared.declaration.Struct.{Struct};
 ghost use Rattle.program.specs.Same.{same_struct};
 ghost use Rattle.program.specs.Sets.{both};
-ghost use Rattle.program.specs.Types.{applied, declared_applied, is_phantom, of_reference, of_signer, of_type, of_value};
+ghost use Rattle.program.specs.Types.{applied, declared_applied, is_phantom, of_reference, of_type, of_value};
 ghost use Rattle.typing_rules.specs.Pools.{plain_type, types};
 ghost use Rattle.typing_rules.specs.Required.{meets, meets_parameter, type_parameters_of};
-ghost use Rattle.ability_rules.specs.Entries.{AreFrom, HasToldParts, IsTold, TellsTypes, are_constrained_told, common_told, entry_abilities, entry_constrained, judged_at};
+ghost use Rattle.ability_rules.specs.Entries.{AreFrom, HasKnownParts, IsListed, TellsTypes, are_constrained_known, common_known, entry_abilities, entry_constrained, judged_at};
 
 use base::memory::NoMemory;
 use base::types::StructId;
@@ -38,7 +38,7 @@ pub struct JudgedTypes {
 impl JudgedTypes {
     /// The judgment of the entry with this number.
     pub fn of(&self, number: usize) -> Judged
-        requires { IsTold self.now number }
+        requires { IsListed self.now number }
         ensures { result ≡ judged_at self.now number }
     {
         self.judged[number - self.start]
@@ -56,15 +56,6 @@ pub(crate) fn of_value() -> AbilitySet
     }
 }
 
-fn of_signer() -> AbilitySet
-    ensures { result ≡ of_signer }
-{
-    AbilitySet {
-        has_drop: true,
-        ..no_abilities()
-    }
-}
-
 pub(crate) fn of_reference() -> AbilitySet
     ensures { result ≡ of_reference }
 {
@@ -79,7 +70,10 @@ fn of_plain(params: &[AbilitySet], plain: PlainType) -> AbilitySet
     ensures { (structs : List (StructId × Struct)) → result ≡ of_type structs params.now (plain_type plain) }
 {
     match plain {
-        PlainType::Signer => of_signer(),
+        PlainType::Signer => AbilitySet {
+            has_drop: true,
+            ..no_abilities()
+        },
         PlainType::Param(number) => match params.get(number as usize) {
             Some(found) => *found,
             None => no_abilities(),
@@ -141,13 +135,13 @@ fn taken(found: AbilitySet, more: AbilitySet, is_phantom: bool) -> AbilitySet
 /// The abilities that the arguments for parameters that are not phantom have in common.
 #[tactic(auto, using(crate::proofs::Common::both_joined, crate::proofs::Common::both_all, crate::proofs::Common::all_both))]
 fn common(table: &JudgedTypes, parameters: &[TypeParameter], parts: &[usize]) -> AbilitySet
-    requires { All (IsTold table.now) parts.now }
-    ensures { result ≡ common_told (judged_at table.now) parameters.now 0 parts.now }
+    requires { All (IsListed table.now) parts.now }
+    ensures { result ≡ common_known (judged_at table.now) parameters.now 0 parts.now }
 {
     let mut found = all_abilities();
     for (number, part) in parts.iter().enumerate() {
-        let told = table.of(*part);
-        found = taken(found, told.abilities, is_phantom(parameters, number));
+        let known = table.of(*part);
+        found = taken(found, known.abilities, is_phantom(parameters, number));
     }
     found
 }
@@ -155,13 +149,13 @@ fn common(table: &JudgedTypes, parameters: &[TypeParameter], parts: &[usize]) ->
 /// Decides whether each argument meets the constraint of its parameter.
 #[tactic(auto, using(crate::proofs::Common::and_joined, crate::proofs::Common::and_true))]
 fn are_constrained(table: &JudgedTypes, parameters: &[TypeParameter], parts: &[usize]) -> bool
-    requires { All (IsTold table.now) parts.now }
-    ensures { result ≡ are_constrained_told (judged_at table.now) parameters.now 0 parts.now }
+    requires { All (IsListed table.now) parts.now }
+    ensures { result ≡ are_constrained_known (judged_at table.now) parameters.now 0 parts.now }
 {
     let mut are = true;
     for (number, part) in parts.iter().enumerate() {
-        let told = table.of(*part);
-        are = are && (told.is_constrained && meets_parameter(parameters, number, told.abilities));
+        let known = table.of(*part);
+        are = are && (known.is_constrained && meets_parameter(parameters, number, known.abilities));
     }
     are
 }
@@ -172,8 +166,8 @@ fn struct_abilities(
     id: &StructId,
     parts: &[usize],
 ) -> AbilitySet
-    requires { All (IsTold table.now) parts.now }
-    ensures { result ≡ declared_applied (lookup (same_struct id.now) structs.now) (λ parameters. common_told (judged_at table.now) parameters 0 parts.now) }
+    requires { All (IsListed table.now) parts.now }
+    ensures { result ≡ declared_applied (lookup (same_struct id.now) structs.now) (λ parameters. common_known (judged_at table.now) parameters 0 parts.now) }
 {
     match structs.get(id) {
         Some(found) => {
@@ -184,18 +178,16 @@ fn struct_abilities(
     }
 }
 
-fn struct_constrained(
-    structs: &Table<StructId, Struct>,
-    table: &JudgedTypes,
+/// The type parameters of a struct; none where it is not declared.
+pub(crate) fn struct_parameters<'a>(
+    structs: &'a Table<StructId, Struct>,
     id: &StructId,
-    parts: &[usize],
-) -> bool
-    requires { All (IsTold table.now) parts.now }
-    ensures { result ≡ are_constrained_told (judged_at table.now) (type_parameters_of (lookup (same_struct id.now) structs.now)) 0 parts.now }
+) -> &'a [TypeParameter]
+    ensures { result.now ≡ type_parameters_of (lookup (same_struct id.now) structs.now) }
 {
     match structs.get(id) {
-        Some(found) => are_constrained(table, found.type_parameters.as_slice(), parts),
-        None => are_constrained(table, &[], parts),
+        Some(found) => found.type_parameters.as_slice(),
+        None => &[],
     }
 }
 
@@ -205,7 +197,7 @@ fn entry_abilities(
     table: &JudgedTypes,
     entry: &PoolType,
 ) -> AbilitySet
-    requires { HasToldParts table.now entry.now }
+    requires { HasKnownParts table.now entry.now }
     ensures { result ≡ entry_abilities structs.now params.now (judged_at table.now) entry.now }
 {
     match entry {
@@ -222,13 +214,15 @@ fn entry_constrained(
     table: &JudgedTypes,
     entry: &PoolType,
 ) -> bool
-    requires { HasToldParts table.now entry.now }
+    requires { HasKnownParts table.now entry.now }
     ensures { result ≡ entry_constrained structs.now (judged_at table.now) entry.now }
 {
     match entry {
         PoolType::Plain(_) => true,
         PoolType::Made(_, part) => table.of(*part).is_constrained,
-        PoolType::Struct(id, parts) => struct_constrained(structs, table, id, parts.as_slice()),
+        PoolType::Struct(id, parts) => {
+            are_constrained(table, struct_parameters(structs, id), parts.as_slice())
+        }
         PoolType::Tuple(parts) => are_constrained(table, &[], parts.as_slice()),
     }
 }
@@ -246,7 +240,7 @@ pub fn judge_types(
     requires parts { AreFrom start pool.now }
     ensures start { IfOk result (λ table. table.start ≡ start) }
     ensures len { IfOk result (λ table. length table.judged.items ≡ length pool.now - start) }
-    ensures told { IfOk result (λ table. TellsTypes structs.now params.now (types pool.now) table) }
+    ensures known { IfOk result (λ table. TellsTypes structs.now params.now (types pool.now) table) }
 {
     let mut table = JudgedTypes {
         start,

@@ -19,7 +19,7 @@ use program::program::Program;
 use std::alloc::Global;
 use type_constraints::typed_nodes::first::{first_of_all, first_of_next};
 
-/// Returns the type variable of the first type argument of the next node; none where the node `place`, whose type
+/// Returns the type variable of the first type argument of the next node; none where the node `index`, whose type
 /// arguments are the type variables from `first` on, lacks an ability, or has a type argument or a written type that is
 /// not valid.
 fn next_if_able<'a>(
@@ -28,19 +28,19 @@ fn next_if_able<'a>(
     judged: JudgedBody<'a>,
     params: &[AbilitySet],
     taken: &[bool],
-    place: usize,
+    index: usize,
     first: usize,
 ) -> Option<usize>
-    requires judged { IsJudgedBody program.now function.now judged.places.now judged.table.now }
+    requires judged { IsJudgedBody program.now function.now judged.variables.now judged.table.now }
     requires params { params.now ≡ given_abilities function.now.type_parameters }
     requires taken { TellsTaken taken.now function.now.body.nodes }
-    requires node { place < length function.now.body.nodes }
-    requires first { first ≡ first_argument (function_setting program.now function.now) place }
-    ensures { MatchOption result (NodeLacksAbility program.now function.now place) (IsAbleTo program.now function.now place) }
+    requires node { index < length function.now.body.nodes }
+    requires first { first ≡ first_argument (function_setting program.now function.now) index }
+    ensures { MatchOption result (NodeLacksAbility program.now function.now index) (IsAbleTo program.now function.now index) }
 {
-    let next = first_of_next(program, function, place, first, judged.places.len());
-    let node = function.body.node(place);
-    let asks = node_lacks(judged, &function.body, taken, node, place, first);
+    let next = first_of_next(program, function, index, first, judged.variables.len());
+    let node = function.body.node(index);
+    let asks = node_lacks(judged, &function.body, taken, node, index, first);
     let argues = lacks_argument(judged, node_parameters(program, node), first, next);
     let writes = writes_lacking(&program.structs, params, node);
     if asks | argues | writes {
@@ -84,20 +84,20 @@ pub fn function_lacks_ability<'a>(
     function: &Function,
     judged: JudgedBody<'a>,
 ) -> Result<bool, NoMemory>
-    requires { IsJudgedBody program.now function.now judged.places.now judged.table.now }
+    requires { IsJudgedBody program.now function.now judged.variables.now judged.table.now }
     ensures { IfOk result (λ lacks. IsTrue lacks ↔ FunctionLacksAbility program.now function.now) }
 {
     let params = given_abilities(alloc, function.type_parameters.as_slice())?;
     let taken = taken_of(alloc, &function.body)?;
-    let mut first = first_of_all(function, judged.places.len());
-    for place in 0..function.body.len() {
+    let mut first = first_of_all(function, judged.variables.len());
+    for index in 0..function.body.len() {
         let Some(next) = next_if_able(
             program,
             function,
             judged,
             params.as_slice(),
             taken.as_slice(),
-            place,
+            index,
             first,
         ) else {
             return Ok(true);

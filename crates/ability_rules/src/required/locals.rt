@@ -3,10 +3,10 @@
 ghost use Rattle.std.specs.Prelude.{◌+◌, ◌≤◌, All, IfOk, length};
 ghost use Rattle.program.specs.declared.program.Program.{Program};
 ghost use Rattle.ability_rules.specs.Bodies.{IsJudgedBody};
-ghost use Rattle.ability_rules.specs.Entries.{IsTold};
+ghost use Rattle.ability_rules.specs.Entries.{IsListed};
 ghost use Rattle.ability_rules.specs.Locals.{AreLocalAbilities};
 
-use crate::required::body::{JudgedBody, told};
+use crate::required::body::{JudgedBody, known};
 use base::memory::NoMemory;
 use program::declaration::{AbilitySet, Function};
 use std::alloc::Global;
@@ -17,14 +17,14 @@ pub fn local_abilities<'a>(
     function: &Function,
     judged: JudgedBody<'a>,
 ) -> Result<Vec<AbilitySet>, NoMemory>
-    requires within { length function.now.body.nodes + length function.now.locals ≤ length judged.places.now }
-    requires told { All (IsTold judged.table.now) judged.places.now }
-    ensures { IfOk result (λ sets. (program : Program) → IsJudgedBody program function.now judged.entry.places.now judged.entry.table.now → AreLocalAbilities program function.now sets.items) }
+    requires within { length function.now.body.nodes + length function.now.locals ≤ length judged.variables.now }
+    requires known { All (IsListed judged.table.now) judged.variables.now }
+    ensures { IfOk result (λ sets. (program : Program) → IsJudgedBody program function.now judged.entry.variables.now judged.entry.table.now → AreLocalAbilities program function.now sets.items) }
 {
     let first = function.body.len();
     let mut sets = Vec::new(alloc);
     for local in 0..function.locals.as_slice().len() {
-        let of = told(judged, first + local);
+        let of = known(judged, first + local);
         sets.push(of.abilities)?;
     }
     Ok(sets)

@@ -10,10 +10,10 @@ use program::arena::Node;
 use program::code::{Body, CodeBinary, CodeLeaf, CodeMany, CodeUnary, LocalUse};
 use std::alloc::Global;
 
-/// Marks the node that this one, whose number is `place`, takes as an lvalue.
-fn mark(taken: &mut Vec<bool>, node: &Node<CodeLeaf, CodeUnary, CodeBinary, CodeMany>, place: usize)
-    requires below { IsBelow place node.now }
-    requires within { place < length taken.old.items }
+/// Marks the node that this one, whose number is `index`, takes as an lvalue.
+fn mark(taken: &mut Vec<bool>, node: &Node<CodeLeaf, CodeUnary, CodeBinary, CodeMany>, index: usize)
+    requires below { IsBelow index node.now }
+    requires within { index < length taken.old.items }
     ensures len { length taken.new.items ≡ length taken.old.items }
     ensures marked { (n : ℕ) → n < length taken.old.items → slice_index_or taken.new.items n false ≡ (slice_index_or taken.old.items n false || takes_place n node.now) }
 {
@@ -31,8 +31,8 @@ pub(crate) fn taken_of(alloc: Global, body: &Body) -> Result<Vec<bool>, NoMemory
     ensures { IfOk result (λ taken. TellsTaken taken.items body.now.nodes) }
 {
     let mut taken = vec![in alloc; false; body.len()]?;
-    for place in 0..body.len() {
-        mark(&mut taken, body.node(place), place);
+    for variable in 0..body.len() {
+        mark(&mut taken, body.node(variable), variable);
     }
     Ok(taken)
 }

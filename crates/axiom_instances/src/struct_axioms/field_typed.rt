@@ -36,7 +36,7 @@ fn ask_field_type(
         Some(to) => {
             let rows = [Row {
                 name: Axiom::OfStruct(StructAxiom::FieldTyped),
-                place: 6,
+                position: 6,
             }];
             let nodes = [
                 Node::Two(Two::Is, 1, 0),

@@ -99,7 +99,7 @@ fn ask_typed_parts(
 {
     let rows = [Row {
         name: Axiom::OfStruct(StructAxiom::PackTyped),
-        place: 5,
+        position: 5,
     }];
     let nodes = [
         Node::Two(Two::Is, 1, 0),

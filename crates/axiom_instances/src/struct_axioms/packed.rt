@@ -52,7 +52,7 @@ fn ask_fields(
     let parts = field_list(pool, of, term, count)?;
     let rows = [Row {
         name: Axiom::OfStruct(StructAxiom::PackOfFields),
-        place: 10,
+        position: 10,
     }];
     let nodes = [
         Node::Two(Two::Pack, 1, 2),

@@ -47,7 +47,7 @@ fn ask_other_field(
     }
     let rows = [Row {
         name: Axiom::OfStruct(StructAxiom::FieldOfOther),
-        place: 5,
+        position: 5,
     }];
     let nodes = [field!(other, 1, 0), field!(other, 1, 2), equal!(3, 4)];
     ask(
@@ -73,7 +73,7 @@ fn ask_set_fields(
 {
     let rows = [Row {
         name: Axiom::OfStruct(StructAxiom::FieldSet),
-        place: 11,
+        position: 11,
     }];
     let nodes = [
         typed!(1, 2),

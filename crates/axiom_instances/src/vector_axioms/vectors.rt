@@ -27,17 +27,17 @@ fn ask_same_items(
     items: usize,
     vector: usize,
     other: usize,
-    place: u32,
+    position: u32,
 ) -> Result<(), NoMemory>
     requires of { IsVector pool.old of items }
     requires vector { IsTermNumber pool.old vector }
     requires other { IsTermNumber pool.old other }
     ensures extends { Extends pool.old pool.new }
-    ensures adds { IfOk result (λ u. Adds pool.old pool.new list.old.items.items list.new.items.items (same_items_row (type_at pool.old items) (term_at pool.old vector) (term_at pool.old other) place ∷ [])) }
+    ensures adds { IfOk result (λ u. Adds pool.old pool.new list.old.items.items list.new.items.items (same_items_row (type_at pool.old items) (term_at pool.old vector) (term_at pool.old other) position ∷ [])) }
 {
     let rows = [Row {
         name: Axiom::Cases(Alternative::SameItems),
-        place: 33,
+        position: 33,
     }];
     let nodes = [
         typed!(0, 1),
@@ -49,7 +49,7 @@ fn ask_same_items(
         len!(2),
         equal!(8, 9),
         not!(10),
-        variable!(place),
+        variable!(position),
         number!(0),
         at_most!(13, 12),
         at_most!(8, 12),
@@ -64,7 +64,7 @@ fn ask_same_items(
         more!(14, 23),
         all_of!(24),
         no_triggers!(),
-        exists!(place, 26, 25),
+        exists!(position, 26, 25),
         more!(27, 21),
         more!(11, 28),
         more!(7, 29),
@@ -98,10 +98,10 @@ fn ask_pair(
     let Some(items) = vector_items(pool, of) else {
         return Ok(());
     };
-    let Some(place) = least_fresh(list.alloc, pool, vector, other)? else {
+    let Some(position) = least_fresh(list.alloc, pool, vector, other)? else {
         return Ok(());
     };
-    ask_same_items(pool, list, of, items, vector, other, place)?;
+    ask_same_items(pool, list, of, items, vector, other, position)?;
     Ok(())
 }
 

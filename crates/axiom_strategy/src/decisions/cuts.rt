@@ -6,12 +6,12 @@ ghost use Rattle.tableau.specs.PoolBranches.{branch_in, IsOver};
 ghost use Rattle.congruence_closure.specs.Known.{IsKnown};
 ghost use Rattle.tableau.specs.Terms.{AreClassesOf};
 ghost use Rattle.axiom_strategy.specs.Numbers.{AreNumberMarks};
-ghost use Rattle.axiom_strategy.specs.DuePairs.{AreCutPlaces, IsDuePair};
+ghost use Rattle.axiom_strategy.specs.DuePairs.{AreCutPositions, IsDuePair};
 ghost use Rattle.axiom_strategy.specs.Cuts.{NoCut, IsCut, kind_of, IsShallowTerm, IsChoice, AreCandidates, IsDeniedEither, IsOpen, NoneOpenWith, IsOpenWith, NoOpenPair, IsOpenPair, IsKnownBelow, AreAllKnown};
 
 use crate::decisions::denials::denied_classes;
 use crate::decisions::numbers::{are_both, number_marks};
-use crate::decisions::places::{Place, Places, find_places};
+use crate::decisions::positions::{Position, Positions, find_positions};
 use base::keyed_lists::lists::Lists;
 use base::keyed_lists::pairs::Pairs;
 use base::memory::NoMemory;
@@ -155,16 +155,16 @@ fn open_pair(
     classes: &BranchClasses,
     numbers: &[bool],
     denied: &Pairs,
-    all: &[Place],
+    all: &[Position],
     by_group: &Lists,
 ) -> Option<(usize, usize)>
     requires { AreAllKnown classes.now (length numbers.now) all.now by_group.now }
     ensures { MatchOption result (NoOpenPair classes.now numbers.now denied.now all.now by_group.now) (IsOpenPair classes.now numbers.now denied.now all.now by_group.now) }
 {
-    for place in all {
-        let others = by_group.at(place.group);
-        if let Some(right) = open_with(classes, numbers, denied, place.term, others) {
-            return Some((place.term, right));
+    for position in all {
+        let others = by_group.at(position.group);
+        if let Some(right) = open_with(classes, numbers, denied, position.term, others) {
+            return Some((position.term, right));
         }
     }
     None
@@ -173,17 +173,17 @@ fn open_pair(
 // ---- the cut
 
 // The index terms among the candidates, by groups of aliasing memories and vectors.
-fn cut_places(
+fn cut_positions(
     alloc: Global,
     pool: &Pool,
     branch: &PoolBranch,
     classes: &BranchClasses,
     numbers: &[bool],
-) -> Result<Places, NoMemory>
+) -> Result<Positions, NoMemory>
     requires over { IsOver pool.now branch.now }
     requires classes { AreClassesOf pool.now branch.now classes.now }
     requires numbers { length numbers.now ≡ length pool.now }
-    ensures { IfOk result (λ places. AreCutPlaces pool.now (branch_in pool.now branch.now) classes.now numbers.now places.all.items places.by_group) }
+    ensures { IfOk result (λ positions. AreCutPositions pool.now (branch_in pool.now branch.now) classes.now numbers.now positions.all.items positions.by_group) }
 {
     classes.exact();
     pool.one_number();
@@ -191,7 +191,7 @@ fn cut_places(
     let all = listed.as_slice();
     let near = groups(alloc, pool, branch, classes, all)?;
     let found = candidates(alloc, pool, classes, numbers, all)?;
-    let places = find_places(
+    let positions = find_positions(
         alloc,
         pool,
         branch,
@@ -200,7 +200,7 @@ fn cut_places(
         all,
         found.as_slice(),
     )?;
-    Ok(places)
+    Ok(positions)
 }
 
 // Two terms on whose equality a cut is due; `None` if there are none.
@@ -219,9 +219,9 @@ fn due_pair(
     classes.exact();
     pool.one_number();
     let denied = denied_classes(alloc, pool, branch, classes)?;
-    let places = cut_places(alloc, pool, branch, classes, numbers)?;
-    let all = places.all.as_slice();
-    Ok(open_pair(classes, numbers, &denied, all, &places.by_group))
+    let positions = cut_positions(alloc, pool, branch, classes, numbers)?;
+    let all = positions.all.as_slice();
+    Ok(open_pair(classes, numbers, &denied, all, &positions.by_group))
 }
 
 /// Finds two terms on whose equality a cut is due, with their numbers and that of their equation; `None` if no cut is

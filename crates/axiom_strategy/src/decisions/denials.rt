@@ -5,52 +5,24 @@ ghost use Rattle.fol.specs.FormulaData.{TermData, EqFormula, NotFormula};
 ghost use Rattle.tableau.specs.PoolBranches.{branch_in, IsFormulaNumber, IsOver};
 ghost use Rattle.tableau.specs.Numbers.{formula_at};
 ghost use Rattle.tableau.specs.Terms.{AreClassesOf};
-ghost use Rattle.axiom_strategy.specs.Denials.{denied_part, sides_of, AreSidesDenied, DeniesSides, DeniesNone, AreDenied};
+ghost use Rattle.axiom_strategy.specs.Denials.{AreSidesDenied, DeniesSides, DeniesNone, AreDenied};
 
 use base::keyed_lists::pairs::Pairs;
 use base::memory::NoMemory;
 use congruence_closure::branch_classes::BranchClasses;
-use fol::operators::Comparison;
 use std::alloc::Global;
 use tableau::branch::PoolBranch;
-use term_pool::node::{Node, One, Two};
 use term_pool::pool::Pool;
-
-// The formula that a formula negates.
-fn denied_part(node: Node) -> Option<usize>
-    ensures { result ≡ denied_part node }
-{
-    match node {
-        Node::One(One::Not, inner) => Some(inner),
-        _ => None,
-    }
-}
-
-// The sides of an equation.
-fn sides_of(node: Node) -> Option<(usize, usize)>
-    ensures { result ≡ sides_of node }
-{
-    match node {
-        Node::Two(Two::Compare(Comparison::Eq), left, right) => Some((left, right)),
-        _ => None,
-    }
-}
 
 // The sides of the equation that a formula negates.
 fn sides_denied(pool: &Pool, formula: usize) -> Option<(usize, usize)>
     requires { IsFormulaNumber pool.now formula }
     ensures { MatchOption result ((t u : TermData) → formula_at pool.now formula ≡ NotFormula (EqFormula t u) → ⊥) (AreSidesDenied pool.now formula) }
 {
-    let Some(node) = pool.node(formula) else {
-        return None;
-    };
-    let Some(inner) = denied_part(node) else {
-        return None;
-    };
-    let Some(equation) = pool.node(inner) else {
-        return None;
-    };
-    sides_of(equation)
+    match pool.denied(formula) {
+        Some(inner) => pool.sides(inner),
+        None => None,
+    }
 }
 
 /// The sides of the equation that the entry with this number negates; `None` if it negates no equation.

@@ -7,8 +7,8 @@ ghost use Rattle.tableau.specs.Terms.{AreClassesOf};
 ghost use Rattle.axiom_strategy.specs.Orders.{IsOrder, IsWith, IsInGroup, AreOfBranch, IsFreshPair};
 
 use crate::decisions::numbers::number_marks;
-use crate::decisions::orders::{OrderStep, fresh_order, number_places};
-use crate::decisions::places::Place;
+use crate::decisions::orders::{OrderStep, fresh_order, number_positions};
+use crate::decisions::positions::Position;
 use base::keyed_lists::lists::Lists;
 use base::memory::NoMemory;
 use congruence_closure::branch_classes::BranchClasses;
@@ -56,7 +56,7 @@ fn equal_in_groups(
     branch: &PoolBranch,
     classes: &BranchClasses,
     names: &[usize],
-    all: &[Place],
+    all: &[Position],
     by_group: &Lists,
 ) -> Result<Option<OrderStep>, NoMemory>
     requires over { IsOver pool.old branch.now }
@@ -65,9 +65,9 @@ fn equal_in_groups(
     ensures extends { Extends pool.old pool.new }
     ensures due { IfOk result (λ found. IfSome found (IsFreshPair pool.old pool.new (branch_in pool.old branch.now) (IsInGroup all.now by_group.now))) }
 {
-    for place in all {
-        let others = by_group.at(place.group);
-        let found = equal_with(alloc, pool, branch, classes, names, place.term, others)?;
+    for position in all {
+        let others = by_group.at(position.group);
+        let found = equal_with(alloc, pool, branch, classes, names, position.term, others)?;
         if let Some(step) = found {
             return Ok(Some(step));
         }
@@ -94,7 +94,15 @@ pub fn equal_order(
 {
     let numbers = number_marks(alloc, pool, branch)?;
     let marks = numbers.as_slice();
-    let places = number_places(alloc, pool, branch, classes, marks)?;
-    let all = places.all.as_slice();
-    equal_in_groups(alloc, pool, branch, classes, names, all, &places.by_group)
+    let positions = number_positions(alloc, pool, branch, classes, marks)?;
+    let all = positions.all.as_slice();
+    equal_in_groups(
+        alloc,
+        pool,
+        branch,
+        classes,
+        names,
+        all,
+        &positions.by_group,
+    )
 }

@@ -10,11 +10,11 @@ ghost use Rattle.axiom_instances.specs.Numbers.{IsTermNumber as IsTerm};
 ghost use Rattle.axiom_instances.specs.Lists.{Adds};
 ghost use Rattle.tableau.specs.Terms.{term_at, IsBranchTerm, AreClassesOf};
 ghost use Rattle.axiom_strategy.specs.Numbers.{AreNumberMarks};
-ghost use Rattle.axiom_strategy.specs.Orders.{NoOrder, IsOrder, order_row, NotFresh, IsFreshStep, IsAddable, IsWith, IsListed, IsInGroup, AreOfBranch, NoneFresh, IsFreshPair, AreMarked, NoneDeniedAt, IsDeniedAt, AreDeniedPairs, AreNumberPlaces};
+ghost use Rattle.axiom_strategy.specs.Orders.{NoOrder, IsOrder, order_row, NotFresh, IsFreshStep, IsAddable, IsWith, IsListed, IsInGroup, AreOfBranch, NoneFresh, IsFreshPair, AreMarked, NoneDeniedAt, IsDeniedAt, AreDeniedPairs, AreNumberPositions};
 
 use crate::decisions::denials::sides_at;
 use crate::decisions::numbers::{are_both, number_marks};
-use crate::decisions::places::{Place, Places, find_places};
+use crate::decisions::positions::{Position, Positions, find_positions};
 use axiom_instances::triggered::{Row, TriggeredList, TriggeredTerms, ask};
 use axioms::axiom::{Alternative, Axiom};
 use base::keyed_lists::lists::Lists;
@@ -52,7 +52,7 @@ fn ask_order(
     ensures adds { IfOk result (λ u. Adds pool.old pool.new list.old.items.items list.new.items.items (order_row (term_at pool.old left) (term_at pool.old right) ∷ [])) }
 {
     let name = Axiom::Cases(Alternative::Trichotomy);
-    let rows = [Row { name, place: 19 }];
+    let rows = [Row { name, position: 19 }];
     let terms = TriggeredTerms::Two(left, right);
     let given = [left, right];
     let nodes = [
@@ -78,8 +78,13 @@ fn ask_order(
     ask(pool, list, terms, &given, &nodes, &rows)
 }
 
-// The number of the instance for two terms.
-fn instance(alloc: Global, pool: &mut Pool, left: usize, right: usize) -> Result<usize, NoMemory>
+/// Returns the number of the instance for two terms.
+pub fn instance(
+    alloc: Global,
+    pool: &mut Pool,
+    left: usize,
+    right: usize,
+) -> Result<usize, NoMemory>
     requires left { IsTermNumber pool.old left }
     requires right { IsTermNumber pool.old right }
     ensures extends { Extends pool.old pool.new }
@@ -189,7 +194,7 @@ fn order_in_groups(
     pool: &mut Pool,
     branch: &PoolBranch,
     classes: &BranchClasses,
-    all: &[Place],
+    all: &[Position],
     by_group: &Lists,
 ) -> Result<Option<OrderStep>, NoMemory>
     requires over { IsOver pool.old branch.now }
@@ -198,9 +203,9 @@ fn order_in_groups(
     ensures extends { Extends pool.old pool.new }
     ensures due { IfOk result (λ found. MatchOption found (NoneFresh pool.old (branch_in pool.old branch.now) (IsInGroup all.now by_group.now)) (IsFreshPair pool.old pool.new (branch_in pool.old branch.now) (IsInGroup all.now by_group.now))) }
 {
-    for place in all {
-        let others = by_group.at(place.group);
-        if let Some(step) = order_with(alloc, pool, branch, classes, place.term, others)? {
+    for position in all {
+        let others = by_group.at(position.group);
+        if let Some(step) = order_with(alloc, pool, branch, classes, position.term, others)? {
             return Ok(Some(step));
         }
     }
@@ -289,17 +294,17 @@ fn denied_pairs(
 }
 
 // The numbers that index aliasing memories and vectors, by groups.
-pub(crate) fn number_places(
+pub(crate) fn number_positions(
     alloc: Global,
     pool: &Pool,
     branch: &PoolBranch,
     classes: &BranchClasses,
     numbers: &[bool],
-) -> Result<Places, NoMemory>
+) -> Result<Positions, NoMemory>
     requires over { IsOver pool.now branch.now }
     requires classes { AreClassesOf pool.now branch.now classes.now }
     requires numbers { AreNumberMarks pool.now (branch_in pool.now branch.now) numbers.now }
-    ensures { IfOk result (λ places. AreNumberPlaces pool.now (branch_in pool.now branch.now) places.all.items places.by_group) }
+    ensures { IfOk result (λ positions. AreNumberPositions pool.now (branch_in pool.now branch.now) positions.all.items positions.by_group) }
 {
     classes.exact();
     pool.one_number();
@@ -307,7 +312,7 @@ pub(crate) fn number_places(
     let all = listed.as_slice();
     let near = groups(alloc, pool, branch, classes, all)?;
     let found = marked(alloc, numbers, all)?;
-    let places = find_places(
+    let positions = find_positions(
         alloc,
         pool,
         branch,
@@ -316,7 +321,7 @@ pub(crate) fn number_places(
         all,
         found.as_slice(),
     )?;
-    Ok(places)
+    Ok(positions)
 }
 
 /// Returns an instance of the trichotomy axiom that is due, with its generation; `None` if no instance of it is due.
@@ -338,10 +343,10 @@ pub fn next_order(
     let numbers = number_marks(alloc, pool, branch)?;
     let marks = numbers.as_slice();
     let pairs = denied_pairs(alloc, pool, branch, marks)?;
-    let places = number_places(alloc, pool, branch, classes, marks)?;
+    let positions = number_positions(alloc, pool, branch, classes, marks)?;
     if let Some(step) = order_of_pairs(alloc, pool, branch, classes, pairs.as_slice())? {
         return Ok(Some(step));
     }
-    let all = places.all.as_slice();
-    order_in_groups(alloc, pool, branch, classes, all, &places.by_group)
+    let all = positions.all.as_slice();
+    order_in_groups(alloc, pool, branch, classes, all, &positions.by_group)
 }

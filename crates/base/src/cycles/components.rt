@@ -1,7 +1,7 @@
 //! Strongly connected components.
 
 ghost use Rattle.std.specs.Prelude.{◌≡◌, ℕ, ◌<◌, length, slice_index, IfOk};
-ghost use Rattle.base.specs.Circles.{AreRoots};
+ghost use Rattle.base.specs.GraphReachability.{AreRoots};
 ghost use Rattle.base.specs.Labelling.{label, root_of};
 
 use crate::cycles::graph::Graph;
@@ -15,7 +15,7 @@ fn root_of(order: &[usize], label: Option<usize>) -> usize
     ensures { result ≡ root_of order.now label }
 {
     match label {
-        Some(place) if place < order.len() => order[place],
+        Some(position) if position < order.len() => order[position],
         _ => 0,
     }
 }

@@ -1,7 +1,7 @@
 //! Graphs over numbers.
 
 ghost use Rattle.std.specs.Prelude.{◌≡◌, ◌<◌, ◌-◌, [], ◌∷◌, ◌++◌, length, replicate, take, slice_index_or, slice_set, OnOk, OnErr, IfOk};
-ghost use Rattle.base.specs.Circles.{AreMirrored};
+ghost use Rattle.base.specs.GraphReachability.{AreMirrored};
 
 use crate::memory::NoMemory;
 use std::alloc::Global;
@@ -69,7 +69,7 @@ pub struct Graph {
 
 impl Model for Graph {
     ghost use Rattle.std.specs.Prelude.{List, ℕ};
-    ghost use Rattle.base.specs.Circles.{AreMirrored};
+    ghost use Rattle.base.specs.GraphReachability.{AreMirrored};
 
     ghost Value = { List (List ℕ) };
 

@@ -1,7 +1,7 @@
 //! The numbers that are on a cycle.
 
 ghost use Rattle.std.specs.Prelude.{◌≡◌, ℕ, ◌<◌, ◌↔◌, Contains, length, slice_index, IsTrue, IfOk, Option};
-ghost use Rattle.base.specs.Circles.{IsOnCircle};
+ghost use Rattle.base.specs.GraphReachability.{IsOnCycle};
 ghost use Rattle.base.specs.Labelling.{label};
 
 use crate::cycles::graph::Graph;
@@ -24,8 +24,8 @@ fn is_label_among(targets: &[usize], labels: &[Option<usize>], own: Option<usize
 }
 
 /// Returns the numbers that are on a cycle: all of them, and no others.
-pub fn all_on_circle(alloc: Global, graph: &Graph) -> Result<Vec<usize>, NoMemory>
-    ensures { IfOk result (λ found. (i : ℕ) → Contains found.items i ↔ IsOnCircle graph.now i) }
+pub fn all_on_cycle(alloc: Global, graph: &Graph) -> Result<Vec<usize>, NoMemory>
+    ensures { IfOk result (λ found. (i : ℕ) → Contains found.items i ↔ IsOnCycle graph.now i) }
 {
     let (targets, sources) = graph.sides();
     let walk = walk_all(alloc, targets)?;

@@ -1,7 +1,7 @@
 //! The label of each number: the last index of the order at which a number reaches it.
 
 ghost use Rattle.std.specs.Prelude.{◌≡◌, ℕ, ◌<◌, ◌≤◌, ◌+◌, [], ◌∷◌, ◌++◌, length, replicate, reverse, slice_index, slice_set, None, Some, OnOk, IfOk, Option};
-ghost use Rattle.base.specs.Circles.{IsWithin};
+ghost use Rattle.base.specs.GraphReachability.{IsWithin};
 ghost use Rattle.base.specs.Labelling.{IsLabelling, NoneIsOpen, label, AreNumbers, waiting};
 
 use crate::cycles::graph::Targets;
@@ -16,53 +16,53 @@ struct Labels {
 }
 
 impl Labels {
-    /// Sets the label `place`, which `node` has, for all numbers without a label that `node` has an edge to.
+    /// Sets the label `position`, which `node` has, for all numbers without a label that `node` has an edge to.
     fn label_next(
         &mut self,
         sources: &[Targets],
         order: &[usize],
         node: usize,
-        place: usize,
+        position: usize,
     ) -> Result<(), NoMemory>
         requires within { IsWithin sources.now }
         requires node { node < length sources.now }
-        requires labels { IsLabelling sources.now order.now place self.old.labels.items (node ∷ reverse self.old.work.items) NoneIsOpen }
-        ensures labels { OnOk result (IsLabelling sources.now order.now place self.new.labels.items (reverse self.new.work.items) NoneIsOpen) }
+        requires labels { IsLabelling sources.now order.now position self.old.labels.items (node ∷ reverse self.old.work.items) NoneIsOpen }
+        ensures labels { OnOk result (IsLabelling sources.now order.now position self.new.labels.items (reverse self.new.work.items) NoneIsOpen) }
         ensures less { OnOk result (waiting self.new.labels.items self.new.work.items ≤ waiting self.old.labels.items self.old.work.items) }
     {
         for source in sources[node].as_slice() {
             if self.labels[*source].is_none() {
-                self.labels[*source] = Some(place);
+                self.labels[*source] = Some(position);
                 self.work.push(*source)?;
             }
         }
         Ok(())
     }
 
-    /// Sets the label `place` for the number at this index of the order and for all numbers without a label that it
+    /// Sets the label `position` for the number at this index of the order and for all numbers without a label that it
     /// reaches, if the number itself has no label yet.
     fn label_from(
         &mut self,
         sources: &[Targets],
         order: &[usize],
-        place: usize,
+        position: usize,
     ) -> Result<(), NoMemory>
         requires within { IsWithin sources.now }
         requires numbers { AreNumbers sources.now order.now }
-        requires place { place < length order.now }
+        requires position { position < length order.now }
         requires work { self.old.work.items ≡ [] }
-        requires labels { IsLabelling sources.now order.now (place + 1) self.old.labels.items [] NoneIsOpen }
+        requires labels { IsLabelling sources.now order.now (position + 1) self.old.labels.items [] NoneIsOpen }
         ensures work { OnOk result (self.new.work.items ≡ []) }
-        ensures labels { OnOk result (IsLabelling sources.now order.now place self.new.labels.items [] NoneIsOpen) }
+        ensures labels { OnOk result (IsLabelling sources.now order.now position self.new.labels.items [] NoneIsOpen) }
     {
-        let root = order[place];
+        let root = order[position];
         if self.labels[root].is_some() {
             return Ok(());
         }
-        self.labels[root] = Some(place);
+        self.labels[root] = Some(position);
         self.work.push(root)?;
         while let Some(node) = self.work.pop() {
-            self.label_next(sources, order, node, place)?;
+            self.label_next(sources, order, node, position)?;
         }
         Ok(())
     }
@@ -93,8 +93,8 @@ pub(crate) fn label_all(
         labels: no_labels(alloc, sources.len())?,
         work: Vec::new(alloc),
     };
-    for place in (0..order.len()).rev() {
-        given.label_from(sources, order, place)?;
+    for position in (0..order.len()).rev() {
+        given.label_from(sources, order, position)?;
     }
     Ok(given.labels)
 }

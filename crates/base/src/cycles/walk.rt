@@ -2,7 +2,7 @@
 
 ghost use Rattle.std.specs.Prelude.{◌≡◌, ℕ, ◌<◌, [], ◌∷◌, length, reverse, replicate, OnOk, IfOk};
 ghost use Rattle.base.specs.declared.cycles.walk.Mark.TheVariants.{Unseen};
-ghost use Rattle.base.specs.Circles.{IsWithin};
+ghost use Rattle.base.specs.GraphReachability.{IsWithin};
 ghost use Rattle.base.specs.Walking.{IsWalk, IsSeen, KeepsSeen, mark, left};
 
 use crate::cycles::graph::Targets;

@@ -1,7 +1,7 @@
 //! Edges, some of which are marked.
 
 ghost use Rattle.std.specs.Prelude.{◌≡◌, [], All, length, IfOk};
-ghost use Rattle.base.specs.MarkedCircles.{IsWithin};
+ghost use Rattle.base.specs.MarkedCycles.{IsWithin};
 ghost use Rattle.base.specs.Graphs.{HasEdgesOf};
 
 use crate::cycles::graph::Graph;

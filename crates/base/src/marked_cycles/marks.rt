@@ -2,7 +2,7 @@
 
 ghost use Rattle.std.specs.Prelude.{◌≡◌, ℕ, ◌<◌, ◌||◌, All, false, length, IfOk, slice_index, slice_index_or};
 ghost use Rattle.std.specs.List.{list_any};
-ghost use Rattle.base.specs.MarkedCircles.{IsWithin};
+ghost use Rattle.base.specs.MarkedCycles.{IsWithin};
 ghost use Rattle.base.specs.Graphs.{marks_root};
 
 use crate::marked_cycles::edge::MarkedEdge;

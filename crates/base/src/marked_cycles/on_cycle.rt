@@ -1,7 +1,7 @@
 //! The numbers that are on a cycle with a marked edge.
 
 ghost use Rattle.std.specs.Prelude.{◌≡◌, ◌↔◌, ℕ, ◌<◌, All, false, length, IsTrue, IfOk, slice_index, slice_index_or};
-ghost use Rattle.base.specs.MarkedCircles.{IsOnMarkedCircle, IsWithin};
+ghost use Rattle.base.specs.MarkedCycles.{IsOnMarkedCycle, IsWithin};
 
 use crate::cycles::components::component_roots;
 use crate::marked_cycles::edge::{MarkedEdge, graph_of};
@@ -24,14 +24,14 @@ fn of_roots(alloc: Global, roots: &[usize], marks: &[bool]) -> Result<Vec<bool>,
 
 /// Returns for each of so many numbers whether it is on a cycle with a marked edge. The time is linear in the numbers
 /// and edges.
-pub fn on_marked_circle(
+pub fn on_marked_cycle(
     alloc: Global,
     count: usize,
     edges: &[MarkedEdge],
 ) -> Result<Vec<bool>, NoMemory>
     requires { All (IsWithin count) edges.now }
     ensures len { IfOk result (λ found. length found.items ≡ count) }
-    ensures found { IfOk result (λ found. (i : ℕ) → i < count → IsTrue (slice_index_or found.items i false) ↔ IsOnMarkedCircle edges.now i) }
+    ensures found { IfOk result (λ found. (i : ℕ) → i < count → IsTrue (slice_index_or found.items i false) ↔ IsOnMarkedCycle edges.now i) }
 {
     let graph = graph_of(alloc, count, edges)?;
     let roots = component_roots(alloc, &graph)?;

@@ -1,10 +1,13 @@
 //! A body under construction.
 
-ghost use Rattle.std.specs.Prelude.{◌≡◌, ◌+◌, ◌-◌, ◌^◌, ◌<◌, ◌≤◌, [], ◌∷◌, ◌++◌, length, take, drop, All, IfOk, IfErr, OnOk};
+ghost use Rattle.std.specs.Prelude.{◌≡◌, ◌+◌, ◌-◌, ◌^◌, ◌<◌, ◌≤◌, List, [], ◌∷◌, ◌++◌, length, take, drop, All, IfOk, IfErr, OnOk};
 ghost use Rattle.program.specs.Trees.{IsBelow, LeafTree};
 ghost use Rattle.body_names.specs.CodeAdded.{Added, IsParenthesized, Stepped};
 ghost use Rattle.body_names.specs.CodeNames.{numbered};
+ghost use Rattle.body_names.specs.LoopScopes.{begun, with_index};
+ghost use Rattle.body_names.specs.declared.code.loops.LoopScope.{LoopScope};
 
+use crate::code::loops::{LoopScope, copy_scope};
 use base::memory::NoMemory;
 use base::name::Name;
 use base::span::Span;
@@ -23,6 +26,8 @@ pub struct Building {
     pub scope: Scope,
     /// The names of all locals so far, by number.
     pub locals: Sequence<Name>,
+    /// The loops with spec blocks so far, in the order of the blocks that begin with them.
+    pub loops: Vec<LoopScope>,
 }
 
 impl Building {
@@ -33,21 +38,21 @@ impl Building {
         span: Span,
     ) -> Result<usize, NameFault>
         requires { IsBelow (length self.old.body.nodes) node }
-        ensures step { IfOk result (λ place. Stepped node span self.old self.new place) }
+        ensures step { IfOk result (λ index. Stepped node span self.old self.new index) }
         ensures memory { IfErr result (λ fault. fault ≡ NameFault.NoMemory) }
     {
-        let place = self.body.add(node, span)?;
-        Ok(place)
+        let index = self.body.add(node, span)?;
+        Ok(index)
     }
 
     /// Adds a node without children.
     pub fn leaf(&mut self, leaf: CodeLeaf, span: Span) -> Result<usize, NameFault>
-        ensures added { IfOk result (λ place. Added (LeafTree leaf) (span ∷ []) [] self.old self.new place) }
+        ensures added { IfOk result (λ index. Added (LeafTree leaf) (span ∷ []) [] [] self.old self.new index) }
         ensures scope { OnOk result (self.new.scope ≡ self.old.scope) }
         ensures memory { IfErr result (λ fault. fault ≡ NameFault.NoMemory) }
     {
-        let place = self.add(Node::Leaf(leaf), span)?;
-        Ok(place)
+        let index = self.add(Node::Leaf(leaf), span)?;
+        Ok(index)
     }
 
     /// Adds a node for expressions or patterns in parentheses, after its children. One child in parentheses needs no
@@ -59,15 +64,44 @@ impl Building {
         span: Span,
     ) -> Result<usize, NameFault>
         requires { All (λ x. x < length self.old.body.nodes) parts }
-        ensures closed { IfOk result (λ place. IsParenthesized node parts span self.old self.new place) }
+        ensures closed { IfOk result (λ index. IsParenthesized node parts span self.old self.new index) }
         ensures scope { OnOk result (self.new.scope ≡ self.old.scope) }
         ensures memory { IfErr result (λ fault. fault ≡ NameFault.NoMemory) }
     {
         if let [part] = parts.as_slice() {
             return Ok(*part);
         }
-        let place = self.add(Node::Many(node, parts), span)?;
-        Ok(place)
+        let index = self.add(Node::Many(node, parts), span)?;
+        Ok(index)
+    }
+
+    /// Adds a loop that begins here, whose index is not known yet. Returns its position among the loops.
+    pub fn begin_loop(&mut self, alloc: Global) -> Result<usize, NameFault>
+        ensures index { IfOk result (λ index. index ≡ length self.old.loops.items) }
+        ensures loops { OnOk result (self.new.loops.items ≡ self.old.loops.items ++ begun self.old.scope ∷ []) }
+        ensures body { OnOk result (self.new.body ≡ self.old.body) }
+        ensures scope { OnOk result (self.new.scope ≡ self.old.scope) }
+        ensures locals { OnOk result (self.new.locals ≡ self.old.locals) }
+        ensures memory { IfErr result (λ fault. fault ≡ NameFault.NoMemory) }
+    {
+        let index = self.loops.len();
+        let names = copy_scope(alloc, self.scope.as_slice())?;
+        self.loops.push(LoopScope { at: 0, names })?;
+        Ok(index)
+    }
+
+    /// Sets the index of a loop's node. There are as many spans as nodes.
+    pub fn end_loop(&mut self, index: usize, at: usize)
+        requires { index < length self.old.loops.items }
+        ensures loops { (before : List LoopScope) (one : LoopScope) (behind : List LoopScope) → self.old.loops.items ≡ before ++ one ∷ behind → index ≡ length before → self.new.loops.items ≡ before ++ with_index at one ∷ behind }
+        ensures body { self.new.body ≡ self.old.body }
+        ensures scope { self.new.scope ≡ self.old.scope }
+        ensures locals { self.new.locals ≡ self.old.locals }
+        ensures spans { length self.old.body.spans ≡ length self.old.body.nodes }
+    {
+        self.body.has_spans();
+        let one = &mut self.loops[index];
+        one.at = at;
     }
 
     /// Brings locals into scope: those with the numbers from `from` up to, but not including, `until`.
@@ -77,6 +111,7 @@ impl Building {
         ensures scope { OnOk result (self.new.scope ≡ self.old.scope ++ numbered from (take (until - from) (drop from self.old.locals))) }
         ensures body { self.new.body ≡ self.old.body }
         ensures locals { self.new.locals ≡ self.old.locals }
+        ensures loops { self.new.loops.items ≡ self.old.loops.items }
         ensures memory { IfErr result (λ fault. fault ≡ NameFault.NoMemory) }
     {
         let names = &self.locals.as_slice()[from..until];

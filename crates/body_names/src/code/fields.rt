@@ -6,11 +6,11 @@ ghost use Rattle.syntax_tree.specs.TypeTreeData.{maybe_arguments_of};
 ghost use Rattle.syntax_tree.specs.ExpressionData.{field_values_of};
 ghost use Rattle.scopes.specs.Meanings.{IsMeaning};
 ghost use Rattle.body_names.specs.CodeTrees.{field_of_value, fields_of_values};
-ghost use Rattle.body_names.specs.CodeForms.{fields_meaning};
+ghost use Rattle.body_names.specs.SharedWords.{fields_meaning};
 ghost use Rattle.body_names.specs.CodeSetting.{setting};
 
 use crate::code::context::Context;
-use crate::code::forms::named_fields;
+use crate::words::named_fields;
 use base::memory::NoMemory;
 use base::name::Name;
 use program::code::CodeMany;
@@ -49,6 +49,6 @@ pub fn pack(
     ensures { IsMeaning result (option_map CodeMany.Pack (fields_meaning (setting context.now) path.now (maybe_arguments_of arguments.now) (fields_of_values (field_values_of fields.now)))) }
 {
     let names = fields_of(context.alloc, fields)?;
-    let node = named_fields(context, path, arguments, names)?;
+    let node = named_fields(context.alloc, &context.types, path, arguments, names)?;
     Ok(CodeMany::Pack(node))
 }

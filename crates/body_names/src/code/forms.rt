@@ -2,54 +2,24 @@
 
 ghost use Rattle.std.specs.Prelude.{◌≡◌};
 ghost use Rattle.syntax_tree.specs.TypeTreeData.{maybe_arguments_of};
-ghost use Rattle.scopes.specs.Meanings.{IsMeaning, address_meaning};
-ghost use Rattle.scopes.specs.TypeMeanings.{arguments_meaning, type_meaning};
-ghost use Rattle.body_names.specs.CodeForms.{annotation_meaning, call_meaning, cast_meaning, constant_leaf, declare_meaning, fields_meaning, let_meaning, literal_meaning, local_meaning, number_meaning, operator_of, suffix_meaning, unary_of, use_of, value_meaning, vector_meaning};
+ghost use Rattle.scopes.specs.Meanings.{IsMeaning};
+ghost use Rattle.scopes.specs.TypeMeanings.{type_meaning};
+ghost use Rattle.body_names.specs.CodeForms.{annotation_meaning, call_meaning, cast_meaning, constant_leaf, declare_meaning, let_meaning, literal_meaning, local_meaning, unary_of, use_of, value_meaning, vector_meaning};
 ghost use Rattle.body_names.specs.CodeSetting.{setting};
 
 use crate::code::context::Context;
+use crate::words::{address, number};
 use base::name::Name;
-use base::types::{TypeList, TypeTerm, Width};
+use base::types::TypeTerm;
 use program::boxed::Boxed;
-use program::code::{
-    Call, CodeBinary, CodeLeaf, CodeMany, CodeUnary, LocalUse, NamedFields, Number,
-};
-use program::operator::{Arithmetic, BinaryOperator, Bitwise, Comparison, Shift};
-use program::sequence::Sequence;
+use program::code::{Call, CodeBinary, CodeLeaf, CodeMany, CodeUnary, LocalUse};
 use scopes::fault::NameFault;
 use scopes::scope::Scope;
 use scopes::types::{type_arguments, type_named};
 use syntax_tree::literal::Literal;
-use syntax_tree::operator::{BinaryOperator as SourceOperator, UnaryOperator, UseKind};
-use syntax_tree::path::{Address, Path};
+use syntax_tree::operator::{UnaryOperator, UseKind};
+use syntax_tree::path::Path;
 use syntax_tree::types::{SourceType, TypeArguments};
-use tokens::token::{NumberLiteral, NumberSuffix};
-
-/// Returns the binary operator that a sign means.
-pub fn operator_of(operator: SourceOperator) -> BinaryOperator
-    ensures { result ≡ operator_of operator }
-{
-    match operator {
-        SourceOperator::Or => BinaryOperator::Or,
-        SourceOperator::And => BinaryOperator::And,
-        SourceOperator::Equal => BinaryOperator::Equal,
-        SourceOperator::NotEqual => BinaryOperator::NotEqual,
-        SourceOperator::Less => BinaryOperator::Comparison(Comparison::Less),
-        SourceOperator::LessEqual => BinaryOperator::Comparison(Comparison::LessEqual),
-        SourceOperator::Greater => BinaryOperator::Comparison(Comparison::Greater),
-        SourceOperator::GreaterEqual => BinaryOperator::Comparison(Comparison::GreaterEqual),
-        SourceOperator::BitOr => BinaryOperator::Bitwise(Bitwise::BitOr),
-        SourceOperator::BitXor => BinaryOperator::Bitwise(Bitwise::BitXor),
-        SourceOperator::BitAnd => BinaryOperator::Bitwise(Bitwise::BitAnd),
-        SourceOperator::ShiftLeft => BinaryOperator::Shift(Shift::Left),
-        SourceOperator::ShiftRight => BinaryOperator::Shift(Shift::Right),
-        SourceOperator::Add => BinaryOperator::Arithmetic(Arithmetic::Add),
-        SourceOperator::Subtract => BinaryOperator::Arithmetic(Arithmetic::Subtract),
-        SourceOperator::Multiply => BinaryOperator::Arithmetic(Arithmetic::Multiply),
-        SourceOperator::Divide => BinaryOperator::Arithmetic(Arithmetic::Divide),
-        SourceOperator::Remainder => BinaryOperator::Arithmetic(Arithmetic::Remainder),
-    }
-}
 
 /// Returns the unary operator that a sign means.
 pub fn unary_of(operator: UnaryOperator) -> CodeUnary
@@ -73,50 +43,17 @@ pub fn use_of(kind: UseKind) -> LocalUse
     }
 }
 
-/// Returns the type that the suffix of a number names, if it has one.
-fn width_of(suffix: NumberSuffix) -> Result<Option<Width>, NameFault>
-    ensures { IsMeaning result (suffix_meaning suffix) }
-{
-    match suffix {
-        NumberSuffix::Absent => Ok(None),
-        NumberSuffix::U8 => Ok(Some(Width::U8)),
-        NumberSuffix::U16 => Ok(Some(Width::U16)),
-        NumberSuffix::U32 => Ok(Some(Width::U32)),
-        NumberSuffix::U64 => Ok(Some(Width::U64)),
-        NumberSuffix::U128 => Ok(Some(Width::U128)),
-        NumberSuffix::U256 => Err(NameFault::Unknown),
-    }
-}
-
-#[tactic(auto, unfolding(crate::specs::CodeForms::number_meaning))]
-fn number(number: &NumberLiteral) -> Result<CodeLeaf, NameFault>
-    ensures { IsMeaning result (number_meaning number.now) }
-{
-    let width = width_of(number.suffix)?;
-    Ok(CodeLeaf::Number(Number {
-        value: number.value,
-        width,
-    }))
-}
-
-fn address(context: &Context<'_>, address: &Address) -> Result<u128, NameFault>
-    ensures { IsMeaning result (address_meaning context.now.types.environment.now address.now) }
-{
-    match context.types.environment.address(address) {
-        Some(number) => Ok(number),
-        None => Err(NameFault::Unknown),
-    }
-}
-
 /// Returns the value of a literal.
 #[tactic(auto, unfolding(crate::specs::CodeForms::literal_meaning))]
 pub fn literal(context: &Context<'_>, literal: &Literal) -> Result<CodeLeaf, NameFault>
     ensures { IsMeaning result (literal_meaning (setting context.now) literal.now) }
 {
     match literal {
-        Literal::Number(numeral) => number(&numeral.literal),
+        Literal::Number(numeral) => Ok(CodeLeaf::Number(number(&numeral.literal)?)),
         Literal::Truth { value, .. } => Ok(CodeLeaf::Truth(*value)),
-        Literal::Address { address: named, .. } => Ok(CodeLeaf::Address(address(context, named)?)),
+        Literal::Address { address: named, .. } => {
+            Ok(CodeLeaf::Address(address(&context.types, named)?))
+        }
     }
 }
 
@@ -204,15 +141,6 @@ pub fn binding(context: &Context<'_>, source: &Option<SourceType>) -> Result<Cod
     Ok(CodeBinary::Let(term))
 }
 
-fn written_types(
-    context: &Context<'_>,
-    arguments: &Option<TypeArguments>,
-) -> Result<TypeList, NameFault>
-    ensures { IsMeaning result (arguments_meaning (setting context.now) (maybe_arguments_of arguments.now)) }
-{
-    type_arguments(context.alloc, &context.types, arguments)
-}
-
 /// Returns a call of what a path names.
 #[tactic(auto, unfolding(crate::specs::CodeForms::call_meaning))]
 pub fn call(
@@ -223,7 +151,7 @@ pub fn call(
     ensures { IsMeaning result (call_meaning (setting context.now) path.now (maybe_arguments_of arguments.now)) }
 {
     let callee = context.types.environment.callee_named(context.alloc, path)?;
-    let types = written_types(context, arguments)?;
+    let types = type_arguments(context.alloc, &context.types, arguments)?;
     let boxed = Boxed::new(context.alloc, Call { callee, types })?;
     Ok(CodeMany::Call(boxed))
 }
@@ -236,29 +164,6 @@ pub fn vector(
 ) -> Result<CodeMany, NameFault>
     ensures { IsMeaning result (vector_meaning (setting context.now) (maybe_arguments_of arguments.now)) }
 {
-    let types = written_types(context, arguments)?;
+    let types = type_arguments(context.alloc, &context.types, arguments)?;
     Ok(CodeMany::Vector(types))
-}
-
-/// Returns a struct with these fields.
-#[tactic(auto, unfolding(crate::specs::CodeForms::fields_meaning))]
-pub fn named_fields(
-    context: &Context<'_>,
-    path: &Path,
-    arguments: &Option<TypeArguments>,
-    fields: Sequence<Name>,
-) -> Result<Boxed<NamedFields>, NameFault>
-    ensures { IsMeaning result (fields_meaning (setting context.now) path.now (maybe_arguments_of arguments.now) fields) }
-{
-    let owner = context.types.environment.struct_named(context.alloc, path)?;
-    let types = written_types(context, arguments)?;
-    let boxed = Boxed::new(
-        context.alloc,
-        NamedFields {
-            owner,
-            types,
-            fields,
-        },
-    )?;
-    Ok(boxed)
 }

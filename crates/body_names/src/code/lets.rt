@@ -21,7 +21,7 @@ use syntax_tree::types::SourceType;
 /// A resolved `let`: the index of its node, and the number after that of the last local of its pattern.
 #[derive(Drop)]
 pub struct Bound {
-    pub place: usize,
+    pub index: usize,
     pub until: usize,
 }
 
@@ -33,7 +33,7 @@ pub fn declare(
     pattern: &Pattern,
     annotation: &Option<SourceType>,
 ) -> Result<Bound, NameFault>
-    ensures added { IfOk result (λ bound. Added (unary_tree (declare_meaning (setting context.now) annotation.now) (pattern_tree (setting context.now) (length into.old.locals) pattern.now)) ((pattern_spans pattern.now ++ []) ++ span ∷ []) (pattern_names pattern.now ++ []) into.old into.new bound.place) }
+    ensures added { IfOk result (λ bound. Added (unary_tree (declare_meaning (setting context.now) annotation.now) (pattern_tree (setting context.now) (length into.old.locals) pattern.now)) ((pattern_spans pattern.now ++ []) ++ span ∷ []) (pattern_names pattern.now ++ []) [] into.old into.new bound.index) }
     ensures until { IfOk result (λ bound. bound.until ≡ length into.old.locals + length (pattern_names pattern.now)) }
     ensures scope { OnOk result (into.new.scope ≡ into.old.scope) }
     ensures unknown { IfErr result (λ fault. IfUnknown fault (IsSound (unary_tree (declare_meaning (setting context.now) annotation.now) (pattern_tree (setting context.now) (length into.old.locals) pattern.now)) → ⊥)) }
@@ -41,6 +41,6 @@ pub fn declare(
     let pattern = resolve_pattern(context, into, pattern)?;
     let until = into.locals.as_slice().len();
     let node = declaration(context, annotation)?;
-    let place = into.add(Node::Unary(node, pattern), span)?;
-    Ok(Bound { place, until })
+    let index = into.add(Node::Unary(node, pattern), span)?;
+    Ok(Bound { index, until })
 }

@@ -8,15 +8,16 @@ ghost use Rattle.program.specs.Trees.{LeafTree};
 ghost use Rattle.program.specs.Listed.{AreSound, IsSound};
 ghost use Rattle.scopes.specs.Meanings.{IfUnknown};
 ghost use Rattle.body_names.specs.CodeAdded.{Added, AddedAll, Closed};
-ghost use Rattle.body_names.specs.CodeForms.{fields_meaning, many_tree};
+ghost use Rattle.body_names.specs.CodeForms.{many_tree};
+ghost use Rattle.body_names.specs.SharedWords.{fields_meaning};
 ghost use Rattle.body_names.specs.PatternTrees.{field_of_pattern, field_pattern_name, field_pattern_names, field_pattern_spans, field_pattern_tree, field_pattern_trees, field_patterns_spans, fields_of_patterns, parenthesized, pattern_names, pattern_spans, pattern_tree, pattern_trees, patterns_names, patterns_own, patterns_spans};
-ghost use Rattle.body_names.specs.CodePlaces.{path_place};
+ghost use Rattle.body_names.specs.FirstSpans.{path_span};
 ghost use Rattle.body_names.specs.CodeSetting.{setting};
 
 use crate::code::building::Building;
 use crate::code::context::Context;
-use crate::code::forms::named_fields;
-use crate::code::places::path_place;
+use crate::first_spans::path_span;
+use crate::words::named_fields;
 use base::memory::NoMemory;
 use base::name::Name;
 use base::span::Span;
@@ -32,15 +33,15 @@ use syntax_tree::types::TypeArguments;
 
 /// Adds a new local.
 fn bind(context: &Context<'_>, into: &mut Building, name: &Identifier) -> Result<usize, NameFault>
-    ensures added { IfOk result (λ place. Added (LeafTree (CodeLeaf.Bind (length into.old.locals))) (name.now.place ∷ []) (name.now.text ∷ []) into.old into.new place) }
+    ensures added { IfOk result (λ index. Added (LeafTree (CodeLeaf.Bind (length into.old.locals))) (name.now.span ∷ []) (name.now.text ∷ []) [] into.old into.new index) }
     ensures scope { OnOk result (into.new.scope ≡ into.old.scope) }
     ensures memory { IfErr result (λ fault. fault ≡ NameFault.NoMemory) }
 {
     let number = into.locals.as_slice().len();
     let copy = name.text.try_clone(context.alloc)?;
-    let place = into.add(Node::Leaf(CodeLeaf::Bind(number)), name.place)?;
+    let index = into.add(Node::Leaf(CodeLeaf::Bind(number)), name.span)?;
     into.locals.push(copy)?;
-    Ok(place)
+    Ok(index)
 }
 
 /// Returns the field that a pattern is for.
@@ -71,14 +72,14 @@ fn close_unpack(
     parts: Sequence<usize>,
 ) -> Result<usize, NameFault>
     requires { All (λ x. x < length into.old.body.nodes) parts }
-    ensures closed { IfOk result (λ place. Closed (option_map CodeMany.Unpack (fields_meaning (setting context.now) path.now (maybe_arguments_of arguments.now) (fields_of_patterns (field_patterns_of fields.now)))) parts (path_place path.now) into.old into.new place) }
+    ensures closed { IfOk result (λ index. Closed (option_map CodeMany.Unpack (fields_meaning (setting context.now) path.now (maybe_arguments_of arguments.now) (fields_of_patterns (field_patterns_of fields.now)))) parts (path_span path.now) into.old into.new index) }
     ensures scope { OnOk result (into.new.scope ≡ into.old.scope) }
     ensures unknown { IfErr result (λ fault. IfUnknown fault (fields_meaning (setting context.now) path.now (maybe_arguments_of arguments.now) (fields_of_patterns (field_patterns_of fields.now)) ≡ None)) }
 {
     let names = fields_of(context.alloc, fields)?;
-    let node = named_fields(context, path, arguments, names)?;
-    let place = into.add(Node::Many(CodeMany::Unpack(node), parts), path_place(path))?;
-    Ok(place)
+    let node = named_fields(context.alloc, &context.types, path, arguments, names)?;
+    let index = into.add(Node::Many(CodeMany::Unpack(node), parts), path_span(path))?;
+    Ok(index)
 }
 
 /// Resolves a pattern. The numbers of its locals continue from those before it.
@@ -88,20 +89,20 @@ pub fn resolve_pattern(
     into: &mut Building,
     pattern: &Pattern,
 ) -> Result<usize, NameFault>
-    ensures added { IfOk result (λ place. Added (pattern_tree (setting context.now) (length into.old.locals) pattern.now) (pattern_spans pattern.now) (pattern_names pattern.now) into.old into.new place) }
+    ensures added { IfOk result (λ index. Added (pattern_tree (setting context.now) (length into.old.locals) pattern.now) (pattern_spans pattern.now) (pattern_names pattern.now) [] into.old into.new index) }
     ensures scope { OnOk result (into.new.scope ≡ into.old.scope) }
     ensures unknown { IfErr result (λ fault. IfUnknown fault (IsSound (pattern_tree (setting context.now) (length into.old.locals) pattern.now) → ⊥)) }
 {
     match &pattern.node {
         PatternNode::Bind(name) => bind(context, into, name),
-        PatternNode::Ignore(place) => into.leaf(CodeLeaf::Ignore, *place),
+        PatternNode::Ignore(span) => into.leaf(CodeLeaf::Ignore, *span),
         PatternNode::Unpack {
             path,
             arguments,
             fields,
             ..
         } => resolve_unpack(context, into, path, arguments, fields),
-        PatternNode::Tuple { place, items, .. } => resolve_tuple(context, into, *place, items),
+        PatternNode::Tuple { span, items, .. } => resolve_tuple(context, into, *span, items),
     }
 }
 
@@ -114,13 +115,13 @@ fn resolve_unpack(
     arguments: &Option<TypeArguments>,
     fields: &[FieldPattern],
 ) -> Result<usize, NameFault>
-    ensures added { IfOk result (λ place. Added (many_tree (option_map CodeMany.Unpack (fields_meaning (setting context.now) path.now (maybe_arguments_of arguments.now) (fields_of_patterns (field_patterns_of fields.now)))) (field_pattern_trees (setting context.now) (length into.old.locals) (field_patterns_of fields.now))) (field_patterns_spans (field_patterns_of fields.now) ++ path_place path.now ∷ []) (field_pattern_names (field_patterns_of fields.now)) into.old into.new place) }
+    ensures added { IfOk result (λ index. Added (many_tree (option_map CodeMany.Unpack (fields_meaning (setting context.now) path.now (maybe_arguments_of arguments.now) (fields_of_patterns (field_patterns_of fields.now)))) (field_pattern_trees (setting context.now) (length into.old.locals) (field_patterns_of fields.now))) (field_patterns_spans (field_patterns_of fields.now) ++ path_span path.now ∷ []) (field_pattern_names (field_patterns_of fields.now)) [] into.old into.new index) }
     ensures scope { OnOk result (into.new.scope ≡ into.old.scope) }
     ensures unknown { IfErr result (λ fault. IfUnknown fault (IsSound (many_tree (option_map CodeMany.Unpack (fields_meaning (setting context.now) path.now (maybe_arguments_of arguments.now) (fields_of_patterns (field_patterns_of fields.now)))) (field_pattern_trees (setting context.now) (length into.old.locals) (field_patterns_of fields.now))) → ⊥)) }
 {
     let parts = resolve_fields(context, into, fields)?;
-    let place = close_unpack(context, into, path, arguments, fields, parts)?;
-    Ok(place)
+    let index = close_unpack(context, into, path, arguments, fields, parts)?;
+    Ok(index)
 }
 
 /// Resolves patterns in parentheses. One pattern in parentheses is that pattern.
@@ -131,13 +132,13 @@ fn resolve_tuple(
     span: Span,
     items: &[Pattern],
 ) -> Result<usize, NameFault>
-    ensures added { IfOk result (λ place. Added (parenthesized CodeMany.TuplePattern (pattern_trees (setting context.now) (length into.old.locals) (patterns_of items.now))) (patterns_spans (patterns_of items.now) ++ patterns_own span (patterns_of items.now)) (patterns_names (patterns_of items.now)) into.old into.new place) }
+    ensures added { IfOk result (λ index. Added (parenthesized CodeMany.TuplePattern (pattern_trees (setting context.now) (length into.old.locals) (patterns_of items.now))) (patterns_spans (patterns_of items.now) ++ patterns_own span (patterns_of items.now)) (patterns_names (patterns_of items.now)) [] into.old into.new index) }
     ensures scope { OnOk result (into.new.scope ≡ into.old.scope) }
     ensures unknown { IfErr result (λ fault. IfUnknown fault (IsSound (parenthesized CodeMany.TuplePattern (pattern_trees (setting context.now) (length into.old.locals) (patterns_of items.now))) → ⊥)) }
 {
     let parts = resolve_patterns(context, into, items)?;
-    let place = into.parenthesized(CodeMany::TuplePattern, parts, span)?;
-    Ok(place)
+    let index = into.parenthesized(CodeMany::TuplePattern, parts, span)?;
+    Ok(index)
 }
 
 /// Resolves patterns, one after another. Returns the indices of their nodes.
@@ -148,7 +149,7 @@ fn resolve_patterns(
     into: &mut Building,
     patterns: &[Pattern],
 ) -> Result<Sequence<usize>, NameFault>
-    ensures added { IfOk result (λ parts. AddedAll (pattern_trees (setting context.now) (length into.old.locals) (patterns_of patterns.now)) (patterns_spans (patterns_of patterns.now)) (patterns_names (patterns_of patterns.now)) into.old into.new parts) }
+    ensures added { IfOk result (λ parts. AddedAll (pattern_trees (setting context.now) (length into.old.locals) (patterns_of patterns.now)) (patterns_spans (patterns_of patterns.now)) (patterns_names (patterns_of patterns.now)) [] into.old into.new parts) }
     ensures scope { OnOk result (into.new.scope ≡ into.old.scope) }
     ensures unknown { IfErr result (λ fault. IfUnknown fault (AreSound (pattern_trees (setting context.now) (length into.old.locals) (patterns_of patterns.now)) → ⊥)) }
 {
@@ -168,7 +169,7 @@ fn resolve_fields(
     into: &mut Building,
     fields: &[FieldPattern],
 ) -> Result<Sequence<usize>, NameFault>
-    ensures added { IfOk result (λ parts. AddedAll (field_pattern_trees (setting context.now) (length into.old.locals) (field_patterns_of fields.now)) (field_patterns_spans (field_patterns_of fields.now)) (field_pattern_names (field_patterns_of fields.now)) into.old into.new parts) }
+    ensures added { IfOk result (λ parts. AddedAll (field_pattern_trees (setting context.now) (length into.old.locals) (field_patterns_of fields.now)) (field_patterns_spans (field_patterns_of fields.now)) (field_pattern_names (field_patterns_of fields.now)) [] into.old into.new parts) }
     ensures scope { OnOk result (into.new.scope ≡ into.old.scope) }
     ensures unknown { IfErr result (λ fault. IfUnknown fault (AreSound (field_pattern_trees (setting context.now) (length into.old.locals) (field_patterns_of fields.now)) → ⊥)) }
 {
@@ -187,7 +188,7 @@ fn resolve_field(
     into: &mut Building,
     field: &FieldPattern,
 ) -> Result<usize, NameFault>
-    ensures added { IfOk result (λ place. Added (field_pattern_tree (setting context.now) (length into.old.locals) field.now) (field_pattern_spans field.now) (field_pattern_name field.now) into.old into.new place) }
+    ensures added { IfOk result (λ index. Added (field_pattern_tree (setting context.now) (length into.old.locals) field.now) (field_pattern_spans field.now) (field_pattern_name field.now) [] into.old into.new index) }
     ensures scope { OnOk result (into.new.scope ≡ into.old.scope) }
     ensures unknown { IfErr result (λ fault. IfUnknown fault (IsSound (field_pattern_tree (setting context.now) (length into.old.locals) field.now) → ⊥)) }
 {

@@ -31,21 +31,21 @@ impl Building {
         span: Span,
     ) -> Result<usize, NameFault>
         requires { IsBelow (length self.old.body.nodes) node }
-        ensures step { IfOk result (λ place. Stepped node span self.old self.new place) }
+        ensures step { IfOk result (λ index. Stepped node span self.old self.new index) }
         ensures memory { IfErr result (λ fault. fault ≡ NameFault.NoMemory) }
     {
-        let place = self.body.add(node, span)?;
-        Ok(place)
+        let index = self.body.add(node, span)?;
+        Ok(index)
     }
 
     /// Adds a node without children.
     pub fn leaf(&mut self, leaf: SpecLeaf, span: Span) -> Result<usize, NameFault>
-        ensures added { IfOk result (λ place. Added (LeafTree leaf) (span ∷ []) [] self.old self.new place) }
+        ensures added { IfOk result (λ index. Added (LeafTree leaf) (span ∷ []) [] self.old self.new index) }
         ensures scope { OnOk result (self.new.scope ≡ self.old.scope) }
         ensures memory { IfErr result (λ fault. fault ≡ NameFault.NoMemory) }
     {
-        let place = self.add(Node::Leaf(leaf), span)?;
-        Ok(place)
+        let index = self.add(Node::Leaf(leaf), span)?;
+        Ok(index)
     }
 
     /// Adds a quantifier variable, which is not in scope yet. Returns its number.

@@ -5,7 +5,8 @@ ghost use Rattle.syntax_tree.specs.SpecExpressionData.{spec_expressions_of, spec
 ghost use Rattle.program.specs.Listed.{AreSound, IsSound};
 ghost use Rattle.scopes.specs.Meanings.{IfUnknown};
 ghost use Rattle.body_names.specs.SpecAdded.{AddedAll};
-ghost use Rattle.body_names.specs.SpecTrees.{field_trees, joined};
+ghost use Rattle.body_names.specs.SpecTrees.{field_trees};
+ghost use Rattle.body_names.specs.Joined.{joined};
 ghost use Rattle.body_names.specs.SpecResolved.{AreResolved, IsResolved, binding_trees, expression_tree, expression_trees};
 ghost use Rattle.body_names.specs.SpecSetting.{setting};
 ghost use Rattle.body_names.specs.SpecNames.{variables_of, variables_of_all, variables_of_fields};
@@ -28,7 +29,7 @@ pub struct ResolvedSpec {
     /// Its nodes. The last one is the root.
     pub body: SpecBody,
     /// The index of the root.
-    pub place: usize,
+    pub index: usize,
     /// The names of its quantifier variables, by number, in source order.
     pub variables: Sequence<Name>,
 }
@@ -39,7 +40,7 @@ pub struct ResolvedSpecs {
     /// Their nodes, one expression after another.
     pub body: SpecBody,
     /// The index of the root of each expression.
-    pub places: Sequence<usize>,
+    pub indices: Sequence<usize>,
     /// The names of their quantifier variables, by number, in source order.
     pub variables: Sequence<Name>,
 }
@@ -67,7 +68,7 @@ pub fn resolve_expression(
     ensures unknown { IfErr result (λ fault. IfUnknown fault (IsSound (expression_tree (setting context.now) expression.now) → ⊥)) }
 {
     let mut building = begin(context);
-    let place = resolve_spec(context, &mut building, expression)?;
+    let index = resolve_spec(context, &mut building, expression)?;
     let Building {
         body,
         scope,
@@ -76,7 +77,7 @@ pub fn resolve_expression(
     drop(scope);
     Ok(ResolvedSpec {
         body,
-        place,
+        index,
         variables,
     })
 }
@@ -91,8 +92,8 @@ pub fn resolve_expressions(
     ensures unknown { IfErr result (λ fault. IfUnknown fault (AreSound (expression_trees (setting context.now) (spec_expressions_of expressions.now)) → ⊥)) }
 {
     let mut building = begin(context);
-    let mut places = Sequence::new(context.alloc);
-    resolve_values(context, &mut building, &mut places, expressions)?;
+    let mut indices = Sequence::new(context.alloc);
+    resolve_values(context, &mut building, &mut indices, expressions)?;
     let Building {
         body,
         scope,
@@ -101,7 +102,7 @@ pub fn resolve_expressions(
     drop(scope);
     Ok(ResolvedSpecs {
         body,
-        places,
+        indices,
         variables,
     })
 }
@@ -117,8 +118,8 @@ pub fn resolve_bindings(
     ensures unknown { IfErr result (λ fault. IfUnknown fault (AreSound (binding_trees (setting context.now) (spec_fields_of given.now) (spec_fields_of implied.now)) → ⊥)) }
 {
     let mut building = begin(context);
-    let mut places = Sequence::new(context.alloc);
-    resolve_both(context, &mut building, &mut places, given, implied)?;
+    let mut indices = Sequence::new(context.alloc);
+    resolve_both(context, &mut building, &mut indices, given, implied)?;
     let Building {
         body,
         scope,
@@ -127,7 +128,7 @@ pub fn resolve_bindings(
     drop(scope);
     Ok(ResolvedSpecs {
         body,
-        places,
+        indices,
         variables,
     })
 }

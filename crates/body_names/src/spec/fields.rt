@@ -1,15 +1,16 @@
 //! The fields in a pack.
 
 ghost use Rattle.std.specs.Prelude.{◌≡◌, IfOk};
+ghost use Rattle.std.specs.Option.{option_map};
 ghost use Rattle.syntax_tree.specs.TypeTreeData.{maybe_arguments_of};
 ghost use Rattle.syntax_tree.specs.SpecExpressionData.{spec_fields_of};
 ghost use Rattle.scopes.specs.Meanings.{IsMeaning};
-ghost use Rattle.body_names.specs.SpecForms.{pack_meaning};
+ghost use Rattle.body_names.specs.SharedWords.{fields_meaning};
 ghost use Rattle.body_names.specs.SpecSetting.{setting};
 ghost use Rattle.body_names.specs.SpecTrees.{field_of_value, fields_of_values};
 
 use crate::spec::context::Context;
-use crate::spec::forms::pack_of;
+use crate::words::named_fields;
 use base::memory::NoMemory;
 use base::name::Name;
 use program::sequence::Sequence;
@@ -45,8 +46,9 @@ pub fn pack(
     arguments: &Option<TypeArguments>,
     fields: &[SpecField],
 ) -> Result<SpecMany, NameFault>
-    ensures { IsMeaning result (pack_meaning ((setting context.now).types) path.now (maybe_arguments_of arguments.now) (fields_of_values (spec_fields_of fields.now))) }
+    ensures { IsMeaning result (option_map SpecMany.Pack (fields_meaning ((setting context.now).types) path.now (maybe_arguments_of arguments.now) (fields_of_values (spec_fields_of fields.now)))) }
 {
     let names = fields_of(context.alloc, fields)?;
-    pack_of(context, path, arguments, names)
+    let node = named_fields(context.alloc, &context.types, path, arguments, names)?;
+    Ok(SpecMany::Pack(node))
 }

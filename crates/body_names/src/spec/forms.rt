@@ -5,58 +5,26 @@ ghost use Rattle.std.specs.Option.{option_map};
 ghost use Rattle.syntax_tree.specs.TypeTreeData.{maybe_arguments_of};
 ghost use Rattle.program.specs.Listed.{AreSound};
 ghost use Rattle.program.specs.Trees.{NoTrees};
-ghost use Rattle.scopes.specs.Meanings.{IfUnknown, IsMeaning, address_meaning, word_meaning};
-ghost use Rattle.scopes.specs.TypeMeanings.{arguments_meaning, type_meaning};
-ghost use Rattle.body_names.specs.SpecForms.{call_meaning, constant_leaf, domain_trees, domain_type, greatest_value, literal_meaning, name_meaning, number_meaning, operator_of, pack_meaning, quantifier_of, spec_operator_of, suffix_meaning, value_meaning};
+ghost use Rattle.scopes.specs.Meanings.{IfUnknown, IsMeaning, word_meaning};
+ghost use Rattle.body_names.specs.SpecForms.{call_meaning, constant_leaf, domain_trees, domain_type, greatest_value, literal_meaning, name_meaning, quantifier_of, spec_operator_of, value_meaning};
 ghost use Rattle.body_names.specs.SpecSetting.{setting};
 
 use crate::spec::context::Context;
+use crate::words::{address, number, operator_of};
 use base::name::Name;
-use base::types::{TypeList, TypeTerm, Width};
+use base::types::{TypeTerm, Width};
 use program::boxed::Boxed;
-use program::code::{NamedFields, Number};
-use program::operator::{
-    Arithmetic, BinaryOperator, Bitwise, Comparison, Quantifier, Shift, SpecOperator,
-};
-use program::sequence::Sequence;
+use program::operator::{Quantifier, SpecOperator};
 use program::spec::{SpecCall, SpecLeaf, SpecMany, SpecName};
 use scopes::fault::NameFault;
 use scopes::scope::Scope;
 use scopes::types::{type_arguments, type_named};
 use syntax_tree::literal::Literal;
-use syntax_tree::operator::BinaryOperator as SourceOperator;
-use syntax_tree::path::{Address, Path};
+use syntax_tree::path::Path;
 use syntax_tree::spec_expression::operator::{
     Quantifier as QuantifierWord, SpecOperator as SpecSign,
 };
 use syntax_tree::types::{SourceType, TypeArguments};
-use tokens::token::{NumberLiteral, NumberSuffix};
-
-/// Returns the operator of Move that a sign means.
-fn operator_of(operator: SourceOperator) -> BinaryOperator
-    ensures { result ≡ operator_of operator }
-{
-    match operator {
-        SourceOperator::Or => BinaryOperator::Or,
-        SourceOperator::And => BinaryOperator::And,
-        SourceOperator::Equal => BinaryOperator::Equal,
-        SourceOperator::NotEqual => BinaryOperator::NotEqual,
-        SourceOperator::Less => BinaryOperator::Comparison(Comparison::Less),
-        SourceOperator::LessEqual => BinaryOperator::Comparison(Comparison::LessEqual),
-        SourceOperator::Greater => BinaryOperator::Comparison(Comparison::Greater),
-        SourceOperator::GreaterEqual => BinaryOperator::Comparison(Comparison::GreaterEqual),
-        SourceOperator::BitOr => BinaryOperator::Bitwise(Bitwise::BitOr),
-        SourceOperator::BitXor => BinaryOperator::Bitwise(Bitwise::BitXor),
-        SourceOperator::BitAnd => BinaryOperator::Bitwise(Bitwise::BitAnd),
-        SourceOperator::ShiftLeft => BinaryOperator::Shift(Shift::Left),
-        SourceOperator::ShiftRight => BinaryOperator::Shift(Shift::Right),
-        SourceOperator::Add => BinaryOperator::Arithmetic(Arithmetic::Add),
-        SourceOperator::Subtract => BinaryOperator::Arithmetic(Arithmetic::Subtract),
-        SourceOperator::Multiply => BinaryOperator::Arithmetic(Arithmetic::Multiply),
-        SourceOperator::Divide => BinaryOperator::Arithmetic(Arithmetic::Divide),
-        SourceOperator::Remainder => BinaryOperator::Arithmetic(Arithmetic::Remainder),
-    }
-}
 
 /// Returns the operator of spec expressions that a sign means.
 pub fn spec_operator_of(operator: SpecSign) -> SpecOperator
@@ -80,50 +48,17 @@ pub fn quantifier_of(quantifier: QuantifierWord) -> Quantifier
     }
 }
 
-/// Returns the type that the suffix of a number names, if it has one.
-fn width_of(suffix: NumberSuffix) -> Result<Option<Width>, NameFault>
-    ensures { IsMeaning result (suffix_meaning suffix) }
-{
-    match suffix {
-        NumberSuffix::Absent => Ok(None),
-        NumberSuffix::U8 => Ok(Some(Width::U8)),
-        NumberSuffix::U16 => Ok(Some(Width::U16)),
-        NumberSuffix::U32 => Ok(Some(Width::U32)),
-        NumberSuffix::U64 => Ok(Some(Width::U64)),
-        NumberSuffix::U128 => Ok(Some(Width::U128)),
-        NumberSuffix::U256 => Err(NameFault::Unknown),
-    }
-}
-
-#[tactic(auto, unfolding(crate::specs::SpecForms::number_meaning))]
-fn number(number: &NumberLiteral) -> Result<SpecLeaf, NameFault>
-    ensures { IsMeaning result (number_meaning number.now) }
-{
-    let width = width_of(number.suffix)?;
-    Ok(SpecLeaf::Number(Number {
-        value: number.value,
-        width,
-    }))
-}
-
-fn address(context: &Context<'_>, address: &Address) -> Result<u128, NameFault>
-    ensures { IsMeaning result (address_meaning context.now.types.environment.now address.now) }
-{
-    match context.types.environment.address(address) {
-        Some(number) => Ok(number),
-        None => Err(NameFault::Unknown),
-    }
-}
-
 /// Returns the value of a literal.
 #[tactic(auto, unfolding(crate::specs::SpecForms::literal_meaning))]
 pub fn literal(context: &Context<'_>, literal: &Literal) -> Result<SpecLeaf, NameFault>
     ensures { IsMeaning result (literal_meaning ((setting context.now).types) literal.now) }
 {
     match literal {
-        Literal::Number(numeral) => number(&numeral.literal),
+        Literal::Number(numeral) => Ok(SpecLeaf::Number(number(&numeral.literal)?)),
         Literal::Truth { value, .. } => Ok(SpecLeaf::Truth(*value)),
-        Literal::Address { address: named, .. } => Ok(SpecLeaf::Address(address(context, named)?)),
+        Literal::Address { address: named, .. } => {
+            Ok(SpecLeaf::Address(address(&context.types, named)?))
+        }
     }
 }
 
@@ -197,12 +132,6 @@ pub fn value(context: &Context<'_>, scope: &Scope, path: &Path) -> Result<SpecLe
     constant(context, path)
 }
 
-fn type_term(context: &Context<'_>, source: &SourceType) -> Result<TypeTerm, NameFault>
-    ensures { IsMeaning result (type_meaning ((setting context.now).types) source.now) }
-{
-    type_named(context.alloc, &context.types, source)
-}
-
 /// Returns the type that a variable ranges over.
 #[tactic(auto, unfolding(crate::specs::SpecForms::domain_type, crate::specs::SpecForms::domain_trees))]
 pub fn domain(context: &Context<'_>, source: &SourceType) -> Result<TypeTerm, NameFault>
@@ -210,17 +139,8 @@ pub fn domain(context: &Context<'_>, source: &SourceType) -> Result<TypeTerm, Na
     ensures trees { IfOk result (λ term. domain_trees ((setting context.now).types) source.now ≡ NoTrees) }
     ensures unknown { IfErr result (λ fault. IfUnknown fault (AreSound (domain_trees ((setting context.now).types) source.now) → ⊥)) }
 {
-    let term = type_term(context, source)?;
+    let term = type_named(context.alloc, &context.types, source)?;
     Ok(term)
-}
-
-fn written_types(
-    context: &Context<'_>,
-    arguments: &Option<TypeArguments>,
-) -> Result<TypeList, NameFault>
-    ensures { IsMeaning result (arguments_meaning ((setting context.now).types) (maybe_arguments_of arguments.now)) }
-{
-    type_arguments(context.alloc, &context.types, arguments)
 }
 
 /// Returns a call of what a path names.
@@ -236,30 +156,7 @@ pub fn call(
         .types
         .environment
         .spec_callee_named(context.alloc, path)?;
-    let types = written_types(context, arguments)?;
+    let types = type_arguments(context.alloc, &context.types, arguments)?;
     let boxed = Boxed::new(context.alloc, SpecCall { callee, types })?;
     Ok(SpecMany::Call(boxed))
-}
-
-/// Returns a struct value with these fields.
-#[tactic(auto, unfolding(crate::specs::SpecForms::pack_meaning))]
-pub fn pack_of(
-    context: &Context<'_>,
-    path: &Path,
-    arguments: &Option<TypeArguments>,
-    fields: Sequence<Name>,
-) -> Result<SpecMany, NameFault>
-    ensures { IsMeaning result (pack_meaning ((setting context.now).types) path.now (maybe_arguments_of arguments.now) fields) }
-{
-    let owner = context.types.environment.struct_named(context.alloc, path)?;
-    let types = written_types(context, arguments)?;
-    let boxed = Boxed::new(
-        context.alloc,
-        NamedFields {
-            owner,
-            types,
-            fields,
-        },
-    )?;
-    Ok(SpecMany::Pack(boxed))
 }

@@ -1,7 +1,7 @@
 //! Names in order, with a look-up of the last index of each.
 
 ghost use Rattle.std.specs.Prelude.{◌≡◌, ◌++◌, ◌∷◌, [], length, OnOk, OnErr};
-ghost use Rattle.body_names.specs.NameLists.{IsIndexOf, last_place};
+ghost use Rattle.body_names.specs.NameLists.{IsIndexOf, last_index};
 
 use base::memory::NoMemory;
 use base::name::Name;
@@ -40,9 +40,9 @@ fn push_both(
     ensures ok { OnOk result (names.new.items ≡ names.old.items ++ name ∷ []) }
     ensures err { OnErr result (names.new.items ≡ names.old.items) }
 {
-    let place = names.len();
+    let position = names.len();
     names.push(name)?;
-    if last.insert(copy, place).is_err() {
+    if last.insert(copy, position).is_err() {
         names.pop();
         return Err(NoMemory);
     }
@@ -84,8 +84,8 @@ impl NameList {
     }
 
     /// Returns the index of the last name that is equal to this one.
-    pub fn last_place(&self, name: &Name) -> Option<usize>
-        ensures { result ≡ last_place self.now name.now }
+    pub fn last_index(&self, name: &Name) -> Option<usize>
+        ensures { result ≡ last_index self.now name.now }
     {
         self.last.get(name).copied()
     }

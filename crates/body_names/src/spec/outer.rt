@@ -1,7 +1,7 @@
 //! The names around a spec expression: parameters, results, `let`s, and the other names in scope in its clause.
 
 ghost use Rattle.std.specs.Prelude.{◌≡◌, ◌++◌, ◌∷◌, [], OnOk, OnErr, option_and_then, slice_get};
-ghost use Rattle.body_names.specs.NameLists.{last_place};
+ghost use Rattle.body_names.specs.NameLists.{last_index};
 ghost use Rattle.body_names.specs.OuterNames.{outer_meaning};
 
 use crate::spec::name_list::NameList;
@@ -92,10 +92,10 @@ impl Outer {
 
 /// Returns the meaning at the last index of a name.
 fn find_in(names: &NameList, meanings: &[SpecName], name: &Name) -> Option<SpecName>
-    ensures { result ≡ option_and_then (slice_get meanings.now) (last_place names.now name.now) }
+    ensures { result ≡ option_and_then (slice_get meanings.now) (last_index names.now name.now) }
 {
-    match names.last_place(name) {
+    match names.last_index(name) {
         None => None,
-        Some(place) => meanings.get(place).copied(),
+        Some(span) => meanings.get(span).copied(),
     }
 }

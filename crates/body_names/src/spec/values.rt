@@ -5,13 +5,13 @@ ghost use Rattle.program.specs.Listed.{IsSound};
 ghost use Rattle.scopes.specs.Meanings.{IfUnknown};
 ghost use Rattle.body_names.specs.SpecAdded.{Added};
 ghost use Rattle.body_names.specs.SpecForms.{leaf_tree, literal_meaning, value_meaning};
-ghost use Rattle.body_names.specs.SpecPlaces.{literal_place, path_place};
+ghost use Rattle.body_names.specs.FirstSpans.{literal_span, path_span};
 ghost use Rattle.body_names.specs.SpecSetting.{setting};
 
+use crate::first_spans::{literal_span, path_span};
 use crate::spec::building::Building;
 use crate::spec::context::Context;
 use crate::spec::forms::{literal, value};
-use crate::spec::places::{literal_place, path_place};
 use scopes::fault::NameFault;
 use syntax_tree::lexeme::Identifier;
 use syntax_tree::literal::Literal;
@@ -23,13 +23,13 @@ pub fn resolve_literal(
     into: &mut Building,
     source: &Literal,
 ) -> Result<usize, NameFault>
-    ensures added { IfOk result (λ place. Added (leaf_tree (literal_meaning ((setting context.now).types) source.now)) (literal_place source.now ∷ []) [] into.old into.new place) }
+    ensures added { IfOk result (λ index. Added (leaf_tree (literal_meaning ((setting context.now).types) source.now)) (literal_span source.now ∷ []) [] into.old into.new index) }
     ensures scope { OnOk result (into.new.scope ≡ into.old.scope) }
     ensures unknown { IfErr result (λ fault. IfUnknown fault (IsSound (leaf_tree (literal_meaning ((setting context.now).types) source.now)) → ⊥)) }
 {
     let leaf = literal(context, source)?;
-    let place = into.leaf(leaf, literal_place(source))?;
-    Ok(place)
+    let index = into.leaf(leaf, literal_span(source))?;
+    Ok(index)
 }
 
 /// Adds the meaning of a path as a value.
@@ -38,13 +38,13 @@ pub fn resolve_value(
     into: &mut Building,
     path: &Path,
 ) -> Result<usize, NameFault>
-    ensures added { IfOk result (λ place. Added (leaf_tree (value_meaning (setting context.now) into.old.scope path.now)) (path_place path.now ∷ []) [] into.old into.new place) }
+    ensures added { IfOk result (λ index. Added (leaf_tree (value_meaning (setting context.now) into.old.scope path.now)) (path_span path.now ∷ []) [] into.old into.new index) }
     ensures scope { OnOk result (into.new.scope ≡ into.old.scope) }
     ensures unknown { IfErr result (λ fault. IfUnknown fault (IsSound (leaf_tree (value_meaning (setting context.now) into.old.scope path.now)) → ⊥)) }
 {
     let leaf = value(context, &into.scope, path)?;
-    let place = into.leaf(leaf, path_place(path))?;
-    Ok(place)
+    let index = into.leaf(leaf, path_span(path))?;
+    Ok(index)
 }
 
 /// Adds the meaning, as a value, of the name of a field without a value.
@@ -53,14 +53,14 @@ pub fn resolve_shorthand(
     into: &mut Building,
     name: &Identifier,
 ) -> Result<usize, NameFault>
-    ensures added { IfOk result (λ place. Added (leaf_tree (value_meaning (setting context.now) into.old.scope (Path.Name name.now))) (name.now.place ∷ []) [] into.old into.new place) }
+    ensures added { IfOk result (λ index. Added (leaf_tree (value_meaning (setting context.now) into.old.scope (Path.Name name.now))) (name.now.span ∷ []) [] into.old into.new index) }
     ensures scope { OnOk result (into.new.scope ≡ into.old.scope) }
     ensures unknown { IfErr result (λ fault. IfUnknown fault (IsSound (leaf_tree (value_meaning (setting context.now) into.old.scope (Path.Name name.now))) → ⊥)) }
 {
     let path = Path::Name(Identifier {
         text: name.text.try_clone(context.alloc)?,
-        place: name.place,
+        span: name.span,
     });
-    let place = resolve_value(context, into, &path)?;
-    Ok(place)
+    let index = resolve_value(context, into, &path)?;
+    Ok(index)
 }

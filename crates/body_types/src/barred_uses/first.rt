@@ -35,10 +35,10 @@ fn function_bars(
 }
 
 /// The span of a declaration if it breaks a rule.
-fn place_if(is_broken: bool, place: Span) -> Option<Span>
-    ensures { result ≡ (if is_broken then Some place else None) }
+fn span_if(is_broken: bool, span: Span) -> Option<Span>
+    ensures { result ≡ (if is_broken then Some span else None) }
 {
-    if is_broken { Some(place) } else { None }
+    if is_broken { Some(span) } else { None }
 }
 
 /// Finds the span of the first function, in the order of the files, that uses a field of a struct of another module, or
@@ -53,7 +53,7 @@ pub fn first_barred(alloc: Global, program: &Program) -> Result<Option<Span>, No
     for number in 0..program.functions.len() {
         if let Some((id, function)) = program.functions.entry(number) {
             let is_barred = function_bars(alloc, &types, program, id, function)?;
-            let next = place_if(is_barred, function.place);
+            let next = span_if(is_barred, function.span);
             found = earlier(found, next);
         }
     }

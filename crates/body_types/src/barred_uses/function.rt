@@ -6,13 +6,13 @@ ghost use Rattle.unification.specs.Slots.{Meets};
 ghost use Rattle.typing_rules.specs.Answers.{IsUntypable};
 ghost use Rattle.typing_rules.specs.CodeSystems.{function_setting, function_system};
 ghost use Rattle.typing_rules.specs.FieldBars.{BarsUse, first_steps};
-ghost use Rattle.typing_rules.specs.Settings.{place_count};
+ghost use Rattle.typing_rules.specs.Settings.{variable_count};
 ghost use Rattle.type_solver.specs.Plain.{ArePlain};
 ghost use Rattle.body_types.specs.BarredUsesKnown.{IsKnown, IsLast};
-ghost use Rattle.body_types.specs.Nodes.{IsTold, NoneBars, SomeBars};
+ghost use Rattle.body_types.specs.Nodes.{IsListed, NoneBars, SomeBars};
 
 use crate::barred_uses::known::{Known, known_at, last_count};
-use crate::barred_uses::nodes::{PlaceFacts, node_bars};
+use crate::barred_uses::nodes::{VariableFacts, node_bars};
 use base::memory::NoMemory;
 use program::code::Body;
 use program::declaration::Function;
@@ -35,23 +35,23 @@ fn nodes_read(body: &Body, steps: usize) -> usize
 fn some_bars<'a>(
     program: &Program,
     function: &Function,
-    facts: PlaceFacts<'a>,
-    places: usize,
+    facts: VariableFacts<'a>,
+    variables: usize,
     read: usize,
 ) -> bool
-    requires told { IsTold facts.slots.now facts.roots.now facts.pool.now facts.numbers.now }
-    requires places { places ≡ place_count (function_setting program.now function.now) }
-    requires longer { places ≤ length facts.slots.now }
+    requires known { IsListed facts.slots.now facts.roots.now facts.pool.now facts.numbers.now }
+    requires variables { variables ≡ variable_count (function_setting program.now function.now) }
+    requires longer { variables ≤ length facts.slots.now }
     requires read { read ≤ length function.now.body.nodes }
     ensures some { result ≡ true → SomeBars program.now function.now facts.entry.own.now facts.entry.types.now (Meets facts.entry.slots.now) read }
     ensures no { result ≡ false → NoneBars program.now function.now facts.entry.own.now facts.entry.types.now (Meets facts.entry.slots.now) read }
 {
-    let mut first = first_of_all(function, places);
-    for place in 0..read {
-        if node_bars(facts, place, first, function.body.node(place)) {
+    let mut first = first_of_all(function, variables);
+    for index in 0..read {
+        if node_bars(facts, index, first, function.body.node(index)) {
             return true;
         }
-        first = first_of_next(program, function, place, first, places);
+        first = first_of_next(program, function, index, first, variables);
     }
     false
 }
@@ -70,7 +70,7 @@ fn bars_known<'a>(
     let mut pool = TypePool::new(alloc);
     let slots = known.slots.as_slice();
     let forced = forced_types(alloc, &mut pool, slots, &known.ranking)?;
-    let facts = PlaceFacts {
+    let facts = VariableFacts {
         own,
         types: function.type_parameters.as_slice(),
         slots,
@@ -79,7 +79,7 @@ fn bars_known<'a>(
         numbers: forced.numbers.as_slice(),
     };
     let read = nodes_read(&function.body, known.steps);
-    Ok(some_bars(program, function, facts, known.places, read))
+    Ok(some_bars(program, function, facts, known.variables, read))
 }
 
 /// The same, where so many first nodes have typings, and more have none.

@@ -23,7 +23,7 @@ use unification::type_variables::slots::Slot;
 /// which each variable comes after those that it refers to, and the number of steps that are read.
 #[derive(Drop)]
 pub(crate) struct Known<'a> {
-    pub places: usize,
+    pub variables: usize,
     pub slots: Vec<Slot<'a>>,
     pub ranking: Ranking,
     pub steps: usize,
@@ -32,17 +32,17 @@ pub(crate) struct Known<'a> {
 /// The same from slots that know the typings; none where there are no typings.
 fn from_slots<'a>(
     alloc: Global,
-    places: usize,
+    variables: usize,
     slots: Vec<Slot<'a>>,
     steps: usize,
 ) -> Result<Option<Known<'a>>, NoMemory>
     requires { Fits slots.items }
-    ensures { IfOk result (λ found. (s : System) → IsReadOf s places slots.entry.items steps → KnownSays s found) }
+    ensures { IfOk result (λ found. (s : System) → IsReadOf s variables slots.entry.items steps → KnownSays s found) }
 {
     match ranks(alloc, &slots)? {
         None => Ok(None),
         Some(ranking) => Ok(Some(Known {
-            places,
+            variables,
             slots,
             ranking,
             steps,
@@ -56,13 +56,13 @@ fn from_walk<'a>(alloc: Global, walk: Walk<'a>) -> Result<Option<Known<'a>>, NoM
     ensures { IfOk result (λ found. (s : System) → IsWalkOf s walk.entry → KnownSays s found) }
 {
     let Walk {
-        places,
+        variables,
         slots,
         progress,
     } = walk;
     match progress.reading {
-        Reading::Whole => from_slots(alloc, places, slots, progress.count),
-        Reading::Stopped => from_slots(alloc, places, slots, progress.count),
+        Reading::Whole => from_slots(alloc, variables, slots, progress.count),
+        Reading::Stopped => from_slots(alloc, variables, slots, progress.count),
         Reading::Clash => Ok(None),
     }
 }

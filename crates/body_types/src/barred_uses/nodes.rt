@@ -7,7 +7,7 @@ ghost use Rattle.program.specs.Homes.{struct_home};
 ghost use Rattle.unification.specs.Slots.{Meets};
 ghost use Rattle.unification.specs.Numbers.{number_at};
 ghost use Rattle.type_constraints.specs.Storage.{IsStorageCall, IsStorageNode};
-ghost use Rattle.body_types.specs.Nodes.{CallBars, FieldBars, IsTold, NodeBars, StorageBars};
+ghost use Rattle.body_types.specs.Nodes.{CallBars, FieldBars, IsListed, NodeBars, StorageBars};
 
 use crate::barred_uses::owners::owner_at;
 use crate::barred_uses::storage::is_visible;
@@ -23,7 +23,7 @@ use unification::type_variables::slots::Slot;
 /// The module of a function, its type parameters, and what is known of the types of its type variables: the
 /// representative of each, and the number of its type in the pool if all typings give it one.
 #[derive(Clone, Copy)]
-pub(crate) struct PlaceFacts<'a> {
+pub(crate) struct VariableFacts<'a> {
     pub own: &'a ModuleId,
     pub types: &'a [TypeParameter],
     pub slots: &'a [Slot<'a>],
@@ -40,8 +40,8 @@ fn is_of_module(own: &ModuleId, owner: &StructId) -> bool
 }
 
 /// Decides whether the type of a variable is, or points at, a struct of another module.
-fn field_bars<'a>(facts: PlaceFacts<'a>, base: usize) -> bool
-    requires told { IsTold facts.slots.now facts.roots.now facts.pool.now facts.numbers.now }
+fn field_bars<'a>(facts: VariableFacts<'a>, base: usize) -> bool
+    requires known { IsListed facts.slots.now facts.roots.now facts.pool.now facts.numbers.now }
     requires within { base < length facts.slots.now }
     ensures { Decides result (FieldBars facts.entry.own.now (Meets facts.entry.slots.now) base) }
 {
@@ -52,16 +52,16 @@ fn field_bars<'a>(facts: PlaceFacts<'a>, base: usize) -> bool
 }
 
 /// The number of the type of a type variable.
-fn number_of(numbers: &[Option<usize>], place: usize) -> Option<usize>
-    requires { place < length numbers.now }
-    ensures { result ≡ number_at numbers.now place }
+fn number_of(numbers: &[Option<usize>], variable: usize) -> Option<usize>
+    requires { variable < length numbers.now }
+    ensures { result ≡ number_at numbers.now variable }
 {
-    numbers[place]
+    numbers[variable]
 }
 
 /// Decides whether the type of a variable is one at which the module may not use global storage.
-fn storage_bars<'a>(facts: PlaceFacts<'a>, first: usize) -> bool
-    requires told { IsTold facts.slots.now facts.roots.now facts.pool.now facts.numbers.now }
+fn storage_bars<'a>(facts: VariableFacts<'a>, first: usize) -> bool
+    requires known { IsListed facts.slots.now facts.roots.now facts.pool.now facts.numbers.now }
     requires within { first < length facts.slots.now }
     ensures { Decides result (StorageBars facts.entry.own.now facts.entry.types.now (Meets facts.entry.slots.now) first) }
 {
@@ -72,8 +72,8 @@ fn storage_bars<'a>(facts: PlaceFacts<'a>, first: usize) -> bool
 }
 
 /// Decides whether visibility forbids a call whose type arguments are the type variables from `first` on.
-fn call_bars<'a>(facts: PlaceFacts<'a>, first: usize, callee: &Callee) -> bool
-    requires told { IsTold facts.slots.now facts.roots.now facts.pool.now facts.numbers.now }
+fn call_bars<'a>(facts: VariableFacts<'a>, first: usize, callee: &Callee) -> bool
+    requires known { IsListed facts.slots.now facts.roots.now facts.pool.now facts.numbers.now }
     requires within { IsStorageCall callee.now → first < length facts.slots.now }
     ensures { Decides result (CallBars facts.entry.own.now facts.entry.types.now (Meets facts.entry.slots.now) first callee.now) }
 {
@@ -85,14 +85,14 @@ fn call_bars<'a>(facts: PlaceFacts<'a>, first: usize, callee: &Callee) -> bool
 
 /// Decides whether visibility forbids the access at a node whose type arguments are the type variables from `first` on.
 pub(crate) fn node_bars<'a>(
-    facts: PlaceFacts<'a>,
-    place: usize,
+    facts: VariableFacts<'a>,
+    variable: usize,
     first: usize,
     node: &Node<CodeLeaf, CodeUnary, CodeBinary, CodeMany>,
 ) -> bool
-    requires told { IsTold facts.slots.now facts.roots.now facts.pool.now facts.numbers.now }
-    requires place { place < length facts.slots.now }
-    requires below { IsBelow place node.now }
+    requires known { IsListed facts.slots.now facts.roots.now facts.pool.now facts.numbers.now }
+    requires variable { variable < length facts.slots.now }
+    requires below { IsBelow variable node.now }
     requires within { IsStorageNode node.now → first < length facts.slots.now }
     ensures { Decides result (NodeBars facts.entry.own.now facts.entry.types.now (Meets facts.entry.slots.now) first node.now) }
 {

@@ -48,7 +48,7 @@ fn slot_struct<'a>(slot: Slot<'a>) -> Option<&'a StructId>
     match slot {
         Slot::Open(_) => None,
         Slot::Bound(term) => match term {
-            Term::Place(_) => None,
+            Term::Variable(_) => None,
             Term::Closed(of) => written_struct(of),
             Term::Made(_, _) => None,
             Term::Grouped(group, _, _) => group_struct(group),
@@ -85,7 +85,7 @@ fn slot_owner<'a>(slots: &[Slot<'a>], roots: &[usize], at: usize) -> Option<&'a 
     match slot {
         Slot::Open(_) => None,
         Slot::Bound(term) => match term {
-            Term::Place(_) => None,
+            Term::Variable(_) => None,
             Term::Closed(of) => written_owner(of),
             Term::Made(wrap, to) => made_owner(slots, roots, wrap, to),
             Term::Grouped(group, _, _) => group_struct(group),
@@ -98,13 +98,13 @@ fn slot_owner<'a>(slots: &[Slot<'a>], roots: &[usize], at: usize) -> Option<&'a 
 pub(crate) fn owner_at<'a>(
     slots: &[Slot<'a>],
     roots: &[usize],
-    place: usize,
+    variable: usize,
 ) -> Option<&'a StructId>
     requires fits { Fits slots.now }
     requires roots { AreRoots slots.now roots.now (length slots.now) }
     requires ranked { (r : ℕ → ℕ) × IsRank slots.now r }
-    requires within { place < length slots.now }
-    ensures { OwnerSays slots.now place (option_copied result) }
+    requires within { variable < length slots.now }
+    ensures { OwnerSays slots.now variable (option_copied result) }
 {
-    slot_owner(slots, roots, roots[place])
+    slot_owner(slots, roots, roots[variable])
 }

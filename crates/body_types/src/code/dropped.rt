@@ -12,13 +12,13 @@ use std::alloc::Global;
 /// Adds the type variable whose value a node drops.
 fn add_dropped(
     dropped: &mut Vec<usize>,
-    place: usize,
+    index: usize,
     node: &Node<CodeLeaf, CodeUnary, CodeBinary, CodeMany>,
 ) -> Result<(), NoMemory>
-    requires below { IsBelow place node.now }
-    requires within { All (λ p. p < place) dropped.old.items }
+    requires below { IsBelow index node.now }
+    requires within { All (λ p. p < index) dropped.old.items }
     ensures are { OnOk result (dropped.new.items ≡ dropped.old.items ++ dropped_by node.now) }
-    ensures within { OnOk result (All (λ p. p < place) dropped.new.items) }
+    ensures within { OnOk result (All (λ p. p < index) dropped.new.items) }
 {
     match node {
         Node::Unary(CodeUnary::Discard, item) => {
@@ -30,13 +30,13 @@ fn add_dropped(
 }
 
 /// The type variables of the whole values of `e;`, node by node.
-pub fn dropped_places(alloc: Global, body: &Body) -> Result<Vec<usize>, NoMemory>
+pub fn dropped_variables(alloc: Global, body: &Body) -> Result<Vec<usize>, NoMemory>
     ensures are { IfOk result (λ dropped. dropped.items ≡ flat_map dropped_by body.now.nodes) }
     ensures within { IfOk result (λ dropped. All (λ p. p < length body.now.nodes) dropped.items) }
 {
     let mut dropped = Vec::new(alloc);
-    for place in 0..body.len() {
-        add_dropped(&mut dropped, place, body.node(place))?;
+    for index in 0..body.len() {
+        add_dropped(&mut dropped, index, body.node(index))?;
     }
     Ok(dropped)
 }

@@ -41,26 +41,26 @@ pub(crate) fn written_number(node: &Node<CodeLeaf, CodeUnary, CodeBinary, CodeMa
 }
 
 /// Decides whether a number is no value of the type of this type variable.
-fn number_misfits<'a>(defaulted: &Defaulted<'a>, place: usize, value: u128) -> bool
+fn number_misfits<'a>(defaulted: &Defaulted<'a>, variable: usize, value: u128) -> bool
     requires sound { IsSound defaulted.now }
-    requires within { place < length defaulted.now.slots.items }
-    ensures { (s : System) → HasDefaults s defaulted.now → place < s.places → Decides result (NumberMisfits s place value) }
+    requires within { variable < length defaulted.now.slots.items }
+    ensures { (s : System) → HasDefaults s defaulted.now → variable < s.variables → Decides result (NumberMisfits s variable value) }
 {
-    match integer_width(defaulted, place) {
+    match integer_width(defaulted, variable) {
         Some(width) => !fits(value, width),
         None => false,
     }
 }
 
 /// Decides whether a node is a number literal that is no value of its type.
-fn misfit_at<'a>(body: &Body, defaulted: &Defaulted<'a>, place: usize) -> bool
+fn misfit_at<'a>(body: &Body, defaulted: &Defaulted<'a>, index: usize) -> bool
     requires sound { IsSound defaulted.now }
-    requires node { place < length body.now.nodes }
-    requires within { place < length defaulted.now.slots.items }
-    ensures { (s : System) → HasDefaults s defaulted.now → place < s.places → Decides result (MisfitAt s body.now.nodes place) }
+    requires node { index < length body.now.nodes }
+    requires within { index < length defaulted.now.slots.items }
+    ensures { (s : System) → HasDefaults s defaulted.now → index < s.variables → Decides result (MisfitAt s body.now.nodes index) }
 {
-    match written_number(body.node(place)) {
-        Some(value) => number_misfits(defaulted, place, value),
+    match written_number(body.node(index)) {
+        Some(value) => number_misfits(defaulted, index, value),
         None => false,
     }
 }
@@ -70,10 +70,10 @@ fn misfits<'a>(body: &Body, defaulted: &Defaulted<'a>, read: usize) -> bool
     requires sound { IsSound defaulted.now }
     requires read { read ≤ length body.now.nodes }
     requires within { length body.now.nodes ≤ length defaulted.now.slots.items }
-    ensures { (s : System) → HasDefaults s defaulted.now → length body.now.nodes ≤ s.places → ReadsNodes s body.now.nodes read → Decides result (Misfits s body.now.nodes) }
+    ensures { (s : System) → HasDefaults s defaulted.now → length body.now.nodes ≤ s.variables → ReadsNodes s body.now.nodes read → Decides result (Misfits s body.now.nodes) }
 {
-    for place in 0..read {
-        if misfit_at(body, defaulted, place) {
+    for variable in 0..read {
+        if misfit_at(body, defaulted, variable) {
             return true;
         }
     }
@@ -92,7 +92,7 @@ fn nodes_read(body: &Body, steps: usize) -> usize
 pub fn judge<'a>(body: &Body, defaulted: &Defaulted<'a>, steps: usize) -> Judged
     requires sound { IsSound defaulted.now }
     requires within { length body.now.nodes ≤ length defaulted.now.slots.items }
-    ensures { (s : System) → HasDefaults s defaulted.now → length body.now.nodes ≤ s.places → ReadsSteps s steps → JudgedOf s body.now.nodes result }
+    ensures { (s : System) → HasDefaults s defaulted.now → length body.now.nodes ≤ s.variables → ReadsSteps s steps → JudgedOf s body.now.nodes result }
 {
     let read = nodes_read(body, steps);
     Judged {

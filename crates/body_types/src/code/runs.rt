@@ -62,28 +62,28 @@ fn integer_pool(alloc: Global) -> Result<TypePool, NoMemory>
 
 /// The number of the type of a type variable. `NoMemory` where it is no integer type, which does not occur: the
 /// constraints of a number literal require one.
-fn number_type<'a>(defaulted: &Defaulted<'a>, place: usize) -> Result<usize, NoMemory>
+fn number_type<'a>(defaulted: &Defaulted<'a>, variable: usize) -> Result<usize, NoMemory>
     requires sound { IsSound defaulted.now }
-    requires within { place < length defaulted.now.slots.items }
+    requires within { variable < length defaulted.now.slots.items }
     ensures within { IfOk result (λ number. number < 5) }
-    ensures is { IfOk result (λ number. (s : System) → HasDefaults s defaulted.now → place < s.places → IsNumberType s place number) }
+    ensures is { IfOk result (λ number. (s : System) → HasDefaults s defaulted.now → variable < s.variables → IsNumberType s variable number) }
 {
-    match integer_width(defaulted, place) {
+    match integer_width(defaulted, variable) {
         Some(width) => Ok(width_number(width)),
         None => Err(NoMemory),
     }
 }
 
 /// The number of the type of a node that is a number literal.
-fn node_type<'a>(body: &Body, defaulted: &Defaulted<'a>, place: usize) -> Result<usize, NoMemory>
+fn node_type<'a>(body: &Body, defaulted: &Defaulted<'a>, index: usize) -> Result<usize, NoMemory>
     requires sound { IsSound defaulted.now }
-    requires node { place < length body.now.nodes }
-    requires within { place < length defaulted.now.slots.items }
+    requires node { index < length body.now.nodes }
+    requires within { index < length defaulted.now.slots.items }
     ensures within { IfOk result (λ number. number < 5) }
-    ensures is { IfOk result (λ number. (s : System) → HasDefaults s defaulted.now → place < s.places → IsNodeType s body.now.nodes place number) }
+    ensures is { IfOk result (λ number. (s : System) → HasDefaults s defaulted.now → index < s.variables → IsNodeType s body.now.nodes index number) }
 {
-    match written_number(body.node(place)) {
-        Some(_) => number_type(defaulted, place),
+    match written_number(body.node(index)) {
+        Some(_) => number_type(defaulted, index),
         None => Ok(0),
     }
 }
@@ -98,11 +98,11 @@ fn node_types<'a>(
     requires within { length body.now.nodes ≤ length defaulted.now.slots.items }
     ensures count { IfOk result (λ types. length types.items ≡ length body.now.nodes) }
     ensures within { IfOk result (λ types. All (λ number. number < 5) types.items) }
-    ensures are { IfOk result (λ types. (s : System) → HasDefaults s defaulted.now → length body.now.nodes ≤ s.places → AreNodeTypes s body.now.nodes types.items) }
+    ensures are { IfOk result (λ types. (s : System) → HasDefaults s defaulted.now → length body.now.nodes ≤ s.variables → AreNodeTypes s body.now.nodes types.items) }
 {
     let mut types = Vec::new(alloc);
-    for place in 0..body.len() {
-        let number = node_type(body, defaulted, place)?;
+    for index in 0..body.len() {
+        let number = node_type(body, defaulted, index)?;
         types.push(number)?;
     }
     Ok(types)
@@ -112,7 +112,7 @@ fn node_types<'a>(
 fn fails_to_run<'a>(alloc: Global, body: &Body, defaulted: &Defaulted<'a>) -> Result<bool, NoMemory>
     requires sound { IsSound defaulted.now }
     requires within { length body.now.nodes ≤ length defaulted.now.slots.items }
-    ensures { IfOk result (λ fails. (s : System) → HasDefaults s defaulted.now → length body.now.nodes ≤ s.places → Decides fails (FailsToRun s body.now.nodes)) }
+    ensures { IfOk result (λ fails. (s : System) → HasDefaults s defaulted.now → length body.now.nodes ≤ s.variables → Decides fails (FailsToRun s body.now.nodes)) }
 {
     let pool = integer_pool(alloc)?;
     let types = node_types(alloc, body, defaulted)?;

@@ -18,7 +18,7 @@ use unification::type_variables::slots::Slot;
 /// integer types, and how far it was read.
 #[derive(Drop)]
 pub struct Typable<'a> {
-    pub places: usize,
+    pub variables: usize,
     pub defaulted: Defaulted<'a>,
     pub progress: Progress,
 }
@@ -27,18 +27,18 @@ pub struct Typable<'a> {
 fn from_slots<'a>(
     alloc: Global,
     types: &'a CodeTypes,
-    places: usize,
+    variables: usize,
     slots: Vec<Slot<'a>>,
     progress: Progress,
 ) -> Result<Option<Typable<'a>>, NoMemory>
     requires types { AreCodeTypes types.now }
     requires fits { Fits slots.items }
-    ensures { IfOk result (λ found. (s : System) → IsKnownOf s places slots.entry.items progress → TypableSays s found) }
+    ensures { IfOk result (λ found. (s : System) → IsKnownOf s variables slots.entry.items progress → TypableSays s found) }
 {
     match with_defaults(alloc, &slots, &types.plain.int_64)? {
         None => Ok(None),
         Some(defaulted) => Ok(Some(Typable {
-            places,
+            variables,
             defaulted,
             progress,
         })),
@@ -56,13 +56,13 @@ pub fn known_typings<'a>(
     ensures { IfOk result (λ found. (s : System) → IsWalkOf s walk.entry → TypableSays s found) }
 {
     let Walk {
-        places,
+        variables,
         slots,
         progress,
     } = walk;
     match progress.reading {
-        Reading::Whole => from_slots(alloc, types, places, slots, progress),
-        Reading::Stopped => from_slots(alloc, types, places, slots, progress),
+        Reading::Whole => from_slots(alloc, types, variables, slots, progress),
+        Reading::Stopped => from_slots(alloc, types, variables, slots, progress),
         Reading::Clash => Ok(None),
     }
 }

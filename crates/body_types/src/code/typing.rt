@@ -8,7 +8,7 @@ ghost use Rattle.body_types.specs.Plain.{AreCodeTypes};
 ghost use Rattle.body_types.specs.Typable.{IsTypable, IsCode, is_whole};
 ghost use Rattle.body_types.specs.CodeTyped.{TypingSays};
 
-use crate::code::dropped::dropped_places;
+use crate::code::dropped::dropped_variables;
 use crate::code::fitting::{Judged, judge};
 use crate::code::plain::CodeTypes;
 use crate::code::typable::{Typable, known_typings};
@@ -21,7 +21,7 @@ use std::alloc::Global;
 use type_solver::code_systems::systems::{read_constant, read_function};
 use type_solver::walk::Reading;
 use typing_rules::type_pool::TypePool;
-use unification::solution::choice::{choose, types_of_places};
+use unification::solution::choice::{choose, types_of_variables};
 
 /// The typing of a function or a constant.
 #[derive(Drop)]
@@ -55,13 +55,13 @@ fn typing_of<'a>(
     ensures says { IfOk result (λ typing. (s : System) → IsTypable s known.entry → IsCode s body.now.nodes → TypingSays s body.now.nodes pool.new typing) }
 {
     let Typable {
-        places,
+        variables,
         defaulted,
         progress,
     } = known;
     let judged = judge(body, &defaulted, progress.count);
-    let dropped = dropped_places(alloc, body)?;
-    let numbers = types_of_places(alloc, pool, defaulted, places, &dropped, &types.unit)?;
+    let dropped = dropped_variables(alloc, body)?;
+    let numbers = types_of_variables(alloc, pool, defaulted, variables, &dropped, &types.unit)?;
     if !is_whole(progress.reading) {
         return Ok(CodeTyping::Ambiguous(numbers, judged));
     }

@@ -6,7 +6,7 @@ ghost use Rattle.program.specs.declared.arena.Node.TheVariants.{Leaf, Unary};
 ghost use Rattle.program.specs.Trees.{IsBelow};
 ghost use Rattle.typing_rules.specs.ConstantRuns.{cast_to, node_value, run_of, typed_number};
 ghost use Rattle.typing_rules.specs.Pools.{type_of};
-ghost use Rattle.body_types.specs.Told.{TellsRuns, TypesNumbers, told_type};
+ghost use Rattle.body_types.specs.KnownTypes.{TellsRuns, TypesNumbers, known_type};
 
 use crate::constants::integer::kept;
 use crate::constants::operator::{joined, negated};
@@ -90,14 +90,14 @@ fn values_of(
     pool: &TypePool,
 ) -> Result<Vec<Option<ConstantValue>>, NoMemory>
     requires types { length body.now.nodes ≤ length types.now }
-    requires told { All (λ n. n < length pool.now) types.now }
+    requires known { All (λ n. n < length pool.now) types.now }
     ensures len { IfOk result (λ values. length values.items ≡ length body.now.nodes) }
-    ensures values { IfOk result (λ values. TellsRuns values.items body.now.nodes (told_type pool.now types.now)) }
+    ensures values { IfOk result (λ values. TellsRuns values.items body.now.nodes (known_type pool.now types.now)) }
 {
     let mut values = Vec::new(alloc);
-    for place in 0..body.len() {
-        let of = pool.entry(types[place]);
-        let value = node_value(values.as_slice(), of, body.node(place));
+    for index in 0..body.len() {
+        let of = pool.entry(types[index]);
+        let value = node_value(values.as_slice(), of, body.node(index));
         values.push(value)?;
     }
     Ok(values)
@@ -112,8 +112,8 @@ pub fn run_of(
     pool: &TypePool,
 ) -> Result<Option<ConstantValue>, NoMemory>
     requires types { length body.now.nodes ≤ length types.now }
-    requires told { All (λ n. n < length pool.now) types.now }
-    ensures { IfOk result (λ value. (t : ℕ → TypeData) → TypesNumbers body.now.nodes (told_type pool.now types.now) t → value ≡ run_of body.now.nodes t) }
+    requires known { All (λ n. n < length pool.now) types.now }
+    ensures { IfOk result (λ value. (t : ℕ → TypeData) → TypesNumbers body.now.nodes (known_type pool.now types.now) t → value ≡ run_of body.now.nodes t) }
 {
     let values = values_of(alloc, body, types, pool)?;
     match values.last() {

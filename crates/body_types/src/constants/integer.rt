@@ -48,11 +48,11 @@ pub(crate) fn kept(width: Width, value: u128) -> Option<ConstantValue>
 }
 
 /// The same for a number that is given only if it is below 2^128.
-fn kept_told(width: Width, value: Option<u128>) -> Option<ConstantValue>
+fn kept_known(width: Width, value: Option<u128>) -> Option<ConstantValue>
     ensures { (n : ℕ) → SomeIff value (n < 2 ^ 128) n → result ≡ kept width n }
 {
     match value {
-        Some(told) => kept(width, told),
+        Some(known) => kept(width, known),
         None => None,
     }
 }
@@ -96,9 +96,9 @@ pub(crate) fn calculated(
     ensures { result ≡ calculated width sign left right }
 {
     match sign {
-        Arithmetic::Add => kept_told(width, left.checked_add(right)),
+        Arithmetic::Add => kept_known(width, left.checked_add(right)),
         Arithmetic::Subtract => difference(width, left, right),
-        Arithmetic::Multiply => kept_told(width, left.checked_mul(right)),
+        Arithmetic::Multiply => kept_known(width, left.checked_mul(right)),
         Arithmetic::Divide => quotient(width, left, right),
         Arithmetic::Remainder => remainder(width, left, right),
     }

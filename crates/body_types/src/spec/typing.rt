@@ -7,7 +7,7 @@ ghost use Rattle.type_constraints.specs.Blocks.{block_of};
 ghost use Rattle.typing_rules.specs.Answers.{System};
 ghost use Rattle.typing_rules.specs.Clauses.{clause_system, spec_function_system};
 ghost use Rattle.typing_rules.specs.declared.type_pool.PoolType.{PoolType};
-ghost use Rattle.unification.specs.Choices.{AreTypes, PlaceSays};
+ghost use Rattle.unification.specs.Choices.{AreTypes, VariableSays};
 ghost use Rattle.unification.specs.Numbers.{Keeps, number_at};
 ghost use Rattle.body_types.specs.Plain.{AreCodeTypes};
 ghost use Rattle.body_types.specs.SpecKnown.{IsKnown, IsWalkOf, IsWhole, StopsIfTypable};
@@ -42,31 +42,31 @@ pub enum SpecTyping {
 
 impl SpecTyping {
     /// The number in the pool of the type of a type variable, if it has one.
-    pub fn type_of(&self, place: usize) -> Option<usize>
-        ensures { (s : System) (pool : List PoolType) → SpecTypingSays s pool self.now → place < s.places → PlaceSays s pool place result }
+    pub fn type_of(&self, variable: usize) -> Option<usize>
+        ensures { (s : System) (pool : List PoolType) → SpecTypingSays s pool self.now → variable < s.variables → VariableSays s pool variable result }
     {
         match self {
             SpecTyping::Untypable => None,
-            SpecTyping::Ambiguous(numbers) => number_at(numbers.as_slice(), place),
-            SpecTyping::Typed(numbers) => number_in(numbers.as_slice(), place),
+            SpecTyping::Ambiguous(numbers) => number_at(numbers.as_slice(), variable),
+            SpecTyping::Typed(numbers) => number_in(numbers.as_slice(), variable),
         }
     }
 }
 
 /// The number of a type variable, if it has one.
-fn number_at(numbers: &[Option<usize>], place: usize) -> Option<usize>
-    ensures { result ≡ number_at numbers.now place }
+fn number_at(numbers: &[Option<usize>], variable: usize) -> Option<usize>
+    ensures { result ≡ number_at numbers.now variable }
 {
-    match numbers.get(place) {
+    match numbers.get(variable) {
         Some(number) => *number,
         None => None,
     }
 }
 
-fn number_in(numbers: &[usize], place: usize) -> Option<usize>
-    ensures { result ≡ slice_get numbers.now place }
+fn number_in(numbers: &[usize], variable: usize) -> Option<usize>
+    ensures { result ≡ slice_get numbers.now variable }
 {
-    match numbers.get(place) {
+    match numbers.get(variable) {
         Some(number) => Some(*number),
         None => None,
     }
@@ -76,15 +76,15 @@ fn number_in(numbers: &[usize], place: usize) -> Option<usize>
 fn stopped_typing<'a>(
     alloc: Global,
     slots: &[Slot<'a>],
-    places: usize,
+    variables: usize,
     pool: &mut TypePool,
 ) -> Result<SpecTyping, NoMemory>
     requires fits { Fits slots.now }
-    requires places { places ≤ length slots.now }
+    requires variables { variables ≤ length slots.now }
     ensures keeps { IfOk result (λ typing. Keeps pool.old pool.new) }
-    ensures says { IfOk result (λ typing. (s : System) → IsKnown s slots.now places → StopsIfTypable s → SpecTypingSays s pool.new typing) }
+    ensures says { IfOk result (λ typing. (s : System) → IsKnown s slots.now variables → StopsIfTypable s → SpecTypingSays s pool.new typing) }
 {
-    match types_without_defaults(alloc, pool, slots, places)? {
+    match types_without_defaults(alloc, pool, slots, variables)? {
         None => Ok(SpecTyping::Untypable),
         Some(numbers) => Ok(SpecTyping::Ambiguous(numbers)),
     }
@@ -104,15 +104,15 @@ fn chosen_typing(alloc: Global, numbers: Vec<Option<usize>>) -> Result<SpecTypin
 fn whole_typing<'a>(
     alloc: Global,
     slots: &[Slot<'a>],
-    places: usize,
+    variables: usize,
     pool: &mut TypePool,
 ) -> Result<SpecTyping, NoMemory>
     requires fits { Fits slots.now }
-    requires places { places ≤ length slots.now }
+    requires variables { variables ≤ length slots.now }
     ensures keeps { IfOk result (λ typing. Keeps pool.old pool.new) }
-    ensures says { IfOk result (λ typing. (s : System) → IsKnown s slots.now places → IsWhole s → SpecTypingSays s pool.new typing) }
+    ensures says { IfOk result (λ typing. (s : System) → IsKnown s slots.now variables → IsWhole s → SpecTypingSays s pool.new typing) }
 {
-    match types_without_defaults(alloc, pool, slots, places)? {
+    match types_without_defaults(alloc, pool, slots, variables)? {
         None => Ok(SpecTyping::Untypable),
         Some(numbers) => chosen_typing(alloc, numbers),
     }
@@ -129,8 +129,8 @@ fn typing_of<'a>(
     ensures says { IfOk result (λ typing. (s : System) → IsWalkOf s walk.now → SpecTypingSays s pool.new typing) }
 {
     match walk.progress.reading {
-        Reading::Whole => whole_typing(alloc, &walk.slots, walk.places, pool),
-        Reading::Stopped => stopped_typing(alloc, &walk.slots, walk.places, pool),
+        Reading::Whole => whole_typing(alloc, &walk.slots, walk.variables, pool),
+        Reading::Stopped => stopped_typing(alloc, &walk.slots, walk.variables, pool),
         Reading::Clash => Ok(SpecTyping::Untypable),
     }
 }

@@ -6,7 +6,7 @@ ghost use Rattle.term_pool.specs.Pools.{item_of, items, HasParts};
 ghost use Rattle.term_pool.specs.declared.node.Node.{Node};
 ghost use Rattle.tableau.specs.Numbers.{formula_at};
 ghost use Rattle.search.specs.Applications.{term_at};
-ghost use Rattle.certificate_text.specs.Lengths.{item_length, length_at, AreFirstLengths, AreLengths, leaf_bytes, one_bytes, two_bytes, three_bytes, is_term_node, is_formula_node};
+ghost use Rattle.certificate_text.specs.Lengths.{item_length, length_at, AreFirstLengths, AreLengths, leaf_bytes, one_bytes, two_bytes, three_bytes};
 
 use base::memory::NoMemory;
 use fol::operators::{Binary, Constant};
@@ -119,38 +119,16 @@ pub fn lengths(alloc: Global, pool: &Pool) -> Result<Vec<u64>, NoMemory>
     Ok(lens)
 }
 
-fn is_term_node(node: Node) -> bool
-    ensures { result ≡ is_term_node node }
-{
-    match node {
-        Node::Leaf(Leaf::Var(_) | Leaf::Constant(_)) => true,
-        Node::One(One::Unary(_), _) => true,
-        Node::Two(Two::Binary(_) | Two::Pack | Two::Field(_), _, _) => true,
-        Node::Three(Three::Ternary(_) | Three::SetField(_) | Three::If, _, _, _) => true,
-        _ => false,
-    }
-}
-
-fn is_formula_node(node: Node) -> bool
-    ensures { result ≡ is_formula_node node }
-{
-    match node {
-        Node::One(One::Holds | One::Not | One::Join(_), _) => true,
-        Node::Two(Two::Compare(_) | Two::Is | Two::Connect(_) | Two::Quantify(_, _), _, _) => true,
-        _ => false,
-    }
-}
-
 /// The number of bytes of the term with this number, by the lengths of the pool's items. A number of no term counts as
 /// `Nothing`.
 pub(crate) fn term_len(pool: &Pool, lens: &[u64], number: usize) -> u64
     requires { AreLengths pool.now lens.now }
     ensures { result ≡ capped (term_length (term_at pool.now number)) }
 {
-    match pool.node(number) {
-        Some(node) if is_term_node(node) => len_at(lens, number),
-        _ => 1,
+    if !pool.is_term(number) {
+        return 1;
     }
+    len_at(lens, number)
 }
 
 /// The number of bytes of the formula with this number. A number of no formula counts as the empty disjunction.
@@ -158,10 +136,10 @@ pub(crate) fn formula_len(pool: &Pool, lens: &[u64], number: usize) -> u64
     requires { AreLengths pool.now lens.now }
     ensures { result ≡ capped (formula_length (formula_at pool.now number)) }
 {
-    match pool.node(number) {
-        Some(node) if is_formula_node(node) => len_at(lens, number),
-        _ => 5,
+    if !pool.is_formula(number) {
+        return 5;
     }
+    len_at(lens, number)
 }
 
 /// The number of bytes of the left side of the comparison with this number; 0 for another formula.

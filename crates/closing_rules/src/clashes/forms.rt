@@ -1,6 +1,6 @@
-//! Formulas that negate another one, that equate two terms, or that cannot be true by their form.
+//! Formulas that cannot be true by their form.
 
-ghost use Rattle.std.specs.Prelude.{◌≡◌, ◌↔◌, IsTrue, MatchOption};
+ghost use Rattle.std.specs.Prelude.{◌≡◌, ◌↔◌, IsTrue};
 ghost use Rattle.fol.specs.declared.operators.Constant.TheVariants.{False};
 ghost use Rattle.fol.specs.declared.operators.Junction.TheVariants.{AllOf, AnyOf};
 ghost use Rattle.fol.specs.FormulaData.{ConstantTerm, HoldsFormula, JoinFormula, NoFormulas};
@@ -9,31 +9,11 @@ ghost use Rattle.term_pool.specs.Items.{formulas_in};
 ghost use Rattle.term_pool.specs.Pools.{item_at};
 ghost use Rattle.tableau.specs.PoolBranches.{IsFormulaNumber};
 ghost use Rattle.tableau.specs.Numbers.{formula_at};
-ghost use Rattle.closing_rules.specs.Forms.{denied_part, sides_of, held_part, is_false_node, any_part, all_part, is_no_first, IsReflexive, IsNoDenial, IsDenialOf, IsNoEquation, IsEquationOf};
+ghost use Rattle.closing_rules.specs.Forms.{held_part, is_false_node, any_part, all_part, is_no_first, IsReflexive};
 
-use fol::operators::{Comparison, Constant, Junction};
+use fol::operators::{Constant, Junction};
 use term_pool::node::{Leaf, Node, One, Two};
 use term_pool::pool::Pool;
-
-// The formula that a node negates.
-fn denied_part(node: Node) -> Option<usize>
-    ensures { result ≡ denied_part node }
-{
-    match node {
-        Node::One(One::Not, inner) => Some(inner),
-        _ => None,
-    }
-}
-
-// The sides of the equation that a node is.
-fn sides_of(node: Node) -> Option<(usize, usize)>
-    ensures { result ≡ sides_of node }
-{
-    match node {
-        Node::Two(Two::Compare(Comparison::Eq), left, right) => Some((left, right)),
-        _ => None,
-    }
-}
 
 // The term that a node states to be true.
 fn held_part(node: Node) -> Option<usize>
@@ -82,28 +62,6 @@ fn is_no_first(node: Node) -> bool
     match node {
         Node::Two(Two::ConsFormula, _, _) => false,
         _ => true,
-    }
-}
-
-/// The formula that a formula negates; `None` if it is no negation.
-pub fn denied(pool: &Pool, formula: usize) -> Option<usize>
-    requires { IsFormulaNumber pool.now formula }
-    ensures { MatchOption result (IsNoDenial (formula_at pool.now formula)) (IsDenialOf pool.now formula) }
-{
-    match pool.node(formula) {
-        Some(node) => denied_part(node),
-        None => None,
-    }
-}
-
-/// The sides of an equation; `None` if the formula is no equation.
-pub fn sides(pool: &Pool, formula: usize) -> Option<(usize, usize)>
-    requires { IsFormulaNumber pool.now formula }
-    ensures { MatchOption result (IsNoEquation (formula_at pool.now formula)) (IsEquationOf pool.now formula) }
-{
-    match pool.node(formula) {
-        Some(node) => sides_of(node),
-        None => None,
     }
 }
 
@@ -168,7 +126,7 @@ fn is_reflexive(pool: &Pool, formula: usize) -> bool
     ensures { IsTrue result ↔ IsReflexive (formula_at pool.now formula) }
 {
     pool.one_number();
-    match sides(pool, formula) {
+    match pool.sides(formula) {
         Some((left, right)) => left == right,
         None => false,
     }
@@ -196,7 +154,7 @@ pub(crate) fn is_false_form(pool: &Pool, formula: usize) -> bool
     if holds_false(pool, formula) {
         return true;
     }
-    match denied(pool, formula) {
+    match pool.denied(formula) {
         Some(inner) => is_false_denied(pool, inner),
         None => false,
     }

@@ -5,7 +5,7 @@ ghost use Rattle.tableau.specs.PoolBranches.{branch_in, IsOver};
 ghost use Rattle.closing_rules.specs.Literal.{IsLiteralClash, IsNotLiteralAt, IsNotLiteral};
 
 use crate::clashes::clash::Clash;
-use crate::clashes::forms::{denied, is_false_form};
+use crate::clashes::forms::is_false_form;
 use tableau::branch::PoolBranch;
 use term_pool::pool::Pool;
 
@@ -20,7 +20,7 @@ fn literal_at(pool: &Pool, branch: &PoolBranch, i: usize) -> Option<Clash>
     if is_false_form(pool, entry.formula) {
         return Some(Clash::False(i));
     }
-    let Some(inner) = denied(pool, entry.formula) else {
+    let Some(inner) = pool.denied(entry.formula) else {
         return None;
     };
     match branch.first(pool, inner) {

@@ -11,13 +11,14 @@ ghost use Rattle.closing_rules.specs.Clashes.{EquatesJoined, IsClashOf, IsNotClo
 ghost use Rattle.closing_rules.specs.Indexes.{AreEntriesByClass};
 
 use crate::clashes::clash::Clash;
-use crate::clashes::forms::{denied, is_false_form, sides};
-use crate::clashes::index::{entries_by_class, look_up};
+use crate::clashes::forms::is_false_form;
+use crate::clashes::index::entries_by_class;
 use base::memory::NoMemory;
 use congruence_closure::branch_classes::BranchClasses;
 use indexmap::IndexMap;
 use std::alloc::Global;
 use tableau::branch::PoolBranch;
+use term_pool::numbers::look_up;
 use term_pool::pool::Pool;
 
 // Decides whether the formula equates two congruent terms.
@@ -29,7 +30,7 @@ fn equates_joined(pool: &Pool, branch: &PoolBranch, classes: &BranchClasses, for
     ensures { IsTrue result ↔ EquatesJoined (branch_in pool.now branch.now) (formula_at pool.now formula) }
 {
     pool.one_number();
-    match sides(pool, formula) {
+    match pool.sides(formula) {
         Some((left, right)) => classes.are_joined(left, right),
         None => false,
     }
@@ -56,7 +57,7 @@ fn clash_at(
     if is_false_form(pool, entry.formula) {
         return Some(Clash::False(i));
     }
-    let Some(inner) = denied(pool, entry.formula) else {
+    let Some(inner) = pool.denied(entry.formula) else {
         return None;
     };
     if equates_joined(pool, branch, classes, inner) {

@@ -8,7 +8,6 @@ ghost use Rattle.certificates.specs.Due.{IsShallow};
 ghost use Rattle.explanations.specs.BranchGraphs.{IsLow, AreLow};
 ghost use Rattle.closing_rules.specs.Depths.{IsDeep, HasDeep};
 
-use crate::clashes::forms::denied;
 use tableau::branch::PoolBranch;
 use term_pool::pool::{MOST_DEPTH, Pool};
 
@@ -31,7 +30,7 @@ fn is_low(pool: &Pool, formula: usize) -> bool
     if is_shallow(pool, formula) {
         return true;
     }
-    match denied(pool, formula) {
+    match pool.denied(formula) {
         Some(inner) => is_shallow(pool, inner),
         None => false,
     }

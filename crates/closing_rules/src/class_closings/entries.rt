@@ -7,11 +7,10 @@ ghost use Rattle.certificates.specs.Names.{above_all};
 ghost use Rattle.tableau.specs.PoolBranches.{branch_in, IsFormulaNumber, IsOver};
 ghost use Rattle.tableau.specs.Numbers.{formula_at};
 ghost use Rattle.tableau.specs.Terms.{formula_number};
-ghost use Rattle.closing_rules.specs.Forms.{IsEquationOf};
-ghost use Rattle.explanations.specs.Chains.{HasPlaces, IsChain};
+ghost use Rattle.term_pool.specs.Forms.{IsEquationOf};
+ghost use Rattle.explanations.specs.Chains.{HasPositions, IsChain};
 ghost use Rattle.closing_rules.specs.Entries.{IsFormulaOf, DeniesSome, IsDeniedBy, IsSomeEquation};
 
-use crate::clashes::forms::{denied, sides};
 use base::memory::NoMemory;
 use explanations::chain::Chain;
 use std::alloc::Global;
@@ -38,7 +37,7 @@ pub(crate) fn denied_by(pool: &Pool, branch: &PoolBranch, entry: usize) -> usize
     let Some(found) = branch.entry(entry) else {
         return 0;
     };
-    match denied(pool, found.formula) {
+    match pool.denied(found.formula) {
         Some(inner) => inner,
         None => 0,
     }
@@ -50,7 +49,7 @@ pub(crate) fn sides_of(pool: &Pool, formula: usize) -> (usize, usize)
     requires equates { IsSomeEquation (formula_at pool.now formula) }
     ensures { IsEquationOf pool.now formula result }
 {
-    match sides(pool, formula) {
+    match pool.sides(formula) {
         Some(both) => both,
         None => (0, 0),
     }
@@ -74,7 +73,7 @@ fn entry_numbers(alloc: Global, branch: &PoolBranch) -> Result<Vec<usize>, NoMem
 /// `NoMemory` if memory runs out.
 pub(crate) fn chain_of(alloc: Global, branch: &PoolBranch, variable: u32) -> Result<Chain, NoMemory>
     ensures formulas { IfOk result (λ chain. chain.formulas ≡ map formula_number branch.now.entries) }
-    ensures places { IfOk result HasPlaces }
+    ensures positions { IfOk result HasPositions }
     ensures chain { IfOk result (λ chain. (ns : List Node) → IsOver ns branch.now → above_all (formulas (branch_in ns branch.now)) ≤ variable → IsChain ns (branch_in ns branch.now) chain) }
 {
     let numbers = entry_numbers(alloc, branch)?;

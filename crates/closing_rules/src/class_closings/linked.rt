@@ -9,7 +9,7 @@ ghost use Rattle.congruence_closure.specs.Histories.{IsHistory};
 ghost use Rattle.congruence_closure.specs.Links.{Linked};
 ghost use Rattle.certificates.specs.BranchesBranch.{Branch};
 ghost use Rattle.congruence_closure.specs.Numbers.{number_at};
-ghost use Rattle.explanations.specs.Chains.{term_at, formula_at, HasPlaces, IsAt, IsChain};
+ghost use Rattle.explanations.specs.Chains.{term_at, formula_at, HasPositions, IsAt, IsChain};
 ghost use Rattle.explanations.specs.Graphs.{IsTermNode, IsGraph};
 ghost use Rattle.explanations.specs.Derivations.{AreSaid, CanBeginAny};
 ghost use Rattle.explanations.specs.Formulas.{IsFormulaNode};
@@ -60,7 +60,7 @@ pub(crate) fn equation_answer(
     requires within { one < length graph.nodes.now }
     requires other_within { other < length graph.nodes.now }
     requires linked { Linked graph.links.now one other }
-    requires places { HasPlaces chain.old }
+    requires positions { HasPositions chain.old }
     requires denied { denied < length chain.old.formulas }
     ensures extends { Extends pool.old pool.new }
     ensures shown { IfOk result (λ answer. (shapes : List Shape) (b : Branch) → IsChain pool.old b chain.old → CanBeginAny pool.old graph.entry.nodes.now b chain.old graph.entry.numbers.now → IsAt pool.old chain.old denied (NotFormula (EqFormula (term_at pool.old (number_at graph.entry.numbers.now one)) (term_at pool.old (number_at graph.entry.numbers.now other)))) → ShowsClosing shapes pool.new b answer) }
@@ -87,13 +87,13 @@ pub(crate) fn alike_answer(
     requires one { IsFormulaNode pool.old graph.nodes.now graph.numbers.now one }
     requires other { IsFormulaNode pool.old graph.nodes.now graph.numbers.now other }
     requires linked { Linked graph.links.now one other }
-    requires places { HasPlaces chain.old }
+    requires positions { HasPositions chain.old }
     requires said { slice_get chain.old.formulas said ≡ Some (number_at graph.numbers.now one) }
     requires denied { denied < length chain.old.formulas }
     ensures extends { Extends pool.old pool.new }
     ensures shown { IfOk result (λ answer. (shapes : List Shape) (b : Branch) → IsChain pool.old b chain.old → CanBeginAny pool.old graph.entry.nodes.now b chain.old graph.entry.numbers.now → IsAt pool.old chain.old denied (NotFormula (formula_at pool.old (number_at graph.entry.numbers.now other))) → ShowsClosing shapes pool.new b answer) }
 {
-    let place = derive_alike(alloc, pool, chain, graph, one, other, said)?;
-    let answer = clash_answer(alloc, chain, place, denied)?;
+    let position = derive_alike(alloc, pool, chain, graph, one, other, said)?;
+    let answer = clash_answer(alloc, chain, position, denied)?;
     Ok(answer)
 }

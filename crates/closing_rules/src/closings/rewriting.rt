@@ -4,7 +4,7 @@ ghost use Rattle.std.specs.Prelude.{◌<◌, length, OnOk, IfOk};
 ghost use Rattle.term_pool.specs.Items.{formula_in};
 ghost use Rattle.term_pool.specs.Pools.{Extends};
 ghost use Rattle.certificates.specs.BranchesBranch.{Branch};
-ghost use Rattle.explanations.specs.Chains.{HasPlaces, Keeps, IsAt, IsChain};
+ghost use Rattle.explanations.specs.Chains.{HasPositions, Keeps, IsAt, IsChain};
 ghost use Rattle.explanations.specs.Replacing.{after_all};
 ghost use Rattle.closing_rules.specs.Rewriting.{source_item, CanRewrite, CanBeginEach};
 
@@ -25,17 +25,17 @@ pub fn rewritten(
 ) -> Result<usize, NoMemory>
     requires source { source < length chain.old.formulas }
     requires replaced { CanRewrite pool.old chain.old numbers.now equations.now source differences.now }
-    requires places { HasPlaces chain.old }
+    requires positions { HasPositions chain.old }
     ensures extends { Extends pool.old pool.new }
-    ensures places { OnOk result (HasPlaces chain.new) }
+    ensures positions { OnOk result (HasPositions chain.new) }
     ensures keeps { OnOk result (Keeps chain.old chain.new) }
-    ensures at { IfOk result (λ place. IsAt pool.new chain.new place (formula_in (after_all pool.old numbers.now (source_item pool.old chain.old source) differences.now))) }
+    ensures at { IfOk result (λ position. IsAt pool.new chain.new position (formula_in (after_all pool.old numbers.now (source_item pool.old chain.old source) differences.now))) }
     ensures chain { OnOk result ((b : Branch) → IsChain pool.old b chain.old → CanBeginEach pool.old b chain.old numbers.now differences.now → IsChain pool.new b chain.new) }
 {
-    let mut place = source;
+    let mut position = source;
     for difference in differences {
-        let next = replace(pool, chain, numbers, equations, difference, place)?;
-        place = next;
+        let next = replace(pool, chain, numbers, equations, difference, position)?;
+        position = next;
     }
-    Ok(place)
+    Ok(position)
 }

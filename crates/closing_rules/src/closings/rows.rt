@@ -14,7 +14,7 @@ ghost use Rattle.explanations.specs.Chains.{formula_at, IsChain};
 ghost use Rattle.search.specs.Decisions.{IsClosingDue};
 ghost use Rattle.row_reasoning.specs.Chosen.{AreChosen};
 ghost use Rattle.row_reasoning.specs.Cited.{ArePlaced};
-ghost use Rattle.closing_rules.specs.Places.{AreBelow};
+ghost use Rattle.closing_rules.specs.Positions.{AreBelow};
 
 use crate::closings::closing::closing;
 use base::memory::NoMemory;
@@ -27,7 +27,7 @@ use row_reasoning::rows::RowOrigin;
 use search::trees::application::Closing;
 use std::alloc::Global;
 
-/// The closing of a branch by multipliers that combine its rows to a contradiction. `places` gives the indexes, in the
+/// The closing of a branch by multipliers that combine its rows to a contradiction. `positions` gives the indexes, in the
 /// explanation, of the combined rows' entries with the chosen term for each class. `None` if the explanation has more
 /// formulas than a branch may have entries. `NoMemory` if memory runs out.
 pub fn rows_closing(
@@ -35,17 +35,17 @@ pub fn rows_closing(
     chain: &Chain,
     origins: &[RowOrigin],
     multipliers: &[i128],
-    places: &[Option<usize>],
+    positions: &[Option<usize>],
 ) -> Result<Option<Closing>, NoMemory>
     requires one_each { length multipliers.now ≡ length origins.now }
     requires positive { All (λ m. pos 0 ≤ℤ m) multipliers.now }
-    requires below { AreBelow (length chain.now.formulas) places.now }
-    ensures { (shapes : List Shape) (ns : List Node) (b : Branch) (class : TermData → ℕ) (classes : List ℕ) (chosen : ℕ → TermData) (rows : List Inequality) → IsChain ns b chain.now → AreChosen class classes chosen → AllZip (IsRowFrom class (formulas b) classes) rows origins.now → IsContradiction rows multipliers.now → ArePlaced class chosen (formulas b) (map (formula_at ns) chain.now.formulas) origins.now multipliers.now places.now → IfOk result (λ found. MatchOption found (IsFull shapes b) (IsClosingDue shapes ns b)) }
+    requires below { AreBelow (length chain.now.formulas) positions.now }
+    ensures { (shapes : List Shape) (ns : List Node) (b : Branch) (class : TermData → ℕ) (classes : List ℕ) (chosen : ℕ → TermData) (rows : List Inequality) → IsChain ns b chain.now → AreChosen class classes chosen → AllZip (IsRowFrom class (formulas b) classes) rows origins.now → IsContradiction rows multipliers.now → ArePlaced class chosen (formulas b) (map (formula_at ns) chain.now.formulas) origins.now multipliers.now positions.now → IfOk result (λ found. MatchOption found (IsFull shapes b) (IsClosingDue shapes ns b)) }
 {
     rows_close();
     if chain.len() > MOST_ENTRIES {
         return Ok(None);
     }
-    let cited = multiples(alloc, origins, multipliers, places)?;
+    let cited = multiples(alloc, origins, multipliers, positions)?;
     closing(alloc, chain, Close::Linear(cited))
 }

@@ -16,10 +16,10 @@ ghost use Rattle.closing_rules.specs.Rewritings.{AreRewritingsOf, CoverRows};
 ghost use Rattle.closing_rules.specs.Settings.{IsSetting};
 ghost use Rattle.closing_rules.specs.Ends.{ShowsEnd};
 
+use crate::class_closings::depth::are_low;
 use crate::closings::rows::rows_closing;
 use crate::row_closings::cited::cited_entries;
-use crate::row_closings::depth::are_low;
-use crate::row_closings::places::places;
+use crate::row_closings::positions::positions;
 use crate::row_closings::rewriting::{Rewriting, rewritings};
 use base::memory::NoMemory;
 use congruence_closure::branch_classes::BranchClasses;
@@ -79,7 +79,7 @@ fn closed_with(
 {
     let entries = formula_numbers(alloc, branch)?;
     let mut chain = Chain::of(alloc, entries.as_slice(), variable)?;
-    let found = places(alloc, pool, &mut chain, branch, choice, rewritings)?;
+    let found = positions(alloc, pool, &mut chain, branch, choice, rewritings)?;
     let origins = rows.origins.as_slice();
     match rows_closing(alloc, &chain, origins, multipliers, found.as_slice())? {
         Some(closing) => Ok(RowsEnd::Closes(closing)),

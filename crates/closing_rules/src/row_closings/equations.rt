@@ -4,7 +4,7 @@ ghost use Rattle.std.specs.Prelude.{length, OnOk, IfOk};
 ghost use Rattle.term_pool.specs.Pools.{Extends};
 ghost use Rattle.congruence_closure.specs.Histories.{IsHistory};
 ghost use Rattle.tableau.specs.PoolBranches.{branch_in};
-ghost use Rattle.explanations.specs.Chains.{HasPlaces, Keeps, IsChain};
+ghost use Rattle.explanations.specs.Chains.{HasPositions, Keeps, IsChain};
 ghost use Rattle.explanations.specs.Graphs.{IsGraph};
 ghost use Rattle.explanations.specs.Plans.{CanMark, AreMarked};
 ghost use Rattle.explanations.specs.Derivations.{AreSaid, CanBeginAny};
@@ -45,9 +45,9 @@ pub(crate) fn equations_of(
     requires sources { AreSources pool.old graph.nodes.now graph.links.now graph.numbers.now chain.old rewritings.now }
     requires begin { CanBeginAny pool.old graph.nodes.now (branch_in pool.old branch.now) chain.old graph.numbers.now }
     requires chain { IsChain pool.old (branch_in pool.old branch.now) chain.old }
-    requires places { HasPlaces chain.old }
+    requires positions { HasPositions chain.old }
     ensures extends { Extends pool.old pool.new }
-    ensures places { OnOk result (HasPlaces chain.new) }
+    ensures positions { OnOk result (HasPositions chain.new) }
     ensures keeps { OnOk result (Keeps chain.old chain.new) }
     ensures chain { OnOk result (IsChain pool.new (branch_in pool.old branch.now) chain.new) }
     ensures ready { IfOk result (λ table. AreReady pool.new (branch_in pool.old branch.now) chain.new graph.entry.numbers.now table.items rewritings.now) }

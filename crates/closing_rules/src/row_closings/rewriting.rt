@@ -7,7 +7,8 @@ ghost use Rattle.congruence_closure.specs.Histories.{IsHistory};
 ghost use Rattle.tableau.specs.PoolBranches.{branch_in, IsOver};
 ghost use Rattle.congruence_closure.specs.Known.{IsOver as AreOver};
 ghost use Rattle.row_reasoning.specs.DifferencesSums.{AreChosenSums};
-ghost use Rattle.closing_rules.specs.Rewritings.{HaveEntryStandIns, IsRewritingOf, AreRewritings, HasDeepEntry};
+ghost use Rattle.closing_rules.specs.Rewritings.{HaveEntryStandIns, IsRewritingOf, AreRewritings};
+ghost use Rattle.closing_rules.specs.Depths.{HasDeep};
 
 use crate::row_closings::cited::is_cited;
 use base::memory::NoMemory;
@@ -44,7 +45,7 @@ fn rewriting_of(
     requires sums { AreChosenSums pool.old choice.classes.now choice.names.now (get nat_eq choice.chosen.now) (get nat_eq sums.old) }
     ensures extends { Extends pool.old pool.new }
     ensures sums { OnOk result (AreChosenSums pool.new choice.entry.classes.now choice.entry.names.now (get nat_eq choice.entry.chosen.now) (get nat_eq sums.new)) }
-    ensures found { IfOk result (λ found. MatchOption found (HasDeepEntry (branch_in pool.old branch.now)) (IsRewritingOf pool.new branch.now choice.entry.classes.now choice.entry.names.now (get nat_eq choice.entry.chosen.now) number)) }
+    ensures found { IfOk result (λ found. MatchOption found (HasDeep (branch_in pool.old branch.now)) (IsRewritingOf pool.new branch.now choice.entry.classes.now choice.entry.names.now (get nat_eq choice.entry.chosen.now) number)) }
 {
     match branch.entry(number) {
         Some(entry) => {
@@ -77,7 +78,7 @@ pub(crate) fn rewritings(
     requires chosen { HaveEntryStandIns pool.old branch.now choice.classes.now choice.names.now (get nat_eq choice.chosen.now) }
     requires sums { AreChosenSums pool.old choice.classes.now choice.names.now (get nat_eq choice.chosen.now) (get nat_eq sums.old) }
     ensures extends { Extends pool.old pool.new }
-    ensures found { IfOk result (λ found. MatchOption found (HasDeepEntry (branch_in pool.old branch.now)) (λ rewritings. AreRewritings pool.new branch.now choice.entry.classes.now choice.entry.names.now (get nat_eq choice.entry.chosen.now) cited.now rewritings.items (length branch.now.entries))) }
+    ensures found { IfOk result (λ found. MatchOption found (HasDeep (branch_in pool.old branch.now)) (λ rewritings. AreRewritings pool.new branch.now choice.entry.classes.now choice.entry.names.now (get nat_eq choice.entry.chosen.now) cited.now rewritings.items (length branch.now.entries))) }
 {
     let mut rewritings = Vec::new(alloc);
     for number in 0..branch.len() {

@@ -1,7 +1,6 @@
-//! Nodes of variables, and the map from numbers to nodes during the walk.
+//! Nodes of variables.
 
-ghost use Rattle.std.specs.Prelude.{◌≡◌, ℕ, ◌<◌, ◌∷◌, ◌++◌, List, [], Some, cond, length, nat_eq, OnOk, IfOk, MatchOption};
-ghost use Rattle.indexmap.specs.IndexMap.{get};
+ghost use Rattle.std.specs.Prelude.{◌≡◌, ℕ, ◌<◌, ◌∷◌, ◌++◌, List, [], Some, length, OnOk, IfOk, MatchOption};
 ghost use Rattle.term_pool.specs.Pools.{IsMade};
 ghost use Rattle.term_pool.specs.declared.node.Node.TheVariants.{Leaf as LeafNode};
 ghost use Rattle.congruence_closure.specs.Trees.{BoundTree, LeafTree, among, under, leaf_tree};
@@ -14,28 +13,6 @@ use base::memory::NoMemory;
 use indexmap::IndexMap;
 use std::alloc::Global;
 use term_pool::node::{Leaf, Node, One, Two};
-
-/// The node of a number, if it is known.
-pub(crate) fn look_up(known: &IndexMap<usize, usize>, number: usize) -> Option<usize>
-    ensures { result ≡ get nat_eq known.now number }
-{
-    match known.get(&number) {
-        Some(node) => Some(*node),
-        None => None,
-    }
-}
-
-/// Records the node of a number.
-pub(crate) fn note(
-    known: &mut IndexMap<usize, usize>,
-    number: usize,
-    node: usize,
-) -> Result<(), NoMemory>
-    ensures { OnOk result ((i : ℕ) → get nat_eq known.new i ≡ cond (nat_eq number i) (Some node) (get nat_eq known.old i)) }
-{
-    known.insert(number, node)?;
-    Ok(())
-}
 
 /// The list of variables with one more at its front.
 pub(crate) fn with_variable(

@@ -36,16 +36,16 @@ pub(crate) fn add(
     number: usize,
 ) -> Result<usize, NoMemory>
     requires { IsWithin (length nodes.old.classes.nodes) node }
-    ensures number { IfOk result (λ place. place ≡ length nodes.old.classes.nodes) }
+    ensures number { IfOk result (λ position. position ≡ length nodes.old.classes.nodes) }
     ensures nodes { OnOk result (nodes.new.classes.nodes ≡ nodes.old.classes.nodes ++ node ∷ []) }
     ensures numbers { OnOk result (nodes.new.numbers.items ≡ nodes.old.numbers.items ++ number ∷ []) }
     ensures equations { OnOk result (nodes.new.classes.equations ≡ nodes.old.classes.equations) }
 {
-    let place = nodes.classes.len();
+    let position = nodes.classes.len();
     let before = mem::replace(&mut nodes.classes, Classes::new(alloc));
     nodes.classes = before.with_node(node)?;
     nodes.numbers.push(number)?;
-    Ok(place)
+    Ok(position)
 }
 
 /// Joins two nodes by an equation.

@@ -10,12 +10,13 @@ ghost use Rattle.congruence_closure.specs.Nodes.{AreNodes};
 ghost use Rattle.congruence_closure.specs.Numbers.{AreNumbered, AreMadeFor, StandsIn, IsNewFor, AreKnownFor, IsKnownFor};
 ghost use Rattle.congruence_closure.specs.Known.{AreKnown, IsAdded, IsGrown, IsWalked};
 
-use crate::branch_classes::leaves::{add_leaf, look_up, note, variable_of, with_variable};
+use crate::branch_classes::leaves::{add_leaf, variable_of, with_variable};
 use crate::branch_classes::numbered::{Numbered, add};
 use base::memory::NoMemory;
 use indexmap::IndexMap;
 use std::alloc::Global;
 use term_pool::node::{Node, One, Three, Two};
+use term_pool::numbers::{look_up, note};
 use term_pool::pool::Pool;
 
 // The rest of a list that is not empty.

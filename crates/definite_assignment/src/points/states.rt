@@ -50,21 +50,21 @@ pub struct LocalStates {
 }
 
 /// Decides whether a local is in a set.
-fn is_among(locals: LocalSet, place: u32) -> bool
-    requires { place < 64 }
-    ensures { result ≡ has locals place }
+fn is_among(locals: LocalSet, index: u32) -> bool
+    requires { index < 64 }
+    ensures { result ≡ has locals index }
 {
-    LocalSet::one(place).both(locals).is_some()
+    LocalSet::one(index).both(locals).is_some()
 }
 
 /// The state of one of 64 locals.
-fn state_of(states: Ends, place: u32) -> LocalState
-    requires { place < 64 }
-    ensures { (had : Bool) → may_be result had ≡ is_in states had place }
+fn state_of(states: Ends, index: u32) -> LocalState
+    requires { index < 64 }
+    ensures { (had : Bool) → may_be result had ≡ is_in states had index }
 {
     match (
-        is_among(states.lacking, place),
-        is_among(states.having, place),
+        is_among(states.lacking, index),
+        is_among(states.having, index),
     ) {
         (false, false) => LocalState::Unreached,
         (true, false) => LocalState::Unassigned,

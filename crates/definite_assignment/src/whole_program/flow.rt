@@ -3,11 +3,11 @@
 ghost use Rattle.std.specs.Prelude.{◌≡◌, ◌↔◌, IfOk, IsTrue, Some, None, if◌then◌else◌};
 ghost use Rattle.typing_rules.specs.Events.{Unassigned, Undropped};
 ghost use Rattle.definite_assignment.specs.Flow.{FlowSays, FunctionBreaks, fault_of};
-ghost use Rattle.definite_assignment.specs.Told.{AreTypedBy, IsTypedBy};
+ghost use Rattle.definite_assignment.specs.KnownState.{AreTypedBy, IsTypedBy};
 
 use crate::rules::{BrokenRules, broken_rules};
+use crate::whole_program::known::FunctionTypes;
 use crate::whole_program::locals::abilities_of;
-use crate::whole_program::told::FunctionTypes;
 use base::memory::NoMemory;
 use base::span::Span;
 use program::declaration::Function;
@@ -29,23 +29,23 @@ fn function_rules(
     alloc: Global,
     program: &Program,
     function: &Function,
-    told: FunctionTypes<'_>,
+    known: FunctionTypes<'_>,
 ) -> Result<BrokenRules, NoMemory>
-    requires { IsTypedBy program.now function.now told }
+    requires { IsTypedBy program.now function.now known }
     ensures unassigned { IfOk result (λ broken. IsTrue broken.unassigned ↔ FunctionBreaks program.now Unassigned function.now) }
     ensures undropped { IfOk result (λ broken. IsTrue broken.undropped ↔ FunctionBreaks program.now Undropped function.now) }
 {
-    let types = abilities_of(alloc, program, function, told)?;
+    let types = abilities_of(alloc, program, function, known)?;
     let sets = types.as_slice();
     let parameters = function.parameters.as_slice().len();
     broken_rules(alloc, sets, parameters, &function.body)
 }
 
 /// The span of a declaration if it breaks a rule.
-fn place_if(is_broken: bool, place: Span) -> Option<Span>
-    ensures { result ≡ (if is_broken then Some place else None) }
+fn span_if(is_broken: bool, span: Span) -> Option<Span>
+    ensures { result ≡ (if is_broken then Some span else None) }
 {
-    if is_broken { Some(place) } else { None }
+    if is_broken { Some(span) } else { None }
 }
 
 /// The fault of a program, from the first spans of functions that break each rule.
@@ -53,8 +53,8 @@ fn first_fault(unassigned: Option<Span>, undropped: Option<Span>) -> Option<Flow
     ensures { result ≡ fault_of unassigned undropped }
 {
     match (unassigned, undropped) {
-        (Some(place), _) => Some(FlowFault::Unassigned(place)),
-        (None, Some(place)) => Some(FlowFault::Undropped(place)),
+        (Some(span), _) => Some(FlowFault::Unassigned(span)),
+        (None, Some(span)) => Some(FlowFault::Undropped(span)),
         (None, None) => None,
     }
 }
@@ -67,18 +67,18 @@ fn first_fault(unassigned: Option<Span>, undropped: Option<Span>) -> Option<Flow
 pub fn flow_fault(
     alloc: Global,
     program: &Program,
-    told: &[FunctionTypes<'_>],
+    known: &[FunctionTypes<'_>],
 ) -> Result<Option<FlowFault>, NoMemory>
-    requires { AreTypedBy program.now told.now }
+    requires { AreTypedBy program.now known.now }
     ensures { IfOk result (λ found. FlowSays program.now found) }
 {
     let mut unassigned = None;
     let mut undropped = None;
-    for number in 0..told.len() {
+    for number in 0..known.len() {
         if let Some((_, function)) = program.functions.entry(number) {
-            let broken = function_rules(alloc, program, function, told[number])?;
-            let used = place_if(broken.unassigned, function.place);
-            let left = place_if(broken.undropped, function.place);
+            let broken = function_rules(alloc, program, function, known[number])?;
+            let used = span_if(broken.unassigned, function.span);
+            let left = span_if(broken.undropped, function.span);
             unassigned = earlier(unassigned, used);
             undropped = earlier(undropped, left);
         }

@@ -2,9 +2,9 @@
 
 ghost use Rattle.std.specs.Prelude.{IfOk};
 ghost use Rattle.ability_rules.specs.Locals.{AreLocalAbilities};
-ghost use Rattle.definite_assignment.specs.Told.{IsTypedBy};
+ghost use Rattle.definite_assignment.specs.KnownState.{IsTypedBy};
 
-use crate::whole_program::told::FunctionTypes;
+use crate::whole_program::known::FunctionTypes;
 use ability_rules::required::body::JudgedBody;
 use ability_rules::required::declared::given_abilities;
 use ability_rules::required::entry::judge_types;
@@ -19,17 +19,17 @@ pub(crate) fn abilities_of(
     alloc: Global,
     program: &Program,
     function: &Function,
-    told: FunctionTypes<'_>,
+    known: FunctionTypes<'_>,
 ) -> Result<Vec<AbilitySet>, NoMemory>
-    requires { IsTypedBy program.now function.now told }
+    requires { IsTypedBy program.now function.now known }
     ensures { IfOk result (λ sets. AreLocalAbilities program.now function.now sets.items) }
 {
     let parameters = function.type_parameters.as_slice();
     let given = given_abilities(alloc, parameters)?;
     let constraints = given.as_slice();
-    let table = judge_types(alloc, &program.structs, constraints, told.pool, 0)?;
+    let table = judge_types(alloc, &program.structs, constraints, known.pool, 0)?;
     let judged = JudgedBody {
-        places: told.types,
+        variables: known.types,
         table: &table,
     };
     local_abilities(alloc, function, judged)

@@ -2,11 +2,11 @@
 
 ghost use Rattle.std.specs.Prelude.{IfOk};
 ghost use Rattle.definite_assignment.specs.WholeProgramStates.{HasStates, HaveStates};
-ghost use Rattle.definite_assignment.specs.Told.{AreTypedBy, IsTypedBy};
+ghost use Rattle.definite_assignment.specs.KnownState.{AreTypedBy, IsTypedBy};
 
 use crate::points::states::{LocalStates, local_states};
+use crate::whole_program::known::FunctionTypes;
 use crate::whole_program::locals::abilities_of;
-use crate::whole_program::told::FunctionTypes;
 use base::memory::NoMemory;
 use program::declaration::Function;
 use program::program::Program;
@@ -17,12 +17,12 @@ fn function_states(
     alloc: Global,
     program: &Program,
     function: &Function,
-    told: FunctionTypes<'_>,
+    known: FunctionTypes<'_>,
 ) -> Result<LocalStates, NoMemory>
-    requires { IsTypedBy program.now function.now told }
+    requires { IsTypedBy program.now function.now known }
     ensures { IfOk result (λ states. HasStates program.now function.now states) }
 {
-    let types = abilities_of(alloc, program, function, told)?;
+    let types = abilities_of(alloc, program, function, known)?;
     let sets = types.as_slice();
     let parameters = function.parameters.as_slice().len();
     local_states(alloc, sets, parameters, &function.body)
@@ -34,15 +34,15 @@ fn function_states(
 pub fn program_states(
     alloc: Global,
     program: &Program,
-    told: &[FunctionTypes<'_>],
+    known: &[FunctionTypes<'_>],
 ) -> Result<Vec<LocalStates>, NoMemory>
-    requires { AreTypedBy program.now told.now }
+    requires { AreTypedBy program.now known.now }
     ensures { IfOk result (λ states. HaveStates program.now states.items) }
 {
     let mut states = Vec::new(alloc);
-    for number in 0..told.len() {
+    for number in 0..known.len() {
         if let Some((_, function)) = program.functions.entry(number) {
-            let own = function_states(alloc, program, function, told[number])?;
+            let own = function_states(alloc, program, function, known[number])?;
             states.push(own)?;
         }
     }

@@ -59,7 +59,7 @@ fn number_of(pool: &Pool, values: &OpenValues, parameters: &[Name], name: &[u8])
     ensures { IsValueAt pool.now values.now (position (same_name name.now) parameters.now) result }
 {
     match position_of(parameters, name) {
-        Some(place) => value_of(pool, values, place as u32),
+        Some(index) => value_of(pool, values, index as u32),
         None => 0,
     }
 }
@@ -87,14 +87,14 @@ fn fraction_of(values: &OpenValues, name: usize) -> Option<Fraction>
     ensures { result ≡ fraction_of values.now name }
 {
     let fractions = values.values.as_slice();
-    match place_of(values, name) {
-        Some(place) => fractions.get(place).copied(),
+    match index_of(values, name) {
+        Some(index) => fractions.get(index).copied(),
         None => None,
     }
 }
 
 // The index of the first value of the class with this representative.
-fn place_of(values: &OpenValues, name: usize) -> Option<usize>
+fn index_of(values: &OpenValues, name: usize) -> Option<usize>
     ensures { result ≡ position (is_of values.now name) values.now.values }
 {
     values

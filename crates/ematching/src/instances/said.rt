@@ -5,7 +5,7 @@ ghost use Rattle.tableau.specs.PoolBranches.{branch_in, IsFormulaNumber, IsTermN
 ghost use Rattle.certificates.specs.Due.{HasInstance};
 ghost use Rattle.ematching.specs.Numbers.{term_at, formula_at};
 ghost use Rattle.ematching.specs.QuantifierFree.{quantifier_free};
-ghost use Rattle.ematching.specs.Bodies.{universal_at, IsSaidNumber, IsNoDenial, IsDenied, IsInner, HasNoInner, IsSaidAt};
+ghost use Rattle.ematching.specs.Bodies.{universal_at, IsSaidNumber, IsInner, HasNoInner, IsSaidAt};
 
 use crate::quantified::Universal;
 use base::memory::NoMemory;
@@ -13,20 +13,8 @@ use fol::formula::{Formula, Term};
 use std::alloc::Global;
 use substitution::instance::is_instance;
 use tableau::branch::PoolBranch;
-use term_pool::node::{Node, One};
 use term_pool::pool::Pool;
 use term_pool::reading::{read_formula, read_term};
-
-// The number of the operand of a negation; none for another formula.
-fn denied_of(pool: &Pool, formula: usize) -> Option<usize>
-    requires { IsFormulaNumber pool.now formula }
-    ensures { MatchOption result (IsNoDenial (formula_at pool.now formula)) (IsDenied pool.now formula) }
-{
-    match pool.node(formula) {
-        Some(Node::One(One::Not, inner)) => Some(inner),
-        _ => None,
-    }
-}
 
 // The number of the formula; if `is_denied`, that of its operand, and none if it is no negation.
 fn inner_of(pool: &Pool, is_denied: bool, formula: usize) -> Option<usize>
@@ -34,7 +22,7 @@ fn inner_of(pool: &Pool, is_denied: bool, formula: usize) -> Option<usize>
     ensures { MatchOption result (HasNoInner is_denied (formula_at pool.now formula)) (IsInner pool.now is_denied formula) }
 {
     if is_denied {
-        return denied_of(pool, formula);
+        return pool.denied(formula);
     }
     Some(formula)
 }

@@ -6,7 +6,7 @@ ghost use Rattle.congruence_closure.specs.Links.{Linked};
 ghost use Rattle.term_pool.specs.Items.{TermSort};
 ghost use Rattle.term_pool.specs.Pools.{HasPart, Extends};
 ghost use Rattle.certificates.specs.BranchesBranch.{Branch};
-ghost use Rattle.explanations.specs.Chains.{HasPlaces, Keeps, IsChain};
+ghost use Rattle.explanations.specs.Chains.{HasPositions, Keeps, IsChain};
 ghost use Rattle.congruence_closure.specs.Numbers.{number_at};
 ghost use Rattle.explanations.specs.Routes.{IsEquation};
 ghost use Rattle.explanations.specs.Replacing.{CanBeginAll};
@@ -32,14 +32,14 @@ fn said(pool: &mut Pool, chain: &Chain, left: usize, right: usize) -> Result<usi
     requires left { HasPart pool.old (length pool.old) left TermSort }
     requires right { HasPart pool.old (length pool.old) right TermSort }
     requires said { HasEquation pool.old chain.now left right }
-    requires places { HasPlaces chain.now }
+    requires positions { HasPositions chain.now }
     ensures extends { Extends pool.old pool.new }
-    ensures at { IfOk result (λ place. IsEquation pool.new chain.now place left right) }
+    ensures at { IfOk result (λ position. IsEquation pool.new chain.now position left right) }
 {
     let formula = pool.insert(Node::Two(Two::Compare(Comparison::Eq), left, right))?;
     pool.one_number();
-    match chain.place(formula) {
-        Some(place) => Ok(place),
+    match chain.position(formula) {
+        Some(position) => Ok(position),
         None => Ok(0),
     }
 }
@@ -54,23 +54,23 @@ fn link_equation(
     found: &[Difference],
 ) -> Result<usize, NoMemory>
     requires ready { IsReady pool.old chain.old numbers.now equations.now link found.now }
-    requires places { HasPlaces chain.old }
+    requires positions { HasPositions chain.old }
     ensures extends { Extends pool.old pool.new }
-    ensures places { OnOk result (HasPlaces chain.new) }
+    ensures positions { OnOk result (HasPositions chain.new) }
     ensures keeps { OnOk result (Keeps chain.old chain.new) }
-    ensures at { IfOk result (λ place. IsEquation pool.new chain.new place (number_at numbers.now link.left) (number_at numbers.now link.right)) }
+    ensures at { IfOk result (λ position. IsEquation pool.new chain.new position (number_at numbers.now link.left) (number_at numbers.now link.right)) }
     ensures chain { OnOk result ((b : Branch) → IsChain pool.old b chain.old → CanBeginAll pool.old b chain.old numbers.now (number_at numbers.now link.left) found.now → IsChain pool.new b chain.new) }
 {
     let left = number_of(numbers, link.left);
     let right = number_of(numbers, link.right);
     match link.why {
         Why::Given(_) => {
-            let place = said(pool, chain, left, right)?;
-            Ok(place)
+            let position = said(pool, chain, left, right)?;
+            Ok(position)
         }
         Why::Alike => {
-            let place = replace_all(pool, chain, numbers, equations, left, found)?;
-            Ok(place)
+            let position = replace_all(pool, chain, numbers, equations, left, found)?;
+            Ok(position)
         }
     }
 }
@@ -95,10 +95,10 @@ fn next_equation(
     found: &[Difference],
 ) -> Result<(), NoMemory>
     requires ready { IsNextReady pool.old chain.old graph.links.now graph.numbers.now needed.now equations.old.items found.now }
-    requires places { HasPlaces chain.old }
+    requires positions { HasPositions chain.old }
     requires placed { ArePlaced pool.old chain.old graph.links.now graph.numbers.now needed.now equations.old.items (length equations.old.items) }
     ensures extends { Extends pool.old pool.new }
-    ensures places { OnOk result (HasPlaces chain.new) }
+    ensures positions { OnOk result (HasPositions chain.new) }
     ensures keeps { OnOk result (Keeps chain.old chain.new) }
     ensures long { OnOk result (length equations.new.items ≡ length equations.old.items + 1) }
     ensures placed { OnOk result (ArePlaced pool.new chain.new graph.entry.links.now graph.entry.numbers.now needed.now equations.new.items (length equations.new.items)) }
@@ -109,8 +109,8 @@ fn next_equation(
         match link_of(graph.links, number) {
             Some(link) => {
                 let before = equations.as_slice();
-                let place = link_equation(pool, chain, graph.numbers, before, link, found)?;
-                equations.push(Some(place))?;
+                let position = link_equation(pool, chain, graph.numbers, before, link, found)?;
+                equations.push(Some(position))?;
                 Ok(())
             }
             None => Ok(()),
@@ -133,9 +133,9 @@ pub fn equations(
     requires graph { IsGraph pool.old graph.nodes.now graph.links.now graph.numbers.now }
     requires said { AreSaid pool.old chain.old graph.links.now graph.numbers.now }
     requires plans { ArePlans pool.old graph.nodes.now graph.links.now graph.numbers.now needed.now plans.items 0 }
-    requires places { HasPlaces chain.old }
+    requires positions { HasPositions chain.old }
     ensures extends { Extends pool.old pool.new }
-    ensures places { OnOk result (HasPlaces chain.new) }
+    ensures positions { OnOk result (HasPositions chain.new) }
     ensures keeps { OnOk result (Keeps chain.old chain.new) }
     ensures placed { IfOk result (λ equations. ArePlaced pool.new chain.new graph.entry.links.now graph.entry.numbers.now needed.now equations.items (length graph.entry.links.now)) }
     ensures chain { OnOk result ((b : Branch) → IsChain pool.old b chain.old → CanBeginAny pool.old graph.entry.nodes.now b chain.old graph.entry.numbers.now → IsChain pool.new b chain.new) }
@@ -173,11 +173,11 @@ pub fn derive(
     requires one { IsTermNode pool.old graph.nodes.now graph.numbers.now one }
     requires within { one < length graph.nodes.now }
     requires linked { Linked graph.links.now one other }
-    requires places { HasPlaces chain.old }
+    requires positions { HasPositions chain.old }
     ensures extends { Extends pool.old pool.new }
-    ensures places { OnOk result (HasPlaces chain.new) }
+    ensures positions { OnOk result (HasPositions chain.new) }
     ensures keeps { OnOk result (Keeps chain.old chain.new) }
-    ensures at { IfOk result (λ place. IsEquation pool.new chain.new place (number_at graph.entry.numbers.now one) (number_at graph.entry.numbers.now other)) }
+    ensures at { IfOk result (λ position. IsEquation pool.new chain.new position (number_at graph.entry.numbers.now one) (number_at graph.entry.numbers.now other)) }
     ensures chain { OnOk result ((b : Branch) → IsChain pool.old b chain.old → CanBeginAny pool.old graph.entry.nodes.now b chain.old graph.entry.numbers.now → IsChain pool.new b chain.new) }
 {
     let count = graph.links.len();
@@ -193,7 +193,7 @@ pub fn derive(
     let found = plans(alloc, pool, graph, &mut needed)?;
     let marks = needed.as_slice();
     let table = equations(alloc, pool, chain, graph, marks, found)?;
-    let places = table.as_slice();
-    let place = along(pool, chain, graph.numbers, places, one, way)?;
-    Ok(place)
+    let positions = table.as_slice();
+    let position = along(pool, chain, graph.numbers, positions, one, way)?;
+    Ok(position)
 }

@@ -3,15 +3,14 @@
 ghost use Rattle.std.specs.Prelude.{◌≡◌, ◌≢◌, ◌<◌, length, take, slice_index_or, MatchBool, OnOk, IfOk};
 ghost use Rattle.congruence_closure.specs.Histories.{IsHistory};
 ghost use Rattle.congruence_closure.specs.Links.{Linked, AreAlikeAt};
-ghost use Rattle.term_pool.specs.Items.{TermSort, sort_of};
 ghost use Rattle.term_pool.specs.Pools.{item_at};
 ghost use Rattle.term_pool.specs.declared.node.Leaf.TheVariants.{NilTerms};
 ghost use Rattle.term_pool.specs.declared.node.Node.TheVariants.{Leaf as LeafNode};
 ghost use Rattle.explanations.specs.Frames.{bound_on};
 ghost use Rattle.congruence_closure.specs.Numbers.{number_at};
 ghost use Rattle.explanations.specs.BoundNodes.{IsLoose, IsTied};
-ghost use Rattle.explanations.specs.Graphs.{IsGraph, is_term_node};
-ghost use Rattle.explanations.specs.Places.{one_at, other_at, IsPlace, AreTwo, AreThree, IsPair, IsStepTo, IsPushed, AreFound, IsNext, IsTurn};
+ghost use Rattle.explanations.specs.Graphs.{IsGraph};
+ghost use Rattle.explanations.specs.Positions.{one_at, other_at, IsPosition, AreTwo, AreThree, IsPair, IsStepTo, IsPushed, AreFound, IsNext, IsTurn};
 
 use crate::derived::bound::is_uncaptured;
 use crate::derived::replacing::Difference;
@@ -36,7 +35,7 @@ pub struct Graph<'a> {
 
 /// A position in two items, and the nodes of the one and of the other at it.
 #[derive(Drop)]
-pub(crate) struct Place {
+pub(crate) struct Position {
     pub way: Vec<Frame>,
     pub one: usize,
     pub other: usize,
@@ -82,41 +81,16 @@ fn pair_of(one: Node, other: Node) -> Pair
     }
 }
 
-// Decides whether a node is that of a term, unless it is a bound variable.
-fn is_term_node(node: Node) -> bool
-    ensures { result ≡ is_term_node node }
-{
-    match node {
-        Node::Leaf(Leaf::Var(_) | Leaf::Constant(_)) => true,
-        Node::One(One::Unary(_), _) => true,
-        Node::Two(Two::Binary(_) | Two::Pack | Two::Field(_), _, _) => true,
-        Node::Three(Three::Ternary(_) | Three::SetField(_) | Three::If, _, _, _) => true,
-        _ => false,
-    }
-}
-
-// Decides whether a number is that of a term.
-fn is_term(pool: &Pool, number: usize) -> bool
-    requires { number < length pool.now }
-    ensures { MatchBool result (sort_of (item_at pool.now number) ≡ TermSort) (sort_of (item_at pool.now number) ≢ TermSort) }
-{
-    match pool.node(number) {
-        Some(node) => is_term_node(node),
-        None => false,
-    }
-}
-
 // Decides whether the number is that of a term in which no variable is free that the context binds.
 fn is_loose(alloc: Global, pool: &Pool, way: &[Frame], number: usize) -> Result<bool, NoMemory>
     requires { number < length pool.now }
     ensures { IfOk result (λ loose. MatchBool loose (IsLoose (bound_on way.now) (item_at pool.now number)) (IsTied (bound_on way.now) (item_at pool.now number))) }
 {
-    if is_term(pool, number) {
-        let uncaptured = is_uncaptured(alloc, pool, way, number)?;
-        Ok(uncaptured)
-    } else {
-        Ok(false)
+    if !pool.is_term(number) {
+        return Ok(false);
     }
+    let uncaptured = is_uncaptured(alloc, pool, way, number)?;
+    Ok(uncaptured)
 }
 
 // Decides whether two nodes have different numbers.
@@ -133,7 +107,7 @@ pub(crate) fn step(
     frame: Frame,
     one: usize,
     other: usize,
-) -> Result<Place, NoMemory>
+) -> Result<Position, NoMemory>
     ensures { IfOk result (IsStepTo way.now frame one other) }
 {
     let mut longer = Vec::new(alloc);
@@ -141,7 +115,7 @@ pub(crate) fn step(
         longer.push(*head)?;
     }
     longer.push(frame)?;
-    Ok(Place {
+    Ok(Position {
         way: longer,
         one,
         other,
@@ -153,23 +127,23 @@ fn push_term(
     alloc: Global,
     graph: Graph<'_>,
     before: usize,
-    place: Place,
+    position: Position,
     found: &mut Vec<Difference>,
 ) -> Result<(), NoMemory>
     requires history { IsHistory graph.links.now (length graph.links.now) graph.history.now }
-    requires linked { Linked (take before graph.links.now) place.one place.other }
-    ensures { OnOk result (IsPushed graph.entry.links.now before place found.old.items found.new.items) }
+    requires linked { Linked (take before graph.links.now) position.one position.other }
+    ensures { OnOk result (IsPushed graph.entry.links.now before position found.old.items found.new.items) }
 {
     let span = Span {
-        from: place.one,
-        to: place.other,
+        from: position.one,
+        to: position.other,
         before,
     };
     let route = path(alloc, graph.history, graph.links, span)?;
     found.push(Difference {
-        way: place.way,
-        from: place.one,
-        to: place.other,
+        way: position.way,
+        from: position.one,
+        to: position.other,
         route,
     })?;
     Ok(())
@@ -182,18 +156,18 @@ fn two(
     pool: &Pool,
     graph: Graph<'_>,
     before: usize,
-    place: Place,
+    position: Position,
     head: Two,
     one: (usize, usize),
     other: (usize, usize),
     found: &mut Vec<Difference>,
-) -> Result<Place, NoMemory>
+) -> Result<Position, NoMemory>
     requires graph { IsGraph pool.now graph.nodes.now graph.links.now graph.numbers.now }
     requires history { IsHistory graph.links.now (length graph.links.now) graph.history.now }
-    requires two { AreTwo pool.now graph.nodes.now graph.links.now graph.numbers.now before place head one other }
-    ensures { IfOk result (IsNext pool.now graph.entry.nodes.now graph.entry.links.now graph.entry.numbers.now before place found.old.items found.new.items) }
+    requires two { AreTwo pool.now graph.nodes.now graph.links.now graph.numbers.now before position head one other }
+    ensures { IfOk result (IsNext pool.now graph.entry.nodes.now graph.entry.links.now graph.entry.numbers.now before position found.old.items found.new.items) }
 {
-    let way = place.way.as_slice();
+    let way = position.way.as_slice();
     let rest = number_of(graph.numbers, one.1);
     let first = step(alloc, way, Frame::FirstOfTwo(head, rest), one.0, other.0)?;
     differences(alloc, pool, graph, before, first, found)?;
@@ -209,18 +183,18 @@ fn three(
     pool: &Pool,
     graph: Graph<'_>,
     before: usize,
-    place: Place,
+    position: Position,
     head: Three,
     one: (usize, usize, usize),
     other: (usize, usize, usize),
     found: &mut Vec<Difference>,
-) -> Result<Place, NoMemory>
+) -> Result<Position, NoMemory>
     requires graph { IsGraph pool.now graph.nodes.now graph.links.now graph.numbers.now }
     requires history { IsHistory graph.links.now (length graph.links.now) graph.history.now }
-    requires three { AreThree pool.now graph.nodes.now graph.links.now graph.numbers.now before place head one other }
-    ensures { IfOk result (IsNext pool.now graph.entry.nodes.now graph.entry.links.now graph.entry.numbers.now before place found.old.items found.new.items) }
+    requires three { AreThree pool.now graph.nodes.now graph.links.now graph.numbers.now before position head one other }
+    ensures { IfOk result (IsNext pool.now graph.entry.nodes.now graph.entry.links.now graph.entry.numbers.now before position found.old.items found.new.items) }
 {
-    let way = place.way.as_slice();
+    let way = position.way.as_slice();
     let b = number_of(graph.numbers, one.1);
     let c = number_of(graph.numbers, one.2);
     let first = step(alloc, way, Frame::FirstOfThree(head, b, c), one.0, other.0)?;
@@ -240,32 +214,36 @@ pub(crate) fn parts(
     pool: &Pool,
     graph: Graph<'_>,
     before: usize,
-    place: Place,
+    position: Position,
     found: &mut Vec<Difference>,
-) -> Result<Place, NoMemory>
+) -> Result<Position, NoMemory>
     requires graph { IsGraph pool.now graph.nodes.now graph.links.now graph.numbers.now }
     requires history { IsHistory graph.links.now (length graph.links.now) graph.history.now }
-    requires place { IsPlace pool.now graph.nodes.now graph.numbers.now place }
-    requires differ { number_at graph.numbers.now place.one ≢ number_at graph.numbers.now place.other }
-    requires alike { AreAlikeAt graph.nodes.now (Linked (take before graph.links.now)) place.one place.other }
-    ensures { IfOk result (IsNext pool.now graph.entry.nodes.now graph.entry.links.now graph.entry.numbers.now before place found.old.items found.new.items) }
+    requires position { IsPosition pool.now graph.nodes.now graph.numbers.now position }
+    requires differ { number_at graph.numbers.now position.one ≢ number_at graph.numbers.now position.other }
+    requires alike { AreAlikeAt graph.nodes.now (Linked (take before graph.links.now)) position.one position.other }
+    ensures { IfOk result (IsNext pool.now graph.entry.nodes.now graph.entry.links.now graph.entry.numbers.now before position found.old.items found.new.items) }
 {
     pool.one_number();
-    let one = node_of(graph.nodes, place.one);
-    let other = node_of(graph.nodes, place.other);
+    let one = node_of(graph.nodes, position.one);
+    let other = node_of(graph.nodes, position.other);
     match pair_of(one, other) {
         Pair::One(head, a, x) => {
-            let next = step(alloc, place.way.as_slice(), Frame::Only(head), a, x)?;
+            let next = step(alloc, position.way.as_slice(), Frame::Only(head), a, x)?;
             Ok(next)
         }
         Pair::Two(head, one, other) => {
-            two(alloc, pool, graph, before, place, head, one, other, found)
+            two(
+                alloc, pool, graph, before, position, head, one, other, found,
+            )
         }
         Pair::Three(head, one, other) => {
-            three(alloc, pool, graph, before, place, head, one, other, found)
+            three(
+                alloc, pool, graph, before, position, head, one, other, found,
+            )
         }
         // Congruent nodes without parts have equal numbers.
-        Pair::Unlike => Ok(place),
+        Pair::Unlike => Ok(position),
     }
 }
 
@@ -277,23 +255,23 @@ fn take_turn(
     pool: &Pool,
     graph: Graph<'_>,
     before: usize,
-    place: Place,
+    position: Position,
     found: &mut Vec<Difference>,
-) -> Result<Option<Place>, NoMemory>
+) -> Result<Option<Position>, NoMemory>
     requires graph { IsGraph pool.now graph.nodes.now graph.links.now graph.numbers.now }
     requires history { IsHistory graph.links.now (length graph.links.now) graph.history.now }
-    requires place { IsPlace pool.now graph.nodes.now graph.numbers.now place }
-    requires linked { Linked (take before graph.links.now) place.one place.other }
-    requires differ { number_at graph.numbers.now place.one ≢ number_at graph.numbers.now place.other }
-    ensures { IfOk result (IsTurn pool.now graph.entry.nodes.now graph.entry.links.now graph.entry.numbers.now before place found.old.items found.new.items) }
+    requires position { IsPosition pool.now graph.nodes.now graph.numbers.now position }
+    requires linked { Linked (take before graph.links.now) position.one position.other }
+    requires differ { number_at graph.numbers.now position.one ≢ number_at graph.numbers.now position.other }
+    ensures { IfOk result (IsTurn pool.now graph.entry.nodes.now graph.entry.links.now graph.entry.numbers.now before position found.old.items found.new.items) }
 {
-    let number = number_of(graph.numbers, place.one);
-    let loose = is_loose(alloc, pool, place.way.as_slice(), number)?;
+    let number = number_of(graph.numbers, position.one);
+    let loose = is_loose(alloc, pool, position.way.as_slice(), number)?;
     if loose {
-        push_term(alloc, graph, before, place, found)?;
+        push_term(alloc, graph, before, position, found)?;
         Ok(None)
     } else {
-        let next = parts(alloc, pool, graph, before, place, found)?;
+        let next = parts(alloc, pool, graph, before, position, found)?;
         Ok(Some(next))
     }
 }
@@ -305,19 +283,19 @@ pub(crate) fn differences(
     pool: &Pool,
     graph: Graph<'_>,
     before: usize,
-    place: Place,
+    position: Position,
     found: &mut Vec<Difference>,
 ) -> Result<(), NoMemory>
     requires graph { IsGraph pool.now graph.nodes.now graph.links.now graph.numbers.now }
     requires history { IsHistory graph.links.now (length graph.links.now) graph.history.now }
-    requires place { IsPlace pool.now graph.nodes.now graph.numbers.now place }
-    requires linked { Linked (take before graph.links.now) place.one place.other }
-    ensures { OnOk result (AreFound pool.now graph.entry.nodes.now graph.entry.links.now graph.entry.numbers.now before (one_at pool.now graph.entry.numbers.now place) (other_at pool.now graph.entry.numbers.now place) found.old.items found.new.items) }
+    requires position { IsPosition pool.now graph.nodes.now graph.numbers.now position }
+    requires linked { Linked (take before graph.links.now) position.one position.other }
+    ensures { OnOk result (AreFound pool.now graph.entry.nodes.now graph.entry.links.now graph.entry.numbers.now before (one_at pool.now graph.entry.numbers.now position) (other_at pool.now graph.entry.numbers.now position) found.old.items found.new.items) }
 {
-    let mut place = place;
-    while are_apart(graph.numbers, place.one, place.other) {
-        match take_turn(alloc, pool, graph, before, place, found)? {
-            Some(next) => place = next,
+    let mut position = position;
+    while are_apart(graph.numbers, position.one, position.other) {
+        match take_turn(alloc, pool, graph, before, position, found)? {
+            Some(next) => position = next,
             None => return Ok(()),
         }
     }

@@ -6,7 +6,7 @@ ghost use Rattle.congruence_closure.specs.Links.{Linked, AreAlikeAt};
 ghost use Rattle.congruence_closure.specs.Numbers.{number_at};
 ghost use Rattle.explanations.specs.Replacing.{itself_item};
 ghost use Rattle.explanations.specs.Graphs.{IsTermNode, IsGraph};
-ghost use Rattle.explanations.specs.Places.{AreFound};
+ghost use Rattle.explanations.specs.Positions.{AreFound};
 ghost use Rattle.explanations.specs.Plans.{is_needed, IsOn, IsOnAny, IsThis, CanMark, AreMarked, equation_item, IsPlan, HasTermEnds, AreNeeded, IsNextPlan, ArePlans};
 
 use crate::derived::difference::{Graph, are_apart, differences, parts, step};
@@ -84,8 +84,8 @@ fn alike(
     if are_apart(graph.numbers, link.left, link.right) {
         let left = number_of(graph.numbers, link.left);
         let right_side = Frame::SecondOfTwo(Two::Compare(Comparison::Eq), left);
-        let place = step(alloc, &[], right_side, link.left, link.right)?;
-        let next = parts(alloc, pool, graph, before, place, found)?;
+        let position = step(alloc, &[], right_side, link.left, link.right)?;
+        let next = parts(alloc, pool, graph, before, position, found)?;
         differences(alloc, pool, graph, before, next, found)?;
     }
     Ok(())

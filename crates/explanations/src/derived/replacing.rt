@@ -4,7 +4,7 @@ ghost use Rattle.std.specs.Prelude.{◌≡◌, ℕ, length, OnOk, IfOk};
 ghost use Rattle.term_pool.specs.Items.{formula_in};
 ghost use Rattle.term_pool.specs.Pools.{Extends};
 ghost use Rattle.certificates.specs.BranchesBranch.{Branch};
-ghost use Rattle.explanations.specs.Chains.{term_at, HasPlaces, Keeps, IsAt, IsChain, CanBegin};
+ghost use Rattle.explanations.specs.Chains.{term_at, HasPositions, Keeps, IsAt, IsChain, CanBegin};
 ghost use Rattle.congruence_closure.specs.Numbers.{number_at};
 ghost use Rattle.explanations.specs.Replacing.{before_it, after_it, CanReplace, after_all, CanReplaceAt, IsReplacedAt, CanBeginEach, itself_item, CanReplaceAll, CanBeginAll};
 
@@ -37,11 +37,11 @@ pub fn replace(
 ) -> Result<usize, NoMemory>
     requires source { IsAt pool.old chain.old source (formula_in (before_it pool.old numbers.now difference.now)) }
     requires replaced { CanReplace pool.old chain.old numbers.now equations.now difference.now }
-    requires places { HasPlaces chain.old }
+    requires positions { HasPositions chain.old }
     ensures extends { Extends pool.old pool.new }
-    ensures places { OnOk result (HasPlaces chain.new) }
+    ensures positions { OnOk result (HasPositions chain.new) }
     ensures keeps { OnOk result (Keeps chain.old chain.new) }
-    ensures at { IfOk result (λ place. IsAt pool.new chain.new place (formula_in (after_it pool.old numbers.now difference.now))) }
+    ensures at { IfOk result (λ position. IsAt pool.new chain.new position (formula_in (after_it pool.old numbers.now difference.now))) }
     ensures chain { OnOk result ((b : Branch) → IsChain pool.old b chain.old → CanBegin b chain.old (term_at pool.old (number_at numbers.now difference.now.from)) → IsChain pool.new b chain.new) }
 {
     let route = difference.route.as_slice();
@@ -62,19 +62,19 @@ pub fn replace_each(
     differences: &[Difference],
 ) -> Result<usize, NoMemory>
     requires replaced { CanReplaceAt pool.old chain.old numbers.now equations.now source differences.now }
-    requires places { HasPlaces chain.old }
+    requires positions { HasPositions chain.old }
     ensures extends { Extends pool.old pool.new }
-    ensures places { OnOk result (HasPlaces chain.new) }
+    ensures positions { OnOk result (HasPositions chain.new) }
     ensures keeps { OnOk result (Keeps chain.old chain.new) }
     ensures at { IfOk result (IsReplacedAt pool.old chain.old numbers.now source differences.now pool.new chain.new) }
     ensures chain { OnOk result ((b : Branch) → IsChain pool.old b chain.old → CanBeginEach pool.old b chain.old numbers.now differences.now → IsChain pool.new b chain.new) }
 {
-    let mut place = source;
+    let mut position = source;
     for difference in differences {
-        let next = replace(pool, chain, numbers, equations, difference, place)?;
-        place = next;
+        let next = replace(pool, chain, numbers, equations, difference, position)?;
+        position = next;
     }
-    Ok(place)
+    Ok(position)
 }
 
 /// Returns an index of the equation of a term with its result after these replacements.
@@ -87,14 +87,14 @@ pub fn replace_all(
     differences: &[Difference],
 ) -> Result<usize, NoMemory>
     requires replaced { CanReplaceAll pool.old chain.old numbers.now equations.now left differences.now }
-    requires places { HasPlaces chain.old }
+    requires positions { HasPositions chain.old }
     ensures extends { Extends pool.old pool.new }
-    ensures places { OnOk result (HasPlaces chain.new) }
+    ensures positions { OnOk result (HasPositions chain.new) }
     ensures keeps { OnOk result (Keeps chain.old chain.new) }
-    ensures at { IfOk result (λ place. IsAt pool.new chain.new place (formula_in (after_all pool.old numbers.now (itself_item pool.old left) differences.now))) }
+    ensures at { IfOk result (λ position. IsAt pool.new chain.new position (formula_in (after_all pool.old numbers.now (itself_item pool.old left) differences.now))) }
     ensures chain { OnOk result ((b : Branch) → IsChain pool.old b chain.old → CanBeginAll pool.old b chain.old numbers.now left differences.now → IsChain pool.new b chain.new) }
 {
     let itself = chain.itself(pool, left)?;
-    let place = replace_each(pool, chain, numbers, equations, itself, differences)?;
-    Ok(place)
+    let position = replace_each(pool, chain, numbers, equations, itself, differences)?;
+    Ok(position)
 }

@@ -3,7 +3,7 @@
 ghost use Rattle.std.specs.Prelude.{◌≡◌, ℕ, None, slice_index_or, OnOk, IfOk, IfSome};
 ghost use Rattle.term_pool.specs.Pools.{Extends};
 ghost use Rattle.certificates.specs.BranchesBranch.{Branch};
-ghost use Rattle.explanations.specs.Chains.{term_at, HasPlaces, Keeps, IsChain, CanBegin};
+ghost use Rattle.explanations.specs.Chains.{term_at, HasPositions, Keeps, IsChain, CanBegin};
 ghost use Rattle.congruence_closure.specs.Numbers.{number_at};
 ghost use Rattle.explanations.specs.Routes.{equation_at, IsEquation, IsEither, CanPass, end_of, CanGo, IsSingle};
 
@@ -27,7 +27,7 @@ pub fn equation_of(equations: &[Option<usize>], link: usize) -> Option<usize>
     ensures { result ≡ equation_at equations.now link }
 {
     match equations.get(link) {
-        Some(place) => *place,
+        Some(position) => *position,
         None => None,
     }
 }
@@ -45,11 +45,11 @@ pub fn pass(
 ) -> Result<usize, NoMemory>
     requires source { IsEquation pool.old chain.old source left (number_at numbers.now join.near) }
     requires pass { CanPass pool.old chain.old numbers.now equations.now left join }
-    requires places { HasPlaces chain.old }
+    requires positions { HasPositions chain.old }
     ensures extends { Extends pool.old pool.new }
-    ensures places { OnOk result (HasPlaces chain.new) }
+    ensures positions { OnOk result (HasPositions chain.new) }
     ensures keeps { OnOk result (Keeps chain.old chain.new) }
-    ensures at { IfOk result (λ place. IsEquation pool.new chain.new place left (number_at numbers.now join.far)) }
+    ensures at { IfOk result (λ position. IsEquation pool.new chain.new position left (number_at numbers.now join.far)) }
     ensures chain { OnOk result ((b : Branch) → IsChain pool.old b chain.old → IsChain pool.new b chain.new) }
 {
     let from = number_of(numbers, join.near);
@@ -70,25 +70,25 @@ pub fn along(
     route: &[Join],
 ) -> Result<usize, NoMemory>
     requires route { CanGo pool.old chain.old numbers.now equations.now from route.now }
-    requires places { HasPlaces chain.old }
+    requires positions { HasPositions chain.old }
     ensures extends { Extends pool.old pool.new }
-    ensures places { OnOk result (HasPlaces chain.new) }
+    ensures positions { OnOk result (HasPositions chain.new) }
     ensures keeps { OnOk result (Keeps chain.old chain.new) }
-    ensures at { IfOk result (λ place. IsEquation pool.new chain.new place (number_at numbers.now from) (number_at numbers.now (end_of from route.now))) }
+    ensures at { IfOk result (λ position. IsEquation pool.new chain.new position (number_at numbers.now from) (number_at numbers.now (end_of from route.now))) }
     ensures chain { OnOk result ((b : Branch) → IsChain pool.old b chain.old → CanBegin b chain.old (term_at pool.old (number_at numbers.now from)) → IsChain pool.new b chain.new) }
 {
     let left = number_of(numbers, from);
-    let mut place = chain.itself(pool, left)?;
+    let mut position = chain.itself(pool, left)?;
     for join in route {
-        let next = pass(pool, chain, numbers, equations, left, *join, place)?;
-        place = next;
+        let next = pass(pool, chain, numbers, equations, left, *join, position)?;
+        position = next;
     }
-    Ok(place)
+    Ok(position)
 }
 
 // The index of the equation of the only edge of a route.
 fn single(equations: &[Option<usize>], route: &[Join]) -> Option<usize>
-    ensures { IfSome result (λ place. IsSingle equations.now route.now place) }
+    ensures { IfSome result (λ position. IsSingle equations.now route.now position) }
 {
     if route.len() == 1 {
         equation_of(equations, route[0].link)
@@ -108,15 +108,15 @@ pub fn between(
     route: &[Join],
 ) -> Result<usize, NoMemory>
     requires route { CanGo pool.old chain.old numbers.now equations.now from route.now }
-    requires places { HasPlaces chain.old }
+    requires positions { HasPositions chain.old }
     ensures extends { Extends pool.old pool.new }
-    ensures places { OnOk result (HasPlaces chain.new) }
+    ensures positions { OnOk result (HasPositions chain.new) }
     ensures keeps { OnOk result (Keeps chain.old chain.new) }
-    ensures at { IfOk result (λ place. IsEither pool.new chain.new place (number_at numbers.now from) (number_at numbers.now (end_of from route.now))) }
+    ensures at { IfOk result (λ position. IsEither pool.new chain.new position (number_at numbers.now from) (number_at numbers.now (end_of from route.now))) }
     ensures chain { OnOk result ((b : Branch) → IsChain pool.old b chain.old → CanBegin b chain.old (term_at pool.old (number_at numbers.now from)) → IsChain pool.new b chain.new) }
 {
     match single(equations, route) {
-        Some(place) => Ok(place),
+        Some(position) => Ok(position),
         None => along(pool, chain, numbers, equations, from, route),
     }
 }

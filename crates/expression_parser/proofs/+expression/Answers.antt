@@ -73,10 +73,10 @@ expression::read_chain-returns-in_default t c = chain_ends joints (expression_at
 pub expression::read_chain-returns-in_err-right : goal.expression::read_chain-returns-in_err-right
 expression::read_chain-returns-in_err-right t c =
     fault_hands_on c.from_residual.result _ _ _ c.from_residual.ensures.1
-    (IfNoTree-weaker _ (chain_is_stuck joints (expression_at c.args.budget) c.args.minimum _ _ (length c.args.tokens.now + 1 - (c.loop.counter + 1)) c.right_level.result _ _ _ (c.in-Some.operator, c.in-Some.place) c.loop.invariant (omega arith) (search rules) c.right_level.ensures) c.in_err-right.ensures)
+    (IfNoTree-weaker _ (chain_is_stuck joints (expression_at c.args.budget) c.args.minimum _ _ (length c.args.tokens.now + 1 - (c.loop.counter + 1)) c.right_level.result _ _ _ (c.in-Some.operator, c.in-Some.span) c.loop.invariant (omega arith) (search rules) c.right_level.ensures) c.in_err-right.ensures)
 
 pub expression::read_chain-loop-preserved : goal.expression::read_chain-loop-preserved
-expression::read_chain-loop-preserved t c = chain_goes_on joints (expression_at c.args.budget) c.args.minimum _ _ _ c.right_level.result _ _ _ _ (c.in-Some.operator, c.in-Some.place) _ _ c.loop.invariant (omega arith) (search rules) c.right_level.ensures c.in_ok-right.ensures (search rules)
+expression::read_chain-loop-preserved t c = chain_goes_on joints (expression_at c.args.budget) c.args.minimum _ _ _ c.right_level.result _ _ _ _ (c.in-Some.operator, c.in-Some.span) _ _ c.loop.invariant (omega arith) (search rules) c.right_level.ensures c.in_ok-right.ensures (search rules)
 
 pub block::read_contents-returns : goal.block::read_contents-returns
 block::read_contents-returns t c = block_is_over (readers c.args.budget) _ _ _ _ c.loop.invariant (omega arith)

@@ -15,15 +15,15 @@ pub fn joined(
     alloc: Global,
     left: Box<SpecExpression>,
     operator: SpecOperator,
-    place: Span,
+    span: Span,
     right: Box<SpecExpression>,
 ) -> Result<Box<SpecExpression>, NoMemory>
-    ensures { IfOk result (λ whole. whole.value ≡ SpecBinary left.value operator place right.value) }
+    ensures { IfOk result (λ whole. whole.value ≡ SpecBinary left.value operator span right.value) }
 {
     let node = SpecNode::Binary {
         left,
         operator,
-        place,
+        span,
         right,
     };
     Ok(Box::new(alloc, SpecExpression { node })?)
@@ -33,16 +33,16 @@ pub fn joined(
 pub fn quantified(
     alloc: Global,
     quantifier: Quantifier,
-    place: Span,
+    span: Span,
     binds: Vec<Bind>,
     triggers: Vec<Trigger>,
     body: Box<SpecExpression>,
 ) -> Result<Box<SpecExpression>, NoMemory>
-    ensures { IfOk result (λ whole. whole.value ≡ SpecQuantified quantifier place (binds_of binds.items) (triggers_of triggers.items) body.value) }
+    ensures { IfOk result (λ whole. whole.value ≡ SpecQuantified quantifier span (binds_of binds.items) (triggers_of triggers.items) body.value) }
 {
     let node = SpecNode::Quantified {
         quantifier,
-        place,
+        span,
         binds,
         triggers,
         body,
@@ -53,15 +53,15 @@ pub fn quantified(
 /// Builds an `if` with both its branches.
 pub fn conditional(
     alloc: Global,
-    place: Span,
+    span: Span,
     condition: Box<SpecExpression>,
     then_branch: Box<SpecExpression>,
     else_branch: Box<SpecExpression>,
 ) -> Result<Box<SpecExpression>, NoMemory>
-    ensures { IfOk result (λ whole. whole.value ≡ SpecIf place condition.value then_branch.value else_branch.value) }
+    ensures { IfOk result (λ whole. whole.value ≡ SpecIf span condition.value then_branch.value else_branch.value) }
 {
     let node = SpecNode::If {
-        place,
+        span,
         condition,
         then_branch,
         else_branch,
@@ -72,12 +72,12 @@ pub fn conditional(
 /// Builds a `!` applied to an expression.
 pub fn negated(
     alloc: Global,
-    place: Span,
+    span: Span,
     operand: Box<SpecExpression>,
 ) -> Result<Box<SpecExpression>, NoMemory>
-    ensures { IfOk result (λ whole. whole.value ≡ SpecNot place operand.value) }
+    ensures { IfOk result (λ whole. whole.value ≡ SpecNot span operand.value) }
 {
-    let node = SpecNode::Not { place, operand };
+    let node = SpecNode::Not { span, operand };
     Ok(Box::new(alloc, SpecExpression { node })?)
 }
 
@@ -108,11 +108,11 @@ pub fn item_of(
 /// Builds an expression in parentheses.
 pub fn parenthesized(
     alloc: Global,
-    place: Span,
+    span: Span,
     inner: Box<SpecExpression>,
 ) -> Result<Box<SpecExpression>, NoMemory>
-    ensures { IfOk result (λ whole. whole.value ≡ SpecParenthesized place inner.value) }
+    ensures { IfOk result (λ whole. whole.value ≡ SpecParenthesized span inner.value) }
 {
-    let node = SpecNode::Parenthesized { place, inner };
+    let node = SpecNode::Parenthesized { span, inner };
     Ok(Box::new(alloc, SpecExpression { node })?)
 }

@@ -23,7 +23,7 @@ use parser_base::leaf::{read_plain_literal, skip_glued};
 use parser_base::lists::{Separator, separator_behind};
 use parser_base::path::read_path_of_term;
 use parser_base::signs::{
-    expect_sign, expect_word, place_of_sign, place_of_word, read_identifier, skip_sign,
+    expect_sign, expect_word, read_identifier, skip_sign, span_of_sign, span_of_word,
 };
 use parser_base::types::{read_arguments, read_type};
 use std::alloc::Global;
@@ -85,11 +85,11 @@ fn read_spec_form(
     ensures { Reads result (λ read. (read.0.value, read.1.now)) (spec_form (type_at budget) (spec_at budget) packs minimum tokens.now) }
 {
     if minimum == 0 {
-        if let Some((quantifier, place, rest)) = read_quantifier(tokens) {
-            return read_quantified(alloc, quantifier, place, packs, rest, budget);
+        if let Some((quantifier, span, rest)) = read_quantifier(tokens) {
+            return read_quantified(alloc, quantifier, span, packs, rest, budget);
         }
-        if let Some((place, rest)) = place_of_word(tokens, b"if") {
-            return read_if(alloc, place, packs, rest, budget);
+        if let Some((span, rest)) = span_of_word(tokens, b"if") {
+            return read_if(alloc, span, packs, rest, budget);
         }
     }
     read_operated(alloc, packs, minimum, tokens, budget)
@@ -116,18 +116,18 @@ fn read_condition(
 #[tactic(auto, unfolding(crate::specs::SpecReading::if_at))]
 fn read_if(
     alloc: Global,
-    place: Span,
+    span: Span,
     packs: bool,
     tokens: &[Token],
     budget: usize,
 ) -> Result<(Box<SpecExpression>, &[Token]), ReadFault>
-    ensures { Reads result (λ read. (read.0.value, read.1.now)) (if_at (spec_at budget) packs place tokens.now) }
+    ensures { Reads result (λ read. (read.0.value, read.1.now)) (if_at (spec_at budget) packs span tokens.now) }
 {
     let (condition, rest) = read_condition(alloc, tokens, budget)?;
     let (then_branch, rest) = read_spec(alloc, packs, 0, rest, budget)?;
     let rest = expect_word(rest, b"else")?;
     let (else_branch, rest) = read_spec(alloc, packs, 0, rest, budget)?;
-    let whole = conditional(alloc, place, condition, then_branch, else_branch)?;
+    let whole = conditional(alloc, span, condition, then_branch, else_branch)?;
     Ok((whole, rest))
 }
 
@@ -137,18 +137,18 @@ fn read_if(
 fn read_quantified(
     alloc: Global,
     quantifier: Quantifier,
-    place: Span,
+    span: Span,
     packs: bool,
     tokens: &[Token],
     budget: usize,
 ) -> Result<(Box<SpecExpression>, &[Token]), ReadFault>
-    ensures { Reads result (λ read. (read.0.value, read.1.now)) (quantified_at (type_at budget) (spec_at budget) packs quantifier place tokens.now) }
+    ensures { Reads result (λ read. (read.0.value, read.1.now)) (quantified_at (type_at budget) (spec_at budget) packs quantifier span tokens.now) }
 {
     let (binds, rest) = read_binds(alloc, tokens, budget)?;
     let (triggers, rest) = read_triggers(alloc, rest, budget)?;
     let rest = expect_sign(rest, Punctuation::Colon)?;
     let (body, rest) = read_spec(alloc, packs, 0, rest, budget)?;
-    let whole = quantified(alloc, quantifier, place, binds, triggers, body)?;
+    let whole = quantified(alloc, quantifier, span, binds, triggers, body)?;
     Ok((whole, rest))
 }
 
@@ -237,11 +237,11 @@ fn read_operated(
     let mut whole = first;
     let mut rest = behind;
     for _ in 0..behind.len() + 1 {
-        let Some((operator, place, inside)) = next_operator(&whole, minimum, rest) else {
+        let Some((operator, span, inside)) = next_operator(&whole, minimum, rest) else {
             return Ok((whole, rest));
         };
         let (right, after) = read_spec(alloc, packs, right_level(operator), inside, budget)?;
-        whole = joined(alloc, whole, operator, place, right)?;
+        whole = joined(alloc, whole, operator, span, right)?;
         rest = after;
     }
     Err(ReadFault::NoTree { left: 0 })
@@ -258,9 +258,9 @@ fn read_operand(
 ) -> Result<(Box<SpecExpression>, &[Token]), ReadFault>
     ensures { Reads result (λ read. (read.0.value, read.1.now)) (operand_at (type_at budget) (spec_at budget) packs tokens.now) }
 {
-    if let Some((place, rest)) = place_of_sign(tokens, Punctuation::Exclaim) {
+    if let Some((span, rest)) = span_of_sign(tokens, Punctuation::Exclaim) {
         let (operand, rest) = read_spec(alloc, packs, UNARY_LEVEL, rest, budget)?;
-        return Ok((negated(alloc, place, operand)?, rest));
+        return Ok((negated(alloc, span, operand)?, rest));
     }
     let (base, rest) = read_term(alloc, packs, tokens, budget)?;
     read_postfixes(alloc, base, rest, budget)
@@ -321,13 +321,13 @@ fn read_term(
 ) -> Result<(Box<SpecExpression>, &[Token]), ReadFault>
     ensures { Reads result (λ read. (read.0.value, read.1.now)) (term_at (type_at budget) (spec_at budget true 0) packs tokens.now) }
 {
-    if let Some((place, rest)) = place_of_sign(tokens, Punctuation::LeftParenthesis) {
+    if let Some((span, rest)) = span_of_sign(tokens, Punctuation::LeftParenthesis) {
         let (inner, rest) = read_spec(alloc, true, 0, rest, budget)?;
         let rest = expect_sign(rest, Punctuation::RightParenthesis)?;
-        return Ok((parenthesized(alloc, place, inner)?, rest));
+        return Ok((parenthesized(alloc, span, inner)?, rest));
     }
-    if let Some((place, rest)) = place_of_sign(tokens, Punctuation::AtSign) {
-        let (literal, rest) = read_address_literal(alloc, place, rest)?;
+    if let Some((span, rest)) = span_of_sign(tokens, Punctuation::AtSign) {
+        let (literal, rest) = read_address_literal(alloc, span, rest)?;
         let node = SpecNode::Literal(literal);
         return Ok((Box::new(alloc, SpecExpression { node })?, rest));
     }

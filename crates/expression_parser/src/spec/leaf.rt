@@ -12,7 +12,7 @@ use parser_base::fault::ReadFault;
 use parser_base::lists::Separator;
 use parser_base::path::{last_name, read_address};
 use parser_base::signs::{
-    begins_capital, begins_with, expect_sign, is_keyword, place_of_word, skip_sign, skip_word,
+    begins_capital, begins_with, expect_sign, is_keyword, skip_sign, skip_word, span_of_word,
 };
 use std::alloc::Global;
 use syntax_tree::literal::Literal;
@@ -24,13 +24,13 @@ use tokens::token::{Punctuation, Token, TokenKind};
 #[tactic(auto, unfolding(crate::specs::LeafReading::address_literal_at))]
 pub fn read_address_literal(
     alloc: Global,
-    place: Span,
+    span: Span,
     tokens: &[Token],
 ) -> Result<(Literal, &[Token]), ReadFault>
-    ensures { Reads result (λ read. (read.0, read.1.now)) (address_literal_at place tokens.now) }
+    ensures { Reads result (λ read. (read.0, read.1.now)) (address_literal_at span tokens.now) }
 {
     let (address, rest) = read_address(alloc, tokens)?;
-    Ok((Literal::Address { place, address }, rest))
+    Ok((Literal::Address { span, address }, rest))
 }
 
 /// Decides whether a bind is here: a name with a type or a range.
@@ -51,14 +51,14 @@ fn opens_bind(tokens: &[Token]) -> bool
 
 /// Reads the word of a quantifier. Returns the quantifier, its span and the remaining tokens.
 #[tactic(auto, unfolding(crate::specs::LeafReading::quantifier_word_at))]
-fn place_of_quantifier(tokens: &[Token]) -> Option<(Quantifier, Span, &[Token])>
+fn span_of_quantifier(tokens: &[Token]) -> Option<(Quantifier, Span, &[Token])>
     ensures { option_map (λ read. ((read.0, read.1), read.2.now)) result ≡ quantifier_word_at tokens.now }
 {
-    if let Some((place, rest)) = place_of_word(tokens, b"forall") {
-        return Some((Quantifier::ForAll, place, rest));
+    if let Some((span, rest)) = span_of_word(tokens, b"forall") {
+        return Some((Quantifier::ForAll, span, rest));
     }
-    let (place, rest) = place_of_word(tokens, b"exists")?;
-    Some((Quantifier::Exists, place, rest))
+    let (span, rest) = span_of_word(tokens, b"exists")?;
+    Some((Quantifier::Exists, span, rest))
 }
 
 /// Reads the word of a quantifier, if a bind follows it; otherwise the word is a name. Returns the quantifier, its span
@@ -67,9 +67,9 @@ fn place_of_quantifier(tokens: &[Token]) -> Option<(Quantifier, Span, &[Token])>
 pub fn read_quantifier(tokens: &[Token]) -> Option<(Quantifier, Span, &[Token])>
     ensures { option_map (λ read. ((read.0, read.1), read.2.now)) result ≡ quantifier_at tokens.now }
 {
-    let (quantifier, place, rest) = place_of_quantifier(tokens)?;
+    let (quantifier, span, rest) = span_of_quantifier(tokens)?;
     if opens_bind(rest) {
-        Some((quantifier, place, rest))
+        Some((quantifier, span, rest))
     } else {
         None
     }

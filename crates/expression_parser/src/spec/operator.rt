@@ -53,23 +53,19 @@ fn opens_arguments(operator: SpecOperator) -> bool
 /// Completes an operator after its first sign: a `>` glued to a `>` is a shift.
 fn lengthened(
     operator: SpecOperator,
-    place: Span,
+    span: Span,
     tokens: &[Token],
 ) -> (SpecOperator, Span, &[Token])
-    ensures { ((result.0, result.1), result.2.now) ≡ lengthened operator place tokens.now }
+    ensures { ((result.0, result.1), result.2.now) ≡ lengthened operator span tokens.now }
 {
     match operator {
         SpecOperator::Common(BinaryOperator::Greater) => {
             match skip_glued(tokens, Punctuation::Greater) {
-                Some(rest) => (
-                    SpecOperator::Common(BinaryOperator::ShiftRight),
-                    place,
-                    rest,
-                ),
-                None => (operator, place, tokens),
+                Some(rest) => (SpecOperator::Common(BinaryOperator::ShiftRight), span, rest),
+                None => (operator, span, tokens),
             }
         }
-        _ => (operator, place, tokens),
+        _ => (operator, span, tokens),
     }
 }
 
@@ -97,9 +93,9 @@ pub fn next_operator<'a>(
 ) -> Option<(SpecOperator, Span, &'a [Token])>
     ensures { option_map (λ read. ((read.0, read.1), read.2.now)) result ≡ next_operator spec_joints minimum left.now tokens.now }
 {
-    let (operator, place, rest) = read_operator(tokens, is_path_last(left))?;
+    let (operator, span, rest) = read_operator(tokens, is_path_last(left))?;
     if minimum <= spec_operator_level(operator) {
-        Some((operator, place, rest))
+        Some((operator, span, rest))
     } else {
         None
     }

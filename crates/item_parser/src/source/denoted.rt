@@ -30,7 +30,7 @@ fn source_of(alloc: Global, file: File) -> Result<Source, SpecFault>
 /// `file_end`.
 fn end_of_source(alloc: Global, tokens: &[Token], file_end: u32) -> Result<u32, NoMemory> {
     match end_of_blocks(alloc, tokens)? {
-        Some(place) if place < file_end => Ok(place),
+        Some(span) if span < file_end => Ok(span),
         _ => Ok(file_end),
     }
 }
@@ -53,14 +53,14 @@ pub fn source(alloc: Global, tokens: &Tokens) -> Result<Source, ParseFault>
         Ok(file) => match source_of(alloc, file) {
             Ok(source) => Ok(source),
             Err(SpecFault::NoTree) => {
-                let place = end_of_source(alloc, items, u32::MAX)?;
-                Err(explain_at(items, place))
+                let span = end_of_source(alloc, items, u32::MAX)?;
+                Err(explain_at(items, span))
             }
             Err(SpecFault::NoMemory) => Err(ParseFault::NoMemory),
         },
-        Err(ParseFault::Grammar(place)) => {
-            let place = end_of_source(alloc, items, place)?;
-            Err(ParseFault::Grammar(place))
+        Err(ParseFault::Grammar(span)) => {
+            let span = end_of_source(alloc, items, span)?;
+            Err(ParseFault::Grammar(span))
         }
         Err(fault) => Err(fault),
     }

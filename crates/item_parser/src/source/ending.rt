@@ -67,7 +67,7 @@ fn end_of_block(alloc: Global, block: &[Token], slot: Slot) -> Result<Option<u32
     let tokens = copy_tokens(alloc, block)?;
     match spec_block(alloc, &tokens, slot) {
         Ok(_) => Ok(None),
-        Err(ParseFault::Grammar(place)) => Ok(Some(place)),
+        Err(ParseFault::Grammar(span)) => Ok(Some(span)),
         Err(ParseFault::LeftOut(_)) => Ok(None),
         Err(ParseFault::NoMemory) => Err(NoMemory),
     }

@@ -130,7 +130,7 @@ pub fn read_module(alloc: Global, module: Module) -> Result<SourceModule, SpecFa
     let members = read_members(alloc, &functions, module.members)?;
     Ok(SourceModule {
         attributes: module.attributes,
-        place: module.place,
+        span: module.span,
         name: module.name,
         members,
     })

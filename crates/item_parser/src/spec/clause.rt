@@ -56,21 +56,21 @@ fn read_variable(
 fn read_behind_word(
     alloc: Global,
     word: ClauseWord,
-    place: Span,
+    span: Span,
     tokens: &[Token],
     budget: usize,
 ) -> Result<(Clause, &[Token]), ReadFault>
-    ensures { Reads result (λ read. (read.0, read.1.now)) (clause_behind budget word place tokens.now) }
+    ensures { Reads result (λ read. (read.0, read.1.now)) (clause_behind budget word span tokens.now) }
 {
     match word {
-        ClauseWord::Pragma => read_pragmas(alloc, place, tokens),
-        ClauseWord::Requires => read_requires(alloc, place, tokens, budget),
-        ClauseWord::Ensures => read_ensures(alloc, place, tokens, budget),
-        ClauseWord::AbortsIf => read_aborts_if(alloc, place, tokens, budget),
-        ClauseWord::Modifies => read_modifies(alloc, place, tokens, budget),
-        ClauseWord::Invariant => read_invariant(alloc, place, tokens, budget),
-        ClauseWord::Let => read_let(alloc, place, tokens, budget),
-        ClauseWord::Include => read_include(alloc, place, tokens, budget),
+        ClauseWord::Pragma => read_pragmas(alloc, span, tokens),
+        ClauseWord::Requires => read_requires(alloc, span, tokens, budget),
+        ClauseWord::Ensures => read_ensures(alloc, span, tokens, budget),
+        ClauseWord::AbortsIf => read_aborts_if(alloc, span, tokens, budget),
+        ClauseWord::Modifies => read_modifies(alloc, span, tokens, budget),
+        ClauseWord::Invariant => read_invariant(alloc, span, tokens, budget),
+        ClauseWord::Let => read_let(alloc, span, tokens, budget),
+        ClauseWord::Include => read_include(alloc, span, tokens, budget),
     }
 }
 
@@ -84,7 +84,7 @@ fn read_worded(
     ensures { Reads result (λ read. (read.0, read.1.now)) (worded_at budget tokens.now) }
 {
     match clause_word(tokens) {
-        Some((word, place, rest)) => read_behind_word(alloc, word, place, rest, budget),
+        Some((word, span, rest)) => read_behind_word(alloc, word, span, rest, budget),
         None => Err(ReadFault::NoTree { left: tokens.len() }),
     }
 }

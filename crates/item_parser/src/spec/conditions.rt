@@ -31,45 +31,45 @@ fn read_condition(
 #[tactic(auto, unfolding(crate::specs::ClauseReading::requires_at))]
 pub fn read_requires(
     alloc: Global,
-    place: Span,
+    span: Span,
     tokens: &[Token],
     budget: usize,
 ) -> Result<(Clause, &[Token]), ReadFault>
-    ensures { Reads result (λ read. (read.0, read.1.now)) (requires_at budget place tokens.now) }
+    ensures { Reads result (λ read. (read.0, read.1.now)) (requires_at budget span tokens.now) }
 {
     let (condition, rest) = read_condition(alloc, tokens, budget)?;
-    Ok((Clause::Requires { place, condition }, rest))
+    Ok((Clause::Requires { span, condition }, rest))
 }
 
 /// Reads an `ensures` after its word.
 #[tactic(auto, unfolding(crate::specs::ClauseReading::ensures_at))]
 pub fn read_ensures(
     alloc: Global,
-    place: Span,
+    span: Span,
     tokens: &[Token],
     budget: usize,
 ) -> Result<(Clause, &[Token]), ReadFault>
-    ensures { Reads result (λ read. (read.0, read.1.now)) (ensures_at budget place tokens.now) }
+    ensures { Reads result (λ read. (read.0, read.1.now)) (ensures_at budget span tokens.now) }
 {
     let (condition, rest) = read_condition(alloc, tokens, budget)?;
-    Ok((Clause::Ensures { place, condition }, rest))
+    Ok((Clause::Ensures { span, condition }, rest))
 }
 
 /// Reads an `aborts_if` after its word.
 #[tactic(auto, unfolding(crate::specs::ClauseReading::aborts_if_at))]
 pub fn read_aborts_if(
     alloc: Global,
-    place: Span,
+    span: Span,
     tokens: &[Token],
     budget: usize,
 ) -> Result<(Clause, &[Token]), ReadFault>
-    ensures { Reads result (λ read. (read.0, read.1.now)) (aborts_if_at budget place tokens.now) }
+    ensures { Reads result (λ read. (read.0, read.1.now)) (aborts_if_at budget span tokens.now) }
 {
     let (condition, rest) = read_condition(alloc, tokens, budget)?;
     let code = AbortCode::Bare;
     Ok((
         Clause::AbortsIf {
-            place,
+            span,
             condition,
             code,
         },
@@ -81,17 +81,17 @@ pub fn read_aborts_if(
 #[tactic(auto, unfolding(crate::specs::ClauseReading::invariant_at))]
 pub fn read_invariant(
     alloc: Global,
-    place: Span,
+    span: Span,
     tokens: &[Token],
     budget: usize,
 ) -> Result<(Clause, &[Token]), ReadFault>
-    ensures { Reads result (λ read. (read.0, read.1.now)) (invariant_at budget place tokens.now) }
+    ensures { Reads result (λ read. (read.0, read.1.now)) (invariant_at budget span tokens.now) }
 {
     let (is_update, rest) = skip_update(tokens);
     let (condition, rest) = read_condition(alloc, rest, budget)?;
     Ok((
         Clause::Invariant {
-            place,
+            span,
             is_update,
             condition,
         },
@@ -103,11 +103,11 @@ pub fn read_invariant(
 #[tactic(auto, unfolding(crate::specs::ClauseReading::let_at))]
 pub fn read_let(
     alloc: Global,
-    place: Span,
+    span: Span,
     tokens: &[Token],
     budget: usize,
 ) -> Result<(Clause, &[Token]), ReadFault>
-    ensures { Reads result (λ read. (read.0, read.1.now)) (let_at budget place tokens.now) }
+    ensures { Reads result (λ read. (read.0, read.1.now)) (let_at budget span tokens.now) }
 {
     let (is_post, rest) = skip_post(tokens);
     let (name, rest) = read_identifier(alloc, rest)?;
@@ -115,7 +115,7 @@ pub fn read_let(
     let (value, rest) = read_condition(alloc, rest, budget)?;
     Ok((
         Clause::Let {
-            place,
+            span,
             is_post,
             name,
             value,

@@ -131,18 +131,18 @@ fn read_bindings(
 #[tactic(auto, unfolding(crate::specs::ClauseReading::include_at))]
 pub fn read_include(
     alloc: Global,
-    place: Span,
+    span: Span,
     tokens: &[Token],
     budget: usize,
 ) -> Result<(Clause, &[Token]), ReadFault>
-    ensures { Reads result (λ read. (read.0, read.1.now)) (include_at budget place tokens.now) }
+    ensures { Reads result (λ read. (read.0, read.1.now)) (include_at budget span tokens.now) }
 {
     let (schema, rest) = read_path(alloc, tokens)?;
     let (arguments, rest) = read_given(alloc, rest, budget)?;
     let (bindings, rest) = read_bindings(alloc, rest, budget)?;
     let rest = expect_sign(rest, Punctuation::Semicolon)?;
     let include = Include {
-        place,
+        span,
         schema,
         arguments,
         bindings,

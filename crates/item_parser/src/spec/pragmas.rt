@@ -24,20 +24,17 @@ use tokens::token::{Punctuation, Token};
 fn copy_value(alloc: Global, token: &Token) -> Result<Option<PragmaValue>, NoMemory>
     ensures { IfOk result (λ value. value ≡ value_of token.now) }
 {
-    let place = token.span;
+    let span = token.span;
     if is_word(&token.kind, b"true") {
-        return Ok(Some(PragmaValue::Truth { place, value: true }));
+        return Ok(Some(PragmaValue::Truth { span, value: true }));
     }
     if is_word(&token.kind, b"false") {
-        return Ok(Some(PragmaValue::Truth {
-            place,
-            value: false,
-        }));
+        return Ok(Some(PragmaValue::Truth { span, value: false }));
     }
     match fitting_number_of(&token.kind) {
         Some(literal) => {
             let literal = copy_number(alloc, literal)?;
-            Ok(Some(PragmaValue::Number(Numeral { literal, place })))
+            Ok(Some(PragmaValue::Number(Numeral { literal, span })))
         }
         None => Ok(None),
     }
@@ -108,12 +105,12 @@ fn read_pragma_list(
 #[tactic(auto, unfolding(crate::specs::ClauseReading::pragmas_at))]
 pub fn read_pragmas(
     alloc: Global,
-    place: Span,
+    span: Span,
     tokens: &[Token],
 ) -> Result<(Clause, &[Token]), ReadFault>
-    ensures { Reads result (λ read. (read.0, read.1.now)) (pragmas_at place tokens.now) }
+    ensures { Reads result (λ read. (read.0, read.1.now)) (pragmas_at span tokens.now) }
 {
     let (items, last_comma, rest) = read_pragma_list(alloc, tokens)?;
     let pragmas = Pragmas { items, last_comma };
-    Ok((Clause::Pragma { place, pragmas }, rest))
+    Ok((Clause::Pragma { span, pragmas }, rest))
 }

@@ -8,9 +8,7 @@ use base::span::Span;
 use expression_parser::spec::expression::read_spec_expression;
 use parser_base::fault::ReadFault;
 use parser_base::parameters::read_parameters;
-use parser_base::signs::{
-    begins_capital, expect_sign, expect_word, place_of_word, read_identifier,
-};
+use parser_base::signs::{begins_capital, expect_sign, expect_word, read_identifier, span_of_word};
 use parser_base::typed_names::read_inputs;
 use parser_base::types::read_type;
 use std::alloc::Global;
@@ -25,17 +23,17 @@ use tokens::token::{Punctuation, Token};
 fn read_named(
     alloc: Global,
     slot: Slot,
-    place: Span,
+    span: Span,
     tokens: &[Token],
     budget: usize,
 ) -> Result<(Spec, &[Token]), ReadFault>
-    ensures { Reads result (λ read. (read.0, read.1.now)) (named_at slot budget place tokens.now) }
+    ensures { Reads result (λ read. (read.0, read.1.now)) (named_at slot budget span tokens.now) }
 {
     let (name, rest) = read_identifier(alloc, tokens)?;
     let (clauses, rest) = read_block(alloc, slot, rest, budget)?;
     Ok((
         Spec::Named {
-            place,
+            span,
             name,
             clauses,
         },
@@ -47,45 +45,45 @@ fn read_named(
 #[tactic(auto, unfolding(crate::specs::SpecBlockReading::module_at))]
 fn read_module(
     alloc: Global,
-    place: Span,
+    span: Span,
     tokens: &[Token],
     budget: usize,
 ) -> Result<(Spec, &[Token]), ReadFault>
-    ensures { Reads result (λ read. (read.0, read.1.now)) (module_at budget place tokens.now) }
+    ensures { Reads result (λ read. (read.0, read.1.now)) (module_at budget span tokens.now) }
 {
     let (clauses, rest) = read_block(alloc, Slot::Module, tokens, budget)?;
-    Ok((Spec::Module { place, clauses }, rest))
+    Ok((Spec::Module { span, clauses }, rest))
 }
 
 /// Reads the block of a loop after `spec`.
 #[tactic(auto, unfolding(crate::specs::SpecBlockReading::loop_at))]
 fn read_loop(
     alloc: Global,
-    place: Span,
+    span: Span,
     tokens: &[Token],
     budget: usize,
 ) -> Result<(Spec, &[Token]), ReadFault>
-    ensures { Reads result (λ read. (read.0, read.1.now)) (loop_at budget place tokens.now) }
+    ensures { Reads result (λ read. (read.0, read.1.now)) (loop_at budget span tokens.now) }
 {
     let (clauses, rest) = read_block(alloc, Slot::Loop, tokens, budget)?;
-    Ok((Spec::Loop { place, clauses }, rest))
+    Ok((Spec::Loop { span, clauses }, rest))
 }
 
 /// Reads a schema after its name.
 #[tactic(auto, unfolding(crate::specs::SpecBlockReading::schema_behind_name))]
 fn read_schema_behind_name(
     alloc: Global,
-    place: Span,
+    span: Span,
     name: Identifier,
     tokens: &[Token],
     budget: usize,
 ) -> Result<(Spec, &[Token]), ReadFault>
-    ensures { Reads result (λ read. (read.0, read.1.now)) (schema_behind_name budget place name tokens.now) }
+    ensures { Reads result (λ read. (read.0, read.1.now)) (schema_behind_name budget span name tokens.now) }
 {
     let (parameters, rest) = read_parameters(alloc, false, tokens)?;
     let (clauses, rest) = read_block(alloc, Slot::Schema, rest, budget)?;
     let schema = Schema {
-        place,
+        span,
         name,
         parameters,
         clauses,
@@ -97,15 +95,15 @@ fn read_schema_behind_name(
 #[tactic(auto, unfolding(crate::specs::SpecBlockReading::schema_at))]
 fn read_schema(
     alloc: Global,
-    place: Span,
+    span: Span,
     tokens: &[Token],
     budget: usize,
 ) -> Result<(Spec, &[Token]), ReadFault>
-    ensures { Reads result (λ read. (read.0, read.1.now)) (schema_at budget place tokens.now) }
+    ensures { Reads result (λ read. (read.0, read.1.now)) (schema_at budget span tokens.now) }
 {
     let (name, rest) = read_identifier(alloc, tokens)?;
     if begins_capital(name.text.as_slice()) {
-        read_schema_behind_name(alloc, place, name, rest, budget)
+        read_schema_behind_name(alloc, span, name, rest, budget)
     } else {
         Err(ReadFault::NoTree { left: tokens.len() })
     }
@@ -130,11 +128,11 @@ fn read_body(
 #[tactic(auto, unfolding(crate::specs::SpecBlockReading::spec_function_at))]
 fn read_spec_function(
     alloc: Global,
-    place: Span,
+    span: Span,
     tokens: &[Token],
     budget: usize,
 ) -> Result<(Spec, &[Token]), ReadFault>
-    ensures { Reads result (λ read. (read.0, read.1.now)) (spec_function_at budget place tokens.now) }
+    ensures { Reads result (λ read. (read.0, read.1.now)) (spec_function_at budget span tokens.now) }
 {
     let (name, rest) = read_identifier(alloc, tokens)?;
     let (parameters, rest) = read_parameters(alloc, false, rest)?;
@@ -144,7 +142,7 @@ fn read_spec_function(
     let (result, rest) = read_type(alloc, rest, budget)?;
     let (body, rest) = read_body(alloc, rest, budget)?;
     let function = SpecFunction {
-        place,
+        span,
         name,
         parameters,
         inputs,
@@ -159,23 +157,18 @@ fn read_spec_function(
 fn read_behind_spec(
     alloc: Global,
     slot: Slot,
-    place: Span,
+    span: Span,
     tokens: &[Token],
     budget: usize,
 ) -> Result<(Spec, &[Token]), ReadFault>
-    ensures { Reads result (λ read. (read.0, read.1.now)) (behind_spec slot budget place tokens.now) }
+    ensures { Reads result (λ read. (read.0, read.1.now)) (behind_spec slot budget span tokens.now) }
 {
     match slot {
-        Slot::Function | Slot::Struct => read_named(alloc, slot, place, tokens, budget),
-        Slot::Module => read_module(alloc, place, expect_word(tokens, b"module")?, budget),
-        Slot::Schema => read_schema(alloc, place, expect_word(tokens, b"schema")?, budget),
-        Slot::SpecFunction => read_spec_function(
-            alloc,
-            place,
-            expect_word(tokens, b"fun")?,
-            budget,
-        ),
-        Slot::Loop => read_loop(alloc, place, tokens, budget),
+        Slot::Function | Slot::Struct => read_named(alloc, slot, span, tokens, budget),
+        Slot::Module => read_module(alloc, span, expect_word(tokens, b"module")?, budget),
+        Slot::Schema => read_schema(alloc, span, expect_word(tokens, b"schema")?, budget),
+        Slot::SpecFunction => read_spec_function(alloc, span, expect_word(tokens, b"fun")?, budget),
+        Slot::Loop => read_loop(alloc, span, tokens, budget),
     }
 }
 
@@ -194,8 +187,8 @@ pub fn read_spec_block(
 ) -> Result<(Spec, &[Token]), ReadFault>
     ensures { Reads result (λ read. (read.0, read.1.now)) (spec_block_at slot budget tokens.now) }
 {
-    match place_of_word(tokens, b"spec") {
-        Some((place, rest)) => read_behind_spec(alloc, slot, place, rest, budget),
+    match span_of_word(tokens, b"spec") {
+        Some((span, rest)) => read_behind_spec(alloc, slot, span, rest, budget),
         None => Err(ReadFault::NoTree { left: tokens.len() }),
     }
 }

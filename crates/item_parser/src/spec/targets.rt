@@ -43,13 +43,13 @@ fn read_target_list(
 #[tactic(auto, unfolding(crate::specs::ClauseReading::modifies_at))]
 pub fn read_modifies(
     alloc: Global,
-    place: Span,
+    span: Span,
     tokens: &[Token],
     budget: usize,
 ) -> Result<(Clause, &[Token]), ReadFault>
-    ensures { Reads result (λ read. (read.0, read.1.now)) (modifies_at budget place tokens.now) }
+    ensures { Reads result (λ read. (read.0, read.1.now)) (modifies_at budget span tokens.now) }
 {
     let (items, last_comma, rest) = read_target_list(alloc, tokens, budget)?;
     let targets = Targets { items, last_comma };
-    Ok((Clause::Modifies { place, targets }, rest))
+    Ok((Clause::Modifies { span, targets }, rest))
 }

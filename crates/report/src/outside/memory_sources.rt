@@ -6,7 +6,7 @@ ghost use Rattle.report.specs.MemorySink.{counted};
 ghost use Rattle.report.specs.MemorySources.{FailsNext};
 ghost use Rattle.report.specs.Outside.{IsLongFile, OnFetchFailed, OnTooLong, OnWhole, UnlessFetchFailed, UnlessWhole};
 
-use crate::outside::handed::HandedLog;
+use crate::outside::provided::ProvidedLog;
 use crate::outside::{FILE_LIMIT, Fetched, Sources};
 use base::lists::{Bytes, Calls, FileMap};
 use base::name::Name;
@@ -20,7 +20,7 @@ pub struct MapSources {
     calls: u64,
     faults: u64,
     taken: usize,
-    handed: HandedLog,
+    provided: ProvidedLog,
 }
 
 impl Model for MapSources {
@@ -30,13 +30,13 @@ impl Model for MapSources {
 
     ghost coded = { state_code };
 
-    ghost view = { λ s. record { files = s.files; fails = s.fails; calls = s.calls; faults = s.faults; taken = s.taken; handed = s.handed.files } };
+    ghost view = { λ s. record { files = s.files; fails = s.fails; calls = s.calls; faults = s.faults; taken = s.taken; provided = s.provided.files } };
 }
 
 impl MapSources {
     /// A source of these files. The fetches with the numbers in `fails`, counted from 1, fail.
     pub fn new(files: FileMap, fails: Calls) -> MapSources
-        ensures { result ≡ record { files = files; fails = fails; calls = 0; faults = 0; taken = 0; handed = [] } }
+        ensures { result ≡ record { files = files; fails = fails; calls = 0; faults = 0; taken = 0; provided = [] } }
     {
         MapSources {
             files,
@@ -44,7 +44,7 @@ impl MapSources {
             calls: 0,
             faults: 0,
             taken: 0,
-            handed: HandedLog::new(),
+            provided: ProvidedLog::new(),
         }
     }
 }
@@ -56,7 +56,7 @@ impl Sources for MapSources {
 
     ghost taken = { λ s. s.taken };
 
-    ghost handed = { λ s. s.handed };
+    ghost provided = { λ s. s.provided };
 
     /// Copies a file. It fails if its number is in `fails`, or if there is no file with this name. For a file that is
     /// too long it reads one byte more than `FILE_LIMIT`.
@@ -70,7 +70,7 @@ impl Sources for MapSources {
 
         // The state after the call, by its result.
         ensures failed { OnFetchFailed result (self.new ≡ record self.old { calls = counted self.old.calls; faults = counted self.old.faults; taken = 0 }) }
-        ensures took { OnWhole result (self.new ≡ record self.old { calls = counted self.old.calls; taken = length into.new; handed = self.old.handed ++ (name.now, into.new) ∷ [] }) }
+        ensures took { OnWhole result (self.new ≡ record self.old { calls = counted self.old.calls; taken = length into.new; provided = self.old.provided ++ (name.now, into.new) ∷ [] }) }
         ensures took_more { OnTooLong result (self.new ≡ record self.old { calls = counted self.old.calls; taken = FILE_LIMIT + 1 }) }
         ensures no_memory { result ≡ Fetched.NoMemory → self.new ≡ record self.old { calls = counted self.old.calls; taken = 0 } }
         ensures never_falls { self.old.faults ≤ self.new.faults }
@@ -93,7 +93,7 @@ impl Sources for MapSources {
             return Fetched::NoMemory;
         }
         self.taken = into.len();
-        self.handed.note(name.as_slice(), into.as_slice());
+        self.provided.note(name.as_slice(), into.as_slice());
         Fetched::Whole
     }
 }

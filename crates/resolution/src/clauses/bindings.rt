@@ -3,7 +3,7 @@
 ghost use Rattle.std.specs.Prelude.{◌≡◌, ◌++◌, map, IfOk, OnOk};
 ghost use Rattle.scopes.specs.Meanings.{IfUnknown, IsMeaning, each};
 ghost use Rattle.body_names.specs.SpecTrees.{field_of_value};
-ghost use Rattle.resolution.specs.Includes.{are_variables, bindings_of, given_names, implied_binding, missing, place_of};
+ghost use Rattle.resolution.specs.Includes.{are_variables, bindings_of, given_names, implied_binding, missing, index_of};
 
 use base::memory::NoMemory;
 use base::name::Name;
@@ -43,7 +43,7 @@ pub fn are_variables(variables: &NameList, names: &[Name]) -> bool
     ensures { result ≡ are_variables variables.now names.now }
 {
     for name in names {
-        if variables.last_place(name).is_none() {
+        if variables.last_index(name).is_none() {
             return false;
         }
     }
@@ -51,12 +51,12 @@ pub fn are_variables(variables: &NameList, names: &[Name]) -> bool
 }
 
 /// Returns the binding of an unbound variable, as if its name were written at this span.
-fn implied_binding(alloc: Global, place: Span, name: &Name) -> Result<SpecField, NoMemory>
-    ensures { IfOk result (λ binding. binding ≡ implied_binding place name.now) }
+fn implied_binding(alloc: Global, span: Span, name: &Name) -> Result<SpecField, NoMemory>
+    ensures { IfOk result (λ binding. binding ≡ implied_binding span name.now) }
 {
     let text = name.try_clone(alloc)?;
     Ok(SpecField {
-        name: Identifier { text, place },
+        name: Identifier { text, span },
         value: None,
     })
 }
@@ -64,17 +64,17 @@ fn implied_binding(alloc: Global, place: Span, name: &Name) -> Result<SpecField,
 /// Appends the variables that are not among the names, and returns the bindings that they imply.
 pub fn complete(
     alloc: Global,
-    place: Span,
+    span: Span,
     variables: &[Name],
     names: &mut NameList,
 ) -> Result<Vec<SpecField>, NoMemory>
     ensures names { OnOk result (names.new ≡ names.old ++ missing names.old variables.now) }
-    ensures implied { IfOk result (λ implied. implied.items ≡ map (implied_binding place) (missing names.old variables.now)) }
+    ensures implied { IfOk result (λ implied. implied.items ≡ map (implied_binding span) (missing names.old variables.now)) }
 {
     let mut implied = Vec::new(alloc);
     for variable in variables {
-        if names.last_place(variable).is_none() {
-            implied.push(implied_binding(alloc, place, variable)?)?;
+        if names.last_index(variable).is_none() {
+            implied.push(implied_binding(alloc, span, variable)?)?;
             names.push(alloc, variable.try_clone(alloc)?)?;
         }
     }
@@ -82,12 +82,12 @@ pub fn complete(
 }
 
 /// Returns the index of the last expression with this name, among expressions with these names.
-fn place_of(names: &NameList, roots: &[usize], name: &Name) -> Result<usize, NameFault>
-    ensures { IsMeaning result (place_of names.now roots.now name.now) }
+fn index_of(names: &NameList, roots: &[usize], name: &Name) -> Result<usize, NameFault>
+    ensures { IsMeaning result (index_of names.now roots.now name.now) }
 {
-    match names.last_place(name) {
+    match names.last_index(name) {
         None => Err(NameFault::Unknown),
-        Some(place) => match roots.get(place) {
+        Some(span) => match roots.get(span) {
             None => Err(NameFault::Unknown),
             Some(root) => Ok(*root),
         },
@@ -96,17 +96,17 @@ fn place_of(names: &NameList, roots: &[usize], name: &Name) -> Result<usize, Nam
 
 /// Returns for each variable the index of the last expression with its name, among expressions with these names.
 #[tactic(auto, using(scopes::proofs::EachLaws::each_next, scopes::proofs::EachLaws::each_none))]
-pub fn places_of(
+pub fn indices_of(
     alloc: Global,
     names: &NameList,
     roots: &[usize],
     variables: &[Name],
 ) -> Result<Sequence<usize>, NameFault>
-    ensures { IsMeaning result (each (place_of names.now roots.now) variables.now) }
+    ensures { IsMeaning result (each (index_of names.now roots.now) variables.now) }
 {
-    let mut places = Sequence::new(alloc);
+    let mut indices = Sequence::new(alloc);
     for variable in variables {
-        places.push(place_of(names, roots, variable)?)?;
+        indices.push(index_of(names, roots, variable)?)?;
     }
-    Ok(places)
+    Ok(indices)
 }

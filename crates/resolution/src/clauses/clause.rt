@@ -2,7 +2,7 @@
 
 ghost use Rattle.std.specs.Prelude.{◌≡◌, IfOk, IfErr, Some};
 ghost use Rattle.syntax_tree.specs.SpecExpressionData.{spec_expressions_of};
-ghost use Rattle.program.specs.Listed.{places};
+ghost use Rattle.program.specs.Listed.{indices};
 ghost use Rattle.scopes.specs.Meanings.{IfUnknown};
 ghost use Rattle.body_names.specs.SpecResolved.{expression_tree, expression_trees};
 ghost use Rattle.body_names.specs.SpecSetting.{setting};
@@ -10,8 +10,8 @@ ghost use Rattle.body_names.specs.SpecSpans.{spans_of, spans_of_all};
 ghost use Rattle.resolution.specs.ClauseForms.{HasUnknown, IsClauseOf, IsMadeOf, IsUnknown, condition_form, invariant_kind, is_clause, let_form, only};
 ghost use Rattle.resolution.specs.Setting.{scope_of};
 
+use crate::clauses::context::ClauseContext;
 use crate::clauses::include::resolve_include;
-use crate::clauses::place::ClausePlace;
 use base::span::Span;
 use body_names::spec::context::Context;
 use body_names::spec::expression::{
@@ -34,22 +34,22 @@ pub fn is_clause(tree: &ClauseTree) -> bool
 fn condition(
     context: &Context<'_>,
     block: Span,
-    place: Span,
+    span: Span,
     kind: ConditionKind,
     expression: &SpecExpression,
 ) -> Result<Clause, NameFault>
-    ensures resolved { IfOk result (IsMadeOf (only (expression_tree (setting context.now) expression.now)) (spans_of expression.now) (condition_form kind (expression_tree (setting context.now) expression.now)) block place) }
+    ensures resolved { IfOk result (IsMadeOf (only (expression_tree (setting context.now) expression.now)) (spans_of expression.now) (condition_form kind (expression_tree (setting context.now) expression.now)) block span) }
     ensures unknown { IfErr result (λ fault. IfUnknown fault (IsUnknown (only (expression_tree (setting context.now) expression.now)) (condition_form kind (expression_tree (setting context.now) expression.now)))) }
 {
     let ResolvedSpec {
         body,
-        place: root,
+        index: root,
         variables,
     } = resolve_expression(context, expression)?;
     drop(variables);
     Ok(Clause {
         block,
-        place,
+        span,
         form: ClauseForm::Condition(kind, root),
         body,
     })
@@ -59,22 +59,22 @@ fn condition(
 fn bound(
     context: &Context<'_>,
     block: Span,
-    place: Span,
+    span: Span,
     is_post: bool,
     value: &SpecExpression,
 ) -> Result<Clause, NameFault>
-    ensures resolved { IfOk result (IsMadeOf (only (expression_tree (setting context.now) value.now)) (spans_of value.now) (let_form is_post (expression_tree (setting context.now) value.now)) block place) }
+    ensures resolved { IfOk result (IsMadeOf (only (expression_tree (setting context.now) value.now)) (spans_of value.now) (let_form is_post (expression_tree (setting context.now) value.now)) block span) }
     ensures unknown { IfErr result (λ fault. IfUnknown fault (IsUnknown (only (expression_tree (setting context.now) value.now)) (let_form is_post (expression_tree (setting context.now) value.now)))) }
 {
     let ResolvedSpec {
         body,
-        place: root,
+        index: root,
         variables,
     } = resolve_expression(context, value)?;
     drop(variables);
     Ok(Clause {
         block,
-        place,
+        span,
         form: ClauseForm::Let {
             is_post,
             value: root,
@@ -87,22 +87,22 @@ fn bound(
 fn modified(
     context: &Context<'_>,
     block: Span,
-    place: Span,
+    span: Span,
     targets: &[SpecExpression],
 ) -> Result<Clause, NameFault>
-    ensures resolved { IfOk result (IsMadeOf (expression_trees (setting context.now) (spec_expressions_of targets.now)) (spans_of_all (spec_expressions_of targets.now)) (Some (ClauseForm.Modifies (places 0 (expression_trees (setting context.now) (spec_expressions_of targets.now))))) block place) }
-    ensures unknown { IfErr result (λ fault. IfUnknown fault (IsUnknown (expression_trees (setting context.now) (spec_expressions_of targets.now)) (Some (ClauseForm.Modifies (places 0 (expression_trees (setting context.now) (spec_expressions_of targets.now))))))) }
+    ensures resolved { IfOk result (IsMadeOf (expression_trees (setting context.now) (spec_expressions_of targets.now)) (spans_of_all (spec_expressions_of targets.now)) (Some (ClauseForm.Modifies (indices 0 (expression_trees (setting context.now) (spec_expressions_of targets.now))))) block span) }
+    ensures unknown { IfErr result (λ fault. IfUnknown fault (IsUnknown (expression_trees (setting context.now) (spec_expressions_of targets.now)) (Some (ClauseForm.Modifies (indices 0 (expression_trees (setting context.now) (spec_expressions_of targets.now))))))) }
 {
     let ResolvedSpecs {
         body,
-        places,
+        indices,
         variables,
     } = resolve_expressions(context, targets)?;
     drop(variables);
     Ok(Clause {
         block,
-        place,
-        form: ClauseForm::Modifies(places),
+        span,
+        form: ClauseForm::Modifies(indices),
         body,
     })
 }
@@ -121,48 +121,48 @@ fn invariant_kind(is_update: bool) -> ConditionKind
 /// `Unknown` exactly if some use in it has no meaning, or if it is a pragma or a variable of a schema, which are no
 /// clauses of a program; `NoMemory` if memory runs out first.
 pub fn resolve_clause(
-    place: &ClausePlace<'_>,
+    clause_context: &ClauseContext<'_>,
     outer: &Outer,
     block: Span,
     tree: &ClauseTree,
 ) -> Result<Clause, NameFault>
-    ensures resolved { IfOk result (IsClauseOf (scope_of place.now) outer.now block tree.now) }
-    ensures unknown { IfErr result (λ fault. IfUnknown fault (HasUnknown (scope_of place.now) outer.now tree.now)) }
+    ensures resolved { IfOk result (IsClauseOf (scope_of clause_context.now) outer.now block tree.now) }
+    ensures unknown { IfErr result (λ fault. IfUnknown fault (HasUnknown (scope_of clause_context.now) outer.now tree.now)) }
 {
     let context = Context {
-        alloc: place.alloc,
-        types: place.types,
+        alloc: clause_context.alloc,
+        types: clause_context.types,
         outer,
     };
     match tree {
         ClauseTree::Pragma { .. } | ClauseTree::Variable(_) => Err(NameFault::Unknown),
         ClauseTree::Requires {
-            place: at,
+            span: at,
             condition: holds,
         } => condition(&context, block, *at, ConditionKind::Requires, holds),
         ClauseTree::Ensures {
-            place: at,
+            span: at,
             condition: holds,
         } => condition(&context, block, *at, ConditionKind::Ensures, holds),
         ClauseTree::AbortsIf {
-            place: at,
+            span: at,
             condition: holds,
             ..
         } => condition(&context, block, *at, ConditionKind::AbortsIf, holds),
         ClauseTree::Invariant {
-            place: at,
+            span: at,
             is_update,
             condition: holds,
         } => condition(&context, block, *at, invariant_kind(*is_update), holds),
-        ClauseTree::Modifies { place: at, targets } => {
+        ClauseTree::Modifies { span: at, targets } => {
             modified(&context, block, *at, &targets.items)
         }
         ClauseTree::Let {
-            place: at,
+            span: at,
             is_post,
             value,
             ..
         } => bound(&context, block, *at, *is_post, value),
-        ClauseTree::Include(include) => resolve_include(place, outer, block, include),
+        ClauseTree::Include(include) => resolve_include(clause_context, outer, block, include),
     }
 }

@@ -1,15 +1,15 @@
 //! Resolution of included schemas.
 
 ghost use Rattle.std.specs.Prelude.{◌≡◌, IfOk, IfErr, Some};
-ghost use Rattle.program.specs.Listed.{places};
+ghost use Rattle.program.specs.Listed.{indices};
 ghost use Rattle.scopes.specs.Meanings.{IfUnknown};
 ghost use Rattle.body_names.specs.SpecSetting.{setting};
 ghost use Rattle.resolution.specs.ClauseForms.{IsMadeOf, IsUnknown};
 ghost use Rattle.resolution.specs.Includes.{GivesNothing, IsGiven, include_form, include_spans, include_trees};
 ghost use Rattle.resolution.specs.Setting.{scope_of};
 
-use crate::clauses::bindings::{are_variables, bindings_of, complete, given_names, places_of};
-use crate::clauses::place::ClausePlace;
+use crate::clauses::bindings::{are_variables, bindings_of, complete, given_names, indices_of};
+use crate::clauses::context::ClauseContext;
 use base::span::Span;
 use body_names::spec::context::Context;
 use body_names::spec::expression::{ResolvedSpecs, resolve_bindings};
@@ -27,76 +27,76 @@ use syntax_tree::spec_expression::SpecField;
 #[derive(Drop)]
 pub struct Given {
     /// The index of the value of each variable, in order.
-    pub places: Sequence<usize>,
+    pub indices: Sequence<usize>,
     pub body: SpecBody,
 }
 
 /// Resolves the values of these variables at this span, given these written bindings.
 fn give(
     context: &Context<'_>,
-    place: Span,
+    span: Span,
     variables: &NameList,
     bindings: &[SpecField],
 ) -> Result<Given, NameFault>
-    ensures given { IfOk result (λ given. IsGiven (setting context.now) place variables.now bindings.now given) }
-    ensures unknown { IfErr result (λ fault. IfUnknown fault (GivesNothing (setting context.now) place variables.now bindings.now)) }
+    ensures given { IfOk result (λ given. IsGiven (setting context.now) span variables.now bindings.now given) }
+    ensures unknown { IfErr result (λ fault. IfUnknown fault (GivesNothing (setting context.now) span variables.now bindings.now)) }
 {
     let mut names = given_names(context.alloc, bindings)?;
     if !are_variables(variables, names.as_slice()) {
         return Err(NameFault::Unknown);
     }
-    let implied = complete(context.alloc, place, variables.as_slice(), &mut names)?;
+    let implied = complete(context.alloc, span, variables.as_slice(), &mut names)?;
     let ResolvedSpecs {
         body,
-        places,
+        indices,
         variables: quantified,
     } = resolve_bindings(context, bindings, implied.as_slice())?;
     drop(quantified);
-    let places = places_of(
+    let indices = indices_of(
         context.alloc,
         &names,
-        places.as_slice(),
+        indices.as_slice(),
         variables.as_slice(),
     )?;
-    Ok(Given { places, body })
+    Ok(Given { indices, body })
 }
 
 /// Resolves an include of a schema.
 pub fn resolve_include(
-    place: &ClausePlace<'_>,
+    clause_context: &ClauseContext<'_>,
     outer: &Outer,
     block: Span,
     tree: &IncludeTree,
 ) -> Result<Clause, NameFault>
-    ensures resolved { IfOk result (IsMadeOf (include_trees (scope_of place.now) outer.now tree.now) (include_spans (scope_of place.now) tree.now) (include_form (scope_of place.now) tree.now (places 0 (include_trees (scope_of place.now) outer.now tree.now))) block tree.now.place) }
-    ensures unknown { IfErr result (λ fault. IfUnknown fault (IsUnknown (include_trees (scope_of place.now) outer.now tree.now) (include_form (scope_of place.now) tree.now (places 0 (include_trees (scope_of place.now) outer.now tree.now))))) }
+    ensures resolved { IfOk result (IsMadeOf (include_trees (scope_of clause_context.now) outer.now tree.now) (include_spans (scope_of clause_context.now) tree.now) (include_form (scope_of clause_context.now) tree.now (indices 0 (include_trees (scope_of clause_context.now) outer.now tree.now))) block tree.now.span) }
+    ensures unknown { IfErr result (λ fault. IfUnknown fault (IsUnknown (include_trees (scope_of clause_context.now) outer.now tree.now) (include_form (scope_of clause_context.now) tree.now (indices 0 (include_trees (scope_of clause_context.now) outer.now tree.now))))) }
 {
     let context = Context {
-        alloc: place.alloc,
-        types: place.types,
+        alloc: clause_context.alloc,
+        types: clause_context.types,
         outer,
     };
-    let schema = place
+    let schema = clause_context
         .types
         .environment
-        .schema_named(place.alloc, &tree.schema)?;
-    let Some(variables) = place.schemas.get(&schema) else {
+        .schema_named(clause_context.alloc, &tree.schema)?;
+    let Some(variables) = clause_context.schemas.get(&schema) else {
         return Err(NameFault::Unknown);
     };
-    let types = type_arguments(place.alloc, &place.types, &tree.arguments)?;
-    let Given { places, body } = give(
+    let types = type_arguments(clause_context.alloc, &clause_context.types, &tree.arguments)?;
+    let Given { indices, body } = give(
         &context,
-        tree.place,
+        tree.span,
         variables,
         bindings_of(&tree.bindings),
     )?;
     Ok(Clause {
         block,
-        place: tree.place,
+        span: tree.span,
         form: ClauseForm::Include {
             schema,
             types,
-            given: places,
+            given: indices,
         },
         body,
     })

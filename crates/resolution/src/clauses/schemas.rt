@@ -7,7 +7,7 @@ ghost use Rattle.resolution.specs.Parameters.{type_names_of, typed_meaning, type
 ghost use Rattle.resolution.specs.SpecDeclarations.{HasUnknownInSchema, IsSchemaOf, schema_variables, variables_in, variables_of_clause};
 
 use crate::clauses::around::around_schema;
-use crate::clauses::place::ClausePlace;
+use crate::clauses::context::ClauseContext;
 use crate::clauses::{Target, resolve_block};
 use crate::declarations::parameters::{type_names_of, type_parameters_of};
 use base::memory::NoMemory;
@@ -18,7 +18,7 @@ use program::sequence::Sequence;
 use program::table::Table;
 use scopes::environment::Environment;
 use scopes::fault::NameFault;
-use scopes::types::{TypePlace, type_named};
+use scopes::types::{TypeContext, type_named};
 use std::alloc::Global;
 use syntax_tree::clause::{Clause as ClauseTree, Schema as SchemaTree};
 use syntax_tree::member::TypedName as TypedNameTree;
@@ -39,13 +39,13 @@ pub fn schema_variables(alloc: Global, trees: &[ClauseTree]) -> Result<NameList,
 /// Resolves a variable with its type.
 fn variable_named(
     alloc: Global,
-    place: &TypePlace<'_>,
+    context: &TypeContext<'_>,
     variable: &TypedNameTree,
 ) -> Result<TypedName, NameFault>
-    requires { length place.now.parameters.now < 2 ^ 32 }
-    ensures { IsMeaning result (typed_meaning (record { environment = place.now.environment.now; parameters = place.now.parameters.now; is_spec = place.now.is_spec }) variable.now) }
+    requires { length context.now.parameters.now < 2 ^ 32 }
+    ensures { IsMeaning result (typed_meaning (record { environment = context.now.environment.now; parameters = context.now.parameters.now; is_spec = context.now.is_spec }) variable.now) }
 {
-    let annotation = type_named(alloc, place, &variable.annotation)?;
+    let annotation = type_named(alloc, context, &variable.annotation)?;
     Ok(TypedName {
         name: variable.name.text.try_clone(alloc)?,
         annotation,
@@ -55,14 +55,14 @@ fn variable_named(
 /// Resolves the variable that a clause declares, if it declares one.
 fn variable_in(
     alloc: Global,
-    place: &TypePlace<'_>,
+    context: &TypeContext<'_>,
     tree: &ClauseTree,
 ) -> Result<Option<TypedName>, NameFault>
-    requires { length place.now.parameters.now < 2 ^ 32 }
-    ensures { MatchResult result (λ found. typed_names (record { environment = place.now.environment.now; parameters = place.now.parameters.now; is_spec = place.now.is_spec }) (variables_of_clause tree.now) ≡ Some (listed found)) (λ fault. IfUnknown fault (typed_names (record { environment = place.now.environment.now; parameters = place.now.parameters.now; is_spec = place.now.is_spec }) (variables_of_clause tree.now) ≡ None)) }
+    requires { length context.now.parameters.now < 2 ^ 32 }
+    ensures { MatchResult result (λ found. typed_names (record { environment = context.now.environment.now; parameters = context.now.parameters.now; is_spec = context.now.is_spec }) (variables_of_clause tree.now) ≡ Some (listed found)) (λ fault. IfUnknown fault (typed_names (record { environment = context.now.environment.now; parameters = context.now.parameters.now; is_spec = context.now.is_spec }) (variables_of_clause tree.now) ≡ None)) }
 {
     match tree {
-        ClauseTree::Variable(variable) => Ok(Some(variable_named(alloc, place, variable)?)),
+        ClauseTree::Variable(variable) => Ok(Some(variable_named(alloc, context, variable)?)),
         _ => Ok(None),
     }
 }
@@ -80,15 +80,15 @@ fn push_found(into: &mut Sequence<TypedName>, found: Option<TypedName>) -> Resul
 /// Resolves the variables that a schema declares, with their types.
 fn variables_named(
     alloc: Global,
-    place: &TypePlace<'_>,
+    context: &TypeContext<'_>,
     trees: &[ClauseTree],
 ) -> Result<Sequence<TypedName>, NameFault>
-    requires { length place.now.parameters.now < 2 ^ 32 }
-    ensures { IsMeaning result (typed_names (record { environment = place.now.environment.now; parameters = place.now.parameters.now; is_spec = place.now.is_spec }) (variables_in trees.now)) }
+    requires { length context.now.parameters.now < 2 ^ 32 }
+    ensures { IsMeaning result (typed_names (record { environment = context.now.environment.now; parameters = context.now.parameters.now; is_spec = context.now.is_spec }) (variables_in trees.now)) }
 {
     let mut variables = Sequence::new(alloc);
     for tree in trees {
-        let found = variable_in(alloc, place, tree)?;
+        let found = variable_in(alloc, context, tree)?;
         push_found(&mut variables, found)?;
     }
     Ok(variables)
@@ -107,7 +107,7 @@ pub fn resolve_schema<'a>(
     ensures unknown { IfErr result (λ fault. IfUnknown fault (HasUnknownInSchema environment.now schemas.now tree.now)) }
 {
     let parameters = type_names_of(alloc, &tree.parameters)?;
-    let types = TypePlace {
+    let types = TypeContext {
         environment,
         parameters: parameters.as_slice(),
         is_spec: true,
@@ -115,17 +115,17 @@ pub fn resolve_schema<'a>(
     let trees = tree.clauses.items.as_slice();
     let variables = variables_named(alloc, &types, trees)?;
     let names = schema_variables(alloc, trees)?;
-    let place = ClausePlace {
+    let context = ClauseContext {
         alloc,
         types,
         schemas,
     };
     let mut target = Target::new(alloc, around_schema(alloc, names.as_slice())?);
-    resolve_block(&place, tree.place, trees, &mut target)?;
+    resolve_block(&context, tree.span, trees, &mut target)?;
     let Target { outer, clauses } = target;
     drop(outer);
     Ok(Schema {
-        place: tree.place,
+        span: tree.span,
         type_parameters: type_parameters_of(alloc, &tree.parameters)?,
         variables,
         clauses,

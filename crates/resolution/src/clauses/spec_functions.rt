@@ -12,7 +12,7 @@ use body_names::spec::expression::{ResolvedSpec, resolve_expression};
 use program::declaration::SpecFunction;
 use scopes::environment::Environment;
 use scopes::fault::NameFault;
-use scopes::types::{TypePlace, type_named};
+use scopes::types::{TypeContext, type_named};
 use std::alloc::Global;
 use syntax_tree::clause::SpecFunction as SpecFunctionTree;
 
@@ -28,7 +28,7 @@ pub fn resolve_spec_function(
     ensures unknown { IfErr result (λ fault. IfUnknown fault (HasUnknownInSpecFunction environment.now tree.now)) }
 {
     let names = type_names_of(alloc, &tree.parameters)?;
-    let types = TypePlace {
+    let types = TypeContext {
         environment,
         parameters: names.as_slice(),
         is_spec: true,
@@ -43,12 +43,12 @@ pub fn resolve_spec_function(
     };
     let ResolvedSpec {
         body,
-        place: _,
+        index: _,
         variables,
     } = resolve_expression(&context, &tree.body)?;
     drop(variables);
     Ok(SpecFunction {
-        place: tree.place,
+        span: tree.span,
         type_parameters: type_parameters_of(alloc, &tree.parameters)?,
         parameters,
         result: result_type,

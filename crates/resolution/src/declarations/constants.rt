@@ -9,7 +9,7 @@ use body_names::code::context::Context;
 use program::declaration::Constant;
 use scopes::environment::Environment;
 use scopes::fault::NameFault;
-use scopes::types::{TypePlace, type_named};
+use scopes::types::{TypeContext, type_named};
 use std::alloc::Global;
 use syntax_tree::member::Constant as ConstantTree;
 
@@ -23,7 +23,7 @@ pub fn resolve_constant(
     ensures resolved { IfOk result (IsConstantOf environment.now tree.now) }
     ensures unknown { IfErr result (λ fault. IfUnknown fault (HasUnknownInConstant environment.now tree.now)) }
 {
-    let types = TypePlace {
+    let types = TypeContext {
         environment,
         parameters: &[],
         is_spec: false,
@@ -33,7 +33,7 @@ pub fn resolve_constant(
     let ResolvedBody { body, locals } = resolve_value(&context, &tree.value)?;
     drop(locals);
     Ok(Constant {
-        place: tree.place,
+        span: tree.span,
         annotation,
         value: body,
     })

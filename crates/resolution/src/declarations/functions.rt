@@ -9,13 +9,13 @@ use crate::declarations::parameters::{type_names_of, type_parameters_of, typed_n
 use base::memory::NoMemory;
 use base::name::Name;
 use base::types::{StructId, TypeList, TypeNode, TypeTerm};
-use body_names::code::body::{ResolvedBody, resolve_body};
+use body_names::code::body::{FunctionBody, resolve_body};
 use body_names::code::context::Context;
 use program::declaration::{TypeParameter, TypedName, Visibility};
 use program::sequence::Sequence;
 use scopes::environment::Environment;
 use scopes::fault::NameFault;
-use scopes::types::{TypePlace, type_named};
+use scopes::types::{TypeContext, type_named};
 use std::alloc::Global;
 use syntax_tree::member::{
     Function as FunctionTree, Paths, TypedName as TypedNameTree, Visibility as VisibilityTree,
@@ -38,7 +38,7 @@ pub struct Head {
 #[derive(Drop)]
 pub struct ResolvedFunction {
     pub head: Head,
-    pub body: ResolvedBody,
+    pub body: FunctionBody,
 }
 
 fn visibility_of(visibility: VisibilityTree) -> Visibility
@@ -54,11 +54,11 @@ fn visibility_of(visibility: VisibilityTree) -> Visibility
 /// Resolves the type of a function's result.
 fn result_type(
     alloc: Global,
-    place: &TypePlace<'_>,
+    context: &TypeContext<'_>,
     result_tree: &Option<SourceType>,
 ) -> Result<TypeTerm, NameFault>
-    requires { length place.now.parameters.now < 2 ^ 32 }
-    ensures { IsMeaning result (result_meaning (record { environment = place.now.environment.now; parameters = place.now.parameters.now; is_spec = place.now.is_spec }) result_tree.now) }
+    requires { length context.now.parameters.now < 2 ^ 32 }
+    ensures { IsMeaning result (result_meaning (record { environment = context.now.environment.now; parameters = context.now.parameters.now; is_spec = context.now.is_spec }) result_tree.now) }
 {
     match result_tree {
         None => Ok(TypeTerm {
@@ -66,7 +66,7 @@ fn result_type(
                 items: Vec::new(alloc),
             }),
         }),
-        Some(tree) => type_named(alloc, place, tree),
+        Some(tree) => type_named(alloc, context, tree),
     }
 }
 
@@ -113,18 +113,18 @@ fn parameter_names(alloc: Global, names: &[TypedNameTree]) -> Result<Sequence<Na
 /// Resolves the head of a function, whose type parameters have these names.
 fn resolve_head(
     alloc: Global,
-    place: &TypePlace<'_>,
+    context: &TypeContext<'_>,
     tree: &FunctionTree,
 ) -> Result<Head, NameFault>
-    requires few { length place.now.parameters.now < 2 ^ 32 }
-    requires names { place.now.parameters.now ≡ type_names_of tree.now.parameters }
-    requires code { place.now.is_spec ≡ false }
-    ensures resolved { IfOk result (IsHeadOf place.now.environment.now tree.now) }
-    ensures unknown { IfErr result (λ fault. IfUnknown fault (HasUnknownInHead place.now.environment.now tree.now)) }
+    requires few { length context.now.parameters.now < 2 ^ 32 }
+    requires names { context.now.parameters.now ≡ type_names_of tree.now.parameters }
+    requires code { context.now.is_spec ≡ false }
+    ensures resolved { IfOk result (IsHeadOf context.now.environment.now tree.now) }
+    ensures unknown { IfErr result (λ fault. IfUnknown fault (HasUnknownInHead context.now.environment.now tree.now)) }
 {
-    let parameters = typed_names(alloc, place, &tree.inputs.items)?;
-    let result_type = result_type(alloc, place, &tree.result)?;
-    let acquires = acquires(alloc, place.environment, &tree.acquires)?;
+    let parameters = typed_names(alloc, context, &tree.inputs.items)?;
+    let result_type = result_type(alloc, context, &tree.result)?;
+    let acquires = acquires(alloc, context.environment, &tree.acquires)?;
     Ok(Head {
         visibility: visibility_of(tree.visibility),
         type_parameters: type_parameters_of(alloc, &tree.parameters)?,
@@ -146,7 +146,7 @@ pub fn resolve_function(
     ensures unknown { IfErr result (λ fault. IfUnknown fault (HasUnknownInFunction environment.now tree.now)) }
 {
     let names = type_names_of(alloc, &tree.parameters)?;
-    let types = TypePlace {
+    let types = TypeContext {
         environment,
         parameters: names.as_slice(),
         is_spec: false,

@@ -9,7 +9,7 @@ use base::name::Name;
 use program::declaration::{AbilitySet, TypeParameter, TypedName};
 use program::sequence::Sequence;
 use scopes::fault::NameFault;
-use scopes::types::{TypePlace, type_named};
+use scopes::types::{TypeContext, type_named};
 use std::alloc::Global;
 use syntax_tree::member::{
     Abilities, Ability, TypeParameter as TypeParameterTree, TypeParameters,
@@ -105,13 +105,13 @@ pub fn type_names_of(
 /// Resolves a name with its type.
 fn typed_name(
     alloc: Global,
-    place: &TypePlace<'_>,
+    context: &TypeContext<'_>,
     name: &TypedNameTree,
 ) -> Result<TypedName, NameFault>
-    requires { length place.now.parameters.now < 2 ^ 32 }
-    ensures { IsMeaning result (typed_meaning (record { environment = place.now.environment.now; parameters = place.now.parameters.now; is_spec = place.now.is_spec }) name.now) }
+    requires { length context.now.parameters.now < 2 ^ 32 }
+    ensures { IsMeaning result (typed_meaning (record { environment = context.now.environment.now; parameters = context.now.parameters.now; is_spec = context.now.is_spec }) name.now) }
 {
-    let annotation = type_named(alloc, place, &name.annotation)?;
+    let annotation = type_named(alloc, context, &name.annotation)?;
     Ok(TypedName {
         name: name.name.text.try_clone(alloc)?,
         annotation,
@@ -122,15 +122,15 @@ fn typed_name(
 #[tactic(auto, using(scopes::proofs::EachLaws::each_next, scopes::proofs::EachLaws::each_none))]
 pub fn typed_names(
     alloc: Global,
-    place: &TypePlace<'_>,
+    context: &TypeContext<'_>,
     names: &[TypedNameTree],
 ) -> Result<Sequence<TypedName>, NameFault>
-    requires { length place.now.parameters.now < 2 ^ 32 }
-    ensures { IsMeaning result (typed_names (record { environment = place.now.environment.now; parameters = place.now.parameters.now; is_spec = place.now.is_spec }) names.now) }
+    requires { length context.now.parameters.now < 2 ^ 32 }
+    ensures { IsMeaning result (typed_names (record { environment = context.now.environment.now; parameters = context.now.parameters.now; is_spec = context.now.is_spec }) names.now) }
 {
     let mut found = Sequence::new(alloc);
     for name in names {
-        found.push(typed_name(alloc, place, name)?)?;
+        found.push(typed_name(alloc, context, name)?)?;
     }
     Ok(found)
 }

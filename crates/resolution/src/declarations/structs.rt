@@ -12,7 +12,7 @@ use program::declaration::Struct;
 use program::sequence::Sequence;
 use scopes::environment::Environment;
 use scopes::fault::NameFault;
-use scopes::types::TypePlace;
+use scopes::types::TypeContext;
 use std::alloc::Global;
 use syntax_tree::member::Struct as StructTree;
 
@@ -28,14 +28,14 @@ pub fn resolve_struct(
     ensures unknown { IfErr result (λ fault. IfUnknown fault (HasUnknownInStruct environment.now tree.now)) }
 {
     let names = type_names_of(alloc, &tree.parameters)?;
-    let place = TypePlace {
+    let context = TypeContext {
         environment,
         parameters: names.as_slice(),
         is_spec: false,
     };
-    let fields = typed_names(alloc, &place, &tree.fields.items)?;
+    let fields = typed_names(alloc, &context, &tree.fields.items)?;
     Ok(Struct {
-        place: tree.place,
+        span: tree.span,
         type_parameters: type_parameters_of(alloc, &tree.parameters)?,
         abilities: struct_abilities(&tree.abilities),
         fields,

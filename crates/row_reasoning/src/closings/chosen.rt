@@ -1,6 +1,6 @@
 //! One term for each class of unknowns: a shallowest one among the class's terms that are no sums.
 
-ghost use Rattle.std.specs.Prelude.{◌≡◌, ◌↔◌, ℕ, ◌<◌, Some, None, cond, length, nat_eq, IsTrue, IfOk, OnOk, All, MatchBool};
+ghost use Rattle.std.specs.Prelude.{◌≡◌, ◌↔◌, ◌<◌, Some, None, length, nat_eq, IsTrue, IfOk, All, MatchBool};
 ghost use Rattle.indexmap.specs.IndexMap.{get};
 ghost use Rattle.fol.specs.FormulaData.{BinaryTerm, MulTerm};
 ghost use Rattle.certificates.specs.Linear.{numeral_of};
@@ -14,6 +14,7 @@ use fol::operators::{Binary, Constant};
 use indexmap::IndexMap;
 use std::alloc::Global;
 use term_pool::node::{Leaf, Node, Two};
+use term_pool::numbers::{look_up, note};
 use term_pool::pool::Pool;
 
 // ---- terms that are no sums
@@ -86,22 +87,6 @@ pub fn is_no_sum(pool: &Pool, term: usize) -> bool
 }
 
 // ---- choices
-
-fn look_up(chosen: &IndexMap<usize, usize>, class: usize) -> Option<usize>
-    ensures { result ≡ get nat_eq chosen.now class }
-{
-    match chosen.get(&class) {
-        Some(term) => Some(*term),
-        None => None,
-    }
-}
-
-fn note(chosen: &mut IndexMap<usize, usize>, class: usize, term: usize) -> Result<(), NoMemory>
-    ensures { OnOk result ((k : ℕ) → get nat_eq chosen.new k ≡ cond (nat_eq class k) (Some term) (get nat_eq chosen.old k)) }
-{
-    chosen.insert(class, term)?;
-    Ok(())
-}
 
 // Decides whether the term is shallower than the one chosen for the class, or the class has no chosen term.
 fn is_better(pool: &Pool, chosen: &IndexMap<usize, usize>, class: usize, term: usize) -> bool

@@ -2,15 +2,13 @@
 
 ghost use Rattle.std.specs.Prelude.{◌≡◌, length, nat_eq, MatchOption, OnOk, IfOk};
 ghost use Rattle.indexmap.specs.IndexMap.{get};
-ghost use Rattle.term_pool.specs.Pools.{IsMade, Extends};
-ghost use Rattle.term_pool.specs.declared.node.One.TheVariants.{Not};
-ghost use Rattle.term_pool.specs.declared.node.Node.TheVariants.{One as OneNode};
+ghost use Rattle.term_pool.specs.Pools.{Extends};
 ghost use Rattle.congruence_closure.specs.Histories.{IsHistory};
 ghost use Rattle.tableau.specs.PoolBranches.{IsFormulaNumber};
 ghost use Rattle.congruence_closure.specs.Known.{IsOver};
 ghost use Rattle.row_reasoning.specs.StandIns.{HaveStandIns};
 ghost use Rattle.row_reasoning.specs.DifferencesSums.{AreChosenSums};
-ghost use Rattle.row_reasoning.specs.DifferencesEntries.{way_to, is_comparison, denied_in, IsCompared, IsNotCompared, IsNoDenial, IsComparison, IsNoComparison, IsDeep, AreSidesOf, MakeChosen};
+ghost use Rattle.row_reasoning.specs.DifferencesEntries.{way_to, is_comparison, IsCompared, IsNotCompared, IsComparison, IsNoComparison, IsDeep, AreSidesOf, MakeChosen};
 
 use crate::differences::choice::Choice;
 use crate::differences::shape::{Pair, pair_of};
@@ -21,7 +19,7 @@ use explanations::derived::replacing::Difference;
 use explanations::frame::Frame;
 use indexmap::IndexMap;
 use std::alloc::Global;
-use term_pool::node::{Node, One, Two};
+use term_pool::node::{One, Two};
 use term_pool::pool::{MOST_DEPTH, Pool};
 
 /// A comparison, or its negation.
@@ -56,25 +54,6 @@ fn compared(pool: &Pool, number: usize) -> Option<Pair>
     }
 }
 
-fn denied_in(node: Node) -> Option<usize>
-    ensures { result ≡ denied_in node }
-{
-    match node {
-        Node::One(One::Not, part) => Some(part),
-        _ => None,
-    }
-}
-
-/// The number of the formula that the formula with this number negates; `None` if it is no negation.
-pub fn denied(pool: &Pool, number: usize) -> Option<usize>
-    ensures { MatchOption result (IsNoDenial pool.now number) (λ part. IsMade pool.now number (OneNode Not part)) }
-{
-    match pool.node(number) {
-        Some(node) => denied_in(node),
-        None => None,
-    }
-}
-
 // The sides of the formula with this number; `None` if it is neither a comparison nor the negation of one.
 fn sides_of(pool: &Pool, formula: usize) -> Option<Sides>
     ensures { MatchOption result (IsNoComparison pool.now formula) (IsComparison pool.now formula) }
@@ -85,7 +64,7 @@ fn sides_of(pool: &Pool, formula: usize) -> Option<Sides>
             pair,
         });
     }
-    match denied(pool, formula) {
+    match pool.denied(formula) {
         Some(part) => match compared(pool, part) {
             Some(pair) => Some(Sides {
                 is_denied: true,

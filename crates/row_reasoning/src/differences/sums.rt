@@ -7,11 +7,12 @@ ghost use Rattle.tableau.specs.PoolBranches.{IsTermNumber};
 ghost use Rattle.row_reasoning.specs.StandIns.{HaveStandIns};
 ghost use Rattle.row_reasoning.specs.DifferencesSums.{IsSumOf, IsChosenSum, AreChosenSums};
 
-use crate::differences::choice::{Choice, chosen_for, look_up, note};
+use crate::differences::choice::{Choice, chosen_for};
 use crate::differences::shape::{Pair, Shape, shape_of};
 use base::memory::NoMemory;
 use indexmap::IndexMap;
 use term_pool::node::Node;
+use term_pool::numbers::{look_up, note};
 use term_pool::pool::Pool;
 
 // The number of a sum of two terms, with the chosen term for each unknown.

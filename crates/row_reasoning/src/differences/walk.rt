@@ -8,7 +8,7 @@ ghost use Rattle.congruence_closure.specs.Known.{IsOver};
 ghost use Rattle.explanations.specs.Frames.{filled};
 ghost use Rattle.row_reasoning.specs.StandIns.{IsStandIn};
 ghost use Rattle.row_reasoning.specs.DifferencesSums.{IsChosenSum};
-ghost use Rattle.row_reasoning.specs.Places.{pair_item, IsSumPlace, AreSidesAt, IsTurn, AreFoundAt};
+ghost use Rattle.row_reasoning.specs.Positions.{pair_item, IsSumPosition, AreSidesAt, IsTurn, AreFoundAt};
 
 use crate::differences::choice::Choice;
 use crate::differences::shape::{Pair, Shape, pair_of, shape_of};
@@ -54,7 +54,7 @@ fn push_unknown(
 ) -> Result<(), NoMemory>
     requires over { IsOver pool.now choice.classes.now }
     requires history { IsHistory choice.classes.now.classes.links (length choice.classes.now.classes.links) choice.history.now }
-    requires place { IsSumPlace pool.now choice.classes.now choice.names.now (get nat_eq choice.chosen.now) way.items one other }
+    requires position { IsSumPosition pool.now choice.classes.now choice.names.now (get nat_eq choice.chosen.now) way.items one other }
     requires unknown { IsStandIn pool.now choice.classes.now choice.names.now (get nat_eq choice.chosen.now) one other }
     ensures { OnOk result (AreFoundAt pool.now choice.entry.classes.now (filled pool.now way.items (item_at pool.now one)) (filled pool.now way.items (item_at pool.now other)) found.old.items found.new.items) }
 {
@@ -133,7 +133,7 @@ fn differences(
 ) -> Result<(), NoMemory>
     requires over { IsOver pool.now choice.classes.now }
     requires history { IsHistory choice.classes.now.classes.links (length choice.classes.now.classes.links) choice.history.now }
-    requires place { IsSumPlace pool.now choice.classes.now choice.names.now (get nat_eq choice.chosen.now) way.items one other }
+    requires position { IsSumPosition pool.now choice.classes.now choice.names.now (get nat_eq choice.chosen.now) way.items one other }
     ensures { OnOk result (AreFoundAt pool.now choice.entry.classes.now (filled pool.now way.items (item_at pool.now one)) (filled pool.now way.items (item_at pool.now other)) found.old.items found.new.items) }
 {
     match turn_at(pool, choice, one, other) {

@@ -1,17 +1,15 @@
 //! The classes of terms that are whole numbers.
 
-ghost use Rattle.std.specs.Prelude.{◌≡◌, ◌≤◌, ℕ, length, Some, cond, nat_eq, OnOk, IfOk, MatchOption};
+ghost use Rattle.std.specs.Prelude.{◌≡◌, ◌≤◌, ℕ, length, Some, cond, nat_eq, OnOk, IfOk};
 ghost use Rattle.indexmap.specs.IndexMap.{get};
-ghost use Rattle.base.specs.TypeData.{NumType};
-ghost use Rattle.fol.specs.FormulaData.{TermData, IsFormula};
-ghost use Rattle.tableau.specs.PoolBranches.{branch_in, IsFormulaNumber, IsOver};
-ghost use Rattle.row_reasoning.specs.Numbers.{formula_at, is_num_node, typed_parts, IsNumberSaid, AreNumberEntries};
+ghost use Rattle.tableau.specs.PoolBranches.{branch_in, IsOver};
+ghost use Rattle.row_reasoning.specs.Numbers.{AreNumberEntries};
 
 use base::memory::NoMemory;
 use indexmap::IndexMap;
 use std::alloc::Global;
 use tableau::branch::PoolBranch;
-use term_pool::node::{Leaf, Node, Two};
+use tableau::whole_numbers::number_said;
 use term_pool::pool::Pool;
 
 /// An entry stating that a term is a whole number.
@@ -21,46 +19,6 @@ pub struct NumberEntry {
     pub entry: usize,
     /// The number of the term.
     pub term: usize,
-}
-
-// Decides whether a node is the type of whole numbers.
-fn is_num_node(node: Node) -> bool
-    ensures { result ≡ is_num_node node }
-{
-    match node {
-        Node::Leaf(Leaf::TypeNum) => true,
-        _ => false,
-    }
-}
-
-// The type and the term of a formula stating that a term has a type.
-fn typed_parts(node: Node) -> Option<(usize, usize)>
-    ensures { result ≡ typed_parts node }
-{
-    match node {
-        Node::Two(Two::Is, of, term) => Some((of, term)),
-        _ => None,
-    }
-}
-
-// The term that a formula states to be a whole number.
-fn number_said(pool: &Pool, formula: usize) -> Option<usize>
-    requires { IsFormulaNumber pool.now formula }
-    ensures { MatchOption result ((t : TermData) → formula_at pool.now formula ≡ IsFormula NumType t → ⊥) (IsNumberSaid pool.now formula) }
-{
-    let Some(node) = pool.node(formula) else {
-        return None;
-    };
-    let Some((of, term)) = typed_parts(node) else {
-        return None;
-    };
-    let Some(of_node) = pool.node(of) else {
-        return None;
-    };
-    if is_num_node(of_node) {
-        return Some(term);
-    }
-    None
 }
 
 // Stores the entry for the representative of a class.

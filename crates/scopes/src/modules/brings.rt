@@ -2,7 +2,7 @@
 
 ghost use Rattle.std.specs.Prelude.{◌≡◌, ◌++◌, map, IfOk, OnOk};
 ghost use Rattle.std.specs.List.{flat_map};
-ghost use Rattle.scopes.specs.Brings.{brings_of_kind, environment_of, firsts, form_members, form_modules, member_members, member_modules, standing_itself, import_brings, imported_brings, module_name_of, module_names, name_here, use_brings, with_owner};
+ghost use Rattle.scopes.specs.Brings.{brings_of_kind, environment_of, firsts, form_members, form_modules, member_members, member_modules, named_itself, import_brings, imported_brings, module_name_of, module_names, name_here, use_brings, with_owner};
 ghost use Rattle.scopes.specs.Declares.{form_declares, listed};
 ghost use Rattle.base.specs.Names.{same_name};
 ghost use Rattle.scopes.specs.MemberNames.{same_name_of_kind};
@@ -222,7 +222,7 @@ fn push_itself(
     form: &SourceForm,
     into: &mut MemberNames,
 ) -> Result<(), NoMemory>
-    ensures { OnOk result (into.new.entries.items ≡ into.old.entries.items ++ map (standing_itself environment.now.own) (listed (form_declares form.now))) }
+    ensures { OnOk result (into.new.entries.items ≡ into.old.entries.items ++ map (named_itself environment.now.own) (listed (form_declares form.now))) }
 {
     if let Some(found) = form_declares(alloc, form)? {
         let member = MemberId {

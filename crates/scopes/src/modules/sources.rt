@@ -119,10 +119,10 @@ pub fn twice_in_source(
 {
     for module_tree in modules {
         if !is_new_module(alloc, environment, module_tree, seen)? {
-            return Ok(Some(module_tree.place.start));
+            return Ok(Some(module_tree.span.start));
         }
-        if let Some(place) = first_twice(alloc, environment, &module_tree.members)? {
-            return Ok(Some(place));
+        if let Some(span) = first_twice(alloc, environment, &module_tree.members)? {
+            return Ok(Some(span));
         }
     }
     Ok(None)
@@ -181,8 +181,8 @@ fn twice_behind(
     let mut seen = seen;
     for (number, source) in sources.iter().enumerate() {
         let modules = source.modules.as_slice();
-        if let Some(place) = twice_in_source(alloc, environment, modules, &mut seen)? {
-            return Ok(Some((number, place)));
+        if let Some(offset) = twice_in_source(alloc, environment, modules, &mut seen)? {
+            return Ok(Some((number, offset)));
         }
     }
     Ok(None)

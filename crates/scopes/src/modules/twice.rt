@@ -15,7 +15,7 @@ use indexmap::IndexSet;
 use std::alloc::Global;
 use syntax_tree::clause::Spec;
 use syntax_tree::member::{TypeParameter, TypeParameters, TypedNames};
-use syntax_tree::source::places::form_place;
+use syntax_tree::source::spans::form_span;
 use syntax_tree::source::{SourceForm, SourceMember};
 
 /// Appends names to those seen, and returns whether all of them are new and different. If not, some of them may have
@@ -224,7 +224,7 @@ pub fn first_twice(
     };
     for member in members {
         if !declares_once(alloc, environment, &member.form, &mut seen)? {
-            return Ok(Some(form_place(&member.form).start));
+            return Ok(Some(form_span(&member.form).start));
         }
     }
     Ok(None)

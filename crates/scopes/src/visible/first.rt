@@ -25,8 +25,8 @@ fn is_body_visible(
 ) -> Result<bool, NoMemory>
     ensures { IfOk result (λ visible. IsTrue visible ↔ All (NodeIsVisible program.now own.now types.now) body.now.nodes) }
 {
-    for place in 0..body.len() {
-        if !is_node_visible(alloc, program, own, types, body.node(place))? {
+    for index in 0..body.len() {
+        if !is_node_visible(alloc, program, own, types, body.node(index))? {
             return Ok(false);
         }
     }
@@ -47,7 +47,7 @@ fn barred_function(
     if is_body_visible(alloc, program, &own, types, &function.body)? {
         Ok(None)
     } else {
-        Ok(Some(function.place))
+        Ok(Some(function.span))
     }
 }
 
@@ -64,7 +64,7 @@ fn barred_constant(
     if is_body_visible(alloc, program, &own, &[], &constant.value)? {
         Ok(None)
     } else {
-        Ok(Some(constant.place))
+        Ok(Some(constant.span))
     }
 }
 

@@ -36,8 +36,8 @@ pub struct SearchTree {
     pub text: Vec<PoolApplication>,
 }
 
-// The entry for the formula.
-fn entry_with(formula: usize, generation: usize, origin: Origin) -> PoolEntry
+/// The entry for the formula.
+pub fn entry_with(formula: usize, generation: usize, origin: Origin) -> PoolEntry
     ensures { result ≡ record { formula = formula; generation = generation; origin = origin } }
 {
     PoolEntry {
@@ -61,8 +61,8 @@ pub fn begin(alloc: Global, pool: &Pool, formula: usize) -> Result<SearchTree, N
     })
 }
 
-// Appends entries to the branch.
-fn push_all(
+/// Appends entries to the branch. `NoMemory` if memory runs out.
+pub fn push_all(
     alloc: Global,
     pool: &Pool,
     branch: &mut PoolBranch,
@@ -84,8 +84,9 @@ fn push_all(
     Ok(())
 }
 
-// Adds the branches of all entries but the first to the pending ones, so that the second entry's is the next.
-fn push_waiting(
+/// Adds the branches of all entries but the first to the pending ones, so that the second entry's is the next.
+/// `NoMemory` if memory runs out.
+pub fn push_waiting(
     waiting: &mut Vec<Waiting>,
     mark: usize,
     extension: &Extension,

@@ -1,43 +1,18 @@
 //! Alpha rule (conjuncts) and beta rule (cases).
 
-ghost use Rattle.std.specs.Prelude.{◌↔◌, map, IsTrue, IfOk, MatchOption};
+ghost use Rattle.std.specs.Prelude.{◌↔◌, map, IsTrue, IfOk};
 ghost use Rattle.term_pool.specs.Pools.{Extends};
 ghost use Rattle.certificates.specs.Due.{PartsDue, SplitDue};
 ghost use Rattle.tableau.specs.PoolBranches.{branch_in, IsOver};
 ghost use Rattle.tableau.specs.Numbers.{formula_at, AreFormulas};
-ghost use Rattle.tableau.specs.Steps.{NoPartsAt, ArePartsDue};
 
-use crate::applications::standing::{are_shallow, has_new};
 use crate::applications::truths::are_same;
 use base::memory::NoMemory;
 use std::alloc::Global;
 use tableau::branch::PoolBranch;
-use tableau::rules::parts::parts;
+use tableau::rules::parts::parts_at;
 use tableau::rules::split::cases_at;
 use term_pool::pool::Pool;
-
-// The conjuncts of the entry with this number, if the alpha rule is due there.
-fn parts_at(
-    alloc: Global,
-    pool: &mut Pool,
-    branch: &PoolBranch,
-    i: usize,
-) -> Result<Option<Vec<usize>>, NoMemory>
-    requires { IsOver pool.old branch.now }
-    ensures extends { Extends pool.old pool.new }
-    ensures due { IfOk result (λ found. MatchOption found (NoPartsAt (branch_in pool.new branch.now) i) (λ numbers. ArePartsDue pool.new (branch_in pool.new branch.now) i numbers.items)) }
-{
-    let Some(entry) = branch.entry(i) else {
-        return Ok(None);
-    };
-    let Some(formulas) = parts(alloc, pool, entry.formula)? else {
-        return Ok(None);
-    };
-    if has_new(pool, branch, formulas.as_slice()) && are_shallow(pool, formulas.as_slice()) {
-        return Ok(Some(formulas));
-    }
-    Ok(None)
-}
 
 /// Decides whether these are the conjuncts of the entry with this number, in order, and the alpha rule is due: some of
 /// them is new, and none is deeper than a step may add.
@@ -55,7 +30,7 @@ pub fn are_parts_due(
     requires over { IsOver pool.old branch.now }
     requires formulas { AreFormulas pool.old formulas.now }
     ensures extends { Extends pool.old pool.new }
-    ensures exact { IfOk result (λ told. IsTrue told ↔ PartsDue (branch_in pool.old branch.now) entry (map (formula_at pool.old) formulas.now)) }
+    ensures exact { IfOk result (λ known. IsTrue known ↔ PartsDue (branch_in pool.old branch.now) entry (map (formula_at pool.old) formulas.now)) }
 {
     let Some(found) = parts_at(alloc, pool, branch, entry)? else {
         return Ok(false);
@@ -80,7 +55,7 @@ pub fn are_cases_due(
     requires over { IsOver pool.old branch.now }
     requires formulas { AreFormulas pool.old formulas.now }
     ensures extends { Extends pool.old pool.new }
-    ensures exact { IfOk result (λ told. IsTrue told ↔ SplitDue (branch_in pool.old branch.now) entry (map (formula_at pool.old) formulas.now)) }
+    ensures exact { IfOk result (λ known. IsTrue known ↔ SplitDue (branch_in pool.old branch.now) entry (map (formula_at pool.old) formulas.now)) }
 {
     let Some(found) = cases_at(alloc, pool, branch, entry)? else {
         return Ok(false);

@@ -7,7 +7,6 @@ ghost use Rattle.tableau.specs.Numbers.{formula_at};
 ghost use Rattle.tableau.specs.Variables.{AreAbove};
 
 use crate::applications::said::is_said_of;
-use crate::applications::standing::is_shallow;
 use crate::applications::truths::{are_all, is_false, is_same};
 use base::memory::NoMemory;
 use fol::formula::Term;
@@ -15,6 +14,7 @@ use fol::operators::Quantifier;
 use std::alloc::Global;
 use tableau::branch::PoolBranch;
 use tableau::names::variables::Variables;
+use tableau::rules::stands::is_shallow;
 use term_pool::pool::Pool;
 use term_pool::reading::read_formula;
 
@@ -38,7 +38,7 @@ pub fn is_name_due(
     requires above { AreAbove pool.now branch.now.entries variables.old }
     requires formula { IsFormulaNumber pool.now formula }
     ensures above { OnOk result (AreAbove pool.now branch.now.entries variables.new) }
-    ensures exact { IfOk result (λ told. IsTrue told ↔ NameDue (branch_in pool.now branch.now) entry variable (formula_at pool.now formula)) }
+    ensures exact { IfOk result (λ known. IsTrue known ↔ NameDue (branch_in pool.now branch.now) entry variable (formula_at pool.now formula)) }
 {
     let least = variables.above_all(pool, branch)?;
     let Some(at) = branch.entry(entry) else {

@@ -32,7 +32,7 @@ pub(crate) fn is_said_of(
     term: &Term,
     formula: usize,
 ) -> Result<bool, NoMemory>
-    ensures { IfOk result (λ told. IsTrue told ↔ IsBodyWith quantifier term.now entry.now (formula_at pool.now formula)) }
+    ensures { IfOk result (λ known. IsTrue known ↔ IsBodyWith quantifier term.now entry.now (formula_at pool.now formula)) }
 {
     let read = read_formula(alloc, pool, formula)?;
     Ok(is_body_with(quantifier, Entry::Plain(entry), term, &read))
@@ -48,7 +48,7 @@ fn is_said_at(
     i: usize,
 ) -> Result<bool, NoMemory>
     requires { IsOver pool.now branch.now }
-    ensures { IfOk result (λ told. IsTrue told ↔ IsSaidAt (branch_in pool.now branch.now) of.now term.now i) }
+    ensures { IfOk result (λ known. IsTrue known ↔ IsSaidAt (branch_in pool.now branch.now) of.now term.now i) }
 {
     let Some(entry) = branch.entry(i) else {
         return Ok(false);
@@ -65,7 +65,7 @@ fn is_said(
     term: &Term,
 ) -> Result<bool, NoMemory>
     requires { IsOver pool.now branch.now }
-    ensures { IfOk result (λ told. IsTrue told ↔ HasInstance (branch_in pool.now branch.now) of.now term.now) }
+    ensures { IfOk result (λ known. IsTrue known ↔ HasInstance (branch_in pool.now branch.now) of.now term.now) }
 {
     for i in 0..branch.len() {
         let said = is_said_at(alloc, pool, branch, of, term, i)?;
@@ -93,7 +93,7 @@ pub(crate) fn is_fresh(
     requires free { is_free ≡ quantifier_free (formula_at pool.now universal.body) }
     requires term { IsTermNumber pool.now term }
     requires formula { IsFormulaNumber pool.now formula }
-    ensures { IfOk result (λ told. IsTrue told ↔ (IsBodyWith ForAll (term_at pool.now term) (formula_at pool.now of) (formula_at pool.now formula) × (HasInstance (branch_in pool.now branch.now) (formula_at pool.now of) (term_at pool.now term) → ⊥))) }
+    ensures { IfOk result (λ known. IsTrue known ↔ (IsBodyWith ForAll (term_at pool.now term) (formula_at pool.now of) (formula_at pool.now formula) × (HasInstance (branch_in pool.now branch.now) (formula_at pool.now of) (term_at pool.now term) → ⊥))) }
 {
     let whole = read_formula(alloc, pool, of)?;
     let value = read_term(alloc, pool, term)?;

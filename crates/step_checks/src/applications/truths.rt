@@ -3,10 +3,10 @@
 ghost use Rattle.std.specs.Prelude.{◌≡◌, ◌↔◌, IsTrue};
 
 // Decides whether the truth value is false.
-pub(crate) fn is_false(told: bool) -> bool
-    ensures { IsTrue result ↔ (IsTrue told → ⊥) }
+pub(crate) fn is_false(known: bool) -> bool
+    ensures { IsTrue result ↔ (IsTrue known → ⊥) }
 {
-    !told
+    !known
 }
 
 // Decides whether all truth values are true.

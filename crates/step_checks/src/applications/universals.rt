@@ -9,7 +9,6 @@ ghost use Rattle.ematching.specs.QuantifierFree.{AreFree};
 ghost use Rattle.ematching.specs.Instances.{IsNextGeneration};
 
 use crate::applications::said::is_fresh;
-use crate::applications::standing::is_shallow;
 use crate::applications::truths::are_all;
 use base::memory::NoMemory;
 use ematching::heads::HeadIndex;
@@ -18,6 +17,7 @@ use ematching::matches::is_matched;
 use ematching::quantified::quantified;
 use std::alloc::Global;
 use tableau::branch::PoolBranch;
+use tableau::rules::stands::is_shallow;
 use term_pool::pool::{MOST_DEPTH, Pool};
 
 /// The greatest number of instances that may lead to a formula.
@@ -75,7 +75,7 @@ pub fn is_instance_due(
     requires formula { IsFormulaNumber pool.now formula }
     ensures index { OnOk result (IsIndex pool.now index.new) }
     ensures free { OnOk result (AreFree pool.now quantifiers.new) }
-    ensures exact { IfOk result (λ told. IsTrue told ↔ InstanceDue (branch_in pool.now branch.now) entry (term_at pool.now term) (formula_at pool.now formula) generation) }
+    ensures exact { IfOk result (λ known. IsTrue known ↔ InstanceDue (branch_in pool.now branch.now) entry (term_at pool.now term) (formula_at pool.now formula) generation) }
 {
     let Some(at) = branch.entry(entry) else {
         return Ok(false);

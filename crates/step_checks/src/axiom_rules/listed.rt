@@ -65,7 +65,7 @@ pub(crate) fn is_listed(
     requires room { HasVariable (branch_in pool.old branch.now) }
     requires formula { IsFormulaNumber pool.old sought.formula }
     ensures extends { Extends pool.old pool.new }
-    ensures exact { IfOk result (λ told. IsTrue told ↔ IsDue (branch_in pool.old branch.now) (Asks shapes.now (branch_in pool.old branch.now)) sought.name (formula_at pool.old sought.formula) sought.generation) }
+    ensures exact { IfOk result (λ known. IsTrue known ↔ IsDue (branch_in pool.old branch.now) (Asks shapes.now (branch_in pool.old branch.now)) sought.name (formula_at pool.old sought.formula) sought.generation) }
 {
     let steps = instances_over(alloc, pool, shapes, branch, classes, terms)?;
     pool.one_number();

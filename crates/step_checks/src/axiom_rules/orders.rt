@@ -1,87 +1,25 @@
 //! Decisions on two numbers: which of them is the greater.
 
-ghost use Rattle.std.specs.Prelude.{◌≡◌, ◌↔◌, [], ◌∷◌, IsTrue, IfOk};
+ghost use Rattle.std.specs.Prelude.{◌≡◌, ◌↔◌, [], IsTrue, IfOk};
 ghost use Rattle.term_pool.specs.Pools.{Extends};
 ghost use Rattle.certificates.specs.BranchesBranch.{Stands};
 ghost use Rattle.certificates.specs.Joined.{Joined};
 ghost use Rattle.certificates.specs.Decisions.{AsksDecision, AreNumbers};
 ghost use Rattle.certificates.specs.Due.{IsUnordered, trichotomy_axiom};
 ghost use Rattle.tableau.specs.PoolBranches.{branch_in, IsFormulaNumber, IsTermNumber, IsOver};
-ghost use Rattle.tableau.specs.Numbers.{formula_at, IsNumberOf};
-ghost use Rattle.axiom_instances.specs.Numbers.{IsTermNumber as IsTerm};
-ghost use Rattle.axiom_instances.specs.Lists.{Adds};
+ghost use Rattle.tableau.specs.Numbers.{formula_at};
 ghost use Rattle.tableau.specs.Terms.{term_at, IsBranchTerm, AreClassesOf};
-ghost use Rattle.axiom_strategy.specs.Orders.{order_row};
 ghost use Rattle.step_checks.specs.Orders.{IsPairDue, IsOrderOf, IsOrderDue};
 
 use crate::axiom_rules::sides::number_sides;
 use crate::decisions::indexes::are_indexes;
 use crate::decisions::numbers::{are_numbers, are_said_to_differ, is_generation_of};
-use axiom_instances::triggered::{Row, TriggeredList, TriggeredTerms, ask};
-use axioms::axiom::{Alternative, Axiom};
+use axiom_strategy::decisions::orders::instance;
 use base::memory::NoMemory;
 use congruence_closure::branch_classes::BranchClasses;
-use fol::operators::{Binary, Comparison, Constant, Junction};
 use std::alloc::Global;
 use tableau::branch::PoolBranch;
-use term_pool::node::{Leaf, Node, One, Two};
 use term_pool::pool::{MOST_DEPTH, Pool};
-
-// ---- the instance for two terms
-
-// Appends the instance for two terms to a list.
-fn ask_order(
-    pool: &mut Pool,
-    list: &mut TriggeredList,
-    left: usize,
-    right: usize,
-) -> Result<(), NoMemory>
-    requires left { IsTerm pool.old left }
-    requires right { IsTerm pool.old right }
-    ensures extends { Extends pool.old pool.new }
-    ensures adds { IfOk result (λ u. Adds pool.old pool.new list.old.items.items list.new.items.items (order_row (term_at pool.old left) (term_at pool.old right) ∷ [])) }
-{
-    let name = Axiom::Cases(Alternative::Trichotomy);
-    let rows = [Row { name, place: 19 }];
-    let terms = TriggeredTerms::Two(left, right);
-    let given = [left, right];
-    let nodes = [
-        Node::Leaf(Leaf::TypeNum),
-        Node::Two(Two::Is, 2, 0),
-        Node::One(One::Not, 3),
-        Node::Two(Two::Is, 2, 1),
-        Node::One(One::Not, 5),
-        Node::Two(Two::Compare(Comparison::Eq), 0, 1),
-        Node::Leaf(Leaf::Constant(Constant::Num(1))),
-        Node::Two(Two::Binary(Binary::Sub), 1, 8),
-        Node::Two(Two::Compare(Comparison::Le), 0, 9),
-        Node::Two(Two::Binary(Binary::Sub), 0, 8),
-        Node::Two(Two::Compare(Comparison::Le), 1, 11),
-        Node::Leaf(Leaf::NilFormulas),
-        Node::Two(Two::ConsFormula, 12, 13),
-        Node::Two(Two::ConsFormula, 10, 14),
-        Node::Two(Two::ConsFormula, 7, 15),
-        Node::Two(Two::ConsFormula, 6, 16),
-        Node::Two(Two::ConsFormula, 4, 17),
-        Node::One(One::Join(Junction::AnyOf), 18),
-    ];
-    ask(pool, list, terms, &given, &nodes, &rows)
-}
-
-// The number of the instance for two terms.
-fn instance(alloc: Global, pool: &mut Pool, left: usize, right: usize) -> Result<usize, NoMemory>
-    requires left { IsTermNumber pool.old left }
-    requires right { IsTermNumber pool.old right }
-    ensures extends { Extends pool.old pool.new }
-    ensures is { IfOk result (IsNumberOf pool.new (trichotomy_axiom (term_at pool.old left) (term_at pool.old right))) }
-{
-    let mut list = TriggeredList {
-        alloc,
-        items: Vec::new(alloc),
-    };
-    ask_order(pool, &mut list, left, right)?;
-    Ok(list.items[0].formula)
-}
 
 fn is_same(left: usize, right: usize) -> bool
     ensures { IsTrue result ↔ (left ≡ right) }
@@ -101,7 +39,7 @@ fn is_instance(
     requires right { IsTermNumber pool.old right }
     requires formula { IsFormulaNumber pool.old formula }
     ensures extends { Extends pool.old pool.new }
-    ensures exact { IfOk result (λ told. IsTrue told ↔ (formula_at pool.old formula ≡ trichotomy_axiom (term_at pool.old left) (term_at pool.old right))) }
+    ensures exact { IfOk result (λ known. IsTrue known ↔ (formula_at pool.old formula ≡ trichotomy_axiom (term_at pool.old left) (term_at pool.old right))) }
 {
     let made = instance(alloc, pool, left, right)?;
     pool.one_number();
@@ -120,7 +58,7 @@ fn is_instance_said(
     requires left { IsTermNumber pool.old left }
     requires right { IsTermNumber pool.old right }
     ensures extends { Extends pool.old pool.new }
-    ensures exact { IfOk result (λ told. IsTrue told ↔ Stands (branch_in pool.old branch.now) (trichotomy_axiom (term_at pool.old left) (term_at pool.old right))) }
+    ensures exact { IfOk result (λ known. IsTrue known ↔ Stands (branch_in pool.old branch.now) (trichotomy_axiom (term_at pool.old left) (term_at pool.old right))) }
 {
     let made = instance(alloc, pool, left, right)?;
     Ok(branch.stands(pool, made))
@@ -166,7 +104,7 @@ fn are_unordered(
     requires left { IsBranchTerm pool.old (branch_in pool.old branch.now) left }
     requires right { IsBranchTerm pool.old (branch_in pool.old branch.now) right }
     ensures extends { Extends pool.old pool.new }
-    ensures exact { IfOk result (λ told. IsTrue told ↔ IsUnordered (branch_in pool.old branch.now) (term_at pool.old left) (term_at pool.old right)) }
+    ensures exact { IfOk result (λ known. IsTrue known ↔ IsUnordered (branch_in pool.old branch.now) (term_at pool.old left) (term_at pool.old right)) }
 {
     if !are_apart(pool, branch, classes, left, right) {
         return Ok(false);
@@ -189,7 +127,7 @@ fn are_triggered(
     requires left { IsTermNumber pool.old left }
     requires right { IsTermNumber pool.old right }
     ensures extends { Extends pool.old pool.new }
-    ensures exact { IfOk result (λ told. IsTrue told ↔ AsksDecision (branch_in pool.old branch.now) (term_at pool.old left) (term_at pool.old right)) }
+    ensures exact { IfOk result (λ known. IsTrue known ↔ AsksDecision (branch_in pool.old branch.now) (term_at pool.old left) (term_at pool.old right)) }
 {
     let indexes = are_indexes(alloc, pool, branch, classes, left, right)?;
     if indexes {
@@ -212,7 +150,7 @@ fn are_triggered_numbers(
     requires left { IsTermNumber pool.old left }
     requires right { IsTermNumber pool.old right }
     ensures extends { Extends pool.old pool.new }
-    ensures exact { IfOk result (λ told. IsTrue told ↔ (AsksDecision (branch_in pool.old branch.now) (term_at pool.old left) (term_at pool.old right) × AreNumbers (branch_in pool.old branch.now) (term_at pool.old left) (term_at pool.old right))) }
+    ensures exact { IfOk result (λ known. IsTrue known ↔ (AsksDecision (branch_in pool.old branch.now) (term_at pool.old left) (term_at pool.old right) × AreNumbers (branch_in pool.old branch.now) (term_at pool.old left) (term_at pool.old right))) }
 {
     let triggered = are_triggered(alloc, pool, branch, classes, left, right)?;
     if !triggered {
@@ -235,7 +173,7 @@ fn is_pair_due(
     requires left { IsBranchTerm pool.old (branch_in pool.old branch.now) left }
     requires right { IsBranchTerm pool.old (branch_in pool.old branch.now) right }
     ensures extends { Extends pool.old pool.new }
-    ensures exact { IfOk result (λ told. IsTrue told ↔ IsPairDue (branch_in pool.old branch.now) (term_at pool.old left) (term_at pool.old right)) }
+    ensures exact { IfOk result (λ known. IsTrue known ↔ IsPairDue (branch_in pool.old branch.now) (term_at pool.old left) (term_at pool.old right)) }
 {
     let unordered = are_unordered(alloc, pool, branch, classes, left, right)?;
     if !unordered {
@@ -260,7 +198,7 @@ fn is_order_of(
     requires right { IsBranchTerm pool.old (branch_in pool.old branch.now) right }
     requires formula { IsFormulaNumber pool.old formula }
     ensures extends { Extends pool.old pool.new }
-    ensures exact { IfOk result (λ told. IsTrue told ↔ IsOrderOf (branch_in pool.old branch.now) (term_at pool.old left) (term_at pool.old right) (formula_at pool.old formula)) }
+    ensures exact { IfOk result (λ known. IsTrue known ↔ IsOrderOf (branch_in pool.old branch.now) (term_at pool.old left) (term_at pool.old right) (formula_at pool.old formula)) }
 {
     let same = is_instance(alloc, pool, left, right, formula)?;
     if !same {
@@ -283,7 +221,7 @@ pub(crate) fn is_order_due(
     requires classes { AreClassesOf pool.old branch.now classes.now }
     requires formula { IsFormulaNumber pool.old formula }
     ensures extends { Extends pool.old pool.new }
-    ensures exact { IfOk result (λ told. IsTrue told ↔ IsOrderDue (branch_in pool.old branch.now) (formula_at pool.old formula) generation) }
+    ensures exact { IfOk result (λ known. IsTrue known ↔ IsOrderDue (branch_in pool.old branch.now) (formula_at pool.old formula) generation) }
 {
     if branch.stands(pool, formula) {
         return Ok(false);

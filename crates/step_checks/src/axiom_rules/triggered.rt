@@ -44,7 +44,7 @@ fn is_decision_due(
     requires classes { AreClassesOf pool.old branch.now classes.now }
     requires formula { IsFormulaNumber pool.old step.formula }
     ensures extends { Extends pool.old pool.new }
-    ensures exact { IfOk result (λ told. IsTrue told ↔ IsDecisionDue (branch_in pool.old branch.now) step.name (formula_at pool.old step.formula) step.generation) }
+    ensures exact { IfOk result (λ known. IsTrue known ↔ IsDecisionDue (branch_in pool.old branch.now) step.name (formula_at pool.old step.formula) step.generation) }
 {
     if !is_trichotomy(step.name) {
         return Ok(false);
@@ -76,7 +76,7 @@ pub fn is_axiom_due(
     requires room { HasVariable (branch_in pool.old branch.now) }
     requires formula { IsFormulaNumber pool.old step.formula }
     ensures extends { Extends pool.old pool.new }
-    ensures exact { IfOk result (λ told. IsTrue told ↔ AxiomDue shapes.now (branch_in pool.old branch.now) step.name (formula_at pool.old step.formula) step.generation) }
+    ensures exact { IfOk result (λ known. IsTrue known ↔ AxiomDue shapes.now (branch_in pool.old branch.now) step.name (formula_at pool.old step.formula) step.generation) }
 {
     let listed = is_listed(alloc, pool, shapes, branch, classes, terms, step)?;
     if listed {

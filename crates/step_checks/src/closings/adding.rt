@@ -2,7 +2,6 @@
 
 ghost use Rattle.std.specs.Prelude.{◌≡◌, ◌↔◌, ◌++◌, map, IsTrue, IfOk, Contains};
 ghost use Rattle.certificates.specs.BranchesBranch.{formulas};
-ghost use Rattle.certificates.specs.Due.{IsShallow};
 ghost use Rattle.tableau.specs.PoolBranches.{branch_in, IsFormulaNumber, IsOver};
 ghost use Rattle.tableau.specs.Numbers.{formula_at, AreFormulas};
 ghost use Rattle.step_checks.specs.Links.{number_of, formula_added, IsNamed, AreNamed, IsShallowStep, AreShallow};
@@ -12,7 +11,8 @@ use explanations::chain::ChainStep;
 use fol::formula::Formula;
 use std::alloc::Global;
 use tableau::branch::PoolBranch;
-use term_pool::pool::{MOST_DEPTH, Pool};
+use tableau::rules::stands::is_shallow;
+use term_pool::pool::Pool;
 use term_pool::reading::read_formula;
 
 // The number of the formula that a step adds.
@@ -23,17 +23,6 @@ pub(crate) fn number_of(step: ChainStep) -> usize
         ChainStep::Itself(formula) => formula,
         ChainStep::Rewritten(rewriting) => rewriting.formula,
     }
-}
-
-// Decides whether a formula is no deeper than a step may use.
-fn is_shallow(pool: &Pool, formula: usize) -> bool
-    requires { IsFormulaNumber pool.now formula }
-    ensures { IsTrue result ↔ IsShallow (formula_at pool.now formula) }
-{
-    if pool.depth(formula) > MOST_DEPTH {
-        return false;
-    }
-    true
 }
 
 // Decides whether the formulas in a step are no deeper than a step may use.

@@ -12,10 +12,10 @@ ghost use Rattle.explanations.specs.Chains.{step_in};
 ghost use Rattle.step_checks.specs.Links.{AreNamed};
 
 use crate::closings::adding::{are_shallow, read_added};
-use crate::closings::closes::closes;
 use crate::closings::links::are_links;
 use base::memory::NoMemory;
 use certificates::branch::{Branch, MOST_ENTRIES, extend};
+use certificates::closing::closes;
 use fol::formula::Formula;
 use search::trees::application::Closing;
 use std::alloc::Global;
@@ -62,7 +62,7 @@ pub fn is_closing_due(
     requires over { IsOver pool.now branch.now }
     requires entries { entries.now ≡ formulas (branch_in pool.now branch.now) }
     requires named { AreNamed pool.now closing.now.chain.items }
-    ensures { (shapes : List Shape) → IfOk result (λ told. IsTrue told ↔ ClosesBranch shapes (branch_in pool.now branch.now) (map (step_in pool.now) closing.now.chain.items) (close_of_node closing.now.by)) }
+    ensures { (shapes : List Shape) → IfOk result (λ known. IsTrue known ↔ ClosesBranch shapes (branch_in pool.now branch.now) (map (step_in pool.now) closing.now.chain.items) (close_of_node closing.now.by)) }
 {
     let steps = closing.chain.as_slice();
     if !is_short(entries.len(), steps.len()) {

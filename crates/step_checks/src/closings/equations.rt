@@ -53,11 +53,11 @@ pub(crate) fn is_itself(
     requires inside { AreInsideMarks pool.now branch.now inside.old }
     requires formula { IsFormulaNumber pool.now formula }
     ensures inside { AreInsideMarks pool.now branch.now inside.new }
-    ensures exact { IfOk result (λ told. IsTrue told ↔ IsItself (branch_in pool.now branch.now) (Equal Itself) (formula_at pool.now formula)) }
+    ensures exact { IfOk result (λ known. IsTrue known ↔ IsItself (branch_in pool.now branch.now) (Equal Itself) (formula_at pool.now formula)) }
 {
     let Some(term) = own_term(pool, formula) else {
         return Ok(false);
     };
-    let told = inside.stands(alloc, pool, branch, term)?;
-    Ok(told)
+    let known = inside.stands(alloc, pool, branch, term)?;
+    Ok(known)
 }

@@ -58,15 +58,15 @@ fn is_rewritten(
     formula: &Formula,
 ) -> Result<bool, NoMemory>
     requires { IsCounted line.now }
-    ensures { IfOk result (λ told. IsTrue told ↔ IsRewritten (entries_of line.now) rewriting (formula_at pool.now rewriting.pattern) formula.now) }
+    ensures { IfOk result (λ known. IsTrue known ↔ IsRewritten (entries_of line.now) rewriting (formula_at pool.now rewriting.pattern) formula.now) }
 {
     let read = read_formula(alloc, pool, rewriting.pattern)?;
     let pattern = Pattern {
         variable: rewriting.variable,
         formula: &read,
     };
-    let told = rewrites(line, rewriting.equation, rewriting.source, pattern, formula);
-    Ok(told)
+    let known = rewrites(line, rewriting.equation, rewriting.source, pattern, formula);
+    Ok(known)
 }
 
 // Decides whether the step is valid after the entries and the added formulas, which `line` has as trees.
@@ -89,19 +89,19 @@ fn is_link(
     requires shallow { IsShallowStep pool.now step }
     requires formula { formula.now ≡ formula_added pool.now step }
     ensures inside { AreInsideMarks pool.now branch.now inside.new }
-    ensures exact { IfOk result (λ told. IsTrue told ↔ IsNextLink (branch_in pool.now branch.now) (entries_of line.now) (step_in pool.now step)) }
+    ensures exact { IfOk result (λ known. IsTrue known ↔ IsNextLink (branch_in pool.now branch.now) (entries_of line.now) (step_in pool.now step)) }
 {
     if stands_before(pool, branch, added, number_of(step)) {
         return Ok(false);
     }
     match step {
         ChainStep::Itself(number) => {
-            let told = is_itself(alloc, pool, branch, inside, number)?;
-            Ok(told)
+            let known = is_itself(alloc, pool, branch, inside, number)?;
+            Ok(known)
         }
         ChainStep::Rewritten(rewriting) => {
-            let told = is_rewritten(alloc, pool, line, rewriting, formula)?;
-            Ok(told)
+            let known = is_rewritten(alloc, pool, line, rewriting, formula)?;
+            Ok(known)
         }
     }
 }
@@ -122,16 +122,16 @@ pub(crate) fn are_links<'a>(
     requires shallow { AreShallow pool.now steps.now }
     requires trees { trees.now ≡ map (formula_added pool.now) steps.now }
     requires short { length (entries_of line.old) + length steps.now ≤ most_entries }
-    ensures exact { (shapes : List Shape) → IfOk result (λ told. IsTrue told ↔ AreLinks shapes (branch_in pool.now branch.now) (formulas (branch_in pool.now branch.now)) (map (step_in pool.now) steps.now)) }
+    ensures exact { (shapes : List Shape) → IfOk result (λ known. IsTrue known ↔ AreLinks shapes (branch_in pool.now branch.now) (formulas (branch_in pool.now branch.now)) (map (step_in pool.now) steps.now)) }
     ensures counted { IsCounted line.new }
-    ensures line { IfOk result (λ told. IsTrue told → entries_of line.new ≡ after_links (formulas (branch_in pool.now branch.now)) (map (step_in pool.now) steps.now)) }
+    ensures line { IfOk result (λ known. IsTrue known → entries_of line.new ≡ after_links (formulas (branch_in pool.now branch.now)) (map (step_in pool.now) steps.now)) }
 {
     let mut inside = InsideMarks::new(alloc);
     let mut added = Vec::new(alloc);
     for i in 0..steps.len() {
         let step = steps[i];
         let tree = &trees[i];
-        let told = is_link(
+        let known = is_link(
             alloc,
             pool,
             branch,
@@ -141,7 +141,7 @@ pub(crate) fn are_links<'a>(
             step,
             tree,
         )?;
-        if !told {
+        if !known {
             return Ok(false);
         }
         line.push(tree);

@@ -70,7 +70,7 @@ pub fn is_cut_due(
     requires left { IsTermNumber pool.old left }
     requires right { IsTermNumber pool.old right }
     ensures extends { Extends pool.old pool.new }
-    ensures exact { IfOk result (λ told. IsTrue told ↔ CutDue (branch_in pool.old branch.now) (term_at pool.old left) (term_at pool.old right)) }
+    ensures exact { IfOk result (λ known. IsTrue known ↔ CutDue (branch_in pool.old branch.now) (term_at pool.old left) (term_at pool.old right)) }
 {
     classes.exact();
     pool.one_number();

@@ -1,45 +1,23 @@
 //! Index terms of aliasing memories and vectors.
 
-ghost use Rattle.std.specs.Prelude.{◌≡◌, ◌↔◌, ℕ, ◌<◌, length, IsTrue, IfOk, MatchOption};
+ghost use Rattle.std.specs.Prelude.{◌↔◌, ℕ, ◌<◌, length, IsTrue, IfOk};
 ghost use Rattle.certificates.specs.Decisions.{AreIndexes};
 ghost use Rattle.tableau.specs.PoolBranches.{branch_in, IsTermNumber, IsOver};
 ghost use Rattle.congruence_closure.specs.Known.{IsKnown};
 ghost use Rattle.tableau.specs.Terms.{term_at, AreBranchTerms, AreClassesOf};
 ghost use Rattle.tableau.specs.Groups.{AreGroups};
-ghost use Rattle.axiom_strategy.specs.Places.{read_of, IsReadAt};
+ghost use Rattle.axiom_strategy.specs.Positions.{IsReadAt};
 ghost use Rattle.step_checks.specs.Pairs.{AreReads, AreReadInOne, IsMeeting};
 
+use axiom_strategy::decisions::positions::read_at;
 use base::keyed_lists::pairs::Pairs;
 use base::memory::NoMemory;
 use congruence_closure::branch_classes::BranchClasses;
-use fol::operators::Binary;
 use std::alloc::Global;
 use tableau::aliasing::groups::groups;
 use tableau::aliasing::terms::{is_term, terms};
 use tableau::branch::PoolBranch;
-use term_pool::node::{Node, Two};
 use term_pool::pool::Pool;
-
-// The memory or vector read at a node, and the index.
-fn read_of(node: Node) -> Option<(usize, usize)>
-    ensures { result ≡ read_of node }
-{
-    match node {
-        Node::Two(Two::Binary(Binary::Select | Binary::At), from, place) => Some((from, place)),
-        _ => None,
-    }
-}
-
-// The same for the node with this number.
-fn read_at(pool: &Pool, number: usize) -> Option<(usize, usize)>
-    requires { number < length pool.now }
-    ensures { MatchOption result ((p : ℕ × ℕ) → IsReadAt pool.now number p → ⊥) (IsReadAt pool.now number) }
-{
-    match pool.node(number) {
-        Some(node) => read_of(node),
-        None => None,
-    }
-}
 
 // The groups, each with the classes at which something of it is read. `terms` are the numbers of the branch's terms.
 fn reads(
@@ -59,11 +37,11 @@ fn reads(
     pool.one_number();
     let mut seen = Pairs::new(alloc);
     for number in terms {
-        let Some((from, place)) = read_at(pool, *number) else {
+        let Some((from, position)) = read_at(pool, *number) else {
             continue;
         };
         let group = groups[from];
-        let class = classes.class(place);
+        let class = classes.class(position);
         seen.add(group, class)?;
     }
     Ok(seen)
@@ -82,13 +60,13 @@ fn is_meeting(
 ) -> bool
     requires number { number < length pool.now }
     requires from { (p : ℕ × ℕ) → IsReadAt pool.now number p → p.0 < length groups.now }
-    requires place { (p : ℕ × ℕ) → IsReadAt pool.now number p → IsKnown classes.now p.1 }
+    requires position { (p : ℕ × ℕ) → IsReadAt pool.now number p → IsKnown classes.now p.1 }
     ensures { IsTrue result ↔ IsMeeting pool.now classes.now groups.now reads.now one other number }
 {
-    let Some((from, place)) = read_at(pool, number) else {
+    let Some((from, position)) = read_at(pool, number) else {
         return false;
     };
-    if classes.class(place) != one {
+    if classes.class(position) != one {
         return false;
     }
     reads.has(groups[from], other)
@@ -139,7 +117,7 @@ pub fn are_indexes(
     requires classes { AreClassesOf pool.now branch.now classes.now }
     requires left { IsTermNumber pool.now left }
     requires right { IsTermNumber pool.now right }
-    ensures { IfOk result (λ told. IsTrue told ↔ AreIndexes (branch_in pool.now branch.now) (term_at pool.now left) (term_at pool.now right)) }
+    ensures { IfOk result (λ known. IsTrue known ↔ AreIndexes (branch_in pool.now branch.now) (term_at pool.now left) (term_at pool.now right)) }
 {
     classes.exact();
     pool.one_number();

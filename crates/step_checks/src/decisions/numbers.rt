@@ -21,7 +21,7 @@ fn is_number(pool: &mut Pool, branch: &PoolBranch, term: usize) -> Result<bool, 
     requires over { IsOver pool.old branch.now }
     requires term { IsTermNumber pool.old term }
     ensures extends { Extends pool.old pool.new }
-    ensures exact { IfOk result (λ told. IsTrue told ↔ Stands (branch_in pool.old branch.now) (IsFormula NumType (term_at pool.old term))) }
+    ensures exact { IfOk result (λ known. IsTrue known ↔ Stands (branch_in pool.old branch.now) (IsFormula NumType (term_at pool.old term))) }
 {
     let of = pool.insert(Node::Leaf(Leaf::TypeNum))?;
     let formula = pool.insert(Node::Two(Two::Is, of, term))?;
@@ -43,7 +43,7 @@ pub fn are_numbers(
     requires left { IsTermNumber pool.old left }
     requires right { IsTermNumber pool.old right }
     ensures extends { Extends pool.old pool.new }
-    ensures exact { IfOk result (λ told. IsTrue told ↔ AreNumbers (branch_in pool.old branch.now) (term_at pool.old left) (term_at pool.old right)) }
+    ensures exact { IfOk result (λ known. IsTrue known ↔ AreNumbers (branch_in pool.old branch.now) (term_at pool.old left) (term_at pool.old right)) }
 {
     let one = is_number(pool, branch, left)?;
     if !one {
@@ -67,7 +67,7 @@ pub fn are_said_to_differ(
     requires left { IsTermNumber pool.old left }
     requires right { IsTermNumber pool.old right }
     ensures extends { Extends pool.old pool.new }
-    ensures exact { IfOk result (λ told. IsTrue told ↔ Stands (branch_in pool.old branch.now) (NotFormula (EqFormula (term_at pool.old left) (term_at pool.old right)))) }
+    ensures exact { IfOk result (λ known. IsTrue known ↔ Stands (branch_in pool.old branch.now) (NotFormula (EqFormula (term_at pool.old left) (term_at pool.old right)))) }
 {
     let equation = pool.insert(Node::Two(Two::Compare(Comparison::Eq), left, right))?;
     let denial = pool.insert(Node::One(One::Not, equation))?;

@@ -73,7 +73,7 @@ pub(crate) fn is_chosen(
     value: &Fraction,
 ) -> Result<bool, NoMemory>
     requires { ArePositive values.now }
-    ensures { IfOk result (λ told. IsTrue told ↔ IsChosen rows.now before.now values.now value.now) }
+    ensures { IfOk result (λ known. IsTrue known ↔ IsChosen rows.now before.now values.now value.now) }
 {
     let bounds = bounds_of(alloc, rows, before, values, value.unknown)?;
     Ok(is_between(bounds.as_slice(), value))

@@ -46,7 +46,7 @@ fn are_values(
 ) -> Result<bool, NoMemory>
     requires set { IsNumberSet unknowns.now eliminated.now }
     requires different { AllPairs (λ first second. first.unknown ≢ second.unknown) values.now }
-    ensures { IfOk result (λ told. IsTrue told ↔ AreValues rows.now unknowns.now [] values.now) }
+    ensures { IfOk result (λ known. IsTrue known ↔ AreValues rows.now unknowns.now [] values.now) }
 {
     let mut left = unknowns.len();
     for i in 0..values.len() {
@@ -76,7 +76,7 @@ pub fn are_given_values(
     given: &GivenElimination,
     values: &[Fraction],
 ) -> Result<bool, NoMemory>
-    ensures { IfOk result (λ told. IsTrue told ↔ AreGivenValues rows.now given.now values.now) }
+    ensures { IfOk result (λ stated. IsTrue stated ↔ AreGivenValues rows.now given.now values.now) }
 {
     if !is_complete_elimination(alloc, rows, given)? {
         return Ok(false);

@@ -10,10 +10,10 @@ use std::alloc::Global;
 pub(crate) const BASE: u128 = 1 << 64;
 
 // A digit of a number; 0 past the last one.
-fn digit_at(digits: &[u64], place: usize) -> u64
-    ensures { result ≡ slice_index digits.now place }
+fn digit_at(digits: &[u64], position: usize) -> u64
+    ensures { result ≡ slice_index digits.now position }
 {
-    digits.get(place).copied().unwrap_or(0)
+    digits.get(position).copied().unwrap_or(0)
 }
 
 /// The product of a number and a digit.
@@ -48,9 +48,9 @@ pub(crate) fn sum(alloc: Global, left: &[u64], right: &[u64]) -> Result<Vec<u64>
     let count = left.len().max(right.len());
     let mut total = Vec::with_capacity(alloc, count)?;
     let mut carry: u64 = 0;
-    for place in 0..count {
-        let sum = u128::from(digit_at(left, place))
-            + u128::from(digit_at(right, place))
+    for position in 0..count {
+        let sum = u128::from(digit_at(left, position))
+            + u128::from(digit_at(right, position))
             + u128::from(carry);
         total.push((sum % BASE) as u64)?;
         carry = (sum / BASE) as u64;
@@ -64,9 +64,9 @@ pub(crate) fn is_at_most(left: &[u64], right: &[u64]) -> bool
     ensures { IsTrue result ↔ (number_of left.now ≤ number_of right.now) }
 {
     let mut is_at_most = true;
-    for place in 0..left.len().max(right.len()) {
-        let digit = digit_at(left, place);
-        let other = digit_at(right, place);
+    for position in 0..left.len().max(right.len()) {
+        let digit = digit_at(left, position);
+        let other = digit_at(right, position);
         if digit != other {
             is_at_most = digit < other;
         }

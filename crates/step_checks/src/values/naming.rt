@@ -1,6 +1,6 @@
 //! Decides whether given numbers are representatives of a branch's classes.
 
-ghost use Rattle.std.specs.Prelude.{◌≡◌, ◌<◌, ◌↔◌, ℕ, length, slice_index, Some, cond, nat_eq, IsTrue, OnOk, IfOk};
+ghost use Rattle.std.specs.Prelude.{◌≡◌, ◌<◌, ◌↔◌, ℕ, length, slice_index, Some, nat_eq, IsTrue, IfOk};
 ghost use Rattle.indexmap.specs.IndexMap.{get};
 ghost use Rattle.tableau.specs.PoolBranches.{branch_in, IsOver};
 ghost use Rattle.tableau.specs.Terms.{AreClassesOf};
@@ -13,6 +13,7 @@ use row_reasoning::class_names::class_names;
 use std::alloc::Global;
 use tableau::aliasing::terms::terms;
 use tableau::branch::PoolBranch;
+use term_pool::numbers::{look_up, note};
 use term_pool::pool::Pool;
 
 // A representative by its number; 0 past the end.
@@ -38,24 +39,6 @@ pub(crate) fn filled(alloc: Global, names: &[usize], count: usize) -> Result<Vec
     Ok(made)
 }
 
-// The value of a key.
-fn look_up(found: &IndexMap<usize, usize>, key: usize) -> Option<usize>
-    ensures { result ≡ get nat_eq found.now key }
-{
-    match found.get(&key) {
-        Some(value) => Some(*value),
-        None => None,
-    }
-}
-
-// Stores the value of a key.
-fn note(found: &mut IndexMap<usize, usize>, key: usize, value: usize) -> Result<(), NoMemory>
-    ensures { OnOk result ((k : ℕ) → get nat_eq found.new k ≡ cond (nat_eq key k) (Some value) (get nat_eq found.old k)) }
-{
-    found.insert(key, value)?;
-    Ok(())
-}
-
 // Decides whether a key has this value; a key without a value gets it.
 fn agrees(found: &mut IndexMap<usize, usize>, key: usize, value: usize) -> Result<bool, NoMemory>
     ensures { IfOk result (Agrees key value (get nat_eq found.old) (get nat_eq found.new)) }
@@ -74,7 +57,7 @@ fn follows(
     first: &[usize],
     second: &[usize],
 ) -> Result<bool, NoMemory>
-    ensures { IfOk result (λ told. IsTrue told ↔ Follows numbers.now first.now second.now) }
+    ensures { IfOk result (λ known. IsTrue known ↔ Follows numbers.now first.now second.now) }
 {
     let mut found = IndexMap::new(alloc);
     for number in numbers {
@@ -104,7 +87,7 @@ pub fn is_naming(
 ) -> Result<bool, NoMemory>
     requires over { IsOver pool.now branch.now }
     requires classes { AreClassesOf pool.now branch.now classes.now }
-    ensures { IfOk result (λ told. IsTrue told ↔ AreClassNames pool.now (branch_in pool.now branch.now) names.now) }
+    ensures { IfOk result (λ known. IsTrue known ↔ AreClassNames pool.now (branch_in pool.now branch.now) names.now) }
 {
     pool.one_number();
     let terms = terms(alloc, pool, branch)?;

@@ -32,7 +32,7 @@ pub fn is_met(
 ) -> Result<bool, NoMemory>
     requires over { IsOver pool.now branch.now }
     requires classes { AreClassesOf pool.now branch.now classes.now }
-    ensures { IfOk result (λ told. IsTrue told ↔ IsMet pool.now (branch_in pool.now branch.now) values.now) }
+    ensures { IfOk result (λ known. IsTrue known ↔ IsMet pool.now (branch_in pool.now branch.now) values.now) }
 {
     pool.one_number();
     let Some(made) = valued_rows(alloc, pool, branch, classes, values)? else {
@@ -56,7 +56,7 @@ pub fn is_valued(
 ) -> Result<bool, NoMemory>
     requires over { IsOver pool.now branch.now }
     requires classes { AreClassesOf pool.now branch.now classes.now }
-    ensures { IfOk result (λ told. IsTrue told ↔ IsValued pool.now (branch_in pool.now branch.now) values.now) }
+    ensures { IfOk result (λ known. IsTrue known ↔ IsValued pool.now (branch_in pool.now branch.now) values.now) }
 {
     pool.one_number();
     let Some(made) = valued_rows(alloc, pool, branch, classes, values)? else {

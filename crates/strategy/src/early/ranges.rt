@@ -105,9 +105,9 @@ pub fn is_range(
         return Ok(false);
     };
     let asker = Asker::Typing(typing.of, typing.term);
-    let place = known.place_of(alloc, pool, shapes, asker)?;
+    let position = known.position_of(alloc, pool, shapes, asker)?;
     pool.one_number();
-    Ok(lists_range(known.list(place), formula))
+    Ok(lists_range(known.list(position), formula))
 }
 
 // ---- case splits

@@ -16,7 +16,7 @@ pub enum Outlook {
 }
 
 // The index of an outlook in the order from the worst to the best.
-fn place(outlook: Outlook) -> u32 {
+fn position(outlook: Outlook) -> u32 {
     match outlook {
         Outlook::Closed => 0,
         Outlook::Violated => 1,
@@ -28,7 +28,7 @@ fn place(outlook: Outlook) -> u32 {
 
 /// The outlook of the conjunction of two formulas.
 pub fn both(left: Outlook, right: Outlook) -> Outlook {
-    if place(left) <= place(right) {
+    if position(left) <= position(right) {
         left
     } else {
         right
@@ -37,7 +37,7 @@ pub fn both(left: Outlook, right: Outlook) -> Outlook {
 
 /// The outlook of the disjunction of two formulas.
 pub fn either(left: Outlook, right: Outlook) -> Outlook {
-    if place(left) <= place(right) {
+    if position(left) <= position(right) {
         right
     } else {
         left

@@ -61,13 +61,6 @@ pub fn numeral_at(pool: &Pool, number: usize) -> Option<i128> {
     }
 }
 
-fn denied_at(pool: &Pool, number: usize) -> Option<usize> {
-    match pool.node(number) {
-        Some(Node::One(One::Not, inner)) => Some(inner),
-        _ => None,
-    }
-}
-
 fn turned(junction: Junction, is_denied: bool) -> Junction {
     match (junction, is_denied) {
         (Junction::AllOf, true) => Junction::AnyOf,
@@ -109,7 +102,7 @@ fn implied(
 /// The parts of a formula or of its negation, below at most one negation; `None` for an atom. `NoMemory` if memory runs
 /// out.
 pub fn parts_of(alloc: Global, pool: &Pool, part: Part) -> Result<Option<Parts>, NoMemory> {
-    let (formula, is_denied) = match denied_at(pool, part.formula) {
+    let (formula, is_denied) = match pool.denied(part.formula) {
         Some(inner) => (inner, !part.is_denied),
         None => (part.formula, part.is_denied),
     };
@@ -128,7 +121,7 @@ pub fn parts_of(alloc: Global, pool: &Pool, part: Part) -> Result<Option<Parts>,
 
 /// The sides of an equivalence or of the negation of one, and which of the two it is.
 pub fn sides_of(pool: &Pool, part: Part) -> Option<(usize, usize, bool)> {
-    let (formula, is_denied) = match denied_at(pool, part.formula) {
+    let (formula, is_denied) = match pool.denied(part.formula) {
         Some(inner) => (inner, !part.is_denied),
         None => (part.formula, part.is_denied),
     };
@@ -175,7 +168,7 @@ impl<'a> Said<'a> {
         if let Some(class) = class_of(self.classes, formula) {
             self.stated.insert(class)?;
         }
-        if let Some(inner) = denied_at(self.pool, formula) {
+        if let Some(inner) = self.pool.denied(formula) {
             if let Some(class) = class_of(self.classes, inner) {
                 self.denied.insert(class)?;
             }
@@ -313,7 +306,7 @@ impl<'a> Said<'a> {
             }
             return Ok(found);
         }
-        match denied_at(self.pool, part.formula) {
+        match self.pool.denied(part.formula) {
             Some(inner) => self.outlook(
                 Part {
                     formula: inner,

@@ -1,6 +1,6 @@
 //! The edges of the aliasing graph.
 
-ghost use Rattle.std.specs.Prelude.{◌≡◌, ℕ, ◌<◌, length, Some, cond, nat_eq, OnOk};
+ghost use Rattle.std.specs.Prelude.{◌≡◌, ℕ, ◌<◌, length, Some, nat_eq, OnOk};
 ghost use Rattle.indexmap.specs.IndexMap.{get};
 ghost use Rattle.tableau.specs.Groups.{changed};
 ghost use Rattle.tableau.specs.Graphs.{IsJoined, IsChangeJoined, IsClassJoined};
@@ -10,6 +10,7 @@ use base::memory::NoMemory;
 use fol::operators::{Binary, Ternary, Unary};
 use indexmap::IndexMap;
 use term_pool::node::{Node, One, Three, Two};
+use term_pool::numbers::{look_up, note};
 use term_pool::pool::Pool;
 
 // Adds edges between two numbers, both ways.
@@ -49,28 +50,6 @@ pub(crate) fn join_changed(graph: &mut Graph, pool: &Pool, number: usize) -> Res
     }
 }
 
-// The first number recorded for a class.
-fn first_of(firsts: &IndexMap<usize, usize>, class: usize) -> Option<usize>
-    ensures { result ≡ get nat_eq firsts.now class }
-{
-    match firsts.get(&class) {
-        Some(first) => Some(*first),
-        None => None,
-    }
-}
-
-// Records the first number of a class.
-fn note_first(
-    firsts: &mut IndexMap<usize, usize>,
-    class: usize,
-    number: usize,
-) -> Result<(), NoMemory>
-    ensures { OnOk result ((k : ℕ) → get nat_eq firsts.new k ≡ cond (nat_eq class k) (Some number) (get nat_eq firsts.old k)) }
-{
-    firsts.insert(class, number)?;
-    Ok(())
-}
-
 /// Joins a number with the first one of its class, or records it as the first.
 pub(crate) fn join_class(
     graph: &mut Graph,
@@ -82,8 +61,8 @@ pub(crate) fn join_class(
     requires firsts { (k first : ℕ) → get nat_eq firsts.old k ≡ Some first → first < length graph.old }
     ensures { OnOk result (IsClassJoined class number graph.old graph.new (get nat_eq firsts.old) (get nat_eq firsts.new)) }
 {
-    match first_of(firsts, class) {
+    match look_up(firsts, class) {
         Some(first) => join(graph, number, first),
-        None => note_first(firsts, class, number),
+        None => note(firsts, class, number),
     }
 }

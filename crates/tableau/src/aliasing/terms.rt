@@ -1,35 +1,24 @@
 //! The terms of a branch.
 
-ghost use Rattle.std.specs.Prelude.{◌≡◌, ◌<◌, ◌↔◌, length, IsTrue, IfOk};
+ghost use Rattle.std.specs.Prelude.{◌<◌, ◌↔◌, length, IsTrue, IfOk};
 ghost use Rattle.tableau.specs.PoolBranches.{branch_in, IsOver};
-ghost use Rattle.tableau.specs.Terms.{is_term_node, IsBranchTerm, AreBranchTerms};
+ghost use Rattle.tableau.specs.Terms.{IsBranchTerm, AreBranchTerms};
 
 use crate::branch::PoolBranch;
 use base::memory::NoMemory;
 use std::alloc::Global;
-use term_pool::node::{Leaf, Node, One, Three, Two};
 use term_pool::pool::Pool;
-
-// Decides whether a node is that of a term.
-fn is_term_node(node: Node) -> bool
-    ensures { result ≡ is_term_node node }
-{
-    match node {
-        Node::Leaf(Leaf::Var(_) | Leaf::Constant(_)) => true,
-        Node::One(One::Unary(_), _) => true,
-        Node::Two(Two::Binary(_) | Two::Pack | Two::Field(_), _, _) => true,
-        Node::Three(Three::Ternary(_) | Three::SetField(_) | Three::If, _, _, _) => true,
-        _ => false,
-    }
-}
 
 /// Decides whether a number is that of a term of the branch.
 pub fn is_term(pool: &Pool, branch: &PoolBranch, number: usize) -> bool
     requires { IsOver pool.now branch.now }
     ensures { IsTrue result ↔ IsBranchTerm pool.now (branch_in pool.now branch.now) number }
 {
-    match pool.node(number) {
-        Some(node) => is_term_node(node) && branch.generation(pool, number).is_some(),
+    if !pool.is_term(number) {
+        return false;
+    }
+    match branch.generation(pool, number) {
+        Some(_) => true,
         None => false,
     }
 }

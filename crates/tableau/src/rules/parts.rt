@@ -78,8 +78,8 @@ pub fn next_parts(
     Ok(None)
 }
 
-// The parts of the entry with this number, if they are due.
-fn parts_at(
+/// Returns the numbers of the parts of the entry with this number; none if no parts are due there.
+pub fn parts_at(
     alloc: Global,
     pool: &mut Pool,
     branch: &PoolBranch,

@@ -53,7 +53,7 @@ fn ask_for_bound(
     requires over { IsOver pool.now branch.now }
     requires classes { AreClassesOf pool.now branch.now classes.now }
     requires term { IsTermNumber pool.now term }
-    ensures { IfOk result (λ told. IsTrue told ↔ AskForBound pool.now (branch_in pool.now branch.now) (term_at pool.now term) number grounds.now.values grounds.now.elimination) }
+    ensures { IfOk result (λ known. IsTrue known ↔ AskForBound pool.now (branch_in pool.now branch.now) (term_at pool.now term) number grounds.now.values grounds.now.elimination) }
 {
     pool.one_number();
     let Some(made) = valued_rows(alloc, pool, branch, classes, &grounds.values)? else {
@@ -112,7 +112,7 @@ pub fn is_bound_by(
     requires term { IsTermNumber pool.old term }
     ensures extends { Extends pool.old pool.new }
     ensures above { OnOk result (AreAbove pool.new branch.now.entries variables.new) }
-    ensures exact { IfOk result (λ told. IsTrue told ↔ IsBoundBy shapes.now pool.old (branch_in pool.old branch.now) (term_at pool.old term) number grounds.now.values grounds.now.elimination) }
+    ensures exact { IfOk result (λ known. IsTrue known ↔ IsBoundBy shapes.now pool.old (branch_in pool.old branch.now) (term_at pool.old term) number grounds.now.values grounds.now.elimination) }
 {
     let above = variables.above_all(pool, branch)?;
     let crowded = is_past(above);

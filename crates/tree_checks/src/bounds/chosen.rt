@@ -59,7 +59,7 @@ pub(crate) fn are_chosen(
     given: &GivenElimination,
     values: &[Fraction],
 ) -> Result<bool, NoMemory>
-    ensures { IfOk result (λ told. IsTrue told ↔ AreChosenFor most rows.now given.now values.now) }
+    ensures { IfOk result (λ known. IsTrue known ↔ AreChosenFor most rows.now given.now values.now) }
 {
     let width = width_of_first(given.rows.as_slice());
     if width > most {
@@ -68,6 +68,6 @@ pub(crate) fn are_chosen(
     let Some(padded) = padded_rows(alloc, width, rows.as_slice())? else {
         return Ok(false);
     };
-    let told = are_given_values(alloc, &padded, given, values)?;
-    Ok(told)
+    let known = are_given_values(alloc, &padded, given, values)?;
+    Ok(known)
 }

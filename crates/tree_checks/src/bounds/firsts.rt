@@ -68,9 +68,9 @@ fn first_triggered(
     requires { ArePositive values.now }
     ensures { MatchOption result (HasNoneWith (IsTriggered classes.now.keys name number) values.now) (IsFirstWith (IsTriggered classes.now.keys name number) values.now) }
 {
-    for place in 0..values.len() {
-        if is_triggered(classes, name, number, values[place]) {
-            return Some(place);
+    for position in 0..values.len() {
+        if is_triggered(classes, name, number, values[position]) {
+            return Some(position);
         }
     }
     None
@@ -114,12 +114,12 @@ pub(crate) fn is_first_named(
     requires over { IsOver pool.now branch.now }
     requires named { length pool.now ≤ length names.now }
     requires positive { ArePositive values.now }
-    ensures { (class : TermData → ℕ) → AreNames pool.now (branch_in pool.now branch.now) class names.now → IfOk result (λ told. IsTrue told ↔ IsFirstNamed (branch_in pool.now branch.now) class classes.now.keys name number values.now) }
+    ensures { (class : TermData → ℕ) → AreNames pool.now (branch_in pool.now branch.now) class names.now → IfOk result (λ known. IsTrue known ↔ IsFirstNamed (branch_in pool.now branch.now) class classes.now.keys name number values.now) }
 {
-    let Some(place) = first_triggered(classes, name, number, values) else {
+    let Some(position) = first_triggered(classes, name, number, values) else {
         return Ok(false);
     };
     // A value of a number that is not whole requires a bound of its own.
-    let bound = next_bound(alloc, pool, branch, names, classes, &values[..place])?;
+    let bound = next_bound(alloc, pool, branch, names, classes, &values[..position])?;
     Ok(bound.is_none())
 }

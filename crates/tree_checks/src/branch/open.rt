@@ -26,7 +26,7 @@ fn are_valued(
     values: &OpenValues,
 ) -> Result<bool, NoMemory>
     requires { IsOver pool.now branch.now }
-    ensures { IfOk result (λ told. IsTrue told ↔ IsValued pool.now (branch_in pool.now branch.now) values.now) }
+    ensures { IfOk result (λ known. IsTrue known ↔ IsValued pool.now (branch_in pool.now branch.now) values.now) }
 {
     let mut state = BranchState::new(alloc);
     state.follow_classes(alloc, pool, branch)?;
@@ -51,7 +51,7 @@ pub fn is_open(
     requires over { IsOver pool.old branch.now }
     requires room { HasVariable (branch_in pool.old branch.now) }
     ensures extends { Extends pool.old pool.new }
-    ensures exact { IfOk result (λ told. IsTrue told ↔ (IsSaturated shapes.now (branch_in pool.old branch.now) × IsValued pool.old (branch_in pool.old branch.now) values.now)) }
+    ensures exact { IfOk result (λ known. IsTrue known ↔ (IsSaturated shapes.now (branch_in pool.old branch.now) × IsValued pool.old (branch_in pool.old branch.now) values.now)) }
 {
     if !are_valued(alloc, pool, branch, values)? {
         return Ok(false);

@@ -23,12 +23,12 @@ use term_pool::pool::Pool;
 // Decides whether a variable number is left above those of the branch.
 fn has_number_left(alloc: Global, pool: &Pool, branch: &PoolBranch) -> Result<bool, NoMemory>
     requires { IsOver pool.now branch.now }
-    ensures { IfOk result (λ told. IsTrue told ↔ HasNumberLeft (branch_in pool.now branch.now)) }
+    ensures { IfOk result (λ known. IsTrue known ↔ HasNumberLeft (branch_in pool.now branch.now)) }
 {
     let mut variables = Variables::new(alloc);
     let above = variables.above_all(pool, branch)?;
-    let told = above <= u64::from(u32::MAX);
-    Ok(told)
+    let known = above <= u64::from(u32::MAX);
+    Ok(known)
 }
 
 /// Decides whether the steps lead, one after another, from the branch with only the negation of a formula to one that
@@ -55,8 +55,8 @@ pub fn is_open_branch(
     requires denial { IsFormulaNumber pool.old denial }
     requires numbers { AreNumbered pool.old steps.now }
     ensures extends { Extends pool.old pool.new }
-    ensures exact { IfOk result (λ told. IsTrue told ↔ LeadsToOpen shapes.now pool.old (first_branch pool.old denial) steps.now values.now) }
-    ensures open { (p : FormulaData) → formula_at pool.old denial ≡ NotFormula p → IfOk result (λ told. IsTrue told → IsOpenGrown shapes.now p values.now.values) }
+    ensures exact { IfOk result (λ known. IsTrue known ↔ LeadsToOpen shapes.now pool.old (first_branch pool.old denial) steps.now values.now) }
+    ensures open { (p : FormulaData) → formula_at pool.old denial ≡ NotFormula p → IfOk result (λ known. IsTrue known → IsOpenGrown shapes.now p values.now.values) }
 {
     let Some(branch) = is_grown(alloc, pool, shapes, denial, steps)? else {
         return Ok(false);

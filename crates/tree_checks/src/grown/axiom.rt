@@ -46,7 +46,7 @@ pub(crate) fn is_axiom_growing(
     requires reason { extension.now.reason ≡ FromAxiom name }
     ensures extends { Extends pool.old pool.new }
     ensures kept { OnOk result (IsKept pool.new branch.now.entries kept.new) }
-    ensures exact { IfOk result (λ told. IsTrue told ↔ IsGrowing shapes.now pool.old (branch_in pool.old branch.now) extension.now) }
+    ensures exact { IfOk result (λ known. IsTrue known ↔ IsGrowing shapes.now pool.old (branch_in pool.old branch.now) extension.now) }
 {
     let Some(formula) = only(extension.formulas.as_slice()) else {
         return Ok(false);
@@ -57,14 +57,14 @@ pub(crate) fn is_axiom_growing(
         return Ok(false);
     }
     kept.state.follow_classes(alloc, pool, branch)?;
-    let standing = terms(alloc, pool, branch)?;
-    let numbers = standing.as_slice();
+    let present = terms(alloc, pool, branch)?;
+    let numbers = present.as_slice();
     let step = AxiomStep {
         name,
         formula,
         generation: extension.generation,
     };
-    let told = is_axiom_due(
+    let known = is_axiom_due(
         alloc,
         pool,
         shapes,
@@ -73,5 +73,5 @@ pub(crate) fn is_axiom_growing(
         numbers,
         step,
     )?;
-    Ok(told)
+    Ok(known)
 }

@@ -30,7 +30,7 @@ fn is_said(
     requires over { IsOver pool.old branch.now }
     requires term { IsTermNumber pool.old term }
     ensures extends { Extends pool.old pool.new }
-    ensures exact { IfOk result (λ told. IsTrue told ↔ Says (branch_in pool.old branch.now) entry (IsFormula NumType (term_at pool.old term))) }
+    ensures exact { IfOk result (λ known. IsTrue known ↔ Says (branch_in pool.old branch.now) entry (IsFormula NumType (term_at pool.old term))) }
 {
     let of = pool.insert(Node::Leaf(Leaf::TypeNum))?;
     let formula = pool.insert(Node::Two(Two::Is, of, term))?;
@@ -55,7 +55,7 @@ pub(crate) fn are_bounds_growing(
     requires numbers { HasNumbers pool.old extension.now }
     requires reason { extension.now.reason ≡ Bound entry term number }
     ensures extends { Extends pool.old pool.new }
-    ensures exact { (shapes : List Shape) → IfOk result (λ told. IsTrue told ↔ IsGrowing shapes pool.old (branch_in pool.old branch.now) extension.now) }
+    ensures exact { (shapes : List Shape) → IfOk result (λ known. IsTrue known ↔ IsGrowing shapes pool.old (branch_in pool.old branch.now) extension.now) }
 {
     let own = is_own(branch, entry, extension.generation);
     if !own {
@@ -68,6 +68,6 @@ pub(crate) fn are_bounds_growing(
     if !bounds {
         return Ok(false);
     }
-    let told = is_said(pool, branch, entry, term)?;
-    Ok(told)
+    let known = is_said(pool, branch, entry, term)?;
+    Ok(known)
 }

@@ -55,7 +55,7 @@ pub(crate) fn is_cut_growing(
     requires reason { extension.now.reason ≡ Cut left right }
     ensures extends { Extends pool.old pool.new }
     ensures kept { OnOk result (IsKept pool.new branch.now.entries kept.new) }
-    ensures exact { (shapes : List Shape) → IfOk result (λ told. IsTrue told ↔ IsGrowing shapes pool.old (branch_in pool.old branch.now) extension.now) }
+    ensures exact { (shapes : List Shape) → IfOk result (λ known. IsTrue known ↔ IsGrowing shapes pool.old (branch_in pool.old branch.now) extension.now) }
 {
     let Some((equation, denial)) = pair(extension.formulas.as_slice()) else {
         return Ok(false);
@@ -69,6 +69,6 @@ pub(crate) fn is_cut_growing(
         return Ok(false);
     }
     kept.state.follow_classes(alloc, pool, branch)?;
-    let told = is_cut_due(alloc, pool, branch, &kept.state.classes, left, right)?;
-    Ok(told)
+    let known = is_cut_due(alloc, pool, branch, &kept.state.classes, left, right)?;
+    Ok(known)
 }

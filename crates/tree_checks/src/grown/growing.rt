@@ -41,7 +41,7 @@ pub fn is_growing(
     requires numbers { HasNumbers pool.old extension.now }
     ensures extends { Extends pool.old pool.new }
     ensures kept { OnOk result (IsKept pool.new branch.now.entries kept.new) }
-    ensures exact { IfOk result (λ told. IsTrue told ↔ IsGrowing shapes.now pool.old (branch_in pool.old branch.now) extension.now) }
+    ensures exact { IfOk result (λ known. IsTrue known ↔ IsGrowing shapes.now pool.old (branch_in pool.old branch.now) extension.now) }
 {
     match extension.reason {
         Reason::Parts(entry) => are_parts_growing(alloc, pool, branch, extension, entry),

@@ -32,12 +32,12 @@ pub(crate) fn is_instance_growing(
     requires numbers { HasNumbers pool.now extension.now }
     requires reason { extension.now.reason ≡ Instance entry term }
     ensures kept { OnOk result (IsKept pool.now branch.now.entries kept.new) }
-    ensures exact { (shapes : List Shape) → IfOk result (λ told. IsTrue told ↔ IsGrowing shapes pool.now (branch_in pool.now branch.now) extension.now) }
+    ensures exact { (shapes : List Shape) → IfOk result (λ known. IsTrue known ↔ IsGrowing shapes pool.now (branch_in pool.now branch.now) extension.now) }
 {
     let Some(formula) = only(extension.formulas.as_slice()) else {
         return Ok(false);
     };
-    let told = is_instance_due(
+    let known = is_instance_due(
         alloc,
         pool,
         branch,
@@ -48,5 +48,5 @@ pub(crate) fn is_instance_growing(
         formula,
         extension.generation,
     )?;
-    Ok(told)
+    Ok(known)
 }

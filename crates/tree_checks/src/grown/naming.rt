@@ -32,24 +32,24 @@ pub(crate) fn is_name_growing(
     requires numbers { HasNumbers pool.now extension.now }
     requires reason { extension.now.reason ≡ Name entry variable }
     ensures kept { OnOk result (IsKept pool.now branch.now.entries kept.new) }
-    ensures exact { (shapes : List Shape) → IfOk result (λ told. IsTrue told ↔ IsGrowing shapes pool.now (branch_in pool.now branch.now) extension.now) }
+    ensures exact { (shapes : List Shape) → IfOk result (λ known. IsTrue known ↔ IsGrowing shapes pool.now (branch_in pool.now branch.now) extension.now) }
 {
-    let place = entry as usize;
-    let own = is_own(branch, place, extension.generation);
+    let position = entry as usize;
+    let own = is_own(branch, position, extension.generation);
     if !own {
         return Ok(false);
     }
     let Some(formula) = only(extension.formulas.as_slice()) else {
         return Ok(false);
     };
-    let told = is_name_due(
+    let known = is_name_due(
         alloc,
         pool,
         branch,
         &mut kept.variables,
-        place,
+        position,
         variable,
         formula,
     )?;
-    Ok(told)
+    Ok(known)
 }

@@ -2,7 +2,6 @@
 
 ghost use Rattle.std.specs.Prelude.{◌≡◌, ◌↔◌, pos, ◌+ℤ◌, IsTrue, MatchOption};
 ghost use Rattle.fol.specs.FormulaData.{NumTerm, LeFormula};
-ghost use Rattle.certificates.specs.Due.{IsShallow};
 ghost use Rattle.tableau.specs.PoolBranches.{IsFormulaNumber, IsTermNumber};
 ghost use Rattle.tableau.specs.Numbers.{formula_at};
 ghost use Rattle.tableau.specs.Terms.{term_at};
@@ -10,7 +9,8 @@ ghost use Rattle.tree_checks.specs.Sides.{IsNoOrder, IsOrder, AreBoundsOf};
 
 use crate::grown::reading::{is_same, numeral_at, sides_at};
 use fol::operators::Comparison;
-use term_pool::pool::{MOST_DEPTH, Pool};
+use tableau::rules::stands::is_shallow;
+use term_pool::pool::Pool;
 
 // The sides of a formula stating that one term is at most another one.
 fn order_at(pool: &Pool, formula: usize) -> Option<(usize, usize)>
@@ -93,17 +93,6 @@ fn is_above(pool: &Pool, formula: usize, term: usize, number: i128) -> bool
         return false;
     }
     is_next_numeral(pool, left, number)
-}
-
-// Decides whether a formula is no deeper than a step may add.
-fn is_shallow(pool: &Pool, formula: usize) -> bool
-    requires { IsFormulaNumber pool.now formula }
-    ensures { IsTrue result ↔ IsShallow (formula_at pool.now formula) }
-{
-    if pool.depth(formula) > MOST_DEPTH {
-        return false;
-    }
-    true
 }
 
 /// Decides whether the two formulas are the sides of the bound, and no deeper than a step may add.

@@ -27,14 +27,14 @@ pub(crate) fn are_parts_growing(
     requires numbers { HasNumbers pool.old extension.now }
     requires reason { extension.now.reason ≡ Parts entry }
     ensures extends { Extends pool.old pool.new }
-    ensures exact { (shapes : List Shape) → IfOk result (λ told. IsTrue told ↔ IsGrowing shapes pool.old (branch_in pool.old branch.now) extension.now) }
+    ensures exact { (shapes : List Shape) → IfOk result (λ known. IsTrue known ↔ IsGrowing shapes pool.old (branch_in pool.old branch.now) extension.now) }
 {
     let own = is_own(branch, entry, extension.generation);
     if !own {
         return Ok(false);
     }
-    let told = are_parts_due(alloc, pool, branch, entry, extension.formulas.as_slice())?;
-    Ok(told)
+    let known = are_parts_due(alloc, pool, branch, entry, extension.formulas.as_slice())?;
+    Ok(known)
 }
 
 /// Decides whether the formulas are the cases of the entry with this number, and the branch may be split there.
@@ -49,12 +49,12 @@ pub(crate) fn are_cases_growing(
     requires numbers { HasNumbers pool.old extension.now }
     requires reason { extension.now.reason ≡ Split entry }
     ensures extends { Extends pool.old pool.new }
-    ensures exact { (shapes : List Shape) → IfOk result (λ told. IsTrue told ↔ IsGrowing shapes pool.old (branch_in pool.old branch.now) extension.now) }
+    ensures exact { (shapes : List Shape) → IfOk result (λ known. IsTrue known ↔ IsGrowing shapes pool.old (branch_in pool.old branch.now) extension.now) }
 {
     let own = is_own(branch, entry, extension.generation);
     if !own {
         return Ok(false);
     }
-    let told = are_cases_due(alloc, pool, branch, entry, extension.formulas.as_slice())?;
-    Ok(told)
+    let known = are_cases_due(alloc, pool, branch, entry, extension.formulas.as_slice())?;
+    Ok(known)
 }

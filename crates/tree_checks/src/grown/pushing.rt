@@ -1,6 +1,6 @@
 //! A branch continues as one of those that a step leaves.
 
-ghost use Rattle.std.specs.Prelude.{◌≡◌, true, false, ◌++◌, OnOk, IfOk, MatchBool};
+ghost use Rattle.std.specs.Prelude.{true, false, OnOk, IfOk, MatchBool};
 ghost use Rattle.tableau.specs.PoolBranches.{IsOver};
 ghost use Rattle.tableau.specs.Numbers.{AreFormulas};
 ghost use Rattle.search.specs.Applications.{is_fork};
@@ -9,46 +9,11 @@ ghost use Rattle.tree_checks.specs.Entries.{cases_by, IsGoneOn, IsAtEnd, IsLonge
 
 use base::memory::NoMemory;
 use certificates::branch::MOST_ENTRIES;
-use certificates::branches::origin::Origin;
 use search::trees::application::{Extension, is_fork, origin_of};
+use search::trees::tree::{entry_with, push_all};
 use std::alloc::Global;
 use tableau::branch::PoolBranch;
-use tableau::entry::PoolEntry;
 use term_pool::pool::Pool;
-
-/// The entry for the formula.
-pub fn entry_with(formula: usize, generation: usize, origin: Origin) -> PoolEntry
-    ensures { result ≡ record { formula = formula; generation = generation; origin = origin } }
-{
-    PoolEntry {
-        formula,
-        generation,
-        origin,
-    }
-}
-
-// Appends all formulas to the branch.
-fn push_all(
-    alloc: Global,
-    pool: &Pool,
-    branch: &mut PoolBranch,
-    extension: &Extension,
-) -> Result<(), NoMemory>
-    requires over { IsOver pool.now branch.old }
-    requires formulas { AreFormulas pool.now extension.now.formulas.items }
-    ensures over { OnOk result (IsOver pool.now branch.new) }
-    ensures entries { OnOk result (branch.new.entries ≡ branch.old.entries ++ entries_of extension.now) }
-{
-    let origin = origin_of(extension.reason);
-    for formula in extension.formulas.as_slice() {
-        branch.push(
-            alloc,
-            pool,
-            entry_with(*formula, extension.generation, origin),
-        )?;
-    }
-    Ok(())
-}
 
 // Continues with all formulas, if there is no other case and the branch may have that many entries.
 fn go_straight(
@@ -62,7 +27,7 @@ fn go_straight(
     requires formulas { AreFormulas pool.now extension.now.formulas.items }
     ensures over { OnOk result (IsOver pool.now branch.new) }
     ensures longer { OnOk result (IsLonger branch.old.entries branch.new.entries) }
-    ensures exact { IfOk result (λ told. MatchBool told (IsGoneOn (cases_by false (entries_of extension.now)) case branch.old.entries branch.new.entries) (IsAtEnd (cases_by false (entries_of extension.now)) case branch.old.entries)) }
+    ensures exact { IfOk result (λ known. MatchBool known (IsGoneOn (cases_by false (entries_of extension.now)) case branch.old.entries branch.new.entries) (IsAtEnd (cases_by false (entries_of extension.now)) case branch.old.entries)) }
 {
     let len = branch.len();
     if case != 0 {
@@ -87,7 +52,7 @@ fn go_aside(
     requires formulas { AreFormulas pool.now extension.now.formulas.items }
     ensures over { OnOk result (IsOver pool.now branch.new) }
     ensures longer { OnOk result (IsLonger branch.old.entries branch.new.entries) }
-    ensures exact { IfOk result (λ told. MatchBool told (IsGoneOn (cases_by true (entries_of extension.now)) case branch.old.entries branch.new.entries) (IsAtEnd (cases_by true (entries_of extension.now)) case branch.old.entries)) }
+    ensures exact { IfOk result (λ known. MatchBool known (IsGoneOn (cases_by true (entries_of extension.now)) case branch.old.entries branch.new.entries) (IsAtEnd (cases_by true (entries_of extension.now)) case branch.old.entries)) }
 {
     if case >= extension.formulas.len() {
         return Ok(false);
@@ -117,7 +82,7 @@ pub fn go_on(
     requires formulas { AreFormulas pool.now extension.now.formulas.items }
     ensures over { OnOk result (IsOver pool.now branch.new) }
     ensures longer { OnOk result (IsLonger branch.old.entries branch.new.entries) }
-    ensures exact { IfOk result (λ told. MatchBool told (IsGoneOn (cases_by (is_fork extension.now.reason) (entries_of extension.now)) case branch.old.entries branch.new.entries) (IsAtEnd (cases_by (is_fork extension.now.reason) (entries_of extension.now)) case branch.old.entries)) }
+    ensures exact { IfOk result (λ known. MatchBool known (IsGoneOn (cases_by (is_fork extension.now.reason) (entries_of extension.now)) case branch.old.entries branch.new.entries) (IsAtEnd (cases_by (is_fork extension.now.reason) (entries_of extension.now)) case branch.old.entries)) }
 {
     if is_fork(extension.reason) {
         go_aside(alloc, pool, branch, extension, case)

@@ -33,12 +33,12 @@ pub(crate) fn take(
     ensures extends { Extends pool.old pool.new }
     ensures over { OnOk result (IsOver pool.new branch.new) }
     ensures kept { OnOk result (IsKept pool.new branch.new.entries kept.new) }
-    ensures exact { IfOk result (λ told. MatchBool told (IsTaken shapes.now pool.old (branch_in pool.old branch.old) step.now (branch_in pool.new branch.new)) (IsNotTaken shapes.now pool.old (branch_in pool.old branch.old) step.now)) }
+    ensures exact { IfOk result (λ known. MatchBool known (IsTaken shapes.now pool.old (branch_in pool.old branch.old) step.now (branch_in pool.new branch.new)) (IsNotTaken shapes.now pool.old (branch_in pool.old branch.old) step.now)) }
 {
     let growing = is_growing(alloc, pool, shapes, branch, kept, &step.extension)?;
     if !growing {
         return Ok(false);
     }
-    let told = go_on(alloc, pool, branch, &step.extension, step.case)?;
-    Ok(told)
+    let known = go_on(alloc, pool, branch, &step.extension, step.case)?;
+    Ok(known)
 }

@@ -36,8 +36,8 @@ pub fn is_cut_application_due(
     requires left { IsTermNumber pool.old left }
     requires right { IsTermNumber pool.old right }
     ensures extends { Extends pool.old pool.new }
-    ensures exact { (shapes : List Shape) → (IsTrue late ↔ IsLate shapes (branch_in pool.old branch.now)) → IfOk result (λ told. IsTrue told ↔ IsDueApplication shapes (branch_in pool.old branch.now) (CutApplication (term_at pool.old left) (term_at pool.old right) generation)) }
-    ensures shown { (shapes : List Shape) → (IsTrue late → IsLate shapes (branch_in pool.old branch.now)) → IfOk result (λ told. IsTrue told → IsDueApplication shapes (branch_in pool.old branch.now) (CutApplication (term_at pool.old left) (term_at pool.old right) generation)) }
+    ensures exact { (shapes : List Shape) → (IsTrue late ↔ IsLate shapes (branch_in pool.old branch.now)) → IfOk result (λ known. IsTrue known ↔ IsDueApplication shapes (branch_in pool.old branch.now) (CutApplication (term_at pool.old left) (term_at pool.old right) generation)) }
+    ensures shown { (shapes : List Shape) → (IsTrue late → IsLate shapes (branch_in pool.old branch.now)) → IfOk result (λ known. IsTrue known → IsDueApplication shapes (branch_in pool.old branch.now) (CutApplication (term_at pool.old left) (term_at pool.old right) generation)) }
 {
     if !late {
         return Ok(false);

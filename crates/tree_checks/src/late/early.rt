@@ -32,7 +32,7 @@ fn has_no_entry_application(
     requires above { AreAbove pool.old branch.now.entries variables.old }
     ensures extends { Extends pool.old pool.new }
     ensures above { OnOk result (AreAbove pool.new branch.now.entries variables.new) }
-    ensures exact { IfOk result (λ told. IsTrue told ↔ HasNoEntryApplication (branch_in pool.old branch.now)) }
+    ensures exact { IfOk result (λ known. IsTrue known ↔ HasNoEntryApplication (branch_in pool.old branch.now)) }
 {
     let parts = next_parts(alloc, pool, branch, 0)?;
     if parts.is_some() {
@@ -53,10 +53,10 @@ fn has_no_range_application(
     requires few { HasFewFields shapes.now }
     requires over { IsOver pool.old branch.now }
     ensures extends { Extends pool.old pool.new }
-    ensures exact { IfOk result (λ told. IsTrue told ↔ HasNoRangeApplication shapes.now (branch_in pool.old branch.now)) }
+    ensures exact { IfOk result (λ given. IsTrue given ↔ HasNoRangeApplication shapes.now (branch_in pool.old branch.now)) }
 {
-    let standing = terms(alloc, pool, branch)?;
-    let numbers = standing.as_slice();
+    let present = terms(alloc, pool, branch)?;
+    let numbers = present.as_slice();
     let mut known = KnownInstances::new(alloc);
     let axiom = next_range_axiom(alloc, pool, shapes, &mut known, branch, numbers)?;
     if axiom.is_some() {
@@ -85,7 +85,7 @@ pub fn is_nothing_early(
     requires above { AreAbove pool.old branch.now.entries variables.old }
     ensures extends { Extends pool.old pool.new }
     ensures above { OnOk result (AreAbove pool.new branch.now.entries variables.new) }
-    ensures exact { IfOk result (λ told. IsTrue told ↔ NothingEarly shapes.now (branch_in pool.old branch.now)) }
+    ensures exact { IfOk result (λ known. IsTrue known ↔ NothingEarly shapes.now (branch_in pool.old branch.now)) }
 {
     let entries = has_no_entry_application(alloc, pool, branch, variables)?;
     if !entries {

@@ -33,14 +33,14 @@ pub fn is_range_entry(
     requires few { HasFewFields shapes.now }
     requires over { IsOver pool.old branch.now }
     ensures extends { Extends pool.old pool.new }
-    ensures exact { IfOk result (λ told. IsTrue told ↔ IsRangeEntry (branch_in pool.old branch.now) i) }
+    ensures exact { IfOk result (λ given. IsTrue given ↔ IsRangeEntry (branch_in pool.old branch.now) i) }
 {
     let Some(entry) = branch.entry(i) else {
         return Ok(false);
     };
     let mut known = KnownInstances::new(alloc);
-    let told = is_range(alloc, pool, shapes, &mut known, entry.formula)?;
-    Ok(told)
+    let given = is_range(alloc, pool, shapes, &mut known, entry.formula)?;
+    Ok(given)
 }
 
 /// Decides whether a split of the branch at the entry with this number, into these cases, is an application that is
@@ -63,8 +63,8 @@ pub fn is_split_application_due(
     requires over { IsOver pool.old branch.now }
     requires formulas { AreFormulas pool.old formulas.now }
     ensures extends { Extends pool.old pool.new }
-    ensures exact { (IsTrue late ↔ IsLate shapes.now (branch_in pool.old branch.now)) → IfOk result (λ told. IsTrue told ↔ IsDueApplication shapes.now (branch_in pool.old branch.now) (SplitApplication entry (map (formula_at pool.old) formulas.now))) }
-    ensures shown { (IsTrue late → IsLate shapes.now (branch_in pool.old branch.now)) → IfOk result (λ told. IsTrue told → IsDueApplication shapes.now (branch_in pool.old branch.now) (SplitApplication entry (map (formula_at pool.old) formulas.now))) }
+    ensures exact { (IsTrue late ↔ IsLate shapes.now (branch_in pool.old branch.now)) → IfOk result (λ known. IsTrue known ↔ IsDueApplication shapes.now (branch_in pool.old branch.now) (SplitApplication entry (map (formula_at pool.old) formulas.now))) }
+    ensures shown { (IsTrue late → IsLate shapes.now (branch_in pool.old branch.now)) → IfOk result (λ known. IsTrue known → IsDueApplication shapes.now (branch_in pool.old branch.now) (SplitApplication entry (map (formula_at pool.old) formulas.now))) }
 {
     let due = are_cases_due(alloc, pool, branch, entry, formulas)?;
     if !due {

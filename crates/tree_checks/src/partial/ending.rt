@@ -23,7 +23,7 @@ fn ends_among(
 ) -> Result<bool, NoMemory>
     requires walk { IsWalk pool.now walk.old }
     requires named { AreNamed pool.now given.now.closing.chain.items }
-    ensures { (shapes : List Shape) → IfOk result (λ told. IsTrue told ↔ EndsAmong shapes pool.now (opened pool.now walk.old) given.now) }
+    ensures { (shapes : List Shape) → IfOk result (λ known. IsTrue known ↔ EndsAmong shapes pool.now (opened pool.now walk.old) given.now) }
 {
     if !walk.is_open {
         return Ok(false);
@@ -32,14 +32,14 @@ fn ends_among(
         return Ok(false);
     }
     read(alloc, pool, walk)?;
-    let told = is_closing_due(
+    let known = is_closing_due(
         alloc,
         pool,
         &walk.branch,
         walk.trees.as_slice(),
         &given.closing,
     )?;
-    Ok(told)
+    Ok(known)
 }
 
 /// Decides whether a trace may end here, with `left` steps left: with none, or with steps of the explanation of a
@@ -58,7 +58,7 @@ pub fn ends(
 ) -> Result<bool, NoMemory>
     requires walk { IsWalk pool.now walk.old }
     requires named { IsChainNumbered pool.now chain.now }
-    ensures { (shapes : List Shape) → IfOk result (λ told. IsTrue told ↔ ArePartial shapes pool.now (opened pool.now walk.old) [] chain.now left) }
+    ensures { (shapes : List Shape) → IfOk result (λ known. IsTrue known ↔ ArePartial shapes pool.now (opened pool.now walk.old) [] chain.now left) }
 {
     let Some(given) = chain else {
         return Ok(left == 0);
@@ -66,6 +66,6 @@ pub fn ends(
     if given.links as u64 != left {
         return Ok(false);
     }
-    let told = ends_among(alloc, pool, walk, given)?;
-    Ok(told)
+    let known = ends_among(alloc, pool, walk, given)?;
+    Ok(known)
 }

@@ -42,7 +42,7 @@ fn grow(
     requires numbers { HasNumbers pool.old given.now.extension }
     ensures extends { Extends pool.old pool.new }
     ensures walk { OnOk result (IsWalk pool.new walk.new) }
-    ensures exact { IfOk result (λ told. MatchBool told (IsGrownBy shapes.now pool.old (opened pool.old walk.old) given.now (opened pool.new walk.new)) (IsNotTakenBy shapes.now pool.old (opened pool.old walk.old) (Grown given.now))) }
+    ensures exact { IfOk result (λ known. MatchBool known (IsGrownBy shapes.now pool.old (opened pool.old walk.old) given.now (opened pool.new walk.new)) (IsNotTakenBy shapes.now pool.old (opened pool.old walk.old) (Grown given.now))) }
 {
     if !walk.is_open {
         return Ok(false);
@@ -51,8 +51,8 @@ fn grow(
     if !due {
         return Ok(false);
     }
-    let told = advance(alloc, pool, walk, &given.extension)?;
-    Ok(told)
+    let known = advance(alloc, pool, walk, &given.extension)?;
+    Ok(known)
 }
 
 // Continues with the next branch; returns whether the closing closes the current one.
@@ -66,7 +66,7 @@ fn close(
     requires walk { IsWalk pool.now walk.old }
     requires named { AreNamed pool.now closing.now.chain.items }
     ensures walk { OnOk result (IsWalk pool.now walk.new) }
-    ensures exact { IfOk result (λ told. MatchBool told (IsClosedBy shapes.now pool.now (opened pool.now walk.old) closing.now (opened pool.now walk.new)) (IsNotTakenBy shapes.now pool.now (opened pool.now walk.old) (Closed closing.now))) }
+    ensures exact { IfOk result (λ known. MatchBool known (IsClosedBy shapes.now pool.now (opened pool.now walk.old) closing.now (opened pool.now walk.new)) (IsNotTakenBy shapes.now pool.now (opened pool.now walk.old) (Closed closing.now))) }
 {
     if !walk.is_open {
         return Ok(false);
@@ -99,7 +99,7 @@ pub fn take(
     requires numbers { IsNumbered pool.old application.now }
     ensures extends { Extends pool.old pool.new }
     ensures walk { OnOk result (IsWalk pool.new walk.new) }
-    ensures exact { IfOk result (λ told. MatchBool told (IsTakenBy shapes.now pool.old (opened pool.old walk.old) application.now (opened pool.new walk.new)) (IsNotTakenBy shapes.now pool.old (opened pool.old walk.old) application.now)) }
+    ensures exact { IfOk result (λ known. MatchBool known (IsTakenBy shapes.now pool.old (opened pool.old walk.old) application.now (opened pool.new walk.new)) (IsNotTakenBy shapes.now pool.old (opened pool.old walk.old) application.now)) }
 {
     match application {
         GivenApplication::Grown(given) => grow(alloc, pool, shapes, walk, given),

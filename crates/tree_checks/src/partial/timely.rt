@@ -39,10 +39,10 @@ fn is_late(
     requires kept { IsKept pool.old branch.now.entries kept.old }
     ensures extends { Extends pool.old pool.new }
     ensures kept { OnOk result (IsKept pool.new branch.now.entries kept.new) }
-    ensures exact { IfOk result (λ told. IsTrue told ↔ IsLateBy shapes.now pool.old (branch_in pool.old branch.now) values.now) }
+    ensures exact { IfOk result (λ known. IsTrue known ↔ IsLateBy shapes.now pool.old (branch_in pool.old branch.now) values.now) }
 {
     kept.state.follow_classes(alloc, pool, branch)?;
-    let told = is_late_by(
+    let known = is_late_by(
         alloc,
         pool,
         shapes,
@@ -51,7 +51,7 @@ fn is_late(
         &mut kept.variables,
         values,
     )?;
-    Ok(told)
+    Ok(known)
 }
 
 // Decides whether the term may be split at the number, by the grounds.
@@ -71,10 +71,10 @@ fn is_bound(
     requires term { IsTermNumber pool.old term }
     ensures extends { Extends pool.old pool.new }
     ensures kept { OnOk result (IsKept pool.new branch.now.entries kept.new) }
-    ensures exact { IfOk result (λ told. IsTrue told ↔ IsBoundBy shapes.now pool.old (branch_in pool.old branch.now) (term_at pool.old term) number grounds.now.values grounds.now.elimination) }
+    ensures exact { IfOk result (λ known. IsTrue known ↔ IsBoundBy shapes.now pool.old (branch_in pool.old branch.now) (term_at pool.old term) number grounds.now.values grounds.now.elimination) }
 {
     kept.state.follow_classes(alloc, pool, branch)?;
-    let told = is_bound_by(
+    let known = is_bound_by(
         alloc,
         pool,
         shapes,
@@ -85,7 +85,7 @@ fn is_bound(
         number,
         grounds,
     )?;
-    Ok(told)
+    Ok(known)
 }
 
 // Decides whether a split at the entry with this number may come now: at an instance of the axiom on ranges, or as a
@@ -104,12 +104,12 @@ fn is_split_timely(
     requires kept { IsKept pool.old branch.now.entries kept.old }
     ensures extends { Extends pool.old pool.new }
     ensures kept { OnOk result (IsKept pool.new branch.now.entries kept.new) }
-    ensures exact { IfOk result (λ told. IsTrue told ↔ IsSplitBy shapes.now pool.old (branch_in pool.old branch.now) entry grounds.now) }
+    ensures exact { IfOk result (λ known. IsTrue known ↔ IsSplitBy shapes.now pool.old (branch_in pool.old branch.now) entry grounds.now) }
 {
     match grounds {
         Grounds::Nothing => {
-            let told = is_range_entry(alloc, pool, shapes, branch, entry)?;
-            Ok(told)
+            let known = is_range_entry(alloc, pool, shapes, branch, entry)?;
+            Ok(known)
         }
         Grounds::Late(values) => is_late(alloc, pool, shapes, branch, kept, values),
         Grounds::Bound(_) => Ok(false),
@@ -130,7 +130,7 @@ fn is_cut_timely(
     requires kept { IsKept pool.old branch.now.entries kept.old }
     ensures extends { Extends pool.old pool.new }
     ensures kept { OnOk result (IsKept pool.new branch.now.entries kept.new) }
-    ensures exact { IfOk result (λ told. IsTrue told ↔ IsCutBy shapes.now pool.old (branch_in pool.old branch.now) grounds.now) }
+    ensures exact { IfOk result (λ known. IsTrue known ↔ IsCutBy shapes.now pool.old (branch_in pool.old branch.now) grounds.now) }
 {
     match grounds {
         Grounds::Late(values) => is_late(alloc, pool, shapes, branch, kept, values),
@@ -155,7 +155,7 @@ fn is_put_timely(
     requires term { IsTermNumber pool.old term }
     ensures extends { Extends pool.old pool.new }
     ensures kept { OnOk result (IsKept pool.new branch.now.entries kept.new) }
-    ensures exact { IfOk result (λ told. IsTrue told ↔ IsPutBy shapes.now pool.old (branch_in pool.old branch.now) (term_at pool.old term) number grounds.now) }
+    ensures exact { IfOk result (λ known. IsTrue known ↔ IsPutBy shapes.now pool.old (branch_in pool.old branch.now) (term_at pool.old term) number grounds.now) }
 {
     match grounds {
         Grounds::Bound(bound) => is_bound(alloc, pool, shapes, branch, kept, term, number, bound),
@@ -179,7 +179,7 @@ fn is_timely(
     requires numbers { HasNumbers pool.old extension.now }
     ensures extends { Extends pool.old pool.new }
     ensures kept { OnOk result (IsKept pool.new branch.now.entries kept.new) }
-    ensures exact { IfOk result (λ told. IsTrue told ↔ IsTimely shapes.now pool.old (branch_in pool.old branch.now) extension.now.reason grounds.now) }
+    ensures exact { IfOk result (λ known. IsTrue known ↔ IsTimely shapes.now pool.old (branch_in pool.old branch.now) extension.now.reason grounds.now) }
 {
     match extension.reason {
         Reason::Parts(_) | Reason::Name(_, _) | Reason::Instance(_, _) | Reason::Axiom(_) => {
@@ -210,14 +210,14 @@ pub(crate) fn is_due_by(
     requires numbers { HasNumbers pool.old given.now.extension }
     ensures extends { Extends pool.old pool.new }
     ensures kept { OnOk result (IsKept pool.new branch.now.entries kept.new) }
-    ensures exact { IfOk result (λ told. IsTrue told ↔ IsDueBy shapes.now pool.old (branch_in pool.old branch.now) given.now) }
+    ensures exact { IfOk result (λ known. IsTrue known ↔ IsDueBy shapes.now pool.old (branch_in pool.old branch.now) given.now) }
 {
     let growing = is_growing(alloc, pool, shapes, branch, kept, &given.extension)?;
     if !growing {
         return Ok(false);
     }
     pool.one_number();
-    let told = is_timely(
+    let known = is_timely(
         alloc,
         pool,
         shapes,
@@ -226,5 +226,5 @@ pub(crate) fn is_due_by(
         &given.extension,
         &given.grounds,
     )?;
-    Ok(told)
+    Ok(known)
 }

@@ -1,20 +1,20 @@
 //! The open branches while a trace is read.
 
-ghost use Rattle.std.specs.Prelude.{◌≡◌, ◌<◌, true, [], ◌∷◌, ◌++◌, length, drop, reverse, OnOk, IfOk, MatchBool};
+ghost use Rattle.std.specs.Prelude.{◌≡◌, ◌<◌, true, [], ◌∷◌, OnOk, IfOk, MatchBool};
 ghost use Rattle.certificates.specs.BranchesBranch.{formulas};
 ghost use Rattle.tableau.specs.PoolBranches.{branch_in, IsFormulaNumber, IsOver};
 ghost use Rattle.tableau.specs.Numbers.{AreFormulas};
-ghost use Rattle.search.specs.Trees.{waiting_in, frames, entries_of};
+ghost use Rattle.search.specs.Trees.{waiting_in};
 ghost use Rattle.tree_checks.specs.Steps.{first_branch};
 ghost use Rattle.tree_checks.specs.Walks.{opened, waiting_of, AreFirstTrees, IsWalk, GoesOn, GoesNowhere};
 
 use crate::grown::first_branch;
 use crate::grown::keeping::{Kept, nothing_kept};
-use crate::grown::pushing::{entry_with, go_on};
+use crate::grown::pushing::go_on;
 use base::memory::NoMemory;
 use fol::formula::Formula;
-use search::trees::application::{Extension, is_fork, origin_of};
-use search::trees::tree::Waiting;
+use search::trees::application::{Extension, is_fork};
+use search::trees::tree::{Waiting, push_waiting};
 use std::alloc::Global;
 use tableau::branch::PoolBranch;
 use term_pool::pool::Pool;
@@ -82,25 +82,6 @@ pub(crate) fn read(alloc: Global, pool: &Pool, walk: &mut Walk) -> Result<(), No
     Ok(())
 }
 
-// Adds the branches of all formulas but the first to the pending ones, so that the second formula's is the next.
-fn push_waiting(
-    waiting: &mut Vec<Waiting>,
-    mark: usize,
-    extension: &Extension,
-) -> Result<(), NoMemory>
-    requires some { 0 < length extension.now.formulas.items }
-    ensures { OnOk result (reverse waiting.new.items ≡ frames mark (drop 1 (entries_of extension.now)) ++ reverse waiting.old.items) }
-{
-    let origin = origin_of(extension.reason);
-    let mut count = extension.formulas.len();
-    while count > 1 {
-        count -= 1;
-        let entry = entry_with(extension.formulas[count], extension.generation, origin);
-        waiting.push(Waiting { mark, entry })?;
-    }
-    Ok(())
-}
-
 /// Continues with the first branch that the extension leaves, and makes the others pending; returns false if there are
 /// none or one is too long.
 pub(crate) fn advance(
@@ -113,11 +94,11 @@ pub(crate) fn advance(
     requires is_open { walk.old.is_open ≡ true }
     requires formulas { AreFormulas pool.now extension.now.formulas.items }
     ensures walk { OnOk result (IsWalk pool.now walk.new) }
-    ensures exact { IfOk result (λ told. MatchBool told (GoesOn pool.now walk.old extension.now walk.new) (GoesNowhere pool.now walk.old extension.now)) }
+    ensures exact { IfOk result (λ known. MatchBool known (GoesOn pool.now walk.old extension.now walk.new) (GoesNowhere pool.now walk.old extension.now)) }
 {
     let mark = walk.branch.len();
-    let told = go_on(alloc, pool, &mut walk.branch, extension, 0)?;
-    if !told {
+    let known = go_on(alloc, pool, &mut walk.branch, extension, 0)?;
+    if !known {
         return Ok(false);
     }
     if !is_fork(extension.reason) {

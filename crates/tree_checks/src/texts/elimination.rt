@@ -41,8 +41,8 @@ fn key_of(alloc: Global, row: &LinRow) -> Result<Vec<i128>, NoMemory> {
 
 impl Maker {
     // The coefficient of an unknown in the row at an index; 0 if there is none.
-    fn coefficient(&self, place: usize, unknown: usize) -> i128 {
-        match self.rows.get(place) {
+    fn coefficient(&self, position: usize, unknown: usize) -> i128 {
+        match self.rows.get(position) {
             Some(made) => made.row.coefficient(unknown),
             None => 0,
         }
@@ -65,14 +65,14 @@ impl Maker {
             lower: Vec::new(self.alloc),
         };
         let live = mem::replace(&mut self.live, Vec::new(self.alloc));
-        for place in live {
-            let coefficient = self.coefficient(place, unknown);
+        for position in live {
+            let coefficient = self.coefficient(position, unknown);
             if coefficient > 0 {
-                sides.upper.push(place)?;
+                sides.upper.push(position)?;
             } else if coefficient < 0 {
-                sides.lower.push(place)?;
+                sides.lower.push(position)?;
             } else {
-                self.live.push(place)?;
+                self.live.push(position)?;
             }
         }
         Ok(sides)
@@ -134,8 +134,11 @@ fn begun(alloc: Global, rows: &[LinRow]) -> Result<Maker, NoMemory> {
         keys: BTreeSet::new(alloc),
         live: Vec::new(alloc),
     };
-    for place in 0..rows.len() {
-        maker.add(rows[place].padded(alloc, width)?, Origin::Given(place))?;
+    for position in 0..rows.len() {
+        maker.add(
+            rows[position].padded(alloc, width)?,
+            Origin::Given(position),
+        )?;
     }
     Ok(maker)
 }

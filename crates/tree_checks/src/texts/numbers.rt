@@ -1,60 +1,30 @@
 //! Checks whether the numbers in applications are those of formulas and terms.
 
-ghost use Rattle.std.specs.Prelude.{◌≡◌, All, IsTrue};
+ghost use Rattle.std.specs.Prelude.{All, IsTrue};
 ghost use Rattle.tableau.specs.PoolBranches.{IsFormulaNumber, IsTermNumber};
-ghost use Rattle.ematching.specs.Rows.{is_term_node};
 ghost use Rattle.tableau.specs.Numbers.{AreFormulas};
 ghost use Rattle.search.specs.Applications.{terms_of};
 ghost use Rattle.step_checks.specs.Links.{IsNamed, AreNamed};
 ghost use Rattle.tree_checks.specs.Steps.{HasNumbers, AreNumbered};
 ghost use Rattle.tree_checks.specs.Partial.{IsChainNumbered};
-ghost use Rattle.tree_checks.specs.Numbers.{is_formula_node, IsApplicationNumbered};
+ghost use Rattle.tree_checks.specs.Numbers.{IsApplicationNumbered};
 
 use crate::grown::steps::GrownStep;
 use crate::partial::applications::GivenChain;
 use explanations::chain::ChainStep;
 use search::trees::application::{Extension, PoolApplication, Reason};
-use term_pool::node::{Leaf, Node, One, Three, Two};
 use term_pool::pool::Pool;
-
-fn is_formula_node(node: Node) -> bool
-    ensures { result ≡ is_formula_node node }
-{
-    match node {
-        Node::One(One::Holds | One::Not | One::Join(_), _) => true,
-        Node::Two(Two::Compare(_) | Two::Is | Two::Connect(_) | Two::Quantify(_, _), _, _) => true,
-        _ => false,
-    }
-}
-
-fn is_term_node(node: Node) -> bool
-    ensures { result ≡ is_term_node node }
-{
-    match node {
-        Node::Leaf(Leaf::Var(_) | Leaf::Constant(_)) => true,
-        Node::One(One::Unary(_), _) => true,
-        Node::Two(Two::Binary(_) | Two::Pack | Two::Field(_), _, _) => true,
-        Node::Three(Three::Ternary(_) | Three::SetField(_) | Three::If, _, _, _) => true,
-        _ => false,
-    }
-}
 
 fn is_formula(pool: &Pool, number: usize) -> bool
     ensures { IsTrue result → IsFormulaNumber pool.now number }
 {
-    match pool.node(number) {
-        Some(node) => is_formula_node(node),
-        None => false,
-    }
+    pool.is_formula(number)
 }
 
 fn is_term(pool: &Pool, number: usize) -> bool
     ensures { IsTrue result → IsTermNumber pool.now number }
 {
-    match pool.node(number) {
-        Some(node) => is_term_node(node),
-        None => false,
-    }
+    pool.is_term(number)
 }
 
 fn are_formulas(pool: &Pool, numbers: &[usize]) -> bool

@@ -39,7 +39,7 @@ pub fn is_open_text(
     requires few { HasFewFields shapes.now }
     requires denial { IsFormulaNumber pool.old denial }
     ensures extends { Extends pool.old pool.new }
-    ensures open { (p : FormulaData) → formula_at pool.old denial ≡ NotFormula p → IfOk result (λ told. IsTrue told → IsOpenGrown shapes.now p values.now.values) }
+    ensures open { (p : FormulaData) → formula_at pool.old denial ≡ NotFormula p → IfOk result (λ known. IsTrue known → IsOpenGrown shapes.now p values.now.values) }
 {
     let Some(steps) = steps_to_open(alloc, text)? else {
         return Ok(false);

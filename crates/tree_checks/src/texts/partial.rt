@@ -47,14 +47,14 @@ fn take_turn(
     requires numbers { IsApplicationNumbered pool.old application }
     ensures extends { Extends pool.old pool.new }
     ensures walk { OnOk result (IsWalk pool.new walk.new) }
-    ensures taken { IfOk result (λ told. IsTrue told → IsTakenFor shapes.now pool.old (opened pool.old walk.old) application (opened pool.new walk.new)) }
+    ensures taken { IfOk result (λ known. IsTrue known → IsTakenFor shapes.now pool.old (opened pool.old walk.old) application (opened pool.new walk.new)) }
 {
     let Some(given) = with_grounds(alloc, pool, shapes, &walk.branch, application)? else {
         return Ok(false);
     };
     pool.one_number();
-    let told = take(alloc, pool, shapes, walk, &given)?;
-    Ok(told)
+    let known = take(alloc, pool, shapes, walk, &given)?;
+    Ok(known)
 }
 
 // Returns true only if the applications are due, one after another, and the trace may end after them, with this many
@@ -73,7 +73,7 @@ fn is_read(
     requires numbers { All (IsApplicationNumbered pool.old) text.items }
     requires named { IsChainNumbered pool.old chain.now }
     ensures extends { Extends pool.old pool.new }
-    ensures partial { (n : ℕ) (p : FormulaData) → IsFormulaNumber pool.old n → opened pool.old walk.old ≡ first_branch pool.old n ∷ [] → formula_at pool.old n ≡ NotFormula p → IfOk result (λ told. IsTrue told → IsPartialText shapes.now pool.old p text.items chain.now budget) }
+    ensures partial { (n : ℕ) (p : FormulaData) → IsFormulaNumber pool.old n → opened pool.old walk.old ≡ first_branch pool.old n ∷ [] → formula_at pool.old n ≡ NotFormula p → IfOk result (λ known. IsTrue known → IsPartialText shapes.now pool.old p text.items chain.now budget) }
 {
     let mut left = budget;
     for application in text {
@@ -82,8 +82,8 @@ fn is_read(
             return Ok(false);
         }
         left -= steps;
-        let told = take_turn(alloc, pool, shapes, walk, application)?;
-        if !told {
+        let known = take_turn(alloc, pool, shapes, walk, application)?;
+        if !known {
             return Ok(false);
         }
     }
@@ -113,7 +113,7 @@ pub fn is_partial_text(
     requires few { HasFewFields shapes.now }
     requires denial { IsFormulaNumber pool.old denial }
     ensures extends { Extends pool.old pool.new }
-    ensures partial { (p : FormulaData) → formula_at pool.old denial ≡ NotFormula p → IfOk result (λ told. IsTrue told → IsPartialText shapes.now pool.old p text.items chain.now budget) }
+    ensures partial { (p : FormulaData) → formula_at pool.old denial ≡ NotFormula p → IfOk result (λ known. IsTrue known → IsPartialText shapes.now pool.old p text.items chain.now budget) }
 {
     if !is_text_numbered(pool, text.as_slice()) || !is_chain_numbered(pool, chain) {
         return Ok(false);

@@ -4,7 +4,7 @@ ghost use Rattle.std.specs.Prelude.{◌≡◌, ◌+◌, ◌≤◌, ℕ, List, If
 ghost use Rattle.std.specs.Option.{option_map};
 ghost use Rattle.typing_rules.specs.Answers.{System, IsUntypable};
 ghost use Rattle.typing_rules.specs.declared.type_pool.PoolType.{PoolType};
-ghost use Rattle.unification.specs.Choices.{PlaceSays};
+ghost use Rattle.unification.specs.Choices.{VariableSays};
 ghost use Rattle.type_constraints.specs.SpecSettings.{let_of};
 ghost use Rattle.body_types.specs.SpecTyped.{SpecTypingSays};
 ghost use Rattle.type_check.specs.Lets.{ArgumentsSay, LetSays};
@@ -19,8 +19,8 @@ use type_constraints::spec::setting::LetType;
 use typing_rules::type_pool::TypePool;
 
 /// The number of type variables, if there are typings.
-pub(crate) fn place_count(typing: &SpecTyping) -> Option<usize>
-    ensures { (s : System) (pool : List PoolType) → SpecTypingSays s pool typing.now → MatchOption result (IsUntypable s) (λ count. count ≡ s.places) }
+pub(crate) fn variable_count(typing: &SpecTyping) -> Option<usize>
+    ensures { (s : System) (pool : List PoolType) → SpecTypingSays s pool typing.now → MatchOption result (IsUntypable s) (λ count. count ≡ s.variables) }
 {
     match typing {
         SpecTyping::Untypable => None,
@@ -31,14 +31,14 @@ pub(crate) fn place_count(typing: &SpecTyping) -> Option<usize>
 
 /// The number in the pool of the type of a type variable, if it has one. `NoMemory` where there is no such type
 /// variable, and there are typings.
-fn number_of(typing: &SpecTyping, place: usize) -> Result<Option<usize>, NoMemory>
-    ensures { IfOk result (λ found. (s : System) (pool : List PoolType) → SpecTypingSays s pool typing.now → PlaceSays s pool place found) }
+fn number_of(typing: &SpecTyping, variable: usize) -> Result<Option<usize>, NoMemory>
+    ensures { IfOk result (λ found. (s : System) (pool : List PoolType) → SpecTypingSays s pool typing.now → VariableSays s pool variable found) }
 {
-    match place_count(typing) {
+    match variable_count(typing) {
         None => Ok(None),
         Some(count) => {
-            if place < count {
-                Ok(typing.type_of(place))
+            if variable < count {
+                Ok(typing.type_of(variable))
             } else {
                 Err(NoMemory)
             }
@@ -60,8 +60,8 @@ fn types_between(
     ensures { IfOk result (λ found. (s : System) → SpecTypingSays s pool.now typing.now → ArgumentsSay s first end (option_map (λ terms. terms.items) found)) }
 {
     let mut terms = Vec::new(alloc);
-    for place in first..end {
-        match number_of(typing, place)? {
+    for variable in first..end {
+        match number_of(typing, variable)? {
             None => return Ok(None),
             Some(number) => terms.push(term_of(alloc, pool, number)?)?,
         }
@@ -77,9 +77,9 @@ pub(crate) fn last_types(
     count: usize,
 ) -> Result<Option<Vec<TypeTerm>>, NoMemory>
     requires { (s : System) × SpecTypingSays s pool.now typing.now }
-    ensures { IfOk result (λ found. (s : System) (first : ℕ) → SpecTypingSays s pool.now typing.now → s.places ≡ first + count → ArgumentsSay s first (first + count) (option_map (λ terms. terms.items) found)) }
+    ensures { IfOk result (λ found. (s : System) (first : ℕ) → SpecTypingSays s pool.now typing.now → s.variables ≡ first + count → ArgumentsSay s first (first + count) (option_map (λ terms. terms.items) found)) }
 {
-    match place_count(typing) {
+    match variable_count(typing) {
         // Without typings no type variable has a type.
         None => types_between(alloc, typing, pool, 0, count),
         Some(end) => {
@@ -101,7 +101,7 @@ pub(crate) fn let_of(
     pool: &TypePool,
 ) -> Result<Option<LetType>, NoMemory>
     requires { (s : System) × SpecTypingSays s pool.now typing.now }
-    ensures { IfOk result (λ told. (s : System) → SpecTypingSays s pool.now typing.now → LetSays s form.now (let_of told)) }
+    ensures { IfOk result (λ known. (s : System) → SpecTypingSays s pool.now typing.now → LetSays s form.now (let_of known)) }
 {
     match form {
         ClauseForm::Let { is_post, value } => match number_of(typing, *value)? {

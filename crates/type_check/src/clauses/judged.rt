@@ -8,13 +8,13 @@ ghost use Rattle.typing_rules.specs.Clauses as C;
 ghost use Rattle.program.specs.declared.program.Program.{Program as ProgramData};
 ghost use Rattle.std.specs.List.{list_all};
 ghost use Rattle.typing_rules.specs.ProperTypes.{is_proper_single};
-ghost use Rattle.typing_rules.specs.Faults.{Standing};
+ghost use Rattle.typing_rules.specs.Faults.{Stated};
 ghost use Rattle.typing_rules.specs.declared.type_pool.PoolType.{PoolType};
 ghost use Rattle.body_types.specs.Plain.{AreCodeTypes};
 ghost use Rattle.type_constraints.specs.SpecSettings.{names_of, owner_types};
 ghost use Rattle.type_constraints.specs.Blocks.{block_of};
 ghost use Rattle.body_types.specs.SpecTyped.{SpecTypingSays};
-ghost use Rattle.type_check.specs.Judged.{ClauseBreaks, ClauseSays, ClauseTold, IncludedSays, IncludesImproper, standing};
+ghost use Rattle.type_check.specs.Judged.{ClauseBreaks, ClauseSays, ClauseKnown, IncludedSays, IncludesImproper, stated};
 
 use crate::clauses::arguments::{last_types, let_of};
 use crate::clauses::instance::Instance;
@@ -44,7 +44,7 @@ pub enum ClauseRule {
 #[derive(Drop)]
 pub struct JudgedClause {
     /// The span of its block.
-    pub place: Span,
+    pub span: Span,
     /// It has no typing, or it includes a schema of which a variable has a type that it may not have.
     pub is_untyped: bool,
     /// It has typings, and a head is open, or the type of a type variable is not determined.
@@ -59,7 +59,7 @@ pub struct JudgedClause {
 impl JudgedClause {
     /// Decides whether the clause breaks the rule.
     pub fn breaks(&self, rule: ClauseRule) -> bool
-        ensures { (program : ProgramData) (c : Standing) → ClauseSays program c self.now → IsTrue result ↔ ClauseBreaks program rule c }
+        ensures { (program : ProgramData) (c : Stated) → ClauseSays program c self.now → IsTrue result ↔ ClauseBreaks program rule c }
     {
         match rule {
             ClauseRule::Typing => self.is_untyped,
@@ -115,7 +115,7 @@ fn included(
     pool: &TypePool,
 ) -> Result<Option<Instance>, NoMemory>
     requires { (s : System) × SpecTypingSays s pool.now typing.now }
-    ensures { IfOk result (λ found. (names : C.Names) (types : TypesData) (place : SpanData) → SpecTypingSays (C.clause_system program.now names (block_of block) types clause.now) pool.now typing.now → IncludedSays program.now (standing names (block_of block) types clause.now place) found) }
+    ensures { IfOk result (λ found. (names : C.Names) (types : TypesData) (span : SpanData) → SpecTypingSays (C.clause_system program.now names (block_of block) types clause.now) pool.now typing.now → IncludedSays program.now (stated names (block_of block) types clause.now span) found) }
 {
     match &clause.form {
         ClauseForm::Include { schema, .. } => match program.schemas.get(schema) {
@@ -147,7 +147,7 @@ pub fn judge_clause<'a>(
     clause: &'a Clause,
 ) -> Result<(JudgedClause, Option<LetType>), NoMemory>
     requires { AreCodeTypes types.now }
-    ensures { IfOk result (λ told. ClauseTold program.now (names_of names.entry) (block_of block) (owner_types names.entry.owner) clause.now told.0 told.1) }
+    ensures { IfOk result (λ known. ClauseKnown program.now (names_of names.entry) (block_of block) (owner_types names.entry.owner) clause.now known.0 known.1) }
 {
     let mut pool = TypePool::new(alloc);
     let typing = clause_typing(alloc, types, program, names, block, clause, &mut pool)?;
@@ -155,7 +155,7 @@ pub fn judge_clause<'a>(
     let included = included(alloc, program, block, clause, &typing, &pool)?;
     let of = let_of(alloc, &clause.form, &typing, &pool)?;
     let judged = JudgedClause {
-        place: clause.block,
+        span: clause.block,
         is_untyped: is_untypable(&typing) | is_improper,
         is_unsettled: is_ambiguous(&typing),
         included,

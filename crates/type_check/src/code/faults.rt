@@ -13,11 +13,11 @@ ghost use Rattle.program.specs.Order.{IsFirstOrNone};
 ghost use Rattle.body_types.specs.Plain.{AreCodeTypes};
 ghost use Rattle.type_check.specs.Split.{CodeBreaksTyping, CodeIsUnsettled, ConstantAt, ConstantBreaks, ConstantIsOpen, FunctionAt, FunctionBreaks, FunctionIsOpen, StructAt, StructBreaks};
 ghost use Rattle.type_check.specs.Functions.{AreTypings, IsTypingOf};
-ghost use Rattle.type_check.specs.CodeFaults.{AreEarlier, AreFaults, place_if};
+ghost use Rattle.type_check.specs.CodeFaults.{AreEarlier, AreFaults, span_if};
 
 use crate::code::functions::FunctionTyping;
 use crate::code::judged::{BrokenRules, is_ambiguous, is_ill_typed};
-use crate::code::places::place_types;
+use crate::code::variables::variable_types;
 use ability_rules::polymorphic_recursion::wrapping::wrapping_functions;
 use base::memory::NoMemory;
 use base::span::Span;
@@ -54,10 +54,10 @@ fn no_faults() -> CodeFaults
 }
 
 /// The span of a declaration if it breaks a rule.
-pub(crate) fn place_if(is_broken: bool, place: Span) -> Option<Span>
-    ensures { result ≡ place_if is_broken place }
+pub(crate) fn span_if(is_broken: bool, span: Span) -> Option<Span>
+    ensures { result ≡ span_if is_broken span }
 {
-    if is_broken { Some(place) } else { None }
+    if is_broken { Some(span) } else { None }
 }
 
 /// The earlier faults of two, rule by rule.
@@ -71,13 +71,13 @@ fn both(left: CodeFaults, right: CodeFaults) -> CodeFaults
 }
 
 /// The faults of one declaration.
-fn faults_at(broken: BrokenRules, place: Span) -> CodeFaults
-    ensures untyped { result.untyped ≡ place_if broken.untyped place }
-    ensures unsettled { result.unsettled ≡ place_if broken.unsettled place }
+fn faults_at(broken: BrokenRules, span: Span) -> CodeFaults
+    ensures untyped { result.untyped ≡ span_if broken.untyped span }
+    ensures unsettled { result.unsettled ≡ span_if broken.unsettled span }
 {
     CodeFaults {
-        untyped: place_if(broken.untyped, place),
-        unsettled: place_if(broken.unsettled, place),
+        untyped: span_if(broken.untyped, span),
+        unsettled: span_if(broken.unsettled, span),
     }
 }
 
@@ -104,7 +104,7 @@ fn function_faults(program: &Program, typings: &[FunctionTyping], wrapping: &[bo
     for number in 0..typings.len() {
         if let Some((_, function)) = program.functions.entry(number) {
             let broken = function_rules(&typings[number], wrapping[number]);
-            let found = faults_at(broken, function.place);
+            let found = faults_at(broken, function.span);
             faults = both(faults, found);
         }
     }
@@ -145,7 +145,7 @@ fn constant_faults(
     for number in 0..program.constants.len() {
         if let Some((_, constant)) = program.constants.entry(number) {
             let broken = constant_rules(alloc, types, program, constant)?;
-            let found = faults_at(broken, constant.place);
+            let found = faults_at(broken, constant.span);
             faults = both(faults, found);
         }
     }
@@ -171,7 +171,7 @@ fn struct_fault(program: &Program) -> Option<Span>
     for number in 0..program.structs.len() {
         if let Some((_, declaration)) = program.structs.entry(number) {
             let are = are_fields_proper(program, declaration);
-            let next = place_if(!are, declaration.place);
+            let next = span_if(!are, declaration.span);
             found = earlier(found, next);
         }
     }
@@ -192,8 +192,8 @@ pub fn code_faults(
     ensures untyped { IfOk result (λ faults. IsFirstOrNone (CodeBreaksTyping program.now) faults.untyped) }
     ensures unsettled { IfOk result (λ faults. IsFirstOrNone (CodeIsUnsettled program.now) faults.unsettled) }
 {
-    let told = place_types(alloc, typings)?;
-    let wrapping = wrapping_functions(alloc, program, &told)?;
+    let known = variable_types(alloc, typings)?;
+    let wrapping = wrapping_functions(alloc, program, &known)?;
     let functions = function_faults(program, typings, &wrapping);
     let constants = constant_faults(alloc, types, program)?;
     let fields = struct_fault(program);

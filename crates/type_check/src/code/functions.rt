@@ -2,9 +2,9 @@
 
 ghost use Rattle.std.specs.Prelude.{◌≡◌, Some, None, map, replicate, IfOk};
 ghost use Rattle.typing_rules.specs.CodeSystems.{function_setting};
-ghost use Rattle.typing_rules.specs.Settings.{place_count};
+ghost use Rattle.typing_rules.specs.Settings.{variable_count};
 ghost use Rattle.body_types.specs.Plain.{AreCodeTypes};
-ghost use Rattle.type_check.specs.Functions.{AreTypings, IsTypingOf, places_of, read_of};
+ghost use Rattle.type_check.specs.Functions.{AreTypings, IsTypingOf, variables_of, read_of};
 
 use base::memory::NoMemory;
 use body_types::code::plain::CodeTypes;
@@ -12,7 +12,7 @@ use body_types::code::typing::{CodeTyping, function_typing};
 use program::declaration::Function;
 use program::program::Program;
 use std::alloc::Global;
-use type_solver::code_systems::counts::place_count;
+use type_solver::code_systems::counts::variable_count;
 use type_solver::code_systems::systems::function_setting;
 use typing_rules::type_pool::TypePool;
 
@@ -22,58 +22,61 @@ pub struct FunctionTyping {
     pub pool: TypePool,
     pub typing: CodeTyping,
     /// For each type variable the number of its type in the pool, if it has one.
-    pub places: Vec<Option<usize>>,
+    pub variables: Vec<Option<usize>>,
     /// The number of nodes that are read, which are the first ones, if there are typings.
     pub read: usize,
 }
 
 /// No number for any type variable of a function.
-fn no_places(
+fn no_variables(
     alloc: Global,
     program: &Program,
     function: &Function,
 ) -> Result<Vec<Option<usize>>, NoMemory>
-    ensures { IfOk result (λ places. places.items ≡ replicate (place_count (function_setting program.now function.now)) None) }
+    ensures { IfOk result (λ variables. variables.items ≡ replicate (variable_count (function_setting program.now function.now)) None) }
 {
-    let count = place_count(function_setting(program, function))?;
+    let count = variable_count(function_setting(program, function))?;
     Ok(vec![in alloc; None; count]?)
 }
 
 /// The numbers of type variables all of which have one.
-fn known_places(alloc: Global, numbers: &[usize]) -> Result<Vec<Option<usize>>, NoMemory>
-    ensures { IfOk result (λ places. places.items ≡ map Some numbers.now) }
+fn known_variables(alloc: Global, numbers: &[usize]) -> Result<Vec<Option<usize>>, NoMemory>
+    ensures { IfOk result (λ variables. variables.items ≡ map Some numbers.now) }
 {
-    let mut places = Vec::new(alloc);
+    let mut variables = Vec::new(alloc);
     for number in numbers {
-        places.push(Some(*number))?;
+        variables.push(Some(*number))?;
     }
-    Ok(places)
+    Ok(variables)
 }
 
 /// The numbers of type variables that have one.
-fn copied_places(alloc: Global, numbers: &[Option<usize>]) -> Result<Vec<Option<usize>>, NoMemory>
-    ensures { IfOk result (λ places. places.items ≡ numbers.now) }
+fn copied_variables(
+    alloc: Global,
+    numbers: &[Option<usize>],
+) -> Result<Vec<Option<usize>>, NoMemory>
+    ensures { IfOk result (λ variables. variables.items ≡ numbers.now) }
 {
-    let mut places = Vec::new(alloc);
+    let mut variables = Vec::new(alloc);
     for number in numbers {
-        places.push(*number)?;
+        variables.push(*number)?;
     }
-    Ok(places)
+    Ok(variables)
 }
 
 /// The numbers of the types that the type variables of a function have by its typing.
-fn places_of(
+fn variables_of(
     alloc: Global,
     program: &Program,
     function: &Function,
     typing: &CodeTyping,
 ) -> Result<Vec<Option<usize>>, NoMemory>
-    ensures { IfOk result (λ places. places.items ≡ places_of (place_count (function_setting program.now function.now)) typing.now) }
+    ensures { IfOk result (λ variables. variables.items ≡ variables_of (variable_count (function_setting program.now function.now)) typing.now) }
 {
     match typing {
-        CodeTyping::Untypable => no_places(alloc, program, function),
-        CodeTyping::Ambiguous(numbers, _) => copied_places(alloc, numbers),
-        CodeTyping::Typed(numbers, _) => known_places(alloc, numbers.as_slice()),
+        CodeTyping::Untypable => no_variables(alloc, program, function),
+        CodeTyping::Ambiguous(numbers, _) => copied_variables(alloc, numbers),
+        CodeTyping::Typed(numbers, _) => known_variables(alloc, numbers.as_slice()),
     }
 }
 
@@ -100,12 +103,12 @@ fn type_function(
 {
     let mut pool = TypePool::new(alloc);
     let typing = function_typing(alloc, types, program, function, &mut pool)?;
-    let places = places_of(alloc, program, function, &typing)?;
+    let variables = variables_of(alloc, program, function, &typing)?;
     let read = read_of(&typing);
     Ok(FunctionTyping {
         pool,
         typing,
-        places,
+        variables,
         read,
     })
 }

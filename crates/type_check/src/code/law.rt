@@ -10,15 +10,15 @@ ghost use Rattle.type_check.specs.Typed.{HasUntyped};
 
 /// A law: a declaration that breaks a typing rule is code or a specification.
 pub fn breaks_in_code_or_spec()
-    ensures { (program : Program) (place : Span) → BreaksTyping program place ↔ CodeBreaksTyping program place ⊎ SpecBreaksTyping program place }
+    ensures { (program : Program) (span : Span) → BreaksTyping program span ↔ CodeBreaksTyping program span ⊎ SpecBreaksTyping program span }
 {}
 
 /// A law: a declaration that is ambiguous is code or a specification.
 pub fn unsettled_in_code_or_spec()
-    ensures { (program : Program) (place : Span) → IsUnsettled program place ↔ CodeIsUnsettled program place ⊎ SpecIsUnsettled program place }
+    ensures { (program : Program) (span : Span) → IsUnsettled program span ↔ CodeIsUnsettled program span ⊎ SpecIsUnsettled program span }
 {}
 
 /// A law: if a function is not typed, code breaks a typing rule or is ambiguous.
 pub fn untyped_is_a_fault()
-    ensures { (program : Program) → HasUntyped program → (place : Span) × (CodeBreaksTyping program place ⊎ CodeIsUnsettled program place) }
+    ensures { (program : Program) → HasUntyped program → (span : Span) × (CodeBreaksTyping program span ⊎ CodeIsUnsettled program span) }
 {}

@@ -7,12 +7,12 @@ ghost use Rattle.program.specs.Order.{IsFirstOrNone};
 ghost use Rattle.typing_rules.specs.Required.{FunctionLacksAbility, StructLacksAbility};
 ghost use Rattle.typing_rules.specs.Acquires.{LacksAcquires};
 ghost use Rattle.typing_rules.specs.Faults.{BreaksAbility, BreaksAcquires};
-ghost use Rattle.definite_assignment.specs.Told.{AreTypedBy, IsTypedBy};
+ghost use Rattle.definite_assignment.specs.KnownState.{AreTypedBy, IsTypedBy};
 ghost use Rattle.type_check.specs.Split.{FunctionAt, StructAt};
 ghost use Rattle.type_check.specs.Functions.{AreTypings, IsTypingOf};
 ghost use Rattle.type_check.specs.Typed.{HasUntyped, IsUntyped};
 
-use crate::code::faults::place_if;
+use crate::code::faults::span_if;
 use crate::code::functions::FunctionTyping;
 use ability_rules::acquires::function::lacks_acquires;
 use ability_rules::required::body::JudgedBody;
@@ -22,7 +22,7 @@ use ability_rules::required::function::function_lacks_ability;
 use base::memory::NoMemory;
 use base::span::Span;
 use body_types::code::typing::CodeTyping;
-use definite_assignment::whole_program::told::FunctionTypes;
+use definite_assignment::whole_program::known::FunctionTypes;
 use program::declaration::Function;
 use program::order::earlier;
 use program::program::Program;
@@ -46,16 +46,16 @@ pub fn function_types<'a>(
     alloc: Global,
     typings: &'a [FunctionTyping],
 ) -> Result<Option<Vec<FunctionTypes<'a>>>, NoMemory>
-    ensures { IfOk result (λ found. (program : ProgramData) → AreTypings program typings.now → MatchOption found (HasUntyped program) (λ told. AreTypedBy program told.items)) }
+    ensures { IfOk result (λ found. (program : ProgramData) → AreTypings program typings.now → MatchOption found (HasUntyped program) (λ known. AreTypedBy program known.items)) }
 {
-    let mut told = Vec::new(alloc);
+    let mut known = Vec::new(alloc);
     for number in 0..typings.len() {
         let Some(types) = types_of(&typings[number]) else {
             return Ok(None);
         };
-        told.push(types)?;
+        known.push(types)?;
     }
-    Ok(Some(told))
+    Ok(Some(known))
 }
 
 /// Decides whether an ability that a function requires is missing.
@@ -63,17 +63,17 @@ fn lacks_ability(
     alloc: Global,
     program: &Program,
     function: &Function,
-    told: FunctionTypes<'_>,
+    known: FunctionTypes<'_>,
 ) -> Result<bool, NoMemory>
-    requires { IsTypedBy program.now function.now told }
+    requires { IsTypedBy program.now function.now known }
     ensures { IfOk result (λ lacks. IsTrue lacks ↔ FunctionLacksAbility program.now function.now) }
 {
     let parameters = function.type_parameters.as_slice();
     let given = given_abilities(alloc, parameters)?;
     let constraints = given.as_slice();
-    let table = judge_types(alloc, &program.structs, constraints, told.pool, 0)?;
+    let table = judge_types(alloc, &program.structs, constraints, known.pool, 0)?;
     let judged = JudgedBody {
-        places: told.types,
+        variables: known.types,
         table: &table,
     };
     function_lacks_ability(alloc, program, function, judged)
@@ -83,16 +83,16 @@ fn lacks_ability(
 fn function_fault(
     alloc: Global,
     program: &Program,
-    told: &[FunctionTypes<'_>],
+    known: &[FunctionTypes<'_>],
 ) -> Result<Option<Span>, NoMemory>
-    requires { AreTypedBy program.now told.now }
+    requires { AreTypedBy program.now known.now }
     ensures { IfOk result (IsFirstOrNone (FunctionAt program.now (λ id f. FunctionLacksAbility program.now f))) }
 {
     let mut found = None;
-    for number in 0..told.len() {
+    for number in 0..known.len() {
         if let Some((_, function)) = program.functions.entry(number) {
-            let lacks = lacks_ability(alloc, program, function, told[number])?;
-            let next = place_if(lacks, function.place);
+            let lacks = lacks_ability(alloc, program, function, known[number])?;
+            let next = span_if(lacks, function.span);
             found = earlier(found, next);
         }
     }
@@ -107,7 +107,7 @@ fn struct_fault(alloc: Global, program: &Program) -> Result<Option<Span>, NoMemo
     for number in 0..program.structs.len() {
         if let Some((_, declaration)) = program.structs.entry(number) {
             let lacks = struct_lacks_ability(alloc, program, declaration)?;
-            let next = place_if(lacks, declaration.place);
+            let next = span_if(lacks, declaration.span);
             found = earlier(found, next);
         }
     }
@@ -120,12 +120,12 @@ fn struct_fault(alloc: Global, program: &Program) -> Result<Option<Span>, NoMemo
 pub fn ability_fault(
     alloc: Global,
     program: &Program,
-    told: &[FunctionTypes<'_>],
+    known: &[FunctionTypes<'_>],
 ) -> Result<Option<Span>, NoMemory>
-    requires { AreTypedBy program.now told.now }
+    requires { AreTypedBy program.now known.now }
     ensures { IfOk result (IsFirstOrNone (BreaksAbility program.now)) }
 {
-    let functions = function_fault(alloc, program, told)?;
+    let functions = function_fault(alloc, program, known)?;
     let structs = struct_fault(alloc, program)?;
     Ok(earlier(functions, structs))
 }
@@ -136,17 +136,17 @@ pub fn ability_fault(
 pub fn acquires_fault(
     alloc: Global,
     program: &Program,
-    told: &[FunctionTypes<'_>],
+    known: &[FunctionTypes<'_>],
 ) -> Result<Option<Span>, NoMemory>
-    requires { AreTypedBy program.now told.now }
+    requires { AreTypedBy program.now known.now }
     ensures { IfOk result (IsFirstOrNone (BreaksAcquires program.now)) }
 {
     let mut found = None;
-    for number in 0..told.len() {
+    for number in 0..known.len() {
         if let Some((id, function)) = program.functions.entry(number) {
-            let types = told[number];
+            let types = known[number];
             let lacks = lacks_acquires(alloc, program, id, function, types.pool, types.types)?;
-            let next = place_if(lacks, function.place);
+            let next = span_if(lacks, function.span);
             found = earlier(found, next);
         }
     }

@@ -1,11 +1,11 @@
 //! The vertices of a graph that reach marked ones.
 
 ghost use Rattle.std.specs.Prelude.{◌↔◌, ◌<◌, ℕ, All, false, IsTrue, IfOk, length, slice_index_or};
-ghost use Rattle.base.specs.MarkedCircles.{IsWithin};
+ghost use Rattle.base.specs.MarkedCycles.{IsWithin};
 ghost use Rattle.type_check.specs.Leading.{AreUnmarked, HasLast, LeadsToMark};
 
 use base::marked_cycles::edge::MarkedEdge;
-use base::marked_cycles::on_cycle::on_marked_circle;
+use base::marked_cycles::on_cycle::on_marked_cycle;
 use base::memory::NoMemory;
 use std::alloc::Global;
 
@@ -52,5 +52,5 @@ pub(crate) fn leading_to(
     ensures { IfOk result (λ found. (n : ℕ) → n < length marks.now → IsTrue (slice_index_or found.items n false) ↔ LeadsToMark edges.now marks.now n) }
 {
     let all = with_last(alloc, edges, marks)?;
-    on_marked_circle(alloc, marks.len() + 1, &all)
+    on_marked_cycle(alloc, marks.len() + 1, &all)
 }

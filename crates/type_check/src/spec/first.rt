@@ -13,16 +13,16 @@ ghost use Rattle.type_check.specs.Known.{IsKeyed, listed};
 ghost use Rattle.type_check.specs.SpecFaults.{SpecBreaks};
 ghost use Rattle.type_check.specs.Included.{AreIncluded};
 ghost use Rattle.type_check.specs.Numbered.{AreNumbered, BreaksAmong, IsNumberOf, RootIsBroken};
-ghost use Rattle.ability_rules.specs.Told.{AreTold};
+ghost use Rattle.ability_rules.specs.KnownTypes.{AreKnown};
 
 use crate::clauses::instance::Instance;
 use crate::clauses::judged::JudgedClause;
 use crate::schemas::broken::{BrokenInstances, JudgedInstances, broken_instances};
 use crate::schemas::known::{KnownInstances, no_instances, put};
 use crate::spec::functions::first_functions;
-use crate::spec::places::place_if;
 use crate::spec::roots::root_clauses;
-use ability_rules::polymorphic_recursion::told::PlaceTypes;
+use crate::spec::spans::span_if;
+use ability_rules::polymorphic_recursion::known::VariableTypes;
 use base::memory::NoMemory;
 use base::span::Span;
 use body_types::code::plain::CodeTypes;
@@ -51,7 +51,7 @@ pub struct JudgedSpecifications {
 /// The judgment of a clause of a declaration, with the number of the instance that it includes.
 #[derive(Clone, Copy)]
 pub(crate) struct RootClause {
-    pub place: Span,
+    pub span: Span,
     pub is_untyped: bool,
     pub is_unsettled: bool,
     pub included: Option<usize>,
@@ -89,7 +89,7 @@ fn number_roots(alloc: Global, judged: &[JudgedClause]) -> Result<NumberedRoots,
     for one in judged {
         let included = number_of(alloc, &mut known, &one.included)?;
         roots.push(RootClause {
-            place: one.place,
+            span: one.span,
             is_untyped: one.is_untyped,
             is_unsettled: one.is_unsettled,
             included,
@@ -115,7 +115,7 @@ fn first_untyped(roots: &[RootClause], broken: &[bool]) -> Option<Span>
     let mut first = None;
     for root in roots {
         let is_so = is_broken(root.is_untyped, root.included, broken);
-        first = earlier(first, place_if(is_so, root.place));
+        first = earlier(first, span_if(is_so, root.span));
     }
     first
 }
@@ -127,7 +127,7 @@ fn first_unsettled(roots: &[RootClause], broken: &[bool]) -> Option<Span>
     let mut first = None;
     for root in roots {
         let is_so = is_broken(root.is_unsettled, root.included, broken);
-        first = earlier(first, place_if(is_so, root.place));
+        first = earlier(first, span_if(is_so, root.span));
     }
     first
 }
@@ -138,16 +138,16 @@ pub fn judge_specifications<'a>(
     alloc: Global,
     types: &'a CodeTypes,
     program: &'a Program,
-    told: &[PlaceTypes<'_>],
+    given: &[VariableTypes<'_>],
 ) -> Result<JudgedSpecifications, NoMemory>
     requires types { AreCodeTypes types.now }
-    requires told { AreTold program.now told.now }
+    requires given { AreKnown program.now given.now }
     requires shallow { (s : SchemaId) (d : Schema) → lookup (same_schema s) program.now.schemas ≡ Some d → IsShallow program.now (length program.now.schemas) s }
     ensures untyped { IfOk result (λ judged. IsFirstOrNone (SpecBreaks program.now Typing) judged.faults.untyped) }
     ensures unsettled { IfOk result (λ judged. IsFirstOrNone (SpecBreaks program.now Settling) judged.faults.unsettled) }
     ensures instances { IfOk result (λ judged. AreIncluded program.now judged.instances) }
 {
-    let judged = root_clauses(alloc, types, program, told)?;
+    let judged = root_clauses(alloc, types, program, given)?;
     let NumberedRoots { roots, known } = number_roots(alloc, &judged)?;
     let broken = broken_instances(alloc, types, program, known)?;
     let functions = first_functions(alloc, types, program)?;

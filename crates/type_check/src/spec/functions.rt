@@ -13,7 +13,7 @@ ghost use Rattle.type_check.specs.declared.clauses.judged.ClauseRule.TheVariants
 ghost use Rattle.type_check.specs.SpecFaults.{FunctionBreaksAt, SpecFunctionBreaks};
 
 use crate::spec::first::SpecFaults;
-use crate::spec::places::place_if;
+use crate::spec::spans::span_if;
 use base::memory::NoMemory;
 use body_types::code::plain::CodeTypes;
 use body_types::spec::typing::{SpecTyping, function_typing};
@@ -97,8 +97,8 @@ pub(crate) fn first_functions<'a>(
     for number in 0..program.spec_functions.len() {
         if let Some((_, function)) = program.spec_functions.entry(number) {
             let judged = judge_function(alloc, types, program, function)?;
-            let without = place_if(judged.is_untyped, function.place);
-            let open = place_if(judged.is_unsettled, function.place);
+            let without = span_if(judged.is_untyped, function.span);
+            let open = span_if(judged.is_unsettled, function.span);
             untyped = earlier(untyped, without);
             unsettled = earlier(unsettled, open);
         }

@@ -5,10 +5,10 @@ ghost use Rattle.std.specs.Option.{option_map};
 ghost use Rattle.typing_rules.specs.Faults.{IsOfLoop};
 ghost use Rattle.body_types.specs.Plain.{AreCodeTypes};
 ghost use Rattle.type_check.specs.Roots.{LocalsSay, LoopsSay, TellsOf};
-ghost use Rattle.ability_rules.specs.Told.{IsTold};
+ghost use Rattle.ability_rules.specs.KnownTypes.{IsListed};
 
 use crate::clauses::judged::{JudgedClause, judge_clause};
-use ability_rules::polymorphic_recursion::told::PlaceTypes;
+use ability_rules::polymorphic_recursion::known::VariableTypes;
 use base::memory::NoMemory;
 use base::types::TypeTerm;
 use body_types::code::plain::CodeTypes;
@@ -20,11 +20,11 @@ use type_constraints::clauses::block::Block;
 use type_constraints::spec::setting::{Names, Owner};
 
 /// The number of the type of a type variable, if it has one.
-fn number_at(told: PlaceTypes<'_>, place: usize) -> Option<usize>
-    requires { place < length told.types.now }
-    ensures { slice_get told.entry.types.now place ≡ Some result }
+fn number_at(known: VariableTypes<'_>, variable: usize) -> Option<usize>
+    requires { variable < length known.types.now }
+    ensures { slice_get known.entry.types.now variable ≡ Some result }
 {
-    told.types[place]
+    known.types[variable]
 }
 
 /// The types of the locals of a function as trees; none where one of them has none.
@@ -32,17 +32,17 @@ fn local_types(
     alloc: Global,
     program: &Program,
     function: &Function,
-    told: PlaceTypes<'_>,
+    known: VariableTypes<'_>,
 ) -> Result<Option<Vec<TypeTerm>>, NoMemory>
-    requires { IsTold program.now function.now told }
+    requires { IsListed program.now function.now known }
     ensures { IfOk result (λ found. LocalsSay program.now function.now (option_map (λ terms. terms.items) found)) }
 {
     let first = function.body.len();
     let mut terms = Vec::new(alloc);
     for local in 0..function.locals.as_slice().len() {
-        match number_at(told, first + local) {
+        match number_at(known, first + local) {
             None => return Ok(None),
-            Some(number) => terms.push(term_of(alloc, told.pool, number)?)?,
+            Some(number) => terms.push(term_of(alloc, known.pool, number)?)?,
         }
     }
     Ok(Some(terms))
@@ -65,8 +65,8 @@ fn judge_with<'a>(
     };
     let mut judged = Vec::new(alloc);
     for one in function.loop_clauses.as_slice() {
-        let (told, _) = judge_clause(alloc, types, program, names, Block::Loop, &one.clause)?;
-        judged.push(told)?;
+        let (known, _) = judge_clause(alloc, types, program, names, Block::Loop, &one.clause)?;
+        judged.push(known)?;
     }
     Ok(judged)
 }
@@ -77,16 +77,16 @@ pub(crate) fn judge_loops<'a>(
     types: &'a CodeTypes,
     program: &'a Program,
     function: &'a Function,
-    told: PlaceTypes<'_>,
+    known: VariableTypes<'_>,
 ) -> Result<Vec<JudgedClause>, NoMemory>
     requires types { AreCodeTypes types.now }
-    requires told { IsTold program.now function.now told }
+    requires known { IsListed program.now function.now known }
     ensures { IfOk result (λ judged. TellsOf program.now (IsOfLoop program.now function.now) judged.items) }
 {
     if function.loop_clauses.as_slice().is_empty() {
         return Ok(Vec::new(alloc));
     }
-    match local_types(alloc, program, function, told)? {
+    match local_types(alloc, program, function, known)? {
         None => Ok(Vec::new(alloc)),
         Some(locals) => judge_with(alloc, types, program, function, &locals),
     }

@@ -4,12 +4,12 @@ ghost use Rattle.std.specs.Prelude.{IfOk};
 ghost use Rattle.body_types.specs.Plain.{AreCodeTypes};
 ghost use Rattle.type_check.specs.Reached.{IsRoot};
 ghost use Rattle.type_check.specs.Roots.{IsOfFunction, IsOfModule, IsOfStruct, OfSome, TellsOf};
-ghost use Rattle.ability_rules.specs.Told.{AreTold, IsTold};
+ghost use Rattle.ability_rules.specs.KnownTypes.{AreKnown, IsListed};
 
 use crate::clauses::judged::JudgedClause;
 use crate::clauses::owner::judge_owner;
 use crate::spec::loops::judge_loops;
-use ability_rules::polymorphic_recursion::told::PlaceTypes;
+use ability_rules::polymorphic_recursion::known::VariableTypes;
 use base::memory::NoMemory;
 use body_types::code::plain::CodeTypes;
 use program::declaration::Function;
@@ -24,16 +24,16 @@ fn function_clauses<'a>(
     types: &'a CodeTypes,
     program: &'a Program,
     function: &'a Function,
-    told: PlaceTypes<'_>,
+    known: VariableTypes<'_>,
 ) -> Result<Vec<JudgedClause>, NoMemory>
     requires types { AreCodeTypes types.now }
-    requires told { IsTold program.now function.now told }
+    requires known { IsListed program.now function.now known }
     ensures { IfOk result (λ judged. TellsOf program.now (IsOfFunction program.now function.now) judged.items) }
 {
     let owner = Owner::Function(function);
     let clauses = function.clauses.as_slice();
     let mut judged = judge_owner(alloc, types, program, owner, Block::Function, clauses)?;
-    let mut of_loops = judge_loops(alloc, types, program, function, told)?;
+    let mut of_loops = judge_loops(alloc, types, program, function, known)?;
     judged.append(&mut of_loops)?;
     Ok(judged)
 }
@@ -42,16 +42,16 @@ fn all_functions<'a>(
     alloc: Global,
     types: &'a CodeTypes,
     program: &'a Program,
-    told: &[PlaceTypes<'_>],
+    known: &[VariableTypes<'_>],
 ) -> Result<Vec<JudgedClause>, NoMemory>
     requires types { AreCodeTypes types.now }
-    requires told { AreTold program.now told.now }
+    requires known { AreKnown program.now known.now }
     ensures { IfOk result (λ judged. TellsOf program.now (OfSome (IsOfFunction program.now) program.now.functions) judged.items) }
 {
     let mut judged = Vec::new(alloc);
-    for number in 0..told.len() {
+    for number in 0..known.len() {
         if let Some((_, function)) = program.functions.entry(number) {
-            let mut more = function_clauses(alloc, types, program, function, told[number])?;
+            let mut more = function_clauses(alloc, types, program, function, known[number])?;
             judged.append(&mut more)?;
         }
     }
@@ -104,13 +104,13 @@ pub(crate) fn root_clauses<'a>(
     alloc: Global,
     types: &'a CodeTypes,
     program: &'a Program,
-    told: &[PlaceTypes<'_>],
+    known: &[VariableTypes<'_>],
 ) -> Result<Vec<JudgedClause>, NoMemory>
     requires types { AreCodeTypes types.now }
-    requires told { AreTold program.now told.now }
+    requires known { AreKnown program.now known.now }
     ensures { IfOk result (λ roots. TellsOf program.now (IsRoot program.now) roots.items) }
 {
-    let mut roots = all_functions(alloc, types, program, told)?;
+    let mut roots = all_functions(alloc, types, program, known)?;
     let mut of_structs = all_structs(alloc, types, program)?;
     let mut of_modules = all_modules(alloc, types, program)?;
     roots.append(&mut of_structs)?;

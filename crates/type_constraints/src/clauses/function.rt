@@ -9,8 +9,8 @@ ghost use Rattle.type_constraints.specs.Seen.{seen};
 ghost use Rattle.type_constraints.specs.SpecSettings.{setting_of};
 
 use crate::constraint::{Constraint, ReadType, TypeForm};
-use crate::spec::places::variable_count;
 use crate::spec::setting::{Allowed, Names, Owner, SpecSetting};
+use crate::spec::variables::variable_count;
 use base::memory::NoMemory;
 use program::declaration::SpecFunction;
 use program::program::Program;

@@ -1,7 +1,7 @@
 //! The constraints of the type arguments of a node.
 
 ghost use Rattle.std.specs.Prelude.{◌≡◌, ◌==◌, ◌++◌, ◌∷◌, [], length, OnOk, if◌then◌else◌};
-ghost use Rattle.typing_rules.specs.CodeConstraints.{argument_constraints, each_of, has, has_arguments, places_from};
+ghost use Rattle.typing_rules.specs.CodeConstraints.{argument_constraints, each_of, has, has_arguments, variables_from};
 ghost use Rattle.typing_rules.specs.Constraint as D;
 ghost use Rattle.typing_rules.specs.ProperTypes.{is_proper_value};
 ghost use Rattle.typing_rules.specs.declared.sort.Sort.TheVariants.{Value};
@@ -21,7 +21,7 @@ pub fn add_values<'a>(
     first: usize,
     count: usize,
 ) -> Result<(), NoMemory>
-    ensures { OnOk result (seen_all constraints.new.items ≡ seen_all constraints.old.items ++ each_of Value (places_from first count)) }
+    ensures { OnOk result (seen_all constraints.new.items ≡ seen_all constraints.old.items ++ each_of Value (variables_from first count)) }
 {
     let mut at = first;
     let mut left = count;
@@ -37,15 +37,15 @@ pub fn add_values<'a>(
 fn add_written<'a>(
     constraints: &mut Vec<Constraint<'a>>,
     structs: &Table<StructId, Struct>,
-    place: usize,
+    variable: usize,
     of: &'a TypeTerm,
 ) -> Result<(), NoMemory>
-    ensures { OnOk result (seen_all constraints.new.items ≡ seen_all constraints.old.items ++ (if is_proper_value structs.now of.now then has place of.now ∷ [] else D.Barred ∷ [])) }
+    ensures { OnOk result (seen_all constraints.new.items ≡ seen_all constraints.old.items ++ (if is_proper_value structs.now of.now then has variable of.now ∷ [] else D.Barred ∷ [])) }
 {
     if is_proper_value(structs, of) {
         add(
             constraints,
-            &[Constraint::Has(place, TypeForm::Written(of))],
+            &[Constraint::Has(variable, TypeForm::Written(of))],
         )
     } else {
         add(constraints, &[Constraint::Barred])

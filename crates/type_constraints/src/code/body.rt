@@ -8,7 +8,7 @@ ghost use Rattle.program.specs.CodeNodes.{CodeNode};
 ghost use Rattle.type_constraints.specs.Bodies.{AreTablesOf};
 ghost use Rattle.type_constraints.specs.Seen.{seen_all};
 ghost use Rattle.type_constraints.specs.CodeSettings.{is_broken, setting_of};
-ghost use Rattle.type_constraints.specs.CodeTold.{TellsBreaks};
+ghost use Rattle.type_constraints.specs.CodeKnown.{TellsBreaks};
 
 use crate::code::breaks::breaks_of;
 use crate::code::loops::loops_of;
@@ -48,25 +48,25 @@ fn is_broken(breaks: &[bool], node: &Node<CodeLeaf, CodeUnary, CodeBinary, CodeM
     }
 }
 
-/// Returns the constraints of the node with the number `place`, whose type arguments are the type variables from
+/// Returns the constraints of the node with the number `index`, whose type arguments are the type variables from
 /// `first` on.
 pub fn node_constraints<'a>(
     alloc: Global,
     setting: CodeSetting<'a>,
     tables: &LoopTables,
-    place: usize,
+    index: usize,
     first: usize,
 ) -> Result<Vec<Constraint<'a>>, NoMemory>
-    requires within { place < length setting.body.now.nodes }
+    requires within { index < length setting.body.now.nodes }
     requires tables { AreTablesOf setting.body.now.nodes tables.now }
-    ensures { IfOk result (λ constraints. (node : CodeNode) → slice_get setting.entry.body.now.nodes place ≡ Some node → seen_all constraints.items ≡ constraints_at (setting_of setting.entry) place first node) }
+    ensures { IfOk result (λ constraints. (node : CodeNode) → slice_get setting.entry.body.now.nodes index ≡ Some node → seen_all constraints.items ≡ constraints_at (setting_of setting.entry) index first node) }
 {
-    let node = setting.body.node(place);
+    let node = setting.body.node(index);
     let jumps = Jumps {
-        in_loop: tables.loops[place],
+        in_loop: tables.loops[index],
         breaks: is_broken(tables.breaks.as_slice(), node),
     };
     let mut constraints = Vec::new(alloc);
-    add_node(&mut constraints, setting, place, first, jumps, node)?;
+    add_node(&mut constraints, setting, index, first, jumps, node)?;
     Ok(constraints)
 }

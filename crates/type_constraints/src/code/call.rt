@@ -74,13 +74,13 @@ fn add_given_builtin<'a>(
 fn add_function<'a>(
     constraints: &mut Vec<Constraint<'a>>,
     program: &'a Program,
-    place: usize,
+    variable: usize,
     first: usize,
     id: &FunctionId,
     types: &'a [TypeTerm],
     parts: &[usize],
 ) -> Result<(), NoMemory>
-    ensures { OnOk result (seen_all constraints.new.items ≡ seen_all constraints.old.items ++ call_constraints program.now.structs place first (option_map function_signature (lookup (same_function id.now) program.now.functions)) types.now parts.now) }
+    ensures { OnOk result (seen_all constraints.new.items ≡ seen_all constraints.old.items ++ call_constraints program.now.structs variable first (option_map function_signature (lookup (same_function id.now) program.now.functions)) types.now parts.now) }
 {
     let Some(found) = program.functions.get(id) else {
         return add(constraints, &[Constraint::Barred]);
@@ -96,7 +96,7 @@ fn add_function<'a>(
     )?;
     add(
         constraints,
-        &[Constraint::Has(place, TypeForm::Declared(&found.result, first, count))],
+        &[Constraint::Has(variable, TypeForm::Declared(&found.result, first, count))],
     )
 }
 
@@ -104,48 +104,72 @@ fn add_function<'a>(
 fn add_builtin<'a>(
     constraints: &mut Vec<Constraint<'a>>,
     program: &Program,
-    place: usize,
+    variable: usize,
     first: usize,
     signature: BuiltinSignature,
     types: &'a [TypeTerm],
     parts: &[usize],
 ) -> Result<(), NoMemory>
-    ensures { OnOk result (seen_all constraints.new.items ≡ seen_all constraints.old.items ++ call_constraints program.now.structs place first (Some (seen_signature signature)) types.now parts.now) }
+    ensures { OnOk result (seen_all constraints.new.items ≡ seen_all constraints.old.items ++ call_constraints program.now.structs variable first (Some (seen_signature signature)) types.now parts.now) }
 {
     let count = signature.arity;
     add_arguments(constraints, &program.structs, first, count, types)?;
     add_given_builtin(constraints, first, count, parts, signature.parameters)?;
     let form = TypeForm::Builtin(signature.returned, first, count);
-    add(constraints, &[Constraint::Has(place, form)])
+    add(constraints, &[Constraint::Has(variable, form)])
 }
 
 /// Adds the constraints of a call of this callee, with written type arguments or none.
 fn add_callee<'a>(
     constraints: &mut Vec<Constraint<'a>>,
     program: &'a Program,
-    place: usize,
+    variable: usize,
     first: usize,
     callee: &'a Callee,
     types: &'a [TypeTerm],
     parts: &[usize],
 ) -> Result<(), NoMemory>
-    ensures { OnOk result (seen_all constraints.new.items ≡ seen_all constraints.old.items ++ call_constraints program.now.structs place first (callee_signature program.now callee.now) types.now parts.now) }
+    ensures { OnOk result (seen_all constraints.new.items ≡ seen_all constraints.old.items ++ call_constraints program.now.structs variable first (callee_signature program.now callee.now) types.now parts.now) }
 {
     match callee {
-        Callee::Function(id) => add_function(constraints, program, place, first, id, types, parts),
+        Callee::Function(id) => add_function(
+            constraints,
+            program,
+            variable,
+            first,
+            id,
+            types,
+            parts,
+        ),
         Callee::Storage(operation) => {
             let signature = of_storage(*operation);
-            add_builtin(constraints, program, place, first, signature, types, parts)
+            add_builtin(
+                constraints,
+                program,
+                variable,
+                first,
+                signature,
+                types,
+                parts,
+            )
         }
         Callee::Vector(function) => {
             let signature = of_vector(*function);
-            add_builtin(constraints, program, place, first, signature, types, parts)
+            add_builtin(
+                constraints,
+                program,
+                variable,
+                first,
+                signature,
+                types,
+                parts,
+            )
         }
         Callee::AddressOf => {
             add_builtin(
                 constraints,
                 program,
-                place,
+                variable,
                 first,
                 of_address(),
                 types,
@@ -155,23 +179,23 @@ fn add_callee<'a>(
     }
 }
 
-/// Adds the constraints of the call with the number `place`, whose type arguments are the type variables from `first`
+/// Adds the constraints of the call with the number `variable`, whose type arguments are the type variables from `first`
 /// on.
 #[tactic(auto, using(crate::proofs::Arguments::listed_types))]
 pub fn add_call<'a>(
     constraints: &mut Vec<Constraint<'a>>,
     program: &'a Program,
-    place: usize,
+    variable: usize,
     first: usize,
     call: &'a Call,
     parts: &[usize],
 ) -> Result<(), NoMemory>
-    ensures { OnOk result (seen_all constraints.new.items ≡ seen_all constraints.old.items ++ call_constraints program.now.structs place first (callee_signature program.now call.now.callee) (list_of_types call.now.types) parts.now) }
+    ensures { OnOk result (seen_all constraints.new.items ≡ seen_all constraints.old.items ++ call_constraints program.now.structs variable first (callee_signature program.now call.now.callee) (list_of_types call.now.types) parts.now) }
 {
     add_callee(
         constraints,
         program,
-        place,
+        variable,
         first,
         &call.callee,
         &call.types.items,

@@ -41,17 +41,17 @@ fn add_returned<'a>(
 fn add_loop<'a>(
     constraints: &mut Vec<Constraint<'a>>,
     breaks: bool,
-    place: usize,
+    variable: usize,
     body: usize,
 ) -> Result<(), NoMemory>
-    ensures { OnOk result (seen_all constraints.new.items ≡ seen_all constraints.old.items ++ has body unit_type ∷ (if breaks then has place unit_type ∷ [] else [])) }
+    ensures { OnOk result (seen_all constraints.new.items ≡ seen_all constraints.old.items ++ has body unit_type ∷ (if breaks then has variable unit_type ∷ [] else [])) }
 {
     if breaks {
         add(
             constraints,
             &[
                 has(body, PlainType::Nothing),
-                has(place, PlainType::Nothing),
+                has(variable, PlainType::Nothing),
             ],
         )
     } else {
@@ -82,13 +82,13 @@ fn add_written<'a>(
 fn add_declared<'a>(
     constraints: &mut Vec<Constraint<'a>>,
     setting: CodeSetting<'a>,
-    place: usize,
+    variable: usize,
     annotation: &'a Option<Boxed<TypeTerm>>,
     pattern: usize,
 ) -> Result<(), NoMemory>
-    ensures { OnOk result (seen_all constraints.new.items ≡ seen_all constraints.old.items ++ has place unit_type ∷ annotated (setting_of setting.entry) pattern annotation.now) }
+    ensures { OnOk result (seen_all constraints.new.items ≡ seen_all constraints.old.items ++ has variable unit_type ∷ annotated (setting_of setting.entry) pattern annotation.now) }
 {
-    add(constraints, &[has(place, PlainType::Nothing)])?;
+    add(constraints, &[has(variable, PlainType::Nothing)])?;
     match annotation {
         None => Ok(()),
         Some(written) => add_written(constraints, setting, pattern, written.get()),
@@ -99,13 +99,13 @@ fn add_declared<'a>(
 fn add_mutable<'a>(
     constraints: &mut Vec<Constraint<'a>>,
     setting: CodeSetting<'a>,
-    place: usize,
+    variable: usize,
     part: usize,
 ) -> Result<(), NoMemory>
     requires { part < length setting.body.now.nodes }
-    ensures { OnOk result (seen_all constraints.new.items ≡ seen_all constraints.old.items ++ D.IsOf Value part ∷ D.MadeOf place Mutable part ∷ borrowed_constraints setting.entry.body.now.nodes (slice_get setting.entry.body.now.nodes part)) }
+    ensures { OnOk result (seen_all constraints.new.items ≡ seen_all constraints.old.items ++ D.IsOf Value part ∷ D.MadeOf variable Mutable part ∷ borrowed_constraints setting.entry.body.now.nodes (slice_get setting.entry.body.now.nodes part)) }
 {
-    let made = Constraint::MadeOf(place, Wrap::Mutable, part);
+    let made = Constraint::MadeOf(variable, Wrap::Mutable, part);
     add(constraints, &[Constraint::IsOf(Sort::Value, part), made])?;
     add_borrowed(constraints, setting.body, part)
 }
@@ -114,49 +114,49 @@ fn add_mutable<'a>(
 pub fn add_unary<'a>(
     constraints: &mut Vec<Constraint<'a>>,
     setting: CodeSetting<'a>,
-    place: usize,
+    variable: usize,
     breaks: bool,
     form: &'a CodeUnary,
     part: usize,
 ) -> Result<(), NoMemory>
     requires within { part < length setting.body.now.nodes }
     requires breaks { breaks ≡ is_broken (setting_of setting) (Unary form.now part) }
-    ensures { OnOk result (seen_all constraints.new.items ≡ seen_all constraints.old.items ++ unary_constraints (setting_of setting.entry) place form.now part) }
+    ensures { OnOk result (seen_all constraints.new.items ≡ seen_all constraints.old.items ++ unary_constraints (setting_of setting.entry) variable form.now part) }
 {
     match form {
         CodeUnary::Not => {
             add(
                 constraints,
-                &[has(part, PlainType::Bool), has(place, PlainType::Bool)],
+                &[has(part, PlainType::Bool), has(variable, PlainType::Bool)],
             )
         }
-        CodeUnary::Dereference => add(constraints, &[Constraint::TargetOf(place, part)]),
+        CodeUnary::Dereference => add(constraints, &[Constraint::TargetOf(variable, part)]),
         CodeUnary::Borrow => {
-            let made = Constraint::MadeOf(place, Wrap::Shared, part);
+            let made = Constraint::MadeOf(variable, Wrap::Shared, part);
             add(constraints, &[Constraint::IsOf(Sort::Value, part), made])
         }
-        CodeUnary::BorrowMutable => add_mutable(constraints, setting, place, part),
-        CodeUnary::Field(name) => add(constraints, &[Constraint::FieldOf(place, part, name)]),
+        CodeUnary::BorrowMutable => add_mutable(constraints, setting, variable, part),
+        CodeUnary::Field(name) => add(constraints, &[Constraint::FieldOf(variable, part, name)]),
         CodeUnary::Cast(target) => {
             let from = Constraint::IsOf(Sort::Integer, part);
-            let to = Constraint::IsOf(Sort::Integer, place);
+            let to = Constraint::IsOf(Sort::Integer, variable);
             add(
                 constraints,
                 &[
                     from,
                     to,
-                    Constraint::Has(place, TypeForm::Written(target.get())),
+                    Constraint::Has(variable, TypeForm::Written(target.get())),
                 ],
             )
         }
         CodeUnary::Return => add_returned(constraints, setting.result, part),
         CodeUnary::Abort => add(constraints, &[has(part, PlainType::Int(Width::U64))]),
-        CodeUnary::Loop => add_loop(constraints, breaks, place, part),
-        CodeUnary::Discard => add(constraints, &[has(place, PlainType::Nothing)]),
+        CodeUnary::Loop => add_loop(constraints, breaks, variable, part),
+        CodeUnary::Discard => add(constraints, &[has(variable, PlainType::Nothing)]),
         CodeUnary::Declare(annotation) => add_declared(
             constraints,
             setting,
-            place,
+            variable,
             annotation,
             part,
         ),
@@ -165,29 +165,29 @@ pub fn add_unary<'a>(
 
 fn add_operator<'a>(
     constraints: &mut Vec<Constraint<'a>>,
-    place: usize,
+    variable: usize,
     operator: BinaryOperator,
     left: usize,
     right: usize,
 ) -> Result<(), NoMemory>
-    ensures { OnOk result (seen_all constraints.new.items ≡ seen_all constraints.old.items ++ operator_constraints place operator left right) }
+    ensures { OnOk result (seen_all constraints.new.items ≡ seen_all constraints.old.items ++ operator_constraints variable operator left right) }
 {
     match operator {
         BinaryOperator::Arithmetic(_) | BinaryOperator::Bitwise(_) => {
-            let number = Constraint::IsOf(Sort::Integer, place);
+            let number = Constraint::IsOf(Sort::Integer, variable);
             add(
                 constraints,
                 &[
                     number,
-                    Constraint::Same(left, place),
-                    Constraint::Same(right, place),
+                    Constraint::Same(left, variable),
+                    Constraint::Same(right, variable),
                 ],
             )
         }
         BinaryOperator::Shift(_) => {
-            let number = Constraint::IsOf(Sort::Integer, place);
+            let number = Constraint::IsOf(Sort::Integer, variable);
             let by = has(right, PlainType::Int(Width::U8));
-            add(constraints, &[number, Constraint::Same(left, place), by])
+            add(constraints, &[number, Constraint::Same(left, variable), by])
         }
         BinaryOperator::Comparison(_) => {
             let number = Constraint::IsOf(Sort::Integer, left);
@@ -196,7 +196,7 @@ fn add_operator<'a>(
                 &[
                     number,
                     Constraint::Same(left, right),
-                    has(place, PlainType::Bool),
+                    has(variable, PlainType::Bool),
                 ],
             )
         }
@@ -206,13 +206,16 @@ fn add_operator<'a>(
             let alike = Constraint::Alike(left, right);
             add(
                 constraints,
-                &[first, second, alike, has(place, PlainType::Bool)],
+                &[first, second, alike, has(variable, PlainType::Bool)],
             )
         }
         BinaryOperator::And | BinaryOperator::Or => {
             let first = has(left, PlainType::Bool);
             let second = has(right, PlainType::Bool);
-            add(constraints, &[first, second, has(place, PlainType::Bool)])
+            add(
+                constraints,
+                &[first, second, has(variable, PlainType::Bool)],
+            )
         }
     }
 }
@@ -221,17 +224,17 @@ fn add_operator<'a>(
 fn add_assignment<'a>(
     constraints: &mut Vec<Constraint<'a>>,
     setting: CodeSetting<'a>,
-    place: usize,
+    variable: usize,
     left: usize,
     right: usize,
 ) -> Result<(), NoMemory>
     requires { left < length setting.body.now.nodes }
-    ensures { OnOk result (seen_all constraints.new.items ≡ seen_all constraints.old.items ++ has place unit_type ∷ D.Same left right ∷ assigned_constraints setting.entry.body.now.nodes (slice_get setting.entry.body.now.nodes left)) }
+    ensures { OnOk result (seen_all constraints.new.items ≡ seen_all constraints.old.items ++ has variable unit_type ∷ D.Same left right ∷ assigned_constraints setting.entry.body.now.nodes (slice_get setting.entry.body.now.nodes left)) }
 {
     add(
         constraints,
         &[
-            has(place, PlainType::Nothing),
+            has(variable, PlainType::Nothing),
             Constraint::Same(left, right),
         ],
     )?;
@@ -242,14 +245,14 @@ fn add_assignment<'a>(
 fn add_let<'a>(
     constraints: &mut Vec<Constraint<'a>>,
     setting: CodeSetting<'a>,
-    place: usize,
+    variable: usize,
     annotation: &'a Option<Boxed<TypeTerm>>,
     pattern: usize,
     value: usize,
 ) -> Result<(), NoMemory>
-    ensures { OnOk result (seen_all constraints.new.items ≡ seen_all constraints.old.items ++ has place unit_type ∷ let_constraints (setting_of setting.entry) annotation.now pattern value) }
+    ensures { OnOk result (seen_all constraints.new.items ≡ seen_all constraints.old.items ++ has variable unit_type ∷ let_constraints (setting_of setting.entry) annotation.now pattern value) }
 {
-    add(constraints, &[has(place, PlainType::Nothing)])?;
+    add(constraints, &[has(variable, PlainType::Nothing)])?;
     match annotation {
         None => add(constraints, &[Constraint::Same(pattern, value)]),
         Some(written) => {
@@ -267,23 +270,29 @@ fn add_let<'a>(
 pub fn add_binary<'a>(
     constraints: &mut Vec<Constraint<'a>>,
     setting: CodeSetting<'a>,
-    place: usize,
+    variable: usize,
     form: &'a CodeBinary,
     left: usize,
     right: usize,
 ) -> Result<(), NoMemory>
     requires { left < length setting.body.now.nodes }
-    ensures { OnOk result (seen_all constraints.new.items ≡ seen_all constraints.old.items ++ binary_constraints (setting_of setting.entry) place form.now left right) }
+    ensures { OnOk result (seen_all constraints.new.items ≡ seen_all constraints.old.items ++ binary_constraints (setting_of setting.entry) variable form.now left right) }
 {
     match form {
-        CodeBinary::Operator(operator) => add_operator(constraints, place, *operator, left, right),
-        CodeBinary::Assign => add_assignment(constraints, setting, place, left, right),
+        CodeBinary::Operator(operator) => add_operator(
+            constraints,
+            variable,
+            *operator,
+            left,
+            right,
+        ),
+        CodeBinary::Assign => add_assignment(constraints, setting, variable, left, right),
         CodeBinary::If | CodeBinary::While => {
             let condition = has(left, PlainType::Bool);
             let body = has(right, PlainType::Nothing);
             add(
                 constraints,
-                &[condition, body, has(place, PlainType::Nothing)],
+                &[condition, body, has(variable, PlainType::Nothing)],
             )
         }
         CodeBinary::Assert => {
@@ -291,13 +300,13 @@ pub fn add_binary<'a>(
             let code = has(right, PlainType::Int(Width::U64));
             add(
                 constraints,
-                &[condition, code, has(place, PlainType::Nothing)],
+                &[condition, code, has(variable, PlainType::Nothing)],
             )
         }
         CodeBinary::Let(annotation) => add_let(
             constraints,
             setting,
-            place,
+            variable,
             annotation,
             left,
             right,

@@ -38,18 +38,18 @@ fn add_items<'a>(
 fn add_vector<'a>(
     constraints: &mut Vec<Constraint<'a>>,
     structs: &Table<StructId, Struct>,
-    place: usize,
+    variable: usize,
     first: usize,
     types: &'a [TypeTerm],
     parts: &[usize],
 ) -> Result<(), NoMemory>
-    ensures { OnOk result (seen_all constraints.new.items ≡ seen_all constraints.old.items ++ ((argument_constraints structs.now first 1 types.now ++ map (λ p. D.Same p first) parts.now) ++ D.MadeOf place vector_of first ∷ [])) }
+    ensures { OnOk result (seen_all constraints.new.items ≡ seen_all constraints.old.items ++ ((argument_constraints structs.now first 1 types.now ++ map (λ p. D.Same p first) parts.now) ++ D.MadeOf variable vector_of first ∷ [])) }
 {
     add_arguments(constraints, structs, first, 1, types)?;
     add_items(constraints, first, parts)?;
     add(
         constraints,
-        &[Constraint::MadeOf(place, Wrap::Vector, first)],
+        &[Constraint::MadeOf(variable, Wrap::Vector, first)],
     )
 }
 
@@ -65,22 +65,22 @@ fn add_singles<'a>(constraints: &mut Vec<Constraint<'a>>, parts: &[usize]) -> Re
 
 fn add_tuple<'a>(
     constraints: &mut Vec<Constraint<'a>>,
-    place: usize,
+    variable: usize,
     parts: &'a [usize],
 ) -> Result<(), NoMemory>
-    ensures { OnOk result (seen_all constraints.new.items ≡ seen_all constraints.old.items ++ (each_of Single parts.now ++ D.TupleOf place parts.now ∷ [])) }
+    ensures { OnOk result (seen_all constraints.new.items ≡ seen_all constraints.old.items ++ (each_of Single parts.now ++ D.TupleOf variable parts.now ∷ [])) }
 {
     add_singles(constraints, parts)?;
-    add(constraints, &[Constraint::TupleOf(place, parts)])
+    add(constraints, &[Constraint::TupleOf(variable, parts)])
 }
 
 /// Adds the constraint of a block with a value: it has the type of its last part.
 fn add_last<'a>(
     constraints: &mut Vec<Constraint<'a>>,
-    place: usize,
+    variable: usize,
     parts: &[usize],
 ) -> Result<(), NoMemory>
-    ensures { OnOk result (seen_all constraints.new.items ≡ seen_all constraints.old.items ++ last_constraints place parts.now) }
+    ensures { OnOk result (seen_all constraints.new.items ≡ seen_all constraints.old.items ++ last_constraints variable parts.now) }
 {
     let Some((first, rest)) = parts.split_first() else {
         return add(constraints, &[Constraint::Barred]);
@@ -89,36 +89,36 @@ fn add_last<'a>(
     for part in rest {
         last = *part;
     }
-    add(constraints, &[Constraint::Same(place, last)])
+    add(constraints, &[Constraint::Same(variable, last)])
 }
 
 fn add_block<'a>(
     constraints: &mut Vec<Constraint<'a>>,
-    place: usize,
+    variable: usize,
     has_value: bool,
     parts: &[usize],
 ) -> Result<(), NoMemory>
-    ensures { OnOk result (seen_all constraints.new.items ≡ seen_all constraints.old.items ++ block_constraints place has_value parts.now) }
+    ensures { OnOk result (seen_all constraints.new.items ≡ seen_all constraints.old.items ++ block_constraints variable has_value parts.now) }
 {
     if has_value {
-        add_last(constraints, place, parts)
+        add_last(constraints, variable, parts)
     } else {
-        add(constraints, &[has(place, PlainType::Nothing)])
+        add(constraints, &[has(variable, PlainType::Nothing)])
     }
 }
 
-/// Adds the constraints of the node with a list of parts and the number `place`, whose type arguments are the type
+/// Adds the constraints of the node with a list of parts and the number `variable`, whose type arguments are the type
 /// variables from `first` on.
 #[tactic(auto, using(crate::proofs::Arguments::listed_types))]
 pub fn add_many<'a>(
     constraints: &mut Vec<Constraint<'a>>,
     setting: CodeSetting<'a>,
-    place: usize,
+    variable: usize,
     first: usize,
     form: &'a CodeMany,
     parts: &'a [usize],
 ) -> Result<(), NoMemory>
-    ensures { OnOk result (seen_all constraints.new.items ≡ seen_all constraints.old.items ++ many_constraints (setting_of setting.entry) place first form.now parts.now) }
+    ensures { OnOk result (seen_all constraints.new.items ≡ seen_all constraints.old.items ++ many_constraints (setting_of setting.entry) variable first form.now parts.now) }
 {
     let structs = &setting.program.structs;
     match form {
@@ -126,25 +126,32 @@ pub fn add_many<'a>(
             add_call(
                 constraints,
                 setting.program,
-                place,
+                variable,
                 first,
                 call.get(),
                 parts,
             )
         }
         CodeMany::Vector(types) => {
-            add_vector(constraints, structs, place, first, &types.items, parts)
+            add_vector(constraints, structs, variable, first, &types.items, parts)
         }
-        CodeMany::Pack(named) => add_struct(constraints, structs, place, first, named.get(), parts),
-        CodeMany::Unpack(named) => add_struct(
+        CodeMany::Pack(named) => add_struct(
             constraints,
             structs,
-            place,
+            variable,
             first,
             named.get(),
             parts,
         ),
-        CodeMany::Tuple | CodeMany::TuplePattern => add_tuple(constraints, place, parts),
-        CodeMany::Block { has_value } => add_block(constraints, place, *has_value, parts),
+        CodeMany::Unpack(named) => add_struct(
+            constraints,
+            structs,
+            variable,
+            first,
+            named.get(),
+            parts,
+        ),
+        CodeMany::Tuple | CodeMany::TuplePattern => add_tuple(constraints, variable, parts),
+        CodeMany::Block { has_value } => add_block(constraints, variable, *has_value, parts),
     }
 }

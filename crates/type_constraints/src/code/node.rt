@@ -15,27 +15,27 @@ use base::memory::NoMemory;
 use program::arena::Node;
 use program::code::{CodeBinary, CodeLeaf, CodeMany, CodeUnary};
 
-/// Appends the constraints of the node with the number `place`, whose type arguments are the type variables from
+/// Appends the constraints of the node with the number `variable`, whose type arguments are the type variables from
 /// `first` on, with these loops around it. After `NoMemory` some of the constraints may be there.
 pub fn add_node<'a>(
     constraints: &mut Vec<Constraint<'a>>,
     setting: CodeSetting<'a>,
-    place: usize,
+    variable: usize,
     first: usize,
     jumps: Jumps,
     node: &'a Node<CodeLeaf, CodeUnary, CodeBinary, CodeMany>,
 ) -> Result<(), NoMemory>
     requires below { IsBelow (length setting.body.now.nodes) node.now }
-    requires jumps { AreJumpsOf (setting_of setting) place node.now jumps }
-    ensures { OnOk result (seen_all constraints.new.items ≡ seen_all constraints.old.items ++ constraints_at (setting_of setting.entry) place first node.now) }
+    requires jumps { AreJumpsOf (setting_of setting) variable node.now jumps }
+    ensures { OnOk result (seen_all constraints.new.items ≡ seen_all constraints.old.items ++ constraints_at (setting_of setting.entry) variable first node.now) }
 {
     match node {
-        Node::Leaf(leaf) => add_leaf(constraints, setting, place, jumps.in_loop, leaf),
+        Node::Leaf(leaf) => add_leaf(constraints, setting, variable, jumps.in_loop, leaf),
         Node::Unary(form, part) => {
-            add_unary(constraints, setting, place, jumps.breaks, form, *part)
+            add_unary(constraints, setting, variable, jumps.breaks, form, *part)
         }
         Node::Binary(form, left, right) => {
-            add_binary(constraints, setting, place, form, *left, *right)
+            add_binary(constraints, setting, variable, form, *left, *right)
         }
         Node::If(condition, left, right) => {
             let truth = has(*condition, PlainType::Bool);
@@ -43,13 +43,20 @@ pub fn add_node<'a>(
                 constraints,
                 &[
                     truth,
-                    Constraint::Same(*left, place),
-                    Constraint::Same(*right, place),
+                    Constraint::Same(*left, variable),
+                    Constraint::Same(*right, variable),
                 ],
             )
         }
         Node::Many(form, parts) => {
-            add_many(constraints, setting, place, first, form, parts.as_slice())
+            add_many(
+                constraints,
+                setting,
+                variable,
+                first,
+                form,
+                parts.as_slice(),
+            )
         }
     }
 }

@@ -1,7 +1,7 @@
 //! Settings of code.
 
 ghost use Rattle.std.specs.Prelude.{◌≡◌, IfOk};
-ghost use Rattle.typing_rules.specs.Settings.{local_place};
+ghost use Rattle.typing_rules.specs.Settings.{variable_of_local};
 ghost use Rattle.type_constraints.specs.CodeSettings.{setting_of};
 
 use base::memory::NoMemory;
@@ -28,11 +28,11 @@ pub struct Jumps {
 
 /// The type variable of a local. `NoMemory` where its number exceeds `usize`, as only with more nodes than any memory
 /// holds.
-pub fn local_place<'a>(setting: CodeSetting<'a>, local: usize) -> Result<usize, NoMemory>
-    ensures { IfOk result (λ place. place ≡ local_place (setting_of setting.entry) local) }
+pub fn variable_of_local<'a>(setting: CodeSetting<'a>, local: usize) -> Result<usize, NoMemory>
+    ensures { IfOk result (λ variable. variable ≡ variable_of_local (setting_of setting.entry) local) }
 {
     match setting.body.len().checked_add(local) {
-        Some(place) => Ok(place),
+        Some(variable) => Ok(variable),
         None => Err(NoMemory),
     }
 }

@@ -132,17 +132,17 @@ fn add_named<'a>(
     }
 }
 
-/// Adds the constraints of the packed or unpacked struct with the number `place`, whose type arguments are the type
+/// Adds the constraints of the packed or unpacked struct with the number `variable`, whose type arguments are the type
 /// variables from `first` on.
 pub fn add_struct<'a>(
     constraints: &mut Vec<Constraint<'a>>,
     structs: &'a Table<StructId, Struct>,
-    place: usize,
+    variable: usize,
     first: usize,
     named: &'a NamedFields,
     parts: &[usize],
 ) -> Result<(), NoMemory>
-    ensures { OnOk result (seen_all constraints.new.items ≡ seen_all constraints.old.items ++ struct_constraints structs.now place first named.now.owner (list_of_types named.now.types) named.now.fields parts.now) }
+    ensures { OnOk result (seen_all constraints.new.items ≡ seen_all constraints.old.items ++ struct_constraints structs.now variable first named.now.owner (list_of_types named.now.types) named.now.fields parts.now) }
 {
     let owner = &named.owner;
     let arity = struct_arity(structs, owner);
@@ -156,5 +156,5 @@ pub fn add_struct<'a>(
         parts,
     )?;
     let form = TypeForm::Applied(owner, first, arity);
-    add(constraints, &[Constraint::Has(place, form)])
+    add(constraints, &[Constraint::Has(variable, form)])
 }

@@ -62,12 +62,12 @@ fn owner_constraint<'a>(body: &Body, behind: bool, owner: usize) -> Constraint<'
 pub fn add_borrowed<'a>(
     constraints: &mut Vec<Constraint<'a>>,
     body: &Body,
-    place: usize,
+    index: usize,
 ) -> Result<(), NoMemory>
-    requires { place < length body.now.nodes }
-    ensures { OnOk result (seen_all constraints.new.items ≡ seen_all constraints.old.items ++ borrowed_constraints body.now.nodes (slice_get body.now.nodes place)) }
+    requires { index < length body.now.nodes }
+    ensures { OnOk result (seen_all constraints.new.items ≡ seen_all constraints.old.items ++ borrowed_constraints body.now.nodes (slice_get body.now.nodes index)) }
 {
-    match body.node(place) {
+    match body.node(index) {
         Node::Unary(CodeUnary::Dereference, reference) => {
             add(constraints, &[Constraint::Through(*reference)])
         }
@@ -83,12 +83,12 @@ pub fn add_borrowed<'a>(
 pub fn add_assigned<'a>(
     constraints: &mut Vec<Constraint<'a>>,
     body: &Body,
-    place: usize,
+    index: usize,
 ) -> Result<(), NoMemory>
-    requires { place < length body.now.nodes }
-    ensures { OnOk result (seen_all constraints.new.items ≡ seen_all constraints.old.items ++ assigned_constraints body.now.nodes (slice_get body.now.nodes place)) }
+    requires { index < length body.now.nodes }
+    ensures { OnOk result (seen_all constraints.new.items ≡ seen_all constraints.old.items ++ assigned_constraints body.now.nodes (slice_get body.now.nodes index)) }
 {
-    match body.node(place) {
+    match body.node(index) {
         Node::Leaf(CodeLeaf::Local(LocalUse::Plain, _)) => Ok(()),
         Node::Unary(CodeUnary::Dereference, reference) => {
             add(constraints, &[Constraint::Through(*reference)])

@@ -5,14 +5,14 @@ ghost use Rattle.typing_rules.specs.CodeConstraints.{constraints_at, has};
 ghost use Rattle.typing_rules.specs.CodeSystems.{is_constant_node, is_constant_type, last_by, parameter_constraints, signature_constraints};
 ghost use Rattle.typing_rules.specs.Constraint as D;
 ghost use Rattle.typing_rules.specs.ProperTypes.{is_proper_single};
-ghost use Rattle.typing_rules.specs.Settings.{local_place};
+ghost use Rattle.typing_rules.specs.Settings.{variable_of_local};
 ghost use Rattle.program.specs.CodeNodes.{CodeNode};
 ghost use Rattle.type_constraints.specs.Bodies.{AreTablesOf};
 ghost use Rattle.type_constraints.specs.Seen.{seen, seen_all};
 ghost use Rattle.type_constraints.specs.CodeSettings.{setting_of};
 
 use crate::code::body::{LoopTables, node_constraints};
-use crate::code::setting::{CodeSetting, local_place};
+use crate::code::setting::{CodeSetting, variable_of_local};
 use crate::code::written::{is_proper, is_proper_single};
 use crate::constraint::{Constraint, TypeForm, add, add_unless};
 use base::memory::NoMemory;
@@ -29,14 +29,14 @@ fn add_parameter<'a>(
     local: usize,
     parameter: &'a TypedName,
 ) -> Result<(), NoMemory>
-    ensures { OnOk result (seen_all constraints.new.items ≡ seen_all constraints.old.items ++ (if is_proper_single setting.entry.program.now.structs parameter.now.annotation then has (local_place (setting_of setting.entry) local) parameter.now.annotation else D.Barred) ∷ []) }
+    ensures { OnOk result (seen_all constraints.new.items ≡ seen_all constraints.old.items ++ (if is_proper_single setting.entry.program.now.structs parameter.now.annotation then has (variable_of_local (setting_of setting.entry) local) parameter.now.annotation else D.Barred) ∷ []) }
 {
-    let place = local_place(setting, local)?;
+    let variable = variable_of_local(setting, local)?;
     let of = &parameter.annotation;
     if is_proper_single(&setting.program.structs, of) {
         add(
             constraints,
-            &[Constraint::Has(place, TypeForm::Written(of))],
+            &[Constraint::Has(variable, TypeForm::Written(of))],
         )
     } else {
         add(constraints, &[Constraint::Barred])
@@ -124,21 +124,21 @@ fn is_constant_node(node: &Node<CodeLeaf, CodeUnary, CodeBinary, CodeMany>) -> b
     }
 }
 
-/// Returns the constraints of the node with the number `place` of a constant's value, whose type arguments are the type
+/// Returns the constraints of the node with the number `index` of a constant's value, whose type arguments are the type
 /// variables from `first` on.
 pub fn value_constraints<'a>(
     alloc: Global,
     setting: CodeSetting<'a>,
     tables: &LoopTables,
-    place: usize,
+    index: usize,
     first: usize,
 ) -> Result<Vec<Constraint<'a>>, NoMemory>
-    requires within { place < length setting.body.now.nodes }
+    requires within { index < length setting.body.now.nodes }
     requires tables { AreTablesOf setting.body.now.nodes tables.now }
-    ensures { IfOk result (λ constraints. (node : CodeNode) → slice_get setting.entry.body.now.nodes place ≡ Some node → seen_all constraints.items ≡ (if is_constant_node node then constraints_at (setting_of setting.entry) place first node else D.Barred ∷ [])) }
+    ensures { IfOk result (λ constraints. (node : CodeNode) → slice_get setting.entry.body.now.nodes index ≡ Some node → seen_all constraints.items ≡ (if is_constant_node node then constraints_at (setting_of setting.entry) index first node else D.Barred ∷ [])) }
 {
-    if is_constant_node(setting.body.node(place)) {
-        return node_constraints(alloc, setting, tables, place, first);
+    if is_constant_node(setting.body.node(index)) {
+        return node_constraints(alloc, setting, tables, index, first);
     }
     let mut constraints = Vec::new(alloc);
     add(&mut constraints, &[Constraint::Barred])?;

@@ -20,14 +20,14 @@ use base::types::TypeTerm;
 fn add_written<'a>(
     constraints: &mut Vec<Constraint<'a>>,
     setting: SpecSetting<'a>,
-    place: usize,
+    variable: usize,
     of: &'a TypeTerm,
 ) -> Result<(), NoMemory>
-    ensures { OnOk result (seen_all constraints.new.items ≡ seen_all constraints.old.items ++ (if is_proper_value setting.entry.program.now.structs of.now then has place (read_there (owner_types setting.entry.names.owner) of.now) ∷ [] else D.Barred ∷ [])) }
+    ensures { OnOk result (seen_all constraints.new.items ≡ seen_all constraints.old.items ++ (if is_proper_value setting.entry.program.now.structs of.now then has variable (read_there (owner_types setting.entry.names.owner) of.now) ∷ [] else D.Barred ∷ [])) }
 {
     if is_proper_value(&setting.program.structs, of) {
         let form = TypeForm::Read(read_there(setting.names.owner, of));
-        add(constraints, &[Constraint::Has(place, form)])
+        add(constraints, &[Constraint::Has(variable, form)])
     } else {
         add(constraints, &[Constraint::Barred])
     }

@@ -76,13 +76,13 @@ fn add_given_builtin<'a>(
 fn add_function<'a>(
     constraints: &mut Vec<Constraint<'a>>,
     setting: SpecSetting<'a>,
-    place: usize,
+    variable: usize,
     first: usize,
     id: &FunctionId,
     types: &'a [TypeTerm],
     parts: &[usize],
 ) -> Result<(), NoMemory>
-    ensures { OnOk result (seen_all constraints.new.items ≡ seen_all constraints.old.items ++ spec_signature_constraints (setting_of setting.entry) place first (option_map spec_signature (lookup (same_function id.now) setting.entry.program.now.spec_functions)) types.now parts.now) }
+    ensures { OnOk result (seen_all constraints.new.items ≡ seen_all constraints.old.items ++ spec_signature_constraints (setting_of setting.entry) variable first (option_map spec_signature (lookup (same_function id.now) setting.entry.program.now.spec_functions)) types.now parts.now) }
 {
     let Some(found) = setting.program.spec_functions.get(id) else {
         return add(constraints, &[Constraint::Barred]);
@@ -97,26 +97,26 @@ fn add_function<'a>(
         found.parameters.as_slice(),
     )?;
     let form = TypeForm::DeclaredRead(&found.result, first, count);
-    add(constraints, &[Constraint::Has(place, form)])
+    add(constraints, &[Constraint::Has(variable, form)])
 }
 
 /// Adds the constraints of a call of a builtin function.
 fn add_builtin<'a>(
     constraints: &mut Vec<Constraint<'a>>,
     setting: SpecSetting<'a>,
-    place: usize,
+    variable: usize,
     first: usize,
     signature: BuiltinSignature,
     types: &'a [TypeTerm],
     parts: &[usize],
 ) -> Result<(), NoMemory>
-    ensures { OnOk result (seen_all constraints.new.items ≡ seen_all constraints.old.items ++ spec_signature_constraints (setting_of setting.entry) place first (Some (seen_signature signature)) types.now parts.now) }
+    ensures { OnOk result (seen_all constraints.new.items ≡ seen_all constraints.old.items ++ spec_signature_constraints (setting_of setting.entry) variable first (Some (seen_signature signature)) types.now parts.now) }
 {
     let count = signature.arity;
     add_arguments(constraints, setting, first, count, types)?;
     add_given_builtin(constraints, first, count, parts, signature.parameters)?;
     let form = TypeForm::Builtin(signature.returned, first, count);
-    add(constraints, &[Constraint::Has(place, form)])
+    add(constraints, &[Constraint::Has(variable, form)])
 }
 
 /// Adds the constraint that `old` occurs only in clauses that speak of two states.
@@ -137,42 +137,50 @@ fn add_callee<'a>(
 fn add_signature<'a>(
     constraints: &mut Vec<Constraint<'a>>,
     setting: SpecSetting<'a>,
-    place: usize,
+    variable: usize,
     first: usize,
     callee: &'a SpecCallee,
     types: &'a [TypeTerm],
     parts: &[usize],
 ) -> Result<(), NoMemory>
-    ensures { OnOk result (seen_all constraints.new.items ≡ seen_all constraints.old.items ++ spec_signature_constraints (setting_of setting.entry) place first (spec_callee_signature setting.entry.program.now callee.now) types.now parts.now) }
+    ensures { OnOk result (seen_all constraints.new.items ≡ seen_all constraints.old.items ++ spec_signature_constraints (setting_of setting.entry) variable first (spec_callee_signature setting.entry.program.now callee.now) types.now parts.now) }
 {
     match callee {
         SpecCallee::Function(id) => {
-            add_function(constraints, setting, place, first, id, types, parts)
+            add_function(constraints, setting, variable, first, id, types, parts)
         }
         SpecCallee::Builtin(builtin) => {
             let signature = of_spec(*builtin);
-            add_builtin(constraints, setting, place, first, signature, types, parts)
+            add_builtin(
+                constraints,
+                setting,
+                variable,
+                first,
+                signature,
+                types,
+                parts,
+            )
         }
     }
 }
 
-/// Adds the constraints of the call with the number `place`, whose type arguments are the type variables from `first`
+/// Adds the constraints of the call with the number `variable`, whose type arguments are the type variables from `first`
 /// on.
 pub fn add_call<'a>(
     constraints: &mut Vec<Constraint<'a>>,
     setting: SpecSetting<'a>,
-    place: usize,
+    variable: usize,
     first: usize,
     call: &'a SpecCall,
     parts: &[usize],
 ) -> Result<(), NoMemory>
-    ensures { OnOk result (seen_all constraints.new.items ≡ seen_all constraints.old.items ++ (callee_constraints setting.entry.allowed.old call.now.callee ++ spec_signature_constraints (setting_of setting.entry) place first (spec_callee_signature setting.entry.program.now call.now.callee) (list_of_types call.now.types) parts.now)) }
+    ensures { OnOk result (seen_all constraints.new.items ≡ seen_all constraints.old.items ++ (callee_constraints setting.entry.allowed.old call.now.callee ++ spec_signature_constraints (setting_of setting.entry) variable first (spec_callee_signature setting.entry.program.now call.now.callee) (list_of_types call.now.types) parts.now)) }
 {
     add_callee(constraints, setting.allowed.old, &call.callee)?;
     add_signature(
         constraints,
         setting,
-        place,
+        variable,
         first,
         &call.callee,
         &call.types.items,

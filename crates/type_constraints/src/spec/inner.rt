@@ -14,53 +14,53 @@ use typing_rules::sort::{Sort, Wrap};
 /// Adds the constraints of an expression with one part.
 pub fn add_unary<'a>(
     constraints: &mut Vec<Constraint<'a>>,
-    place: usize,
+    variable: usize,
     form: &'a SpecUnary,
     part: usize,
 ) -> Result<(), NoMemory>
-    ensures { OnOk result (seen_all constraints.new.items ≡ seen_all constraints.old.items ++ spec_unary_constraints place form.now part) }
+    ensures { OnOk result (seen_all constraints.new.items ≡ seen_all constraints.old.items ++ spec_unary_constraints variable form.now part) }
 {
     match form {
         SpecUnary::Not => add(
             constraints,
-            &[has(part, PlainType::Bool), has(place, PlainType::Bool)],
+            &[has(part, PlainType::Bool), has(variable, PlainType::Bool)],
         ),
-        SpecUnary::Field(name) => add(constraints, &[Constraint::FieldOf(place, part, name)]),
+        SpecUnary::Field(name) => add(constraints, &[Constraint::FieldOf(variable, part, name)]),
     }
 }
 
 /// Adds the constraints that both parts and the whole have these types.
 fn add_three<'a>(
     constraints: &mut Vec<Constraint<'a>>,
-    place: usize,
+    variable: usize,
     left: usize,
     right: usize,
     parts: PlainType,
     whole: PlainType,
 ) -> Result<(), NoMemory>
-    ensures { OnOk result (seen_all constraints.new.items ≡ seen_all constraints.old.items ++ has left (plain_type parts) ∷ has right (plain_type parts) ∷ has place (plain_type whole) ∷ []) }
+    ensures { OnOk result (seen_all constraints.new.items ≡ seen_all constraints.old.items ++ has left (plain_type parts) ∷ has right (plain_type parts) ∷ has variable (plain_type whole) ∷ []) }
 {
     add(
         constraints,
-        &[has(left, parts), has(right, parts), has(place, whole)],
+        &[has(left, parts), has(right, parts), has(variable, whole)],
     )
 }
 
 /// Adds the constraints of an operator that Move has too.
 fn add_common<'a>(
     constraints: &mut Vec<Constraint<'a>>,
-    place: usize,
+    variable: usize,
     operator: BinaryOperator,
     left: usize,
     right: usize,
 ) -> Result<(), NoMemory>
-    ensures { OnOk result (seen_all constraints.new.items ≡ seen_all constraints.old.items ++ common_constraints place operator left right) }
+    ensures { OnOk result (seen_all constraints.new.items ≡ seen_all constraints.old.items ++ common_constraints variable operator left right) }
 {
     match operator {
         BinaryOperator::Arithmetic(_) | BinaryOperator::Bitwise(_) | BinaryOperator::Shift(_) => {
             add_three(
                 constraints,
-                place,
+                variable,
                 left,
                 right,
                 PlainType::Num,
@@ -70,7 +70,7 @@ fn add_common<'a>(
         BinaryOperator::Comparison(_) => {
             add_three(
                 constraints,
-                place,
+                variable,
                 left,
                 right,
                 PlainType::Num,
@@ -80,12 +80,12 @@ fn add_common<'a>(
         BinaryOperator::Equal | BinaryOperator::NotEqual => {
             let value = Constraint::IsOf(Sort::Value, left);
             let same = Constraint::Same(left, right);
-            add(constraints, &[value, same, has(place, PlainType::Bool)])
+            add(constraints, &[value, same, has(variable, PlainType::Bool)])
         }
         BinaryOperator::And | BinaryOperator::Or => {
             add_three(
                 constraints,
-                place,
+                variable,
                 left,
                 right,
                 PlainType::Bool,
@@ -97,19 +97,19 @@ fn add_common<'a>(
 
 fn add_operator<'a>(
     constraints: &mut Vec<Constraint<'a>>,
-    place: usize,
+    variable: usize,
     operator: SpecOperator,
     left: usize,
     right: usize,
 ) -> Result<(), NoMemory>
-    ensures { OnOk result (seen_all constraints.new.items ≡ seen_all constraints.old.items ++ spec_operator_constraints place operator left right) }
+    ensures { OnOk result (seen_all constraints.new.items ≡ seen_all constraints.old.items ++ spec_operator_constraints variable operator left right) }
 {
     match operator {
-        SpecOperator::Common(common) => add_common(constraints, place, common, left, right),
+        SpecOperator::Common(common) => add_common(constraints, variable, common, left, right),
         SpecOperator::Implies | SpecOperator::Equivalent => {
             add_three(
                 constraints,
-                place,
+                variable,
                 left,
                 right,
                 PlainType::Bool,
@@ -119,7 +119,7 @@ fn add_operator<'a>(
         SpecOperator::Range => {
             add_three(
                 constraints,
-                place,
+                variable,
                 left,
                 right,
                 PlainType::Num,
@@ -132,18 +132,24 @@ fn add_operator<'a>(
 /// Adds the constraints of an expression with two parts.
 pub fn add_binary<'a>(
     constraints: &mut Vec<Constraint<'a>>,
-    place: usize,
+    variable: usize,
     form: &SpecBinary,
     left: usize,
     right: usize,
 ) -> Result<(), NoMemory>
-    ensures { OnOk result (seen_all constraints.new.items ≡ seen_all constraints.old.items ++ spec_binary_constraints place form.now left right) }
+    ensures { OnOk result (seen_all constraints.new.items ≡ seen_all constraints.old.items ++ spec_binary_constraints variable form.now left right) }
 {
     match form {
-        SpecBinary::Operator(operator) => add_operator(constraints, place, *operator, left, right),
+        SpecBinary::Operator(operator) => add_operator(
+            constraints,
+            variable,
+            *operator,
+            left,
+            right,
+        ),
         SpecBinary::Index => {
-            let value = Constraint::IsOf(Sort::Value, place);
-            let made = Constraint::MadeOf(left, Wrap::Vector, place);
+            let value = Constraint::IsOf(Sort::Value, variable);
+            let made = Constraint::MadeOf(left, Wrap::Vector, variable);
             add(constraints, &[value, made, has(right, PlainType::Num)])
         }
     }

@@ -102,10 +102,10 @@ fn let_type<'a>(found: &'a LetType, exits: bool) -> Option<ReadType<'a>>
 }
 
 /// The same for a clause, which may be no `let`.
-fn let_told<'a>(told: &'a Option<LetType>, exits: bool) -> Option<ReadType<'a>>
-    ensures { option_map read_data result ≡ C.let_type exits (Some (let_of told.now)) }
+fn let_known<'a>(known: &'a Option<LetType>, exits: bool) -> Option<ReadType<'a>>
+    ensures { option_map read_data result ≡ C.let_type exits (Some (let_of known.now)) }
 {
-    match told {
+    match known {
         Some(found) => let_type(found, exits),
         None => None,
     }
@@ -117,7 +117,7 @@ fn let_at<'a>(lets: &'a [Option<LetType>], exits: bool, number: usize) -> Option
     ensures { option_map read_data result ≡ C.let_type exits (slice_get (lets_of lets.now) number) }
 {
     match lets.get(number) {
-        Some(found) => let_told(found, exits),
+        Some(found) => let_known(found, exits),
         None => None,
     }
 }

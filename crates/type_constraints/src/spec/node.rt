@@ -21,18 +21,25 @@ use typing_rules::sort::Sort;
 fn add_many<'a>(
     constraints: &mut Vec<Constraint<'a>>,
     setting: SpecSetting<'a>,
-    place: usize,
+    variable: usize,
     first: usize,
     form: &'a SpecMany,
     parts: &[usize],
 ) -> Result<(), NoMemory>
-    ensures { OnOk result (seen_all constraints.new.items ≡ seen_all constraints.old.items ++ spec_many_constraints (setting_of setting.entry) place first form.now parts.now) }
+    ensures { OnOk result (seen_all constraints.new.items ≡ seen_all constraints.old.items ++ spec_many_constraints (setting_of setting.entry) variable first form.now parts.now) }
 {
     match form {
-        SpecMany::Call(call) => add_call(constraints, setting, place, first, call.get(), parts),
-        SpecMany::Pack(named) => add_pack(constraints, setting, place, first, named.get(), parts),
+        SpecMany::Call(call) => add_call(constraints, setting, variable, first, call.get(), parts),
+        SpecMany::Pack(named) => add_pack(
+            constraints,
+            setting,
+            variable,
+            first,
+            named.get(),
+            parts,
+        ),
         SpecMany::Quantified { binds, .. } => {
-            add_quantified(constraints, place, binds.as_slice(), parts)
+            add_quantified(constraints, variable, binds.as_slice(), parts)
         }
     }
 }
@@ -40,49 +47,56 @@ fn add_many<'a>(
 fn add_node<'a>(
     constraints: &mut Vec<Constraint<'a>>,
     setting: SpecSetting<'a>,
-    place: usize,
+    variable: usize,
     first: usize,
     node: &'a SpecNode,
 ) -> Result<(), NoMemory>
-    ensures { OnOk result (seen_all constraints.new.items ≡ seen_all constraints.old.items ++ spec_constraints_at (setting_of setting.entry) place first node.now) }
+    ensures { OnOk result (seen_all constraints.new.items ≡ seen_all constraints.old.items ++ spec_constraints_at (setting_of setting.entry) variable first node.now) }
 {
     match node {
-        Node::Leaf(leaf) => add_leaf(constraints, setting, place, leaf),
-        Node::Unary(form, part) => add_unary(constraints, place, form, *part),
-        Node::Binary(form, left, right) => add_binary(constraints, place, form, *left, *right),
+        Node::Leaf(leaf) => add_leaf(constraints, setting, variable, leaf),
+        Node::Unary(form, part) => add_unary(constraints, variable, form, *part),
+        Node::Binary(form, left, right) => add_binary(constraints, variable, form, *left, *right),
         Node::If(condition, left, right) => add(
             constraints,
             &[
                 has(*condition, PlainType::Bool),
-                Constraint::IsOf(Sort::Value, place),
-                Constraint::Same(*left, place),
-                Constraint::Same(*right, place),
+                Constraint::IsOf(Sort::Value, variable),
+                Constraint::Same(*left, variable),
+                Constraint::Same(*right, variable),
             ],
         ),
         Node::Many(form, parts) => {
-            add_many(constraints, setting, place, first, form, parts.as_slice())
+            add_many(
+                constraints,
+                setting,
+                variable,
+                first,
+                form,
+                parts.as_slice(),
+            )
         }
     }
 }
 
-/// Returns the constraints of the node with the number `place`, whose type arguments are the type variables from
+/// Returns the constraints of the node with the number `index`, whose type arguments are the type variables from
 /// `first` on.
 pub fn node_constraints<'a>(
     alloc: Global,
     setting: SpecSetting<'a>,
-    place: usize,
+    index: usize,
     first: usize,
 ) -> Result<Vec<Constraint<'a>>, NoMemory>
-    requires { place < length setting.body.now.nodes }
-    ensures { IfOk result (λ constraints. (node : TheNode) → slice_get setting.entry.body.now.nodes place ≡ Some node → seen_all constraints.items ≡ spec_constraints_at (setting_of setting.entry) place first node) }
+    requires { index < length setting.body.now.nodes }
+    ensures { IfOk result (λ constraints. (node : TheNode) → slice_get setting.entry.body.now.nodes index ≡ Some node → seen_all constraints.items ≡ spec_constraints_at (setting_of setting.entry) index first node) }
 {
     let mut constraints = Vec::new(alloc);
     add_node(
         &mut constraints,
         setting,
-        place,
+        index,
         first,
-        setting.body.node(place),
+        setting.body.node(index),
     )?;
     Ok(constraints)
 }

@@ -11,8 +11,8 @@ ghost use Rattle.type_constraints.specs.SpecSettings.{setting_of};
 use crate::code::written::is_proper_single;
 use crate::constraint::{Constraint, PlainType, TypeForm, add, has};
 use crate::spec::names::read_there;
-use crate::spec::places::{binds_in, variable_place};
 use crate::spec::setting::SpecSetting;
+use crate::spec::variables::{binds_in, variable_of_name};
 use base::memory::NoMemory;
 use program::spec::{Bind, Domain};
 use std::alloc::Global;
@@ -74,17 +74,17 @@ fn add_parts<'a>(
     add(constraints, &[has(part, PlainType::Bool)])
 }
 
-/// Adds the constraints of the quantifier with the number `place`.
+/// Adds the constraints of the quantifier with the number `variable`.
 pub fn add_quantified<'a>(
     constraints: &mut Vec<Constraint<'a>>,
-    place: usize,
+    variable: usize,
     binds: &[Bind],
     parts: &[usize],
 ) -> Result<(), NoMemory>
-    ensures { OnOk result (seen_all constraints.new.items ≡ seen_all constraints.old.items ++ has place BoolType ∷ quantified_parts (range_count binds.now) parts.now) }
+    ensures { OnOk result (seen_all constraints.new.items ≡ seen_all constraints.old.items ++ has variable BoolType ∷ quantified_parts (range_count binds.now) parts.now) }
 {
     let ranges = range_count(binds)?;
-    add(constraints, &[has(place, PlainType::Bool)])?;
+    add(constraints, &[has(variable, PlainType::Bool)])?;
     add_parts(constraints, ranges, parts)
 }
 
@@ -96,17 +96,17 @@ fn add_variable<'a>(
 ) -> Result<(), NoMemory>
     ensures { OnOk result (seen_all constraints.new.items ≡ seen_all constraints.old.items ++ bind_constraints (setting_of setting.entry) bind.now) }
 {
-    let place = variable_place(setting, bind.variable)?;
+    let variable = variable_of_name(setting, bind.variable)?;
     match &bind.domain {
         Domain::Of(of) => {
             if is_proper_single(&setting.program.structs, of) {
                 let form = TypeForm::Read(read_there(setting.names.owner, of));
-                add(constraints, &[Constraint::Has(place, form)])
+                add(constraints, &[Constraint::Has(variable, form)])
             } else {
                 add(constraints, &[Constraint::Barred])
             }
         }
-        Domain::In => add(constraints, &[has(place, PlainType::Num)]),
+        Domain::In => add(constraints, &[has(variable, PlainType::Num)]),
     }
 }
 
@@ -132,8 +132,8 @@ pub fn declared_variables<'a>(
     ensures { IfOk result (λ constraints. seen_all constraints.items ≡ declared_variables (setting_of setting.entry)) }
 {
     let mut constraints = Vec::new(alloc);
-    for place in 0..setting.body.len() {
-        let binds = binds_in(setting.body.node(place));
+    for index in 0..setting.body.len() {
+        let binds = binds_in(setting.body.node(index));
         add_variables(&mut constraints, setting, binds)?;
     }
     Ok(constraints)

@@ -94,22 +94,22 @@ fn add_named<'a>(
     }
 }
 
-/// Adds the constraints of the packed struct with the number `place`, whose type arguments are the type variables from
+/// Adds the constraints of the packed struct with the number `variable`, whose type arguments are the type variables from
 /// `first` on. After `NoMemory` some of them may be there.
 pub fn add_pack<'a>(
     constraints: &mut Vec<Constraint<'a>>,
     setting: SpecSetting<'a>,
-    place: usize,
+    variable: usize,
     first: usize,
     named: &'a NamedFields,
     parts: &[usize],
 ) -> Result<(), NoMemory>
-    ensures { OnOk result (seen_all constraints.new.items ≡ seen_all constraints.old.items ++ pack_constraints (setting_of setting.entry) place first named.now.owner (list_of_types named.now.types) named.now.fields parts.now) }
+    ensures { OnOk result (seen_all constraints.new.items ≡ seen_all constraints.old.items ++ pack_constraints (setting_of setting.entry) variable first named.now.owner (list_of_types named.now.types) named.now.fields parts.now) }
 {
     let arity = struct_arity(&setting.program.structs, &named.owner);
     add_arguments(constraints, setting, first, arity, &named.types.items)?;
     let names = named.fields.as_slice();
     add_named(constraints, setting, first, &named.owner, names, parts)?;
     let form = TypeForm::Applied(&named.owner, first, arity);
-    add(constraints, &[Constraint::Has(place, form)])
+    add(constraints, &[Constraint::Has(variable, form)])
 }

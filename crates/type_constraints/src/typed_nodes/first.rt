@@ -3,7 +3,7 @@
 ghost use Rattle.std.specs.Prelude.{◌≡◌, ◌+◌, ◌<◌, ◌≤◌, length};
 ghost use Rattle.program.specs.declared.program.Program.{Program};
 ghost use Rattle.typing_rules.specs.CodeSystems.{function_setting};
-ghost use Rattle.typing_rules.specs.Settings.{first_argument, place_count};
+ghost use Rattle.typing_rules.specs.Settings.{first_argument, variable_count};
 
 use crate::code::arity::node_arity;
 use program::declaration::Function;
@@ -22,16 +22,16 @@ pub fn first_of_all(function: &Function, count: usize) -> usize
 pub fn first_of_next(
     program: &Program,
     function: &Function,
-    place: usize,
+    index: usize,
     first: usize,
     count: usize,
 ) -> usize
-    requires node { place < length function.now.body.nodes }
-    requires first { first ≡ first_argument (function_setting program.now function.now) place }
-    requires count { count ≡ place_count (function_setting program.now function.now) }
-    ensures next { result ≡ first_argument (function_setting program.now function.now) (place + 1) }
+    requires node { index < length function.now.body.nodes }
+    requires first { first ≡ first_argument (function_setting program.now function.now) index }
+    requires count { count ≡ variable_count (function_setting program.now function.now) }
+    ensures next { result ≡ first_argument (function_setting program.now function.now) (index + 1) }
     ensures within { result ≤ count }
 {
-    let arity = node_arity(program, function.body.node(place));
+    let arity = node_arity(program, function.body.node(index));
     first + arity
 }

@@ -12,7 +12,7 @@ ghost use Rattle.type_solver.specs.Equations.{reading_of};
 ghost use Rattle.type_solver.specs.Walking.{IsWalk};
 ghost use Rattle.type_solver.specs.Walked.{Walked};
 
-use crate::code_systems::counts::place_count;
+use crate::code_systems::counts::variable_count;
 use crate::code_systems::nodes::{read_nodes, read_values};
 use crate::emit::Tables;
 use crate::plain::PlainTypes;
@@ -30,7 +30,7 @@ use unification::type_variables::slots::Slot;
 /// The number of type variables, what is known of their types after some steps, and how far reading went.
 #[derive(Drop)]
 pub struct Walk<'a> {
-    pub places: usize,
+    pub variables: usize,
     pub slots: Vec<Slot<'a>>,
     pub progress: Progress,
 }
@@ -74,15 +74,15 @@ fn read_body<'a>(
     requires start { (t : Typing) → Meets slots.old.items t }
     ensures { IfOk result (IsWalk (reading_of tables.entry) (length slots.old.items) (take (suc count) (seen_all declared.now ∷ (constraints_from (setting_of setting.entry) 0 setting.entry.body.now.nodes ++ (seen whole.entry ∷ []) ∷ []))) slots.new.items) }
 {
-    let places = slots.len();
+    let variables = slots.len();
     let begun = start(slots);
-    let first = read_step(alloc, tables, slots, begun, places, declared)?;
+    let first = read_step(alloc, tables, slots, begun, variables, declared)?;
     let nodes = setting.body.len();
     if count <= nodes {
-        return read_nodes(alloc, tables, setting, slots, first, places, count);
+        return read_nodes(alloc, tables, setting, slots, first, variables, count);
     }
-    let last = read_nodes(alloc, tables, setting, slots, first, places, nodes)?;
-    read_step(alloc, tables, slots, last, places, &[whole])
+    let last = read_nodes(alloc, tables, setting, slots, first, variables, nodes)?;
+    read_step(alloc, tables, slots, last, variables, &[whole])
 }
 
 /// Reads the step of the declared type, the nodes and the whole of a constant.
@@ -99,11 +99,11 @@ fn read_value<'a>(
     requires start { (t : Typing) → Meets slots.old.items t }
     ensures { IfOk result (IsWalk (reading_of tables.entry) (length slots.old.items) (seen_all declared.now ∷ (values_from (setting_of setting.entry) 0 setting.entry.body.now.nodes ++ (seen whole.entry ∷ []) ∷ [])) slots.new.items) }
 {
-    let places = slots.len();
+    let variables = slots.len();
     let begun = start(slots);
-    let first = read_step(alloc, tables, slots, begun, places, declared)?;
-    let last = read_values(alloc, tables, setting, slots, first, places)?;
-    read_step(alloc, tables, slots, last, places, &[whole])
+    let first = read_step(alloc, tables, slots, begun, variables, declared)?;
+    let last = read_values(alloc, tables, setting, slots, first, variables)?;
+    read_step(alloc, tables, slots, last, variables, &[whole])
 }
 
 /// Reads the step of a function's declared types and its first so many nodes, and also the whole if there are fewer
@@ -117,7 +117,7 @@ pub fn read_first_nodes<'a>(
 ) -> Result<Walk<'a>, NoMemory>
     requires { ArePlain types.now }
     ensures walked { IfOk result (λ walk. Walked (first_steps (function_system program.now function.now) (suc count)) walk.slots.items walk.progress) }
-    ensures places { IfOk result (λ walk. walk.places ≡ (function_system program.now function.now).places) }
+    ensures variables { IfOk result (λ walk. walk.variables ≡ (function_system program.now function.now).variables) }
 {
     let tables = Tables {
         structs: &program.structs,
@@ -127,11 +127,11 @@ pub fn read_first_nodes<'a>(
     let setting = function_setting(program, function);
     let declared = signature_constraints(alloc, setting, function)?;
     let whole = returned(&function.body, &function.result);
-    let places = place_count(setting)?;
-    let mut slots = open_slots(alloc, places)?;
+    let variables = variable_count(setting)?;
+    let mut slots = open_slots(alloc, variables)?;
     let progress = read_body(alloc, tables, setting, &mut slots, &declared, whole, count)?;
     Ok(Walk {
-        places,
+        variables,
         slots,
         progress,
     })
@@ -147,7 +147,7 @@ pub fn read_function<'a>(
 ) -> Result<Walk<'a>, NoMemory>
     requires { ArePlain types.now }
     ensures walked { IfOk result (λ walk. Walked (function_system program.now function.now) walk.slots.items walk.progress) }
-    ensures places { IfOk result (λ walk. walk.places ≡ (function_system program.now function.now).places) }
+    ensures variables { IfOk result (λ walk. walk.variables ≡ (function_system program.now function.now).variables) }
 {
     match function.body.len().checked_add(1) {
         Some(count) => read_first_nodes(alloc, types, program, function, count),
@@ -164,7 +164,7 @@ pub fn read_constant<'a>(
 ) -> Result<Walk<'a>, NoMemory>
     requires { ArePlain types.now }
     ensures walked { IfOk result (λ walk. Walked (constant_system program.now constant.now) walk.slots.items walk.progress) }
-    ensures places { IfOk result (λ walk. walk.places ≡ (constant_system program.now constant.now).places) }
+    ensures variables { IfOk result (λ walk. walk.variables ≡ (constant_system program.now constant.now).variables) }
 {
     let tables = Tables {
         structs: &program.structs,
@@ -175,11 +175,11 @@ pub fn read_constant<'a>(
     let mut declared = Vec::new(alloc);
     add_unless(&mut declared, is_constant_type(&constant.annotation))?;
     let whole = valued(&constant.value, &constant.annotation);
-    let places = place_count(setting)?;
-    let mut slots = open_slots(alloc, places)?;
+    let variables = variable_count(setting)?;
+    let mut slots = open_slots(alloc, variables)?;
     let progress = read_value(alloc, tables, setting, &mut slots, &declared, whole)?;
     Ok(Walk {
-        places,
+        variables,
         slots,
         progress,
     })

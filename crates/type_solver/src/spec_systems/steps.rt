@@ -3,7 +3,7 @@
 ghost use Rattle.std.specs.Prelude.{◌≤◌, ◌∷◌, ◌++◌, [], List, IfOk, length};
 ghost use Rattle.type_constraints.specs.Seen.{seen_all};
 ghost use Rattle.type_constraints.specs.SpecSettings.{setting_of};
-ghost use Rattle.type_constraints.specs.SpecTold.{ArePlaces};
+ghost use Rattle.type_constraints.specs.SpecKnown.{AreVariables};
 ghost use Rattle.typing_rules.specs.Constraint as D;
 ghost use Rattle.typing_rules.specs.SpecConstraints.{declared_variables, spec_constraints_from};
 ghost use Rattle.unification.specs.Slots.{Typing, Fits, Meets};
@@ -28,22 +28,22 @@ fn read_nodes<'a>(
     slots: &mut Vec<Slot<'a>>,
     setting: SpecSetting<'a>,
     firsts: &[usize],
-    places: usize,
+    variables: usize,
     before: Progress,
 ) -> Result<Progress, NoMemory>
     requires types { ArePlain tables.types.now }
     requires fits { Fits slots.old.items }
-    requires places { places ≤ length slots.old.items }
+    requires variables { variables ≤ length slots.old.items }
     requires len { length setting.body.now.nodes ≤ length firsts.now }
-    requires firsts { ArePlaces (setting_of setting) firsts.now }
-    ensures walk { IfOk result (λ after. (steps : List (List D.Constraint)) → IsWalk (reading_of tables.entry) places steps slots.old.items before → IsWalk (reading_of tables.entry) places (steps ++ spec_constraints_from (setting_of setting.entry) 0 setting.entry.body.now.nodes) slots.new.items after) }
+    requires firsts { AreVariables (setting_of setting) firsts.now }
+    ensures walk { IfOk result (λ after. (steps : List (List D.Constraint)) → IsWalk (reading_of tables.entry) variables steps slots.old.items before → IsWalk (reading_of tables.entry) variables (steps ++ spec_constraints_from (setting_of setting.entry) 0 setting.entry.body.now.nodes) slots.new.items after) }
     ensures fits { IfOk result (λ after. Fits slots.new.items) }
-    ensures places { IfOk result (λ after. places ≤ length slots.new.items) }
+    ensures variables { IfOk result (λ after. variables ≤ length slots.new.items) }
 {
     let mut progress = before;
-    for place in 0..setting.body.len() {
-        let constraints = node_constraints(alloc, setting, place, firsts[place])?;
-        progress = read_step(alloc, tables, slots, progress, places, &constraints)?;
+    for index in 0..setting.body.len() {
+        let constraints = node_constraints(alloc, setting, index, firsts[index])?;
+        progress = read_step(alloc, tables, slots, progress, variables, &constraints)?;
     }
     Ok(progress)
 }
@@ -61,13 +61,13 @@ pub fn read_steps<'a>(
     requires fits { Fits slots.old.items }
     requires start { (t : Typing) → Meets slots.old.items t }
     requires len { length setting.body.now.nodes ≤ length firsts.now }
-    requires firsts { ArePlaces (setting_of setting) firsts.now }
+    requires firsts { AreVariables (setting_of setting) firsts.now }
     ensures { IfOk result (IsWalk (reading_of tables.entry) (length slots.old.items) (declared_variables (setting_of setting.entry) ∷ (spec_constraints_from (setting_of setting.entry) 0 setting.entry.body.now.nodes ++ seen_all whole.now ∷ [])) slots.new.items) }
 {
-    let places = slots.len();
+    let variables = slots.len();
     let begun = start(slots);
     let declared = declared_variables(alloc, setting)?;
-    let first = read_step(alloc, tables, slots, begun, places, &declared)?;
-    let nodes = read_nodes(alloc, tables, slots, setting, firsts, places, first)?;
-    read_step(alloc, tables, slots, nodes, places, whole)
+    let first = read_step(alloc, tables, slots, begun, variables, &declared)?;
+    let nodes = read_nodes(alloc, tables, slots, setting, firsts, variables, first)?;
+    read_step(alloc, tables, slots, nodes, variables, whole)
 }

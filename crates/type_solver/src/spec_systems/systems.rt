@@ -20,15 +20,15 @@ use type_constraints::clauses::block::Block;
 use type_constraints::clauses::clause::{clause_setting, form_arguments, whole_constraints};
 use type_constraints::clauses::function::{function_setting, returned};
 use type_constraints::numbers::sum;
-use type_constraints::spec::places::argument_places;
 use type_constraints::spec::setting::Names;
+use type_constraints::spec::variables::argument_variables;
 use unification::type_variables::open::open_slots;
 use unification::type_variables::slots::Slot;
 
 /// The number of type variables, what is known of their types after some steps, and how far reading went.
 #[derive(Drop)]
 pub struct Walk<'a> {
-    pub places: usize,
+    pub variables: usize,
     pub slots: Vec<Slot<'a>>,
     pub progress: Progress,
 }
@@ -42,7 +42,7 @@ pub fn read_function<'a>(
 ) -> Result<Walk<'a>, NoMemory>
     requires { ArePlain types.now }
     ensures walked { IfOk result (λ walk. Walked (spec_function_system program.now function.now) walk.slots.items walk.progress) }
-    ensures places { IfOk result (λ walk. walk.places ≡ (spec_function_system program.now function.now).places) }
+    ensures variables { IfOk result (λ walk. walk.variables ≡ (spec_function_system program.now function.now).variables) }
 {
     let tables = Tables {
         structs: &program.structs,
@@ -51,12 +51,12 @@ pub fn read_function<'a>(
     };
     let setting = function_setting(program, function)?;
     let whole = returned(function);
-    let firsts = argument_places(alloc, setting)?;
-    let places = firsts[setting.body.len()];
-    let mut slots = open_slots(alloc, places)?;
+    let firsts = argument_variables(alloc, setting)?;
+    let variables = firsts[setting.body.len()];
+    let mut slots = open_slots(alloc, variables)?;
     let progress = read_steps(alloc, tables, &mut slots, setting, &firsts, &[whole])?;
     Ok(Walk {
-        places,
+        variables,
         slots,
         progress,
     })
@@ -74,7 +74,7 @@ pub fn read_clause<'a>(
 ) -> Result<Walk<'a>, NoMemory>
     requires { ArePlain types.now }
     ensures walked { IfOk result (λ walk. Walked (clause_system program.now (names_of names.entry) (block_of block) (owner_types names.entry.owner) clause.now) walk.slots.items walk.progress) }
-    ensures places { IfOk result (λ walk. walk.places ≡ (clause_system program.now (names_of names.entry) (block_of block) (owner_types names.entry.owner) clause.now).places) }
+    ensures variables { IfOk result (λ walk. walk.variables ≡ (clause_system program.now (names_of names.entry) (block_of block) (owner_types names.entry.owner) clause.now).variables) }
 {
     let tables = Tables {
         structs: &program.structs,
@@ -82,14 +82,14 @@ pub fn read_clause<'a>(
         is_spec: true,
     };
     let setting = clause_setting(program, names, block, clause)?;
-    let firsts = argument_places(alloc, setting)?;
+    let firsts = argument_variables(alloc, setting)?;
     let first = firsts[setting.body.len()];
     let whole = whole_constraints(alloc, setting, block, first, &clause.form)?;
-    let places = sum(first, form_arguments(program, &clause.form))?;
-    let mut slots = open_slots(alloc, places)?;
+    let variables = sum(first, form_arguments(program, &clause.form))?;
+    let mut slots = open_slots(alloc, variables)?;
     let progress = read_steps(alloc, tables, &mut slots, setting, &firsts, &whole)?;
     Ok(Walk {
-        places,
+        variables,
         slots,
         progress,
     })

@@ -36,8 +36,8 @@ pub fn has_open_integer<'a>(slots: &[Slot<'a>]) -> bool
     ensures no { result ≡ false → NoOpenInteger slots.now }
     ensures yes { result ≡ true → (p : ℕ) × ((p < length slots.now) × (slot_at slots.now p ≡ Open Integer)) }
 {
-    for place in 0..slots.len() {
-        if is_open_integer(slots[place]) {
+    for variable in 0..slots.len() {
+        if is_open_integer(slots[variable]) {
             return true;
         }
     }
@@ -90,40 +90,40 @@ fn slot_width<'a>(slot: Slot<'a>) -> Option<Width>
 }
 
 /// The width of the type of a variable's representative.
-fn width_at<'a>(slots: &[Slot<'a>], roots: &[usize], place: usize) -> Option<Width>
-    requires within { place < length roots.now }
-    requires root { slice_index roots.now place < length slots.now }
-    ensures { WidthOf (slot_at slots.now (slice_index roots.now place)) result }
+fn width_at<'a>(slots: &[Slot<'a>], roots: &[usize], variable: usize) -> Option<Width>
+    requires within { variable < length roots.now }
+    requires root { slice_index roots.now variable < length slots.now }
+    ensures { WidthOf (slot_at slots.now (slice_index roots.now variable)) result }
 {
-    slot_width(slots[roots[place]])
+    slot_width(slots[roots[variable]])
 }
 
 /// The width of the type of a type variable, if it is an integer type.
-pub fn integer_width<'a>(defaulted: &Defaulted<'a>, place: usize) -> Option<Width>
+pub fn integer_width<'a>(defaulted: &Defaulted<'a>, variable: usize) -> Option<Width>
     requires sound { IsSound defaulted.now }
-    requires within { place < length defaulted.now.slots.items }
-    ensures { WidthSays defaulted.now place result }
+    requires within { variable < length defaulted.now.slots.items }
+    ensures { WidthSays defaulted.now variable result }
 {
-    width_at(&defaulted.slots, &defaulted.roots, place)
+    width_at(&defaulted.slots, &defaulted.roots, variable)
 }
 
 /// Returns for each of the first so many type variables the number of its type, once dropped values whose type is not
 /// determined have type `()`; none where its type is still not forced. After `NoMemory` the pool may contain some of
 /// the types.
-pub fn types_of_places<'a>(
+pub fn types_of_variables<'a>(
     alloc: Global,
     pool: &mut TypePool,
     defaulted: Defaulted<'a>,
-    places: usize,
+    variables: usize,
     dropped: &[usize],
     unit: &'a TypeTerm,
 ) -> Result<Vec<Option<usize>>, NoMemory>
     requires sound { IsSound defaulted }
-    requires places { places ≤ length defaulted.slots.items }
-    requires dropped { (k : ℕ) → k < length dropped.now → slice_index dropped.now k < places }
+    requires variables { variables ≤ length defaulted.slots.items }
+    requires dropped { (k : ℕ) → k < length dropped.now → slice_index dropped.now k < variables }
     requires unit { unit.now ≡ unit_type }
     ensures keeps { IfOk result (λ numbers. Keeps pool.old pool.new) }
-    ensures says { IfOk result (λ numbers. TypesSay defaulted.entry dropped.now places pool.new numbers.items) }
+    ensures says { IfOk result (λ numbers. TypesSay defaulted.entry dropped.now variables pool.new numbers.items) }
 {
     let Defaulted {
         slots,
@@ -131,7 +131,7 @@ pub fn types_of_places<'a>(
         ranking,
     } = defaulted;
     let given = with_units(slots, &roots, dropped, unit);
-    table(alloc, pool, &given, &ranking.order, places)
+    table(alloc, pool, &given, &ranking.order, variables)
 }
 
 /// Returns for each of the first so many type variables the number of its type, for systems without defaults: no
@@ -141,17 +141,17 @@ pub fn types_without_defaults<'a>(
     alloc: Global,
     pool: &mut TypePool,
     slots: &[Slot<'a>],
-    places: usize,
+    variables: usize,
 ) -> Result<Option<Vec<Option<usize>>>, NoMemory>
     requires fits { Fits slots.now }
-    requires places { places ≤ length slots.now }
+    requires variables { variables ≤ length slots.now }
     ensures keeps { IfOk result (λ found. Keeps pool.old pool.new) }
-    ensures says { IfOk result (λ found. MatchOption found (LeavesNoTyping slots.now) (λ numbers. TypesAsKnown slots.now places pool.new numbers.items)) }
+    ensures says { IfOk result (λ found. MatchOption found (LeavesNoTyping slots.now) (λ numbers. TypesAsKnown slots.now variables pool.new numbers.items)) }
 {
     match ranks(alloc, slots)? {
         None => Ok(None),
         Some(ranking) => {
-            let numbers = table(alloc, pool, slots, &ranking.order, places)?;
+            let numbers = table(alloc, pool, slots, &ranking.order, variables)?;
             Ok(Some(numbers))
         }
     }

@@ -4,7 +4,7 @@ ghost use Rattle.std.specs.Prelude.{◌≡◌, ◌<◌, ℕ, IsTrue, true, false
 ghost use Rattle.unification.specs.declared.type_variables.slots.Sort.TheVariants.{Any, Integer};
 ghost use Rattle.unification.specs.declared.type_variables.slots.Slot.TheVariants.{Open};
 ghost use Rattle.unification.specs.Roots.{AreRoots};
-ghost use Rattle.unification.specs.Given.{GivesOne, Gives, AnyPlace, IsDropped};
+ghost use Rattle.unification.specs.Given.{GivesOne, Gives, AnyVariable, IsDropped};
 
 use crate::type_variables::slots::{Slot, Sort, Term};
 use base::memory::NoMemory;
@@ -49,7 +49,7 @@ pub fn with_integers<'a>(
     slots: &[Slot<'a>],
     integer: &'a TypeTerm,
 ) -> Result<Vec<Slot<'a>>, NoMemory>
-    ensures { IfOk result (λ given. Gives slots.now given.items Integer integer.now AnyPlace) }
+    ensures { IfOk result (λ given. Gives slots.now given.items Integer integer.now AnyVariable) }
 {
     let mut given = Vec::new(alloc);
     for slot in slots {
@@ -64,8 +64,8 @@ fn give_units<'a>(slots: &mut [Slot<'a>], roots: &[usize], dropped: &[usize], un
     requires within { (k : ℕ) → k < length dropped.now → slice_index dropped.now k < length slots.old }
     ensures { Gives slots.old slots.new Any unit.now (IsDropped roots.now dropped.now (length dropped.now)) }
 {
-    for place in dropped {
-        let at = roots[*place];
+    for variable in dropped {
+        let at = roots[*variable];
         if is_open_any(slots[at]) {
             slots[at] = Slot::Bound(Term::Closed(unit));
         }

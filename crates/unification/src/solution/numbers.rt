@@ -86,14 +86,14 @@ fn add_wrapped(
     pool: &mut TypePool,
     numbers: &[Option<usize>],
     wrap: Wrap,
-    place: usize,
+    variable: usize,
 ) -> Result<Option<usize>, NoMemory>
-    requires within { place < length numbers.now }
-    requires part { IsInPool pool.old (number_at numbers.now place) }
+    requires within { variable < length numbers.now }
+    requires part { IsInPool pool.old (number_at numbers.now variable) }
     ensures keeps { IfOk result (λ found. Keeps pool.old pool.new) }
-    ensures says { IfOk result (TermSays pool.old pool.new numbers.now (Term.Made wrap place)) }
+    ensures says { IfOk result (TermSays pool.old pool.new numbers.now (Term.Made wrap variable)) }
 {
-    match numbers[place] {
+    match numbers[variable] {
         None => Ok(None),
         Some(number) => Ok(Some(add_made(pool, wrap_of(wrap), number)?)),
     }
@@ -112,30 +112,30 @@ fn term_number<'a>(
     ensures says { IfOk result (TermSays pool.old pool.new numbers.now term.entry) }
 {
     match term {
-        Term::Place(place) => Ok(numbers[place]),
+        Term::Variable(variable) => Ok(numbers[variable]),
         Term::Closed(of) => Ok(Some(add_type(alloc, pool, of)?)),
-        Term::Made(wrap, place) => add_wrapped(pool, numbers, wrap, place),
+        Term::Made(wrap, variable) => add_wrapped(pool, numbers, wrap, variable),
         Term::Grouped(group, first, count) => add_parts(alloc, pool, numbers, group, first, count),
     }
 }
 
 /// The number of the type of a type variable, given the numbers of those that it refers to; none where its type is not
 /// forced.
-fn place_number<'a>(
+fn variable_number<'a>(
     alloc: Global,
     pool: &mut TypePool,
     slots: &[Slot<'a>],
     numbers: &[Option<usize>],
-    place: usize,
+    variable: usize,
 ) -> Result<Option<usize>, NoMemory>
     requires fits { Fits slots.now }
-    requires within { place < length slots.now }
+    requires within { variable < length slots.now }
     requires numbers { length numbers.now ≡ length slots.now }
-    requires parts { EachLed (λ q. NumberSays slots.now pool.old q (number_at numbers.now q)) (slot_at slots.now place) }
+    requires parts { EachLed (λ q. NumberSays slots.now pool.old q (number_at numbers.now q)) (slot_at slots.now variable) }
     ensures keeps { IfOk result (λ found. Keeps pool.old pool.new) }
-    ensures says { IfOk result (NumberSays slots.now pool.new place) }
+    ensures says { IfOk result (NumberSays slots.now pool.new variable) }
 {
-    let slot = slots[place];
+    let slot = slots[variable];
     match slot {
         Slot::Open(_) => Ok(None),
         Slot::Bound(term) => term_number(alloc, pool, numbers, term),
@@ -155,7 +155,7 @@ fn no_numbers(alloc: Global, count: usize) -> Result<Vec<Option<usize>>, NoMemor
 
 /// For each type variable the number of its type, where it is forced: in one pass along an order in which each variable
 /// comes after those that it refers to.
-fn number_places<'a>(
+fn number_variables<'a>(
     alloc: Global,
     pool: &mut TypePool,
     slots: &[Slot<'a>],
@@ -168,9 +168,9 @@ fn number_places<'a>(
 {
     let mut numbers = no_numbers(alloc, slots.len())?;
     for top in 0..order.len() {
-        let place = order[top];
-        let number = place_number(alloc, pool, slots, &numbers, place)?;
-        numbers[place] = number;
+        let variable = order[top];
+        let number = variable_number(alloc, pool, slots, &numbers, variable)?;
+        numbers[variable] = number;
     }
     Ok(numbers)
 }
@@ -182,15 +182,15 @@ pub fn table<'a>(
     pool: &mut TypePool,
     slots: &[Slot<'a>],
     order: &[usize],
-    places: usize,
+    variables: usize,
 ) -> Result<Vec<Option<usize>>, NoMemory>
     requires fits { Fits slots.now }
     requires order { IsOrder slots.now order.now }
-    requires places { places ≤ length slots.now }
+    requires variables { variables ≤ length slots.now }
     ensures keeps { IfOk result (λ numbers. Keeps pool.old pool.new) }
-    ensures says { IfOk result (λ numbers. TableSays slots.now places pool.new numbers.items) }
+    ensures says { IfOk result (λ numbers. TableSays slots.now variables pool.new numbers.items) }
 {
-    let mut numbers = number_places(alloc, pool, slots, order)?;
-    numbers.truncate(places);
+    let mut numbers = number_variables(alloc, pool, slots, order)?;
+    numbers.truncate(variables);
     Ok(numbers)
 }

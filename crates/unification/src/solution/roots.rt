@@ -10,26 +10,26 @@ use std::alloc::Global;
 
 /// The type variable that a slot refers to as one of the same type.
 fn link<'a>(slot: Slot<'a>) -> Option<usize>
-    ensures { MatchOption result (IsRoot slot.entry) (λ next. slot.entry ≡ Slot.Bound (Term.Place next)) }
+    ensures { MatchOption result (IsRoot slot.entry) (λ next. slot.entry ≡ Slot.Bound (Term.Variable next)) }
 {
     match slot {
         Slot::Open(_) => None,
         Slot::Bound(term) => match term {
-            Term::Place(next) => Some(next),
+            Term::Variable(next) => Some(next),
             _ => None,
         },
     }
 }
 
 /// The representative of this type variable, given those of the variables before it.
-fn root_of<'a>(slots: &[Slot<'a>], roots: &[usize], place: usize) -> usize
+fn root_of<'a>(slots: &[Slot<'a>], roots: &[usize], variable: usize) -> usize
     requires fits { Fits slots.now }
-    requires roots { AreRoots slots.now roots.now place }
-    requires within { place < length slots.now }
-    ensures { IsRootOf slots.now place result }
+    requires roots { AreRoots slots.now roots.now variable }
+    requires within { variable < length slots.now }
+    ensures { IsRootOf slots.now variable result }
 {
-    match link(slots[place]) {
-        None => place,
+    match link(slots[variable]) {
+        None => variable,
         Some(next) => roots[next],
     }
 }
@@ -40,8 +40,8 @@ pub fn all_roots<'a>(alloc: Global, slots: &[Slot<'a>]) -> Result<Vec<usize>, No
     ensures { IfOk result (λ roots. AreRoots slots.now roots.items (length slots.now)) }
 {
     let mut roots = Vec::new(alloc);
-    for place in 0..slots.len() {
-        let root = root_of(slots, &roots, place);
+    for variable in 0..slots.len() {
+        let root = root_of(slots, &roots, variable);
         roots.push(root)?;
     }
     Ok(roots)

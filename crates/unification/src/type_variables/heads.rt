@@ -76,21 +76,21 @@ fn made_kind<'a>(term: Term<'a>) -> KindSeen<'a>
 {
     match term {
         Term::Closed(of) => closed_kind(of),
-        Term::Made(wrap, part) => wrap_kind(wrap, Term::Place(part)),
+        Term::Made(wrap, part) => wrap_kind(wrap, Term::Variable(part)),
         _ => KindSeen::Plain,
     }
 }
 
 /// Returns what is known of the kind of the type of a variable.
-pub fn kind_seen<'a>(slots: &mut [Slot<'a>], place: usize) -> KindSeen<'a>
+pub fn kind_seen<'a>(slots: &mut [Slot<'a>], variable: usize) -> KindSeen<'a>
     requires fits { Fits slots.old }
-    requires within { place < length slots.old }
+    requires within { variable < length slots.old }
     ensures becomes { Becomes slots.old (λ t. Unit {0}) slots.new (λ t. Unit {0}) }
-    ensures of { (t : Typing) → Meets slots.new t → KindOf t (t place) result }
+    ensures of { (t : Typing) → Meets slots.new t → KindOf t (t variable) result }
     ensures within { KindWithin (length slots.new) result }
-    ensures open { KindOpen slots.new place result }
+    ensures open { KindOpen slots.new variable result }
 {
-    let at = root(slots, place);
+    let at = root(slots, variable);
     let slot = slots[at];
     match slot {
         Slot::Open(sort) => {
@@ -163,26 +163,29 @@ fn made_struct<'a>(slots: &mut Vec<Slot<'a>>, term: Term<'a>) -> Result<StructSe
 }
 
 /// The representative of a type variable.
-fn root_in<'a>(slots: &mut Vec<Slot<'a>>, place: usize) -> usize
+fn root_in<'a>(slots: &mut Vec<Slot<'a>>, variable: usize) -> usize
     requires fits { Fits slots.old.items }
-    requires within { place < length slots.old.items }
+    requires within { variable < length slots.old.items }
     ensures grows { Grows slots.old.items (λ t. Unit {0}) slots.new.items (λ t. Unit {0}) }
     ensures within { result < length slots.new.items }
     ensures root { IsRoot (slot_at slots.new.items result) }
-    ensures same { (t : Typing) → Meets slots.new.items t → t place ≡ t result }
+    ensures same { (t : Typing) → Meets slots.new.items t → t variable ≡ t result }
 {
-    root(slots, place)
+    root(slots, variable)
 }
 
-fn place_struct<'a>(slots: &mut Vec<Slot<'a>>, place: usize) -> Result<StructSeen<'a>, AllocError>
+fn variable_struct<'a>(
+    slots: &mut Vec<Slot<'a>>,
+    variable: usize,
+) -> Result<StructSeen<'a>, AllocError>
     requires fits { Fits slots.old.items }
-    requires within { place < length slots.old.items }
+    requires within { variable < length slots.old.items }
     ensures grows { IfOk result (λ seen. Grows slots.old.items (λ t. Unit {0}) slots.new.items (λ t. Unit {0})) }
-    ensures of { IfOk result (λ seen. (t : Typing) → Meets slots.new.items t → StructOf t (t place) seen) }
+    ensures of { IfOk result (λ seen. (t : Typing) → Meets slots.new.items t → StructOf t (t variable) seen) }
     ensures within { IfOk result (λ seen. StructWithin (length slots.new.items) seen) }
-    ensures open { IfOk result (λ seen. StructOpen slots.new.items (Term.Place place) seen) }
+    ensures open { IfOk result (λ seen. StructOpen slots.new.items (Term.Variable variable) seen) }
 {
-    let at = root_in(slots, place);
+    let at = root_in(slots, variable);
     let slot = slots[at];
     match slot {
         Slot::Open(sort) => {
@@ -210,7 +213,7 @@ pub fn struct_seen<'a>(
     ensures open { IfOk result (λ seen. StructOpen slots.new.items term.entry seen) }
 {
     match term {
-        Term::Place(place) => place_struct(slots, place),
+        Term::Variable(variable) => variable_struct(slots, variable),
         _ => made_struct(slots, term),
     }
 }

@@ -70,9 +70,9 @@ fn join_closed<'a>(
     match term {
         Term::Closed(other) => Ok(same_type(of, other)),
         _ => {
-            let places = slots.len();
+            let variables = slots.len();
             slots[at] = Slot::Bound(term);
-            ask_parts(asks, term, Term::Closed(of), places)
+            ask_parts(asks, term, Term::Closed(of), variables)
         }
     }
 }
@@ -136,7 +136,7 @@ fn link_open<'a>(slots: &mut [Slot<'a>], low: usize, high: usize, sort: Sort) ->
     ensures becomes { Becomes slots.old (λ t. t low ≡ t high) slots.new (λ t. IsTrue result) }
     ensures less { work slots.new + 1 ≤ work slots.old }
 {
-    slots[high] = Slot::Bound(Term::Place(low));
+    slots[high] = Slot::Bound(Term::Variable(low));
     narrow(slots, low, sort)
 }
 
@@ -159,7 +159,7 @@ fn link_bound<'a>(
     ensures asks { IfOk result (λ answer. AsksWithin (length slots.new) asks.new.items) }
     ensures less { IfOk result (λ answer. work slots.new + asks_work asks.new.items + 1 ≤ work slots.old + asks_work asks.old.items) }
 {
-    slots[high] = Slot::Bound(Term::Place(low));
+    slots[high] = Slot::Bound(Term::Variable(low));
     bind_root(slots, asks, low, term)
 }
 
@@ -214,7 +214,7 @@ fn meet<'a>(
 }
 
 /// Unifies two type variables.
-fn meet_places<'a>(
+fn meet_variables<'a>(
     slots: &mut [Slot<'a>],
     asks: &mut Vec<Ask<'a>>,
     left: usize,
@@ -237,19 +237,19 @@ fn meet_places<'a>(
 fn bind<'a>(
     slots: &mut [Slot<'a>],
     asks: &mut Vec<Ask<'a>>,
-    place: usize,
+    variable: usize,
     term: Term<'a>,
 ) -> Result<bool, AllocError>
     requires fits { Fits slots.old }
-    requires within { place < length slots.old }
+    requires within { variable < length slots.old }
     requires made { IsMade term }
     requires term { TermWithin (length slots.old) term }
     requires asks { AsksWithin (length slots.old) asks.old.items }
-    ensures becomes { IfOk result (λ answer. Becomes slots.old (λ t. (t place ≡ value t term.entry) × EachHas t asks.old.items) slots.new (λ t. IsTrue answer × EachHas t asks.new.items)) }
+    ensures becomes { IfOk result (λ answer. Becomes slots.old (λ t. (t variable ≡ value t term.entry) × EachHas t asks.old.items) slots.new (λ t. IsTrue answer × EachHas t asks.new.items)) }
     ensures asks { IfOk result (λ answer. AsksWithin (length slots.new) asks.new.items) }
     ensures less { IfOk result (λ answer. work slots.new + asks_work asks.new.items + 1 ≤ work slots.old + asks_work asks.old.items + term_work term.entry) }
 {
-    let at = root(slots, place);
+    let at = root(slots, variable);
     bind_root(slots, asks, at, term)
 }
 
@@ -260,7 +260,7 @@ fn step<'a>(
     ask: Ask<'a>,
 ) -> Result<bool, AllocError>
     requires fits { Fits slots.old }
-    requires place { ask.place < length slots.old }
+    requires variable { ask.variable < length slots.old }
     requires term { TermWithin (length slots.old) ask.term }
     requires asks { AsksWithin (length slots.old) asks.old.items }
     ensures becomes { IfOk result (λ answer. Becomes slots.old (λ t. Has t ask.entry × EachHas t asks.old.items) slots.new (λ t. IsTrue answer × EachHas t asks.new.items)) }
@@ -269,8 +269,8 @@ fn step<'a>(
 {
     let term = ask.term;
     match term {
-        Term::Place(other) => meet_places(slots, asks, ask.place, other),
-        _ => bind(slots, asks, ask.place, term),
+        Term::Variable(other) => meet_variables(slots, asks, ask.variable, other),
+        _ => bind(slots, asks, ask.variable, term),
     }
 }
 
@@ -292,25 +292,25 @@ fn run<'a>(slots: &mut [Slot<'a>], asks: &mut Vec<Ask<'a>>) -> Result<bool, Allo
 pub fn equate<'a>(
     alloc: Global,
     slots: &mut [Slot<'a>],
-    place: usize,
+    variable: usize,
     term: Term<'a>,
 ) -> Result<bool, AllocError>
     requires fits { Fits slots.old }
-    requires place { place < length slots.old }
+    requires variable { variable < length slots.old }
     requires term { TermWithin (length slots.old) term }
-    ensures { IfOk result (λ answer. Becomes slots.old (λ t. t place ≡ value t term.entry) slots.new (λ t. IsTrue answer)) }
+    ensures { IfOk result (λ answer. Becomes slots.old (λ t. t variable ≡ value t term.entry) slots.new (λ t. IsTrue answer)) }
 {
     let mut asks = Vec::new(alloc);
-    ask(&mut asks, place, term, slots.len())?;
+    ask(&mut asks, variable, term, slots.len())?;
     run(slots, &mut asks)
 }
 
 /// Restricts the type of a type variable to a sort.
-pub fn ask_sort<'a>(slots: &mut [Slot<'a>], place: usize, sort: Sort) -> bool
+pub fn ask_sort<'a>(slots: &mut [Slot<'a>], variable: usize, sort: Sort) -> bool
     requires fits { Fits slots.old }
-    requires within { place < length slots.old }
-    ensures { Becomes slots.old (λ t. IsTrue (is_of sort (t place))) slots.new (λ t. IsTrue result) }
+    requires within { variable < length slots.old }
+    ensures { Becomes slots.old (λ t. IsTrue (is_of sort (t variable))) slots.new (λ t. IsTrue result) }
 {
-    let at = root(slots, place);
+    let at = root(slots, variable);
     narrow(slots, at, sort)
 }

@@ -8,13 +8,13 @@ use crate::type_variables::slots::{Slot, Sort, Term};
 use std::alloc::{AllocError, Global};
 
 /// So many type variables of which nothing is known.
-pub fn open_slots<'a>(alloc: Global, places: usize) -> Result<Vec<Slot<'a>>, AllocError>
-    ensures same_length { IfOk result (λ slots. length slots.items ≡ places) }
+pub fn open_slots<'a>(alloc: Global, variables: usize) -> Result<Vec<Slot<'a>>, AllocError>
+    ensures same_length { IfOk result (λ slots. length slots.items ≡ variables) }
     ensures fits { IfOk result (λ slots. Fits slots.items) }
     ensures start { IfOk result (λ slots. (t : Typing) → Meets slots.items t) }
 {
     let mut slots = Vec::new(alloc);
-    for i in 0..places {
+    for i in 0..variables {
         slots.push(Slot::Open(Sort::Any))?;
     }
     Ok(slots)

@@ -84,54 +84,54 @@ fn same_group<'a>(left: Group<'a>, right: Group<'a>) -> bool
 /// Adds the equation of a type variable and a term.
 pub fn ask<'a>(
     asks: &mut Vec<Ask<'a>>,
-    place: usize,
+    variable: usize,
     term: Term<'a>,
-    places: usize,
+    variables: usize,
 ) -> Result<(), AllocError>
-    requires place { place < places }
-    requires term { TermWithin places term }
-    requires within { AsksWithin places asks.old.items }
-    ensures adds { OnOk result (Adds asks.old.items (λ t. t place ≡ value t term.entry) asks.new.items) }
-    ensures within { OnOk result (AsksWithin places asks.new.items) }
+    requires variable { variable < variables }
+    requires term { TermWithin variables term }
+    requires within { AsksWithin variables asks.old.items }
+    ensures adds { OnOk result (Adds asks.old.items (λ t. t variable ≡ value t term.entry) asks.new.items) }
+    ensures within { OnOk result (AsksWithin variables asks.new.items) }
     ensures work { OnOk result (asks_work asks.new.items ≡ asks_work asks.old.items + required_work term.entry) }
 {
-    asks.push(Ask { place, term })?;
+    asks.push(Ask { variable, term })?;
     Ok(())
 }
 
 /// Adds the equation of a type variable and a written type.
 fn ask_type<'a>(
     asks: &mut Vec<Ask<'a>>,
-    place: usize,
+    variable: usize,
     of: &'a TypeTerm,
-    places: usize,
+    variables: usize,
 ) -> Result<(), AllocError>
-    requires place { place < places }
-    requires within { AsksWithin places asks.old.items }
-    ensures adds { OnOk result (Adds asks.old.items (λ t. t place ≡ of.now) asks.new.items) }
-    ensures within { OnOk result (AsksWithin places asks.new.items) }
+    requires variable { variable < variables }
+    requires within { AsksWithin variables asks.old.items }
+    ensures adds { OnOk result (Adds asks.old.items (λ t. t variable ≡ of.now) asks.new.items) }
+    ensures within { OnOk result (AsksWithin variables asks.new.items) }
     ensures work { OnOk result (asks_work asks.new.items ≡ asks_work asks.old.items + type_size of.now) }
 {
-    ask(asks, place, Term::Closed(of), places)
+    ask(asks, variable, Term::Closed(of), variables)
 }
 
 /// Adds the equations of consecutive type variables and others.
-fn ask_places<'a>(
+fn ask_variables<'a>(
     asks: &mut Vec<Ask<'a>>,
     first: usize,
     other: usize,
     count: usize,
-    places: usize,
+    variables: usize,
 ) -> Result<(), AllocError>
-    requires first { first + count ≤ places }
-    requires other { other + count ≤ places }
-    requires within { AsksWithin places asks.old.items }
+    requires first { first + count ≤ variables }
+    requires other { other + count ≤ variables }
+    requires within { AsksWithin variables asks.old.items }
     ensures adds { OnOk result (Adds asks.old.items (λ t. list_at t first count ≡ list_at t other count) asks.new.items) }
-    ensures within { OnOk result (AsksWithin places asks.new.items) }
+    ensures within { OnOk result (AsksWithin variables asks.new.items) }
     ensures work { OnOk result (asks_work asks.new.items ≡ asks_work asks.old.items + count) }
 {
     for i in 0..count {
-        ask(asks, first + i, Term::Place(other + i), places)?;
+        ask(asks, first + i, Term::Variable(other + i), variables)?;
     }
     Ok(())
 }
@@ -141,16 +141,16 @@ fn ask_types<'a>(
     asks: &mut Vec<Ask<'a>>,
     first: usize,
     types: &'a [TypeTerm],
-    places: usize,
+    variables: usize,
 ) -> Result<(), AllocError>
-    requires first { first + length types.now ≤ places }
-    requires within { AsksWithin places asks.old.items }
+    requires first { first + length types.now ≤ variables }
+    requires within { AsksWithin variables asks.old.items }
     ensures adds { OnOk result (Adds asks.old.items (λ t. list_at t first (length types.now) ≡ types.now) asks.new.items) }
-    ensures within { OnOk result (AsksWithin places asks.new.items) }
+    ensures within { OnOk result (AsksWithin variables asks.new.items) }
     ensures work { OnOk result (asks_work asks.new.items + 1 ≤ asks_work asks.old.items + types_size (types_of types.now)) }
 {
     for (i, part) in types.iter().enumerate() {
-        ask_type(asks, first + i, part, places)?;
+        ask_type(asks, first + i, part, variables)?;
     }
     Ok(())
 }
@@ -161,17 +161,17 @@ fn closed_part<'a>(
     wrap: Wrap,
     part: usize,
     of: &'a TypeTerm,
-    places: usize,
+    variables: usize,
 ) -> Result<bool, AllocError>
-    requires part { part < places }
-    requires within { AsksWithin places asks.old.items }
+    requires part { part < variables }
+    requires within { AsksWithin variables asks.old.items }
     ensures says { IfOk result (Says asks.old.items (λ t. wrapped wrap (t part) ≡ of.now) asks.new.items) }
-    ensures within { IfOk result (λ answer. AsksWithin places asks.new.items) }
+    ensures within { IfOk result (λ answer. AsksWithin variables asks.new.items) }
     ensures less { IfOk result (λ answer. asks_work asks.new.items + 1 ≤ asks_work asks.old.items + type_size of.now) }
 {
     match wrapped_part(wrap, of) {
         Some(inner) => {
-            ask_type(asks, part, inner, places)?;
+            ask_type(asks, part, inner, variables)?;
             Ok(true)
         }
         None => Ok(false),
@@ -185,18 +185,18 @@ fn closed_parts<'a>(
     first: usize,
     count: usize,
     of: &'a TypeTerm,
-    places: usize,
+    variables: usize,
 ) -> Result<bool, AllocError>
-    requires first { first + count ≤ places }
-    requires within { AsksWithin places asks.old.items }
+    requires first { first + count ≤ variables }
+    requires within { AsksWithin variables asks.old.items }
     ensures says { IfOk result (Says asks.old.items (λ t. grouped group.entry (types_of (list_at t first count)) ≡ of.now) asks.new.items) }
-    ensures within { IfOk result (λ answer. AsksWithin places asks.new.items) }
+    ensures within { IfOk result (λ answer. AsksWithin variables asks.new.items) }
     ensures less { IfOk result (λ answer. asks_work asks.new.items + 1 ≤ asks_work asks.old.items + type_size of.now) }
 {
     match grouped_parts(group, of) {
         Some(types) => {
             if types.len() == count {
-                ask_types(asks, first, types, places)?;
+                ask_types(asks, first, types, variables)?;
                 Ok(true)
             } else {
                 Ok(false)
@@ -212,26 +212,26 @@ fn wrapped_parts<'a>(
     wrap: Wrap,
     part: usize,
     other: Term<'a>,
-    places: usize,
+    variables: usize,
 ) -> Result<bool, AllocError>
-    requires part { part < places }
+    requires part { part < variables }
     requires made { IsMade other }
-    requires other { TermWithin places other }
-    requires within { AsksWithin places asks.old.items }
+    requires other { TermWithin variables other }
+    requires within { AsksWithin variables asks.old.items }
     ensures says { IfOk result (Says asks.old.items (λ t. wrapped wrap (t part) ≡ value t other.entry) asks.new.items) }
-    ensures within { IfOk result (λ answer. AsksWithin places asks.new.items) }
+    ensures within { IfOk result (λ answer. AsksWithin variables asks.new.items) }
     ensures less { IfOk result (λ answer. asks_work asks.new.items + 1 ≤ asks_work asks.old.items + term_work other.entry) }
 {
     match other {
-        Term::Made(maker, place) => {
+        Term::Made(maker, variable) => {
             if same_wrap(wrap, maker) {
-                ask(asks, part, Term::Place(place), places)?;
+                ask(asks, part, Term::Variable(variable), variables)?;
                 Ok(true)
             } else {
                 Ok(false)
             }
         }
-        Term::Closed(of) => closed_part(asks, wrap, part, of, places),
+        Term::Closed(of) => closed_part(asks, wrap, part, of, variables),
         _ => Ok(false),
     }
 }
@@ -243,26 +243,26 @@ fn grouped_with<'a>(
     first: usize,
     count: usize,
     other: Term<'a>,
-    places: usize,
+    variables: usize,
 ) -> Result<bool, AllocError>
-    requires first { first + count ≤ places }
+    requires first { first + count ≤ variables }
     requires made { IsMade other }
-    requires other { TermWithin places other }
-    requires within { AsksWithin places asks.old.items }
+    requires other { TermWithin variables other }
+    requires within { AsksWithin variables asks.old.items }
     ensures says { IfOk result (Says asks.old.items (λ t. grouped group.entry (types_of (list_at t first count)) ≡ value t other.entry) asks.new.items) }
-    ensures within { IfOk result (λ answer. AsksWithin places asks.new.items) }
+    ensures within { IfOk result (λ answer. AsksWithin variables asks.new.items) }
     ensures less { IfOk result (λ answer. asks_work asks.new.items + 1 ≤ asks_work asks.old.items + term_work other.entry) }
 {
     match other {
         Term::Grouped(maker, start, number) => {
             if same_group(group, maker) && count == number {
-                ask_places(asks, first, start, count, places)?;
+                ask_variables(asks, first, start, count, variables)?;
                 Ok(true)
             } else {
                 Ok(false)
             }
         }
-        Term::Closed(of) => closed_parts(asks, group, first, count, of, places),
+        Term::Closed(of) => closed_parts(asks, group, first, count, of, variables),
         _ => Ok(false),
     }
 }
@@ -272,21 +272,21 @@ pub fn ask_parts<'a>(
     asks: &mut Vec<Ask<'a>>,
     left: Term<'a>,
     right: Term<'a>,
-    places: usize,
+    variables: usize,
 ) -> Result<bool, AllocError>
     requires parts { HasParts left }
     requires made { IsMade right }
-    requires left { TermWithin places left }
-    requires right { TermWithin places right }
-    requires within { AsksWithin places asks.old.items }
+    requires left { TermWithin variables left }
+    requires right { TermWithin variables right }
+    requires within { AsksWithin variables asks.old.items }
     ensures says { IfOk result (Says asks.old.items (λ t. value t left.entry ≡ value t right.entry) asks.new.items) }
-    ensures within { IfOk result (λ answer. AsksWithin places asks.new.items) }
+    ensures within { IfOk result (λ answer. AsksWithin variables asks.new.items) }
     ensures less { IfOk result (λ answer. asks_work asks.new.items + 1 ≤ asks_work asks.old.items + term_work right.entry) }
 {
     match left {
-        Term::Made(wrap, part) => wrapped_parts(asks, wrap, part, right, places),
+        Term::Made(wrap, part) => wrapped_parts(asks, wrap, part, right, variables),
         Term::Grouped(group, first, count) => {
-            grouped_with(asks, group, first, count, right, places)
+            grouped_with(asks, group, first, count, right, variables)
         }
         _ => Ok(false),
     }

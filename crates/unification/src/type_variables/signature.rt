@@ -52,15 +52,15 @@ pub fn parameter<'a>(
     of: &'a TypeTerm,
     number: u32,
     parameters: Parameters,
-    places: usize,
+    variables: usize,
 ) -> Term<'a>
-    requires { parameters.base + parameters.count ≤ places }
-    ensures within { TermWithin places result }
+    requires { parameters.base + parameters.count ≤ variables }
+    ensures within { TermWithin variables result }
     ensures is { (t : Typing) → of.now ≡ ParamType number → value t result ≡ arguments t parameters.base parameters.count number }
 {
     let number = number as usize;
     if number < parameters.count {
-        Term::Place(parameters.base + number)
+        Term::Variable(parameters.base + number)
     } else {
         Term::Closed(of)
     }
@@ -92,9 +92,9 @@ pub fn wrap_term<'a>(
     ensures within { IfOk result (λ made. TermWithin (length slots.new.items) made) }
     ensures is { IfOk result (λ made. (t : Typing) → Meets slots.new.items t → value t made ≡ wrapped wrap (value t term.entry)) }
 {
-    let place = slots.len();
+    let variable = slots.len();
     add_bound(slots, term)?;
-    Ok(Term::Made(wrap, place))
+    Ok(Term::Made(wrap, variable))
 }
 
 /// The term that a constructor makes of types, for which type variables are added.

@@ -33,7 +33,7 @@ pub enum Group<'a> {
 /// consecutive variables, from the first on.
 #[derive(Clone, Copy)]
 pub enum Term<'a> {
-    Place(usize),
+    Variable(usize),
     Closed(&'a TypeTerm),
     Made(Wrap, usize),
     Grouped(Group<'a>, usize, usize),
@@ -49,6 +49,6 @@ pub enum Slot<'a> {
 /// An equation to solve: a type variable has the type of a term.
 #[derive(Clone, Copy)]
 pub struct Ask<'a> {
-    pub place: usize,
+    pub variable: usize,
     pub term: Term<'a>,
 }

@@ -67,7 +67,7 @@ pub fn term_is<'a>(term: Term<'a>, sort: Sort) -> bool
     ensures { (t : Typing) → result ≡ is_of sort (value t term.entry) }
 {
     match term {
-        Term::Place(_) => false,
+        Term::Variable(_) => false,
         Term::Closed(of) => type_is(of, sort),
         Term::Made(wrap, _) => wrap_is(wrap, sort),
         Term::Grouped(group, _, _) => group_is(group, sort),

@@ -1,4 +1,4 @@
-use Rattle.axiom_instances.proofs.StandingLaws.{stands, triggered}
+use Rattle.axiom_instances.proofs.PresentLaws.{stands, triggered}
 use Rattle.axiom_instances.proofs.laws.triggered_by_what_stands.Goals as goal
 
 pub returns : goal.returns

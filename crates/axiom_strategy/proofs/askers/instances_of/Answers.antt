@@ -33,8 +33,8 @@ returns-in-Read-clause-all c = rw c.in-Read.is c.axioms_of_read.ensures.all
 pub axioms_of_item-requires-clause-vector : goal.axioms_of_item-requires-clause-vector
 axioms_of_item-requires-clause-vector c = let h = rw c.in-Item.is at c.requires.asker in h.first
 
-pub axioms_of_item-requires-clause-place : goal.axioms_of_item-requires-clause-place
-axioms_of_item-requires-clause-place c = let h = rw c.in-Item.is at c.requires.asker in h.second
+pub axioms_of_item-requires-clause-position : goal.axioms_of_item-requires-clause-position
+axioms_of_item-requires-clause-position c = let h = rw c.in-Item.is at c.requires.asker in h.second
 
 pub returns-in-Item-clause-all : goal.returns-in-Item-clause-all
 returns-in-Item-clause-all c = rw c.in-Item.is c.axioms_of_item.ensures.all

@@ -21,7 +21,7 @@ keys-requires c =
 
 pub loop-typing-preserved : goal.loop-typing-preserved
 loop-typing-preserved c =
-    item_taken c.args.index.now c.args.classes.now c.args.typings.now c.loop-typing.typing-index none c.loop-typing-test.true c.loop-typing.invariant c.in_ok-places.ensures (rw c.as_slice.ensures.value at c.in_ok-add_places.ensures)
+    item_taken c.args.index.now c.args.classes.now c.args.typings.now c.loop-typing.typing-index none c.loop-typing-test.true c.loop-typing.invariant c.in_ok-positions.ensures (rw c.as_slice.ensures.value at c.in_ok-add_positions.ensures)
 
 pub returns : goal.returns
 returns c =

@@ -20,15 +20,15 @@ pub class-of-requires : goal.class-of-requires
 class-of-requires c =
     let ns = c.args.pool.now in
     let i = c.loop-number.number-index in
-    let read = read_form ns (get_or c.args.terms.now i 0) c.args.reading c.term_form-form.result (c.in-Some.from, c.in-Some.place) c.term_form-form.ensures (sym c.in-Some.ensures) in
+    let read = read_form ns (get_or c.args.terms.now i 0) c.args.reading c.term_form-form.result (c.in-Some.from, c.in-Some.position) c.term_form-form.ensures (sym c.in-Some.ensures) in
     known_term ns c.one_number.ensures c.args.branch.now c.requires.over c.args.classes.now c.requires.classes c.in-Some.from (binary_terms (nth_term ns (branch_in ns c.args.branch.now) c.args.terms.now c.requires.terms i c.loop-number-test.true) read).0
 
 pub class-class-requires : goal.class-class-requires
 class-class-requires c =
     let ns = c.args.pool.now in
     let i = c.loop-number.number-index in
-    let read = read_form ns (get_or c.args.terms.now i 0) c.args.reading c.term_form-form.result (c.in-Some.from, c.in-Some.place) c.term_form-form.ensures (sym c.in-Some.ensures) in
-    known_term ns c.one_number.ensures c.args.branch.now c.requires.over c.args.classes.now c.requires.classes c.in-Some.place (binary_terms (nth_term ns (branch_in ns c.args.branch.now) c.args.terms.now c.requires.terms i c.loop-number-test.true) read).1
+    let read = read_form ns (get_or c.args.terms.now i 0) c.args.reading c.term_form-form.result (c.in-Some.from, c.in-Some.position) c.term_form-form.ensures (sym c.in-Some.ensures) in
+    known_term ns c.one_number.ensures c.args.branch.now c.requires.over c.args.classes.now c.requires.classes c.in-Some.position (binary_terms (nth_term ns (branch_in ns c.args.branch.now) c.args.terms.now c.requires.terms i c.loop-number-test.true) read).1
 
 pub add-requires : goal.add-requires
 add-requires c = c.loop-number.invariant.pairs
@@ -45,10 +45,10 @@ pub loop-number-preserved : goal.loop-number-preserved
 loop-number-preserved c =
     let ns = c.args.pool.now in
     let i = c.loop-number.number-index in
-    let read = read_form ns (get_or c.args.terms.now i 0) c.args.reading c.term_form-form.result (c.in-Some.from, c.in-Some.place) c.term_form-form.ensures (sym c.in-Some.ensures) in
+    let read = read_form ns (get_or c.args.terms.now i 0) c.args.reading c.term_form-form.result (c.in-Some.from, c.in-Some.position) c.term_form-form.ensures (sym c.in-Some.ensures) in
     record {
       pairs = c.in_ok-add.ensures.pairs;
-      reads = read_taken ns c.args.classes.now c.args.reading c.args.terms.now i c.loop-number-test.true c.one_number.ensures c.in-Some.from c.in-Some.place c.class-of.ensures c.class-class.ensures read c.loop-number.invariant.reads c.in_ok-add.ensures.more;
+      reads = read_taken ns c.args.classes.now c.args.reading c.args.terms.now i c.loop-number-test.true c.one_number.ensures c.in-Some.from c.in-Some.position c.class-of.ensures c.class-class.ensures read c.loop-number.invariant.reads c.in_ok-add.ensures.more;
     }
 
 pub returns : goal.returns

@@ -3,7 +3,7 @@ use Rattle.syntax_tree.specs.ExpressionView.{unboxed}
 use Rattle.syntax_tree.specs.ExpressionData.{expression_size, maybe_expression_size, expressions_size, block_size, items_size, item_size, field_value_size, field_values_size, expressions_of, items_of, field_values_of, maybe_expression_of}
 use Rattle.body_names.specs.CodeNames.{entered_by_all}
 use Rattle.body_names.specs.CodeSetting.{setting}
-use Rattle.body_names.proofs.CodeRemainsLaws.{RemainsOf}
+use Rattle.body_names.proofs.CodeRemainsLaws.{RemainsOf, before_of}
 use Rattle.body_names.proofs.CodeListings.{code_listing, field_listing, item_listing}
 use Rattle.body_names.proofs.code.+resolve_code.Given as goal
 
@@ -24,6 +24,12 @@ decreases-resolve_plain_if l = 4 * (expression_size l.condition.now + expression
 
 abbrev pub decreases-resolve_branches : goal.decreases-resolve_branches
 decreases-resolve_branches l = 4 * (expression_size l.condition.now + expression_size l.then_branch.now + expression_size l.else_branch.now) + 1
+
+abbrev pub decreases-resolve_while : goal.decreases-resolve_while
+decreases-resolve_while l = 4 * (expression_size l.condition.now + expression_size l.body.now) + 2
+
+abbrev pub decreases-resolve_loop : goal.decreases-resolve_loop
+decreases-resolve_loop l = 4 * expression_size l.body.now + 2
 
 abbrev pub decreases-resolve_return : goal.decreases-resolve_return
 decreases-resolve_return l = 4 * maybe_expression_size (maybe_expression_of (unboxed l.value.now)) + 1
@@ -72,18 +78,18 @@ decreases-resolve_binding l = 4 * expression_size l.value.now + 1
 
 abbrev pub invariant-resolve_values-loop-value : goal.invariant-resolve_values-loop-value
 invariant-resolve_values-loop-value l = record {
-  remains : RemainsOf (code_listing (setting l.context) l.initial.into.scope) (length l.initial.into.locals) (length l.into.locals) l.values (drop l.value-index l.values) l.initial.into l.into l.parts;
+  remains : RemainsOf (code_listing (setting l.context)) (before_of l.initial.into.scope l.initial.into) (before_of l.initial.into.scope l.into) l.values (drop l.value-index l.values) l.initial.into l.into l.parts;
   scope : l.into.scope ≡ l.initial.into.scope;
 }
 
 abbrev pub invariant-resolve_fields-loop-field : goal.invariant-resolve_fields-loop-field
 invariant-resolve_fields-loop-field l = record {
-  remains : RemainsOf (field_listing (setting l.context) l.initial.into.scope) (length l.initial.into.locals) (length l.into.locals) l.fields (drop l.field-index l.fields) l.initial.into l.into l.parts;
+  remains : RemainsOf (field_listing (setting l.context)) (before_of l.initial.into.scope l.initial.into) (before_of l.initial.into.scope l.into) l.fields (drop l.field-index l.fields) l.initial.into l.into l.parts;
   scope : l.into.scope ≡ l.initial.into.scope;
 }
 
 abbrev pub invariant-resolve_items-loop-item : goal.invariant-resolve_items-loop-item
 invariant-resolve_items-loop-item l = record {
-  remains : RemainsOf (item_listing (setting l.context)) (record { scope = l.initial.into.scope; count = length l.initial.into.locals }) (record { scope = l.into.scope; count = length l.into.locals }) l.items (drop l.item-index l.items) l.initial.into l.into l.parts;
+  remains : RemainsOf (item_listing (setting l.context)) (before_of l.initial.into.scope l.initial.into) (before_of l.into.scope l.into) l.items (drop l.item-index l.items) l.initial.into l.into l.parts;
   scope : l.initial.into.scope ++ entered_by_all (length l.initial.into.locals) (items_of l.items) ≡ l.into.scope ++ entered_by_all (length l.into.locals) (items_of (drop l.item-index l.items));
 }

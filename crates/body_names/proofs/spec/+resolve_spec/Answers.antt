@@ -10,10 +10,12 @@ use Rattle.body_names.specs.SpecForms.{SpecTree, SpecTrees}
 use Rattle.body_names.specs.SpecSetting.{setting}
 use Rattle.body_names.specs.SpecNames.{entered_by, entered_by_all, variables_of, variables_of_bind, variables_of_binds, variables_of_trigger, variables_of_triggers}
 use Rattle.body_names.specs.SpecSpans.{spans_of, spans_of_trigger, spans_of_triggers}
-use Rattle.body_names.specs.SpecTrees.{bind_tree, bind_trees, binds_in, trigger_tree, trigger_trees, spec_tree, joined}
+use Rattle.body_names.specs.SpecTrees.{bind_tree, bind_trees, binds_in, trigger_tree, trigger_trees, spec_tree}
+use Rattle.body_names.specs.Joined.{joined}
 use Rattle.body_names.proofs.SpecAddedLaws.{parts-below}
-use Rattle.body_names.proofs.SpecJoinedLaws.{added-both, unknown-more, first-needed, second-needed, bound-count, both-count, same-spec, same-triggers}
-use Rattle.body_names.proofs.Listings.{Standing, trigger_listing, is_trigger_listing, bind_listing, is_bind_listing, entered-next, bound-next}
+use Rattle.body_names.proofs.SpecJoinedLaws.{added-both, bound-count, both-count, same-spec, same-triggers}
+use Rattle.body_names.proofs.JoinedLaws.{unknown-more, first-needed, second-needed}
+use Rattle.body_names.proofs.Listings.{BoundNames, trigger_listing, is_trigger_listing, bind_listing, is_bind_listing, entered-next, bound-next}
 use Rattle.body_names.proofs.SpecRemainsLaws.{head-of, listed-less, listed-needs}
 use Rattle.body_names.proofs.spec.+resolve_spec.Goals as goal
 
@@ -185,9 +187,9 @@ resolve_binds-loop-bind-preserved t c =
     let i = c.loop-bind.bind-index in
     let x = c.bind-item.result in
     let m = length now.variables in
-    let a : Standing = record { scope = old.scope; count = length old.variables } in
-    let b : Standing = record { scope = now.scope; count = m } in
-    let d : Standing = record { scope = new.scope; count = length new.variables } in
+    let a : BoundNames = record { scope = old.scope; count = length old.variables } in
+    let b : BoundNames = record { scope = now.scope; count = m } in
+    let d : BoundNames = record { scope = new.scope; count = length new.variables } in
     let one = c.in_ok-resolve_bind.ensures.added in
     let scope_is : now.scope ++ entered_by m x ≡ new.scope = sym c.in_ok-resolve_bind.ensures.scope in
     let count_is : m + length (variables_of_bind x) ≡ length new.variables = sym (bound-count now new (variables_of_bind x) one.variables) in
@@ -210,8 +212,8 @@ resolve_binds-returns-in_err-resolve_bind-clause-unknown t c =
     let n = length old.variables in
     let m = length now.variables in
     let fault = c.in_err-resolve_bind.field-0.0 in
-    let a : Standing = record { scope = old.scope; count = n } in
-    let b : Standing = record { scope = now.scope; count = m } in
+    let a : BoundNames = record { scope = old.scope; count = n } in
+    let b : BoundNames = record { scope = now.scope; count = m } in
     let P : Type 0 = AreSound (bind_tree w now.scope m x) → ⊥ in
     let Q : Type 0 = AreSound (bind_trees w old.scope n (binds_of xs)) → ⊥ in
     let needs : P → Q = λ f s. f (listed-needs (bind_listing w) (is_bind_listing w) a b xs i x old now c.args.parts.now c.loop-bind.parts c.loop-bind-test.true c.bind-item.is c.loop-bind.invariant.remains s) in

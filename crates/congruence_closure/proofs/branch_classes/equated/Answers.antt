@@ -1,5 +1,6 @@
 use Rattle.std.proofs.Common.{nat_eq}
 use Rattle.indexmap.specs.IndexMap.{get}
+use Rattle.congruence_closure.specs.Known.{NoEquation}
 use Rattle.congruence_closure.proofs.WalkLemmas.{pair_within}
 use Rattle.congruence_closure.proofs.OverLemmas.{equated_by, none_put, sides_put, equation_known}
 use Rattle.congruence_closure.proofs.branch_classes.equated.Goals as goal
@@ -21,3 +22,11 @@ returns-in_ok-right-in-Some-clause-sides c = sides_put c.args.pool.now c.args.nu
 
 pub returns-in-None-clause-sides : goal.returns-in-None-clause-sides
 returns-in-None-clause-sides c = none_put c.args.pool.now c.node_of.new.nodes.classes.nodes c.node_of.new.nodes.numbers.items c.args.number c.args.before.classes.equations c.node_of.new.nodes.classes.equations c.in_ok-node_of.ensures.equations
+
+pub returns-in-None-clause-equated : goal.returns-in-None-clause-equated
+returns-in-None-clause-equated c = record {
+  node = c.in_ok-node_of.field-0;
+  walked = c.in_ok-node_of.ensures.walked;
+  found = c.in_ok-node_of.ensures.found;
+  equations = NoEquation c.in_ok-node_of.ensures.equations c.in-None.ensures.none;
+}

@@ -7,7 +7,7 @@ use Rattle.declaration_cycles.specs.Circular.{schema_kind}
 use Rattle.declaration_cycles.specs.Naming.{schemas_included}
 use Rattle.declaration_cycles.specs.Within.{IsWithin}
 use Rattle.declaration_cycles.proofs.Bounds.{kind_within}
-use Rattle.declaration_cycles.proofs.FirstPlaces.{verdict}
+use Rattle.declaration_cycles.proofs.FirstSpans.{verdict}
 use Rattle.declaration_cycles.proofs.first.first_schema.Goals as goal
 
 pub all_back-requires : goal.all_back-requires
@@ -20,10 +20,10 @@ all_back-requires c =
 pub returns : goal.returns
 returns c =
     let p = c.args.program.now in
-    verdict (schema_kind p) (length p.schemas) c.as_slice.result.now c.in_ok-numbers.numbers.items c.as_slice-2.result.now c.first_place.result
+    verdict (schema_kind p) (length p.schemas) c.as_slice.result.now c.in_ok-numbers.numbers.items c.as_slice-2.result.now c.first_span.result
     (kind_within same_schema p.schemas schemas_included p.schemas)
     (length-map p.schemas _)
     (c.as_slice.ensures.value ∙ c.in_ok-edges.ensures)
     c.as_slice-2.ensures.value
     c.in_ok-numbers.ensures
-    c.first_place.ensures
+    c.first_span.ensures

@@ -7,7 +7,7 @@ use Rattle.declaration_cycles.specs.Circular.{spec_function_kind}
 use Rattle.declaration_cycles.specs.Naming.{functions_called}
 use Rattle.declaration_cycles.specs.Within.{IsWithin}
 use Rattle.declaration_cycles.proofs.Bounds.{kind_within}
-use Rattle.declaration_cycles.proofs.FirstPlaces.{verdict}
+use Rattle.declaration_cycles.proofs.FirstSpans.{verdict}
 use Rattle.declaration_cycles.proofs.first.first_spec_function.Goals as goal
 
 pub all_back-requires : goal.all_back-requires
@@ -20,10 +20,10 @@ all_back-requires c =
 pub returns : goal.returns
 returns c =
     let p = c.args.program.now in
-    verdict (spec_function_kind p) (length p.spec_functions) c.as_slice.result.now c.in_ok-numbers.numbers.items c.as_slice-2.result.now c.first_place.result
+    verdict (spec_function_kind p) (length p.spec_functions) c.as_slice.result.now c.in_ok-numbers.numbers.items c.as_slice-2.result.now c.first_span.result
     (kind_within same_function p.spec_functions functions_called p.spec_functions)
     (length-map p.spec_functions _)
     (c.as_slice.ensures.value ∙ c.in_ok-edges.ensures)
     c.as_slice-2.ensures.value
     c.in_ok-numbers.ensures
-    c.first_place.ensures
+    c.first_span.ensures

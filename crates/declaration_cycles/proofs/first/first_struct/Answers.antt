@@ -7,7 +7,7 @@ use Rattle.declaration_cycles.specs.Circular.{struct_kind}
 use Rattle.declaration_cycles.specs.Naming.{structs_of_fields}
 use Rattle.declaration_cycles.specs.Within.{IsWithin}
 use Rattle.declaration_cycles.proofs.Bounds.{kind_within}
-use Rattle.declaration_cycles.proofs.FirstPlaces.{verdict}
+use Rattle.declaration_cycles.proofs.FirstSpans.{verdict}
 use Rattle.declaration_cycles.proofs.first.first_struct.Goals as goal
 
 pub all_back-requires : goal.all_back-requires
@@ -20,10 +20,10 @@ all_back-requires c =
 pub returns : goal.returns
 returns c =
     let p = c.args.program.now in
-    verdict (struct_kind p) (length p.structs) c.as_slice.result.now c.in_ok-numbers.numbers.items c.as_slice-2.result.now c.first_place.result
+    verdict (struct_kind p) (length p.structs) c.as_slice.result.now c.in_ok-numbers.numbers.items c.as_slice-2.result.now c.first_span.result
     (kind_within same_struct p.structs structs_of_fields p.structs)
     (length-map p.structs _)
     (c.as_slice.ensures.value ∙ c.in_ok-edges.ensures)
     c.as_slice-2.ensures.value
     c.in_ok-numbers.ensures
-    c.first_place.ensures
+    c.first_span.ensures

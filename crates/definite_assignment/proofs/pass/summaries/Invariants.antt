@@ -3,8 +3,8 @@ use Rattle.typing_rules.specs.Pieces.{pieces}
 use Rattle.definite_assignment.specs.Summaries.{AllStand}
 use Rattle.definite_assignment.proofs.pass.summaries.Given as goal
 
-abbrev pub invariant-loop-place : goal.invariant-loop-place
-invariant-loop-place l = record {
-  stand : AllStand l.base l.found.items (pieces l.types (take l.place l.body.nodes));
-  count : length l.found.items ≡ l.place;
+abbrev pub invariant-loop-index : goal.invariant-loop-index
+invariant-loop-index l = record {
+  stand : AllStand l.base l.found.items (pieces l.types (take l.index l.body.nodes));
+  count : length l.found.items ≡ l.index;
 }

@@ -4,7 +4,7 @@ use Rattle.ematching.proofs.rows.candidates.Goals as goal
 
 pub returns-then-is_bound : goal.returns-then-is_bound
 returns-then-is_bound c =
-    if_ok c.all_held.result (λ x h. all_candidates c.args.pool.now c.one_number.ensures c.args.branch.now c.requires.over c.args.bound.now c.args.pattern x.items h) c.all_held.ensures
+    if_ok c.terms.result (λ x h. all_candidates c.args.pool.now c.one_number.ensures c.args.branch.now c.requires.over c.args.bound.now c.args.pattern x.items h) c.terms.ensures
 
 pub returns : goal.returns
 returns c =

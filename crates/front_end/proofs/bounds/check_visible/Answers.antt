@@ -11,8 +11,8 @@ pub returns-in-Some : goal.returns-in-Some
 returns-in-Some c =
     subst (λ fault. IfInFile fault (HasBarred c.args.program.now)) (sym c.breaks.ensures)
     (record {
-      place = c.in-Some.place;
+      span = c.in-Some.span;
       file_is = refl;
       fault_is = refl;
-      first = visible_or_first c.args.program.now c.in_ok-named.named c.in_ok-typed.typed (Some c.in-Some.place) c.in_ok-named.ensures c.in_ok-typed.ensures c.in-Some.ensures;
+      first = visible_or_first c.args.program.now c.in_ok-named.named c.in_ok-typed.typed (Some c.in-Some.span) c.in_ok-named.ensures c.in_ok-typed.ensures c.in-Some.ensures;
     })

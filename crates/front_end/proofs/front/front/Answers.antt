@@ -4,7 +4,7 @@ use Rattle.front_end.specs.FileFault.{IfInFile}
 use Rattle.front_end.specs.Named.{named}
 use Rattle.front_end.specs.Program.{name_stages, rule_stages, source_stages}
 use Rattle.front_end.proofs.FaultLemmas.{gives_none, hands_on}
-use Rattle.front_end.proofs.NameLaws.{no_schema_circle}
+use Rattle.front_end.proofs.NameLaws.{no_schema_cycle}
 use Rattle.front_end.proofs.StageLaws.{source_keeps}
 use Rattle.front_end.proofs.front.front.Goals as goal
 
@@ -28,7 +28,7 @@ pub returns-in_err-program-clause-typed : goal.returns-in_err-program-clause-typ
 returns-in_err-program-clause-typed c = gives_none c.from_residual-in_err-program.result _ _ c.from_residual-in_err-program.ensures.1
 
 pub typed_program_of-requires : goal.typed_program_of-requires
-typed_program_of-requires c = no_schema_circle c.as_slice.result.now (named c.as_slice.result.now c.in_ok-program.program) c.in_ok-program.ensures
+typed_program_of-requires c = no_schema_cycle c.as_slice.result.now (named c.as_slice.result.now c.in_ok-program.program) c.in_ok-program.ensures
 
 pub returns-in_err-typed-clause-rules : goal.returns-in_err-typed-clause-rules
 returns-in_err-typed-clause-rules c =

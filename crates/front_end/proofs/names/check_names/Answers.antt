@@ -24,17 +24,17 @@ returns-in_err-check_visible c =
     hands_on c.from_residual-in_err-check_visible.result _ _ _ (name_stages.Stops c.args.sources.now) c.from_residual-in_err-check_visible.ensures.1
     (λ file fault stops. at_first (at_second given once stops)) c.in_err-check_visible.ensures
 
-pub returns-in_err-check_circles : goal.returns-in_err-check_circles
-returns-in_err-check_circles c =
+pub returns-in_err-check_cycles : goal.returns-in_err-check_cycles
+returns-in_err-check_cycles c =
     let given = named c.args.sources.now c.in_ok-program.program in
     let once : (known_stage ▷ twice_stage).Gives c.args.sources.now given = record { between = given; first = c.in_ok-program.ensures; second = (refl, c.in_ok-check_twice.ensures) } in
     let seen : (known_stage ▷ twice_stage ▷ visible_stage).Gives c.args.sources.now given = record { between = given; first = once; second = (refl, c.in_ok-check_visible.ensures) } in
-    hands_on c.from_residual-in_err-check_circles.result _ _ _ (name_stages.Stops c.args.sources.now) c.from_residual-in_err-check_circles.ensures.1
-    (λ file fault stops. at_second given seen stops) c.in_err-check_circles.ensures
+    hands_on c.from_residual-in_err-check_cycles.result _ _ _ (name_stages.Stops c.args.sources.now) c.from_residual-in_err-check_cycles.ensures.1
+    (λ file fault stops. at_second given seen stops) c.in_err-check_cycles.ensures
 
 pub returns : goal.returns
 returns c =
     let given = named c.args.sources.now c.in_ok-program.program in
     let once : (known_stage ▷ twice_stage).Gives c.args.sources.now given = record { between = given; first = c.in_ok-program.ensures; second = (refl, c.in_ok-check_twice.ensures) } in
     let seen : (known_stage ▷ twice_stage ▷ visible_stage).Gives c.args.sources.now given = record { between = given; first = once; second = (refl, c.in_ok-check_visible.ensures) } in
-    record { between = given; first = seen; second = (refl, c.in_ok-check_circles.ensures) }
+    record { between = given; first = seen; second = (refl, c.in_ok-check_cycles.ensures) }

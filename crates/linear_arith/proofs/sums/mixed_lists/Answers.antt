@@ -96,7 +96,7 @@ returns-in_default c =
     record {
       some = tt;
       none = record {
-        place = k + n;
+        position = k + n;
         is_within = omega (arith, c.requires);
         leaves = λ fits. known.none (subst (λ (z : ℤ). MixFits c.args.weights.first c.args.weights.second z c.next-in-loop-k.result) (sym l) (subst (λ (z : ℤ). MixFits c.args.weights.first c.args.weights.second (number (k + n) first) z) (sym r) fits));
       };

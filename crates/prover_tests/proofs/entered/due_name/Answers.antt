@@ -1,6 +1,6 @@
 use Rattle.tableau.proofs.EntryLemmas.{still_over}
 use Rattle.tableau.specs.PoolBranches.{branch_in}
-use Rattle.prover_tests.proofs.StandingLemmas.{when_ok, no_name_yet}
+use Rattle.prover_tests.proofs.PresentLemmas.{when_ok, no_name_yet}
 use Rattle.prover_tests.proofs.entered.due_name.Goals as goal
 
 pub next_name-requires-clause-before : goal.next_name-requires-clause-before

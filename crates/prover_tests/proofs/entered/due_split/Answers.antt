@@ -1,6 +1,6 @@
 use Rattle.tableau.proofs.EntryLemmas.{still_over}
 use Rattle.tableau.specs.PoolBranches.{branch_in}
-use Rattle.prover_tests.proofs.StandingLemmas.{no_split_yet}
+use Rattle.prover_tests.proofs.PresentLemmas.{no_split_yet}
 use Rattle.prover_tests.proofs.entered.due_split.Goals as goal
 
 pub next_split-requires-clause-before : goal.next_split-requires-clause-before

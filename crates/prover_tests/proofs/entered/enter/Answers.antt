@@ -1,5 +1,5 @@
 use Rattle.tableau.proofs.EntryLemmas.{still_over}
-use Rattle.prover_tests.proofs.StandingLemmas.{formula_number, when_ok, above_entered}
+use Rattle.prover_tests.proofs.PresentLemmas.{formula_number, when_ok, above_entered}
 use Rattle.prover_tests.proofs.entered.enter.Goals as goal
 
 pub push-requires-clause-over : goal.push-requires-clause-over

@@ -1,5 +1,5 @@
 use Rattle.tableau.proofs.EntryLemmas.{still_over}
-use Rattle.prover_tests.proofs.StandingLemmas.{formula_number}
+use Rattle.prover_tests.proofs.PresentLemmas.{formula_number}
 use Rattle.prover_tests.proofs.entered.first.Goals as goal
 
 pub first-requires-clause-over : goal.first-requires-clause-over

@@ -1,5 +1,5 @@
 use Rattle.tableau.proofs.EntryLemmas.{still_over}
-use Rattle.prover_tests.proofs.StandingLemmas.{term_number}
+use Rattle.prover_tests.proofs.PresentLemmas.{term_number}
 use Rattle.prover_tests.proofs.entered.generation.Goals as goal
 
 pub generation-requires-clause-over : goal.generation-requires-clause-over

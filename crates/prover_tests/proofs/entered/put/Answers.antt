@@ -1,4 +1,4 @@
-use Rattle.prover_tests.proofs.StandingLemmas.{term_part}
+use Rattle.prover_tests.proofs.PresentLemmas.{term_part}
 use Rattle.prover_tests.proofs.entered.put.Goals as goal
 
 pub put_in-requires-clause-term : goal.put_in-requires-clause-term

@@ -1,5 +1,5 @@
 use Rattle.std.proofs.Common.{◌≡◌, length}
 use Rattle.prover_tests.proofs.structs.fields.Given as goal
 
-abbrev pub invariant-loop-place : goal.invariant-loop-place
-invariant-loop-place l = length l.items.items ≡ l.place
+abbrev pub invariant-loop-position : goal.invariant-loop-position
+invariant-loop-position l = length l.items.items ≡ l.position

@@ -1,17 +1,17 @@
 use Rattle.std.proofs.lemmas.Result.{err_from_is_err_and}
 use Rattle.scopes.specs.Meanings.{IfUnknown}
-use Rattle.body_names.proofs.SpecJoinedLaws.{unknown-more}
+use Rattle.body_names.proofs.JoinedLaws.{unknown-more}
 use Rattle.resolution.specs.Clauses.{HasUnknownBehind, placed, placed_one}
 use Rattle.resolution.specs.Setting.{scope_of}
 use Rattle.resolution.proofs.ClauseLaws.{block_next, block_unknown}
 use Rattle.resolution.proofs.clauses.resolve_block.Goals as goal
 
 pub loop-tree-preserved : goal.loop-tree-preserved
-loop-tree-preserved c = block_next (scope_of c.args.place.now) c.args.block c.args.trees.now c.loop-tree.tree-index c.tree-item.result c.args.into.now c.loop-tree.into c.resolve_next.new.into c.loop-tree-test.true c.tree-item.is c.loop-tree.invariant c.in_ok-resolve_next.ensures.added
+loop-tree-preserved c = block_next (scope_of c.args.context.now) c.args.block c.args.trees.now c.loop-tree.tree-index c.tree-item.result c.args.into.now c.loop-tree.into c.resolve_next.new.into c.loop-tree-test.true c.tree-item.is c.loop-tree.invariant c.in_ok-resolve_next.ensures.added
 
 pub returns-in_err-resolve_next-clause-unknown : goal.returns-in_err-resolve_next-clause-unknown
 returns-in_err-resolve_next-clause-unknown c =
-    let w = scope_of c.args.place.now in
+    let w = scope_of c.args.context.now in
     let old = c.args.into.now in
     let now = c.loop-tree.into in
     let xs = c.args.trees.now in

@@ -1,7 +1,7 @@
 use Rattle.std.proofs.lemmas.Result.{err_from_is_err_and}
 use Rattle.scopes.specs.Meanings.{IfUnknown}
 use Rattle.std.proofs.Common.{[], ◌∷◌}
-use Rattle.body_names.proofs.CodeJoinedLaws.{unknown-more}
+use Rattle.body_names.proofs.JoinedLaws.{unknown-more}
 use Rattle.resolution.specs.Clauses.{placed}
 use Rattle.resolution.specs.Setting.{scope_of}
 use Rattle.resolution.specs.Items.{HasUnknownInOne}
@@ -10,11 +10,11 @@ use Rattle.resolution.proofs.functions.add_block.Goals as goal
 
 pub loop-tree-preserved : goal.loop-tree-preserved
 loop-tree-preserved c =
-    block_next (scope_of c.args.place.now) c.args.outer.now c.args.at c.args.block c.args.trees.now c.loop-tree.tree-index c.tree-item.result c.args.into.now c.loop-tree.into c.add_clause.new.into c.loop-tree-test.true c.tree-item.is c.loop-tree.invariant c.in_ok-add_clause.ensures.added
+    block_next (scope_of c.args.context.now) c.args.outer.now c.args.at c.args.block c.args.trees.now c.loop-tree.tree-index c.tree-item.result c.args.into.now c.loop-tree.into c.add_clause.new.into c.loop-tree-test.true c.tree-item.is c.loop-tree.invariant c.in_ok-add_clause.ensures.added
 
 pub returns-in_err-add_clause-clause-unknown : goal.returns-in_err-add_clause-clause-unknown
 returns-in_err-add_clause-clause-unknown c =
-    let scope = scope_of c.args.place.now in
+    let scope = scope_of c.args.context.now in
     let outer = c.args.outer.now in
     let block = c.args.block in
     let tree = c.tree-item.result in

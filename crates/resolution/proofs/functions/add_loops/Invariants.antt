@@ -4,4 +4,4 @@ use Rattle.resolution.proofs.LoopLaws.{LoopsSoFar}
 use Rattle.resolution.proofs.functions.add_loops.Given as goal
 
 abbrev pub invariant-loop-index : goal.invariant-loop-index
-invariant-loop-index l = LoopsSoFar (scope_of l.place) l.outcome (zip l.scopes l.loops) (zip (drop l.index l.scopes) (drop l.index l.loops)) l.initial.into l.into
+invariant-loop-index l = LoopsSoFar (scope_of l.context) l.outcome (zip l.scopes l.loops) (zip (drop l.index l.scopes) (drop l.index l.loops)) l.initial.into l.into

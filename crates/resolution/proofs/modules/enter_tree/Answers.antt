@@ -1,7 +1,7 @@
 use Rattle.std.proofs.Common.{◌≡◌, Some, sym, ap, subst, ◌∙◌}
 use Rattle.syntax_tree.specs.SourceModuleData.{SourceModuleData}
 use Rattle.scopes.specs.Meanings.{module_meaning}
-use Rattle.resolution.specs.declared.fault.PlaceFault.{PlaceFault}
+use Rattle.resolution.specs.declared.fault.DeclarationFault.{DeclarationFault}
 use Rattle.resolution.specs.Faults.{IsFaultAmong}
 use Rattle.resolution.specs.Items.{AreKnown, items_in, module_items}
 use Rattle.resolution.specs.Known.{KnownData}
@@ -22,8 +22,8 @@ returns-in-Ok-clause-unknown c =
     let env = c.args.environment.now in
     let m = c.args.tree.now in
     let known = c.args.known.now in
-    let P : PlaceFault → Type 0 = λ fault. (k : KnownData) → IsWithin k env → IsKnown k known → IsFaultAmong (items_in k m (Some c.in-Ok.own)) fault in
-    let Q : PlaceFault → Type 0 = λ fault. (k : KnownData) → IsWithin k env → IsKnown k known → IsFaultAmong (module_items k m) fault in
+    let P : DeclarationFault → Type 0 = λ fault. (k : KnownData) → IsWithin k env → IsKnown k known → IsFaultAmong (items_in k m (Some c.in-Ok.own)) fault in
+    let Q : DeclarationFault → Type 0 = λ fault. (k : KnownData) → IsWithin k env → IsKnown k known → IsFaultAmong (module_items k m) fault in
     if_err c.enter_own.result P Q (λ fault h k within is_known.
     let meaning : module_meaning k.environment m.name ≡ Some c.in-Ok.own = sym (same_module_meaning k env m.name within) ∙ ap (λ (x : SourceModuleData). module_meaning env x.name) (sym c.tree.view_is) ∙ c.in-Ok.ensures in
     subst (λ o. IsFaultAmong (items_in k m o) fault) (sym meaning) (h k within is_known)) c.enter_own.ensures.unknown

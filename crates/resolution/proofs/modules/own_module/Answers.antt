@@ -7,7 +7,7 @@ use Rattle.resolution.proofs.modules.own_module.Goals as goal
 
 pub returns-clause-entered : goal.returns-clause-entered
 returns-clause-entered c =
-    let w = here_of c.args.place.now in
+    let w = here_of c.args.context.now in
     let parts = c.in_ok-parts.ensures.parts in
     let owners = c.in_ok-parts.ensures.owners in
     let settings = c.settings_of_module-of_module.ensures in
@@ -16,4 +16,4 @@ returns-clause-entered c =
     let friends = c.in_ok-parts.ensures.friends ∙ ap (λ fs. fs ++ filter_map (friend_of_member w) w.members) c.new-friends.ensures in
     both_entered (declarations_from w 0 w.members) (ModuleTree w c.args.at ∷ []) c.args.program.now c.enter_parts.new.program c.put_into.new.program members
     (one_entered (ModuleTree w c.args.at) _ c.enter_parts.new.program c.put_into.new.program
-    (record { id_is = c.in_ok-id.ensures ∙ c.own.ensures; place_is = refl; friends = friends; clauses = clauses }) c.in_ok-put_into.ensures)
+    (record { id_is = c.in_ok-id.ensures ∙ c.own.ensures; span_is = refl; friends = friends; clauses = clauses }) c.in_ok-put_into.ensures)

@@ -1,7 +1,7 @@
 use Rattle.std.proofs.Common.{◌≡◌, ◌<◌, Some, length, take, get_or, sym, ap, subst, ◌∙◌, arith}
 use Rattle.std.proofs.lemmas.Result.{err_from_is_err_and}
 use Rattle.scopes.specs.Meanings.{IfUnknown}
-use Rattle.body_names.proofs.CodeJoinedLaws.{unknown-more}
+use Rattle.body_names.proofs.JoinedLaws.{unknown-more}
 use Rattle.resolution.specs.Items.{HasUnknownInOwned, HasUnknownOf}
 use Rattle.resolution.specs.Owners.{HasUnknownInBlock, member_numbers, module_scope, owner_of}
 use Rattle.resolution.specs.OwnersSoFar.{blocks_before, scopes_of}
@@ -11,7 +11,7 @@ use Rattle.resolution.proofs.parts.add_owned.Goals as goal
 
 pub index_mut-owner-requires : goal.index_mut-owner-requires
 index_mut-owner-requires c =
-    let w = here_of c.args.place.now in
+    let w = here_of c.args.context.now in
     let spec = c.args.spec.now in
     let e : owner_of (member_numbers w.members) (length w.members) spec ≡ Some c.in-Some.index = ap (λ ns. owner_of ns (length w.members) spec) (sym c.requires.numbers.are) ∙ sym c.in_ok-index.ensures ∙ c.in-Some.is in
     let h = owner_below w.members spec c.in-Some.index e in
@@ -20,7 +20,7 @@ index_mut-owner-requires c =
 
 pub returns-clause-added : goal.returns-clause-added
 returns-clause-added c =
-    let w = here_of c.args.place.now in
+    let w = here_of c.args.context.now in
     let spec = c.args.spec.now in
     let k = c.in-Some.index in
     let first = take c.args.number w.members in
@@ -36,7 +36,7 @@ returns-clause-added c =
 
 pub returns-clause-known : goal.returns-clause-known
 returns-clause-known c = λ u.
-    let w = here_of c.args.place.now in
+    let w = here_of c.args.context.now in
     let spec = c.args.spec.now in
     let k = c.in-Some.index in
     let first = take c.args.number w.members in
@@ -52,7 +52,7 @@ returns-clause-known c = λ u.
 
 pub returns-in_err-add_to_owner-clause-unknown : goal.returns-in_err-add_to_owner-clause-unknown
 returns-in_err-add_to_owner-clause-unknown c =
-    let w = here_of c.args.place.now in
+    let w = here_of c.args.context.now in
     let spec = c.args.spec.now in
     let k = c.in-Some.index in
     let first = take c.args.number w.members in

@@ -12,7 +12,7 @@ use Rattle.resolution.proofs.parts.own_form.Goals as goal
 
 pub returns-in_err-own_function-in-Function-clause-unknown : goal.returns-in_err-own_function-in-Function-clause-unknown
 returns-in_err-own_function-in-Function-clause-unknown c =
-    let w = here_of c.args.place.now in
+    let w = here_of c.args.context.now in
     let first = take c.args.number w.members in
     let fault = c.in_err-own_function-in-Function.field-0.0 in
     let g = subst (λ form. IsFaultAmong (form_items w first form c.args.loops.now) fault) (sym c.in-Function.is) (c.in_err-own_function-in-Function.ensures.unknown first) in
@@ -21,7 +21,7 @@ returns-in_err-own_function-in-Function-clause-unknown c =
 
 pub returns-in_ok-own_function-in-Function-clause-made : goal.returns-in_ok-own_function-in-Function-clause-made
 returns-in_ok-own_function-in-Function-clause-made c =
-    let w = here_of c.args.place.now in
+    let w = here_of c.args.context.now in
     let first = take c.args.number w.members in
     let loops = c.args.loops.now in
     let d = c.in_ok-own_function-in-Function.field-0 in
@@ -35,17 +35,17 @@ returns-in_ok-own_function-in-Function-clause-made c =
 
 pub returns-in_ok-own_function-in-Function-clause-owners : goal.returns-in_ok-own_function-in-Function-clause-owners
 returns-in_ok-own_function-in-Function-clause-owners c = λ m e.
-    let w = here_of c.args.place.now in
+    let w = here_of c.args.context.now in
     owners_without w (take c.args.number w.members) m c.args.owners.now.items (λ n. ap (block_of (member_numbers w.members) (length w.members) n) (e ∙ c.in-Function.is)) c.requires.owners
 
 pub returns-in-Ok-clause-owners : goal.returns-in-Ok-clause-owners
 returns-in-Ok-clause-owners c = λ m e.
-    let w = here_of c.args.place.now in
+    let w = here_of c.args.context.now in
     owners_with w (take c.args.number w.members) m c.in-Spec.spec c.own_spec.new.owners.items (e ∙ c.in-Spec.is) c.in-Ok.ensures.added
 
 pub returns-in-Ok-own_simple : goal.returns-in-Ok-own_simple
 returns-in-Ok-own_simple c =
-    let w = here_of c.args.place.now in
+    let w = here_of c.args.context.now in
     let first = take c.args.number w.members in
     let form = c.args.form.now in
     let simple = c.in-Ok-own_simple.ensures.simple in

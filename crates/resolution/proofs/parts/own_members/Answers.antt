@@ -15,7 +15,7 @@ use Rattle.resolution.proofs.parts.own_members.Goals as goal
 
 pub returns-in_err-part-clause-unknown : goal.returns-in_err-part-clause-unknown
 returns-in_err-part-clause-unknown c =
-    let w = here_of c.args.place.now in
+    let w = here_of c.args.context.now in
     let ms = w.members in
     let i = c.loop-number.number in
     let m = c.member-item.result in
@@ -29,7 +29,7 @@ returns-in_err-part-clause-unknown c =
 
 pub loop-number-preserved : goal.loop-number-preserved
 loop-number-preserved c =
-    let w = here_of c.args.place.now in
+    let w = here_of c.args.context.now in
     let ms = w.members in
     let i = c.loop-number.number in
     let m = c.member-item.result in

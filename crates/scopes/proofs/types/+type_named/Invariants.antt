@@ -14,4 +14,4 @@ abbrev pub decreases-types_named : goal.decreases-types_named
 decreases-types_named l = source_types_size (source_types_of l.sources.now)
 
 abbrev pub invariant-types_named-loop-source : goal.invariant-types_named-loop-source
-invariant-types_named-loop-source l = each (type_meaning (record { environment = l.place.environment.now; parameters = l.place.parameters.now; is_spec = l.place.is_spec })) (take l.source-index l.sources) ≡ Some l.items.items
+invariant-types_named-loop-source l = each (type_meaning (record { environment = l.context.environment.now; parameters = l.context.parameters.now; is_spec = l.context.is_spec })) (take l.source-index l.sources) ≡ Some l.items.items

@@ -1,7 +1,7 @@
 use Rattle.std.proofs.Common.{ap, subst, ◌∙◌, ◌++◌, take}
 use Rattle.syntax_tree.specs.SourceData.{SourceMemberData}
 use Rattle.sum_read.specs.FormFault.{IfNotBuilt}
-use Rattle.syntax_tree.specs.Places.{form_place}
+use Rattle.syntax_tree.specs.Spans.{form_span}
 use Rattle.base.specs.Names.{IsSetOf}
 use Rattle.sum_module.specs.Members.{name_of_form, IsMember, IsUnbuilt}
 use Rattle.sum_module.proofs.MemberLemmas.{reading_more, reading_stops}
@@ -12,9 +12,9 @@ returns-in-Err-NotBuilt c =
     let members = c.args.members.now in
     let i = c.loop-member.member-index in
     let form = ap (λ (m : SourceMemberData). m.form) c.member.view_is ∙ ap (λ (m : SourceMemberData). m.form) c.member-item.is in
-    reading_stops members c.in_ok-parameters.parameters.table i c.member-item.result c.loop-member.seen c.loop-member.found.items c.form_place.result.start c.loop-member-test.true c.loop-member.invariant
+    reading_stops members c.in_ok-parameters.parameters.table i c.member-item.result c.loop-member.seen c.loop-member.found.items c.form_span.result.start c.loop-member-test.true c.loop-member.invariant
     (subst (IsUnbuilt members (take i members)) form (subst (λ fault. IfNotBuilt fault (IsUnbuilt members (take i members) c.member.inside.form)) c.in-Err-NotBuilt.field-0-is (c.in-Err-NotBuilt.ensures members (take i members) c.loop-member.invariant.table_is c.loop-member.invariant.seen_is)))
-    (ap (λ p. p.start) (c.form_place.ensures ∙ ap form_place form))
+    (ap (λ p. p.start) (c.form_span.ensures ∙ ap form_span form))
 
 pub loop-member-preserved : goal.loop-member-preserved
 loop-member-preserved c =

@@ -10,5 +10,5 @@ returns-in_err-members c =
     let is : address_of c.args.source_module.now.name.address ≡ Some c.in-Some.address = search rules in
     let members = c.deref.ensures.value ∙ ap (λ (m : SourceModuleData). m.members) c.source_module.view_is in
     hands_on c.from_residual.result _ _ _ (IsUnbuiltAt c.args.source_module.now) c.from_residual.ensures.1
-    (λ place first. inr (record { address = c.in-Some.address; address_is = is; first = first }))
+    (λ offset first. inr (record { address = c.in-Some.address; address_is = is; first = first }))
     (subst (λ ms. IfNotBuiltAt c.in_err-members.field-0.0 (IsFirstUnbuilt ms)) members c.in_err-members.ensures)

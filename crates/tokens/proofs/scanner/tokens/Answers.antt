@@ -57,7 +57,7 @@ loop-at-preserved c =
 pub returns-in_default-clause-bad_token : goal.returns-in_default-clause-bad_token
 returns-in_default-clause-bad_token c =
     let bad = progress_bad _ _ _ _ _ _ c.loop-at.invariant c.loop-at-test.true (at_rest c.args.bytes.now c.loop-at.at _ c.in_default.ensures) in
-    λ place h. bad_says c.args.file c.loop-at.at c.args.bytes.now bad place (let e : c.loop-at.at ≡ place = cc in e)
+    λ offset h. bad_says c.args.file c.loop-at.at c.args.bytes.now bad offset (let e : c.loop-at.at ≡ offset = cc in e)
 
 pub returns-in_default-clause-spelled : goal.returns-in_default-clause-spelled
 returns-in_default-clause-spelled c =
@@ -69,10 +69,10 @@ returns-in_default-clause-spelled_long c =
     let bad = progress_bad _ _ _ _ _ _ c.loop-at.invariant c.loop-at-test.true (at_rest c.args.bytes.now c.loop-at.at _ c.in_default.ensures) in
     λ found spelled many. absurd (bad_unspelled _ _ _ bad found spelled)
 
-pub returns-in_default-clause-bad_place : goal.returns-in_default-clause-bad_place
-returns-in_default-clause-bad_place c =
+pub returns-in_default-clause-bad_offset : goal.returns-in_default-clause-bad_offset
+returns-in_default-clause-bad_offset c =
     let bad = progress_bad _ _ _ _ _ _ c.loop-at.invariant c.loop-at-test.true (at_rest c.args.bytes.now c.loop-at.at _ c.in_default.ensures) in
-    λ place other. bad_only c.args.file c.loop-at.at c.args.bytes.now bad place other
+    λ offset other. bad_only c.args.file c.loop-at.at c.args.bytes.now bad offset other
 
 -- the scan is at the end, with too many tokens
 pub returns-then-count-gt-TOKEN_LIMIT-clause-too_many : goal.returns-then-count-gt-TOKEN_LIMIT-clause-too_many
@@ -89,9 +89,9 @@ pub returns-then-count-gt-TOKEN_LIMIT-clause-spelled_long : goal.returns-then-co
 returns-then-count-gt-TOKEN_LIMIT-clause-spelled_long c =
     λ found spelled many. inl (ap (λ n. Err (TooMany n)) (many_only _ _ _ _ _ _ c.loop-at.invariant c.loop-at-test.false found spelled))
 
-pub returns-then-count-gt-TOKEN_LIMIT-clause-bad_place : goal.returns-then-count-gt-TOKEN_LIMIT-clause-bad_place
-returns-then-count-gt-TOKEN_LIMIT-clause-bad_place c =
-    λ place bad. absurd (bad_unspelled c.args.file place c.args.bytes.now bad _ (progress_spells _ _ _ _ _ _ c.loop-at.invariant c.loop-at-test.false))
+pub returns-then-count-gt-TOKEN_LIMIT-clause-bad_offset : goal.returns-then-count-gt-TOKEN_LIMIT-clause-bad_offset
+returns-then-count-gt-TOKEN_LIMIT-clause-bad_offset c =
+    λ offset bad. absurd (bad_unspelled c.args.file offset c.args.bytes.now bad _ (progress_spells _ _ _ _ _ _ c.loop-at.invariant c.loop-at-test.false))
 
 pub returns-then-count-gt-TOKEN_LIMIT-clause-unspelled : goal.returns-then-count-gt-TOKEN_LIMIT-clause-unspelled
 returns-then-count-gt-TOKEN_LIMIT-clause-unspelled c =
@@ -113,9 +113,9 @@ returns-clause-spelled_long c =
     let count = many_only _ _ _ _ _ _ c.loop-at.invariant c.loop-at-test.false found spelled in
     absurd (omega (arith, count, many, c.if-count-gt-TOKEN_LIMIT.false))
 
-pub returns-clause-bad_place : goal.returns-clause-bad_place
-returns-clause-bad_place c =
-    λ place bad. absurd (bad_unspelled c.args.file place c.args.bytes.now bad _ (progress_spells _ _ _ _ _ _ c.loop-at.invariant c.loop-at-test.false))
+pub returns-clause-bad_offset : goal.returns-clause-bad_offset
+returns-clause-bad_offset c =
+    λ offset bad. absurd (bad_unspelled c.args.file offset c.args.bytes.now bad _ (progress_spells _ _ _ _ _ _ c.loop-at.invariant c.loop-at-test.false))
 
 pub returns-clause-unspelled : goal.returns-clause-unspelled
 returns-clause-unspelled c =

@@ -22,20 +22,20 @@ take-requires-clause-numbers c =
     let l = c.loop-step in
     numbers_later ns l.pool l.invariant.extends c.step-item.result.extension (step_numbers c.args.shapes.now ns start c.args.steps.now l.pool l.step-index l.branch l.kept l.invariant c.step-item.result c.loop-step-test.true c.step-item.is c.requires.numbers)
 
-pub returns-then-not-told-clause-extends : goal.returns-then-not-told-clause-extends
-returns-then-not-told-clause-extends c = extends_then c.loop-step.invariant.extends c.take.ensures.extends
+pub returns-then-not-known-clause-extends : goal.returns-then-not-known-clause-extends
+returns-then-not-known-clause-extends c = extends_then c.loop-step.invariant.extends c.take.ensures.extends
 
-pub returns-then-not-told-clause-exact : goal.returns-then-not-told-clause-exact
-returns-then-not-told-clause-exact c =
+pub returns-then-not-known-clause-exact : goal.returns-then-not-known-clause-exact
+returns-then-not-known-clause-exact c =
     let ns = c.args.pool.now in
     let l = c.loop-step in
-    lost c.args.shapes.now ns (first_branch ns c.args.denial) c.args.steps.now l.pool l.step-index l.branch l.kept l.invariant c.step-item.result c.loop-step-test.true c.step-item.is c.requires.numbers (rw c.if-not-told.true at c.in_ok-told.ensures.exact)
+    lost c.args.shapes.now ns (first_branch ns c.args.denial) c.args.steps.now l.pool l.step-index l.branch l.kept l.invariant c.step-item.result c.loop-step-test.true c.step-item.is c.requires.numbers (rw c.if-not-known.true at c.in_ok-known.ensures.exact)
 
 pub loop-step-preserved : goal.loop-step-preserved
 loop-step-preserved c =
     let ns = c.args.pool.now in
     let l = c.loop-step in
-    going_on c.args.shapes.now ns (first_branch ns c.args.denial) c.args.steps.now l.pool l.step-index l.branch l.kept l.invariant c.step-item.result c.loop-step-test.true c.step-item.is c.requires.numbers c.take.new.pool c.take.new.branch c.take.new.kept c.take.ensures.extends c.in_ok-told.ensures.over c.in_ok-told.ensures.kept (rw c.if-not-told.false at c.in_ok-told.ensures.exact)
+    going_on c.args.shapes.now ns (first_branch ns c.args.denial) c.args.steps.now l.pool l.step-index l.branch l.kept l.invariant c.step-item.result c.loop-step-test.true c.step-item.is c.requires.numbers c.take.new.pool c.take.new.branch c.take.new.kept c.take.ensures.extends c.in_ok-known.ensures.over c.in_ok-known.ensures.kept (rw c.if-not-known.false at c.in_ok-known.ensures.exact)
 
 pub returns-clause-extends : goal.returns-clause-extends
 returns-clause-extends c = c.loop-step.invariant.extends
@@ -55,5 +55,5 @@ returns-clause-grown c = λ p e. (
     let l = c.loop-step in
     leads_to_grown c.args.shapes.now ns p c.args.denial e c.args.steps.now _ (gone c.args.shapes.now ns (first_branch ns c.args.denial) c.args.steps.now l.pool l.step-index l.branch l.kept c.loop-step-test.false l.invariant))
 
-pub returns-in_err-told-clause-extends : goal.returns-in_err-told-clause-extends
-returns-in_err-told-clause-extends c = extends_then c.loop-step.invariant.extends c.take.ensures.extends
+pub returns-in_err-known-clause-extends : goal.returns-in_err-known-clause-extends
+returns-in_err-known-clause-extends c = extends_then c.loop-step.invariant.extends c.take.ensures.extends

@@ -33,23 +33,23 @@ returns-then-steps-left-clause-exact c =
     subst (λ ts. IsTrue false ↔ ArePartial c.args.shapes.now ns (first_branch ns c.args.denial ∷ []) ts c.args.tree.now.chain c.args.budget) c.as_slice-applications.ensures.value
     (steps_lack c.args.shapes.now ns c.args.denial c.as_slice-applications.result.now c.args.tree.now.chain c.args.budget l.pool l.application-index l.walk l.left l.invariant c.application-item.result c.loop-application-test.true c.application-item.is numbers few)
 
-pub returns-then-not-told-clause-extends : goal.returns-then-not-told-clause-extends
-returns-then-not-told-clause-extends c = extends_then c.loop-application.invariant.extends c.take.ensures.extends
+pub returns-then-not-known-clause-extends : goal.returns-then-not-known-clause-extends
+returns-then-not-known-clause-extends c = extends_then c.loop-application.invariant.extends c.take.ensures.extends
 
-pub returns-then-not-told-clause-exact : goal.returns-then-not-told-clause-exact
-returns-then-not-told-clause-exact c =
+pub returns-then-not-known-clause-exact : goal.returns-then-not-known-clause-exact
+returns-then-not-known-clause-exact c =
     let ns = c.args.pool.now in
     let l = c.loop-application in
     let numbers = subst (All (IsNumbered ns)) (sym c.as_slice-applications.ensures.value) c.requires.numbers.applications in
     subst (λ ts. IsTrue false ↔ ArePartial c.args.shapes.now ns (first_branch ns c.args.denial ∷ []) ts c.args.tree.now.chain c.args.budget) c.as_slice-applications.ensures.value
-    (stuck c.args.shapes.now ns c.args.denial c.as_slice-applications.result.now c.args.tree.now.chain c.args.budget l.pool l.application-index l.walk l.left l.invariant c.application-item.result c.loop-application-test.true c.application-item.is numbers c.one_number.ensures (rw c.if-not-told.true at c.in_ok-told.ensures.exact))
+    (stuck c.args.shapes.now ns c.args.denial c.as_slice-applications.result.now c.args.tree.now.chain c.args.budget l.pool l.application-index l.walk l.left l.invariant c.application-item.result c.loop-application-test.true c.application-item.is numbers c.one_number.ensures (rw c.if-not-known.true at c.in_ok-known.ensures.exact))
 
 pub loop-application-preserved : goal.loop-application-preserved
 loop-application-preserved c =
     let ns = c.args.pool.now in
     let l = c.loop-application in
     let numbers = subst (All (IsNumbered ns)) (sym c.as_slice-applications.ensures.value) c.requires.numbers.applications in
-    read_on c.args.shapes.now ns c.args.denial c.as_slice-applications.result.now c.args.tree.now.chain c.args.budget l.pool l.application-index l.walk l.left l.invariant c.application-item.result c.loop-application-test.true c.application-item.is numbers c.one_number.ensures c.take.new.pool c.take.new.walk (l.left - c.steps_of-steps.result) c.take.ensures.extends c.in_ok-told.ensures.walk (omega arith) (rw c.if-not-told.false at c.in_ok-told.ensures.exact)
+    read_on c.args.shapes.now ns c.args.denial c.as_slice-applications.result.now c.args.tree.now.chain c.args.budget l.pool l.application-index l.walk l.left l.invariant c.application-item.result c.loop-application-test.true c.application-item.is numbers c.one_number.ensures c.take.new.pool c.take.new.walk (l.left - c.steps_of-steps.result) c.take.ensures.extends c.in_ok-known.ensures.walk (omega arith) (rw c.if-not-known.false at c.in_ok-known.ensures.exact)
 
 pub ends-requires-clause-walk : goal.ends-requires-clause-walk
 ends-requires-clause-walk c = c.loop-application.invariant.walk
@@ -74,5 +74,5 @@ returns-clause-partial c = λ p e t. (
     let exact = subst (λ ts. IsTrue c.in_ok-ended.ended ↔ ArePartial c.args.shapes.now ns (first_branch ns c.args.denial ∷ []) ts c.args.tree.now.chain c.args.budget) c.as_slice-applications.ensures.value (read_through c.args.shapes.now ns c.args.denial c.as_slice-applications.result.now c.args.tree.now.chain c.args.budget l.pool l.application-index l.walk l.left l.invariant c.loop-application-test.false c.requires.numbers.chain c.in_ok-ended.ended (c.in_ok-ended.ensures c.args.shapes.now)) in
     shows c.args.shapes.now ns p c.args.denial e c.args.tree.now c.args.budget c.requires.numbers (exact.0 t))
 
-pub returns-in_err-told-clause-extends : goal.returns-in_err-told-clause-extends
-returns-in_err-told-clause-extends c = extends_then c.loop-application.invariant.extends c.take.ensures.extends
+pub returns-in_err-known-clause-extends : goal.returns-in_err-known-clause-extends
+returns-in_err-known-clause-extends c = extends_then c.loop-application.invariant.extends c.take.ensures.extends

@@ -9,7 +9,7 @@ returns-in-None c =
     let program = c.args.program.now in
     record {
       determined = c.requires.determined;
-      able = subst (λ (o : Option Span). IsFirstOrNone (BreaksAbility program) o) c.in_default.is c.in_ok-place.ensures;
+      able = subst (λ (o : Option Span). IsFirstOrNone (BreaksAbility program) o) c.in_default.is c.in_ok-span.ensures;
       listed = subst (λ (o : Option Span). IsFirstOrNone (BreaksAcquires program) o) c.in-None.is c.in_ok-acquires_fault.ensures;
     }
 
@@ -17,6 +17,6 @@ pub returns-in-Some-2 : goal.returns-in-Some-2
 returns-in-Some-2 c =
     let program = c.args.program.now in (
       c.requires.determined,
-      subst (λ (o : Option Span). IsFirstOrNone (BreaksAbility program) o) c.in_default.is c.in_ok-place.ensures,
+      subst (λ (o : Option Span). IsFirstOrNone (BreaksAbility program) o) c.in_default.is c.in_ok-span.ensures,
       subst (λ (o : Option Span). IsFirstOrNone (BreaksAcquires program) o) c.in-Some-2.is c.in_ok-acquires_fault.ensures,
     )

@@ -7,7 +7,7 @@ use Rattle.type_check.specs.Included.{AreIncluded}
 use Rattle.type_check.proofs.typing.check_determined.Goals as goal
 
 pub judge_specifications-requires-clause-shallow : goal.judge_specifications-requires-clause-shallow
-judge_specifications-requires-clause-shallow c = all_shallow c.args.program.now c.requires.circles
+judge_specifications-requires-clause-shallow c = all_shallow c.args.program.now c.requires.acyclic
 
 pub returns-clause-determined : goal.returns-clause-determined
 returns-clause-determined c =

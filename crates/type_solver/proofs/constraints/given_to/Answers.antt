@@ -7,10 +7,10 @@ use Rattle.type_solver.proofs.Emitting.{given_shared, given_vector}
 use Rattle.type_solver.proofs.constraints.given_to.Goals as goal
 
 pub returns-in-Mutable-clause-says : goal.returns-in-Mutable-clause-says
-returns-in-Mutable-clause-says c = IfOk-weaker c.lent.result _ _ (λ q h old s lt. h old c.args.place (subst (λ (k : Wrap). KindSaid old c.args.slots.now.items c.args.place (To k c.args.to)) c.in-Mutable.is s) lt) c.lent.ensures.says
+returns-in-Mutable-clause-says c = IfOk-weaker c.lent.result _ _ (λ q h old s lt. h old c.args.variable (subst (λ (k : Wrap). KindSaid old c.args.slots.now.items c.args.variable (To k c.args.to)) c.in-Mutable.is s) lt) c.lent.ensures.says
 
 pub returns-in-Vector-clause-says : goal.returns-in-Vector-clause-says
-returns-in-Vector-clause-says c old s lt = given_vector old c.args.slots.now.items c.args.place c.args.to c.args.wanted (subst (λ (k : Wrap). KindSaid old c.args.slots.now.items c.args.place (To k c.args.to)) c.in-Vector.is s) c.requires.place c.requires.wanted
+returns-in-Vector-clause-says c old s lt = given_vector old c.args.slots.now.items c.args.variable c.args.to c.args.wanted (subst (λ (k : Wrap). KindSaid old c.args.slots.now.items c.args.variable (To k c.args.to)) c.in-Vector.is s) c.requires.variable c.requires.wanted
 
 pub returns-in-Shared-clause-says : goal.returns-in-Shared-clause-says
-returns-in-Shared-clause-says c old s lt = given_shared old c.args.slots.now.items c.args.place c.args.to c.args.wanted (subst (λ (k : Wrap). KindSaid old c.args.slots.now.items c.args.place (To k c.args.to)) c.in-Shared.is s) c.requires.place c.requires.wanted
+returns-in-Shared-clause-says c old s lt = given_shared old c.args.slots.now.items c.args.variable c.args.to c.args.wanted (subst (λ (k : Wrap). KindSaid old c.args.slots.now.items c.args.variable (To k c.args.to)) c.in-Shared.is s) c.requires.variable c.requires.wanted

@@ -13,7 +13,7 @@ pub returns-clause-keeps : goal.returns-clause-keeps
 returns-clause-keeps c = IfOk-weaker c.given.result _ _ (λ q k. grown c.in_ok-wanted.ensures.keeps (grown c.kind_at-seen.ensures.keeps k)) c.given.ensures.keeps
 
 pub returns-clause-emits : goal.returns-clause-emits
-returns-clause-emits c = if_ok_two c.given.result _ _ _ (λ q k says w. takes_emits w c.args.slots.now.items c.form_term.new.slots.items c.given.new.slots.items c.args.place (seen_form c.args.form) c.in_ok-wanted.wanted q c.in_ok-wanted.ensures.said
+returns-clause-emits c = if_ok_two c.given.result _ _ _ (λ q k says w. takes_emits w c.args.slots.now.items c.form_term.new.slots.items c.given.new.slots.items c.args.variable (seen_form c.args.form) c.in_ok-wanted.wanted q c.in_ok-wanted.ensures.said
     (grown c.kind_at-seen.ensures.keeps k)
-    (says c.args.slots.now.items (said_before c.args.slots.now.items c.form_term.new.slots.items c.kind_at-seen.new.slots.items c.args.place c.kind_at-seen.result c.in_ok-wanted.ensures.keeps c.kind_at-seen.ensures.said) c.requires.place))
+    (says c.args.slots.now.items (said_before c.args.slots.now.items c.form_term.new.slots.items c.kind_at-seen.new.slots.items c.args.variable c.kind_at-seen.result c.in_ok-wanted.ensures.keeps c.kind_at-seen.ensures.said) c.requires.variable))
     c.given.ensures.keeps c.given.ensures.says

@@ -6,7 +6,7 @@ use Rattle.typing_rules.specs.Constraint as D
 use Rattle.std.proofs.Common.{length}
 use Rattle.unification.specs.declared.type_variables.slots.Sort.{Sort}
 use Rattle.unification.specs.declared.type_variables.slots.Wrap.{Wrap}
-use Rattle.unification.specs.declared.type_variables.slots.Term.TheVariants.{Place, Made}
+use Rattle.unification.specs.declared.type_variables.slots.Term.TheVariants.{Variable, Made}
 use Rattle.type_solver.specs.Within.{ConstraintWithin}
 use Rattle.type_solver.specs.declared.equation.Equation.TheVariants.{Equal, Sorted}
 use Rattle.type_solver.specs.Equations.{Emits, reading_of}
@@ -42,17 +42,17 @@ returns-in-Behind-clause-emits c = subst (λ (d : Constraint). Emits (reading_of
 
 pub returns-in-IsOf-clause-emits : goal.returns-in-IsOf-clause-emits
 returns-in-IsOf-clause-emits c =
-    let lt : ConstraintWithin (length c.args.slots.now.items) (D.IsOf c.in-IsOf.sort c.in-IsOf.place) = (subst (λ (d : Constraint). ConstraintWithin (length c.args.slots.now.items) (seen d)) c.in-IsOf.is c.requires.within) in
-    subst (λ (d : Constraint). Emits (reading_of c.args.tables) c.args.slots.now.items c.args.slots.now.items (seen d) (Sorted c.sort_word.result c.in-IsOf.place)) (sym c.in-IsOf.is)
-    (subst (λ (s : Sort). Emits (reading_of c.args.tables) c.args.slots.now.items c.args.slots.now.items (D.IsOf c.in-IsOf.sort c.in-IsOf.place) (Sorted s c.in-IsOf.place)) (sym c.sort_word.ensures) (sort_says (reading_of c.args.tables) c.args.slots.now.items c.in-IsOf.place c.in-IsOf.sort lt))
+    let lt : ConstraintWithin (length c.args.slots.now.items) (D.IsOf c.in-IsOf.sort c.in-IsOf.variable) = (subst (λ (d : Constraint). ConstraintWithin (length c.args.slots.now.items) (seen d)) c.in-IsOf.is c.requires.within) in
+    subst (λ (d : Constraint). Emits (reading_of c.args.tables) c.args.slots.now.items c.args.slots.now.items (seen d) (Sorted c.sort_word.result c.in-IsOf.variable)) (sym c.in-IsOf.is)
+    (subst (λ (s : Sort). Emits (reading_of c.args.tables) c.args.slots.now.items c.args.slots.now.items (D.IsOf c.in-IsOf.sort c.in-IsOf.variable) (Sorted s c.in-IsOf.variable)) (sym c.sort_word.ensures) (sort_says (reading_of c.args.tables) c.args.slots.now.items c.in-IsOf.variable c.in-IsOf.sort lt))
 
 pub returns-in-MadeOf-clause-emits : goal.returns-in-MadeOf-clause-emits
 returns-in-MadeOf-clause-emits c =
-    let lt : ConstraintWithin (length c.args.slots.now.items) (D.MadeOf c.in-MadeOf.place c.in-MadeOf.wrap c.in-MadeOf.from) = (subst (λ (d : Constraint). ConstraintWithin (length c.args.slots.now.items) (seen d)) c.in-MadeOf.is c.requires.within) in
-    subst (λ (d : Constraint). Emits (reading_of c.args.tables) c.args.slots.now.items c.args.slots.now.items (seen d) (Equal (Place c.in-MadeOf.place) (Made c.wrap_word.result c.in-MadeOf.from))) (sym c.in-MadeOf.is)
-    (subst (λ (k : Wrap). Emits (reading_of c.args.tables) c.args.slots.now.items c.args.slots.now.items (D.MadeOf c.in-MadeOf.place c.in-MadeOf.wrap c.in-MadeOf.from) (Equal (Place c.in-MadeOf.place) (Made k c.in-MadeOf.from))) (sym c.wrap_word.ensures) (made_says (reading_of c.args.tables) c.args.slots.now.items c.in-MadeOf.place c.in-MadeOf.from c.in-MadeOf.wrap lt.0 lt.1))
+    let lt : ConstraintWithin (length c.args.slots.now.items) (D.MadeOf c.in-MadeOf.variable c.in-MadeOf.wrap c.in-MadeOf.from) = (subst (λ (d : Constraint). ConstraintWithin (length c.args.slots.now.items) (seen d)) c.in-MadeOf.is c.requires.within) in
+    subst (λ (d : Constraint). Emits (reading_of c.args.tables) c.args.slots.now.items c.args.slots.now.items (seen d) (Equal (Variable c.in-MadeOf.variable) (Made c.wrap_word.result c.in-MadeOf.from))) (sym c.in-MadeOf.is)
+    (subst (λ (k : Wrap). Emits (reading_of c.args.tables) c.args.slots.now.items c.args.slots.now.items (D.MadeOf c.in-MadeOf.variable c.in-MadeOf.wrap c.in-MadeOf.from) (Equal (Variable c.in-MadeOf.variable) (Made k c.in-MadeOf.from))) (sym c.wrap_word.ensures) (made_says (reading_of c.args.tables) c.args.slots.now.items c.in-MadeOf.variable c.in-MadeOf.from c.in-MadeOf.wrap lt.0 lt.1))
 
 pub returns-in-Same-clause-emits : goal.returns-in-Same-clause-emits
 returns-in-Same-clause-emits c =
     let lt : ConstraintWithin (length c.args.slots.now.items) (D.Same c.in-Same.a c.in-Same.b) = (subst (λ (d : Constraint). ConstraintWithin (length c.args.slots.now.items) (seen d)) c.in-Same.is c.requires.within) in
-    subst (λ (d : Constraint). Emits (reading_of c.args.tables) c.args.slots.now.items c.args.slots.now.items (seen d) (Equal (Place c.in-Same.a) (Place c.in-Same.b))) (sym c.in-Same.is) (same_says (reading_of c.args.tables) c.args.slots.now.items c.in-Same.a c.in-Same.b lt.0 lt.1)
+    subst (λ (d : Constraint). Emits (reading_of c.args.tables) c.args.slots.now.items c.args.slots.now.items (seen d) (Equal (Variable c.in-Same.a) (Variable c.in-Same.b))) (sym c.in-Same.is) (same_says (reading_of c.args.tables) c.args.slots.now.items c.in-Same.a c.in-Same.b lt.0 lt.1)

@@ -11,7 +11,7 @@ returns-clause-keeps c = stays_in c.args.slots.now.len c.args.slots.now.items c.
 pub returns-clause-said : goal.returns-clause-said
 returns-clause-said c = record {
   grows = stays_in c.args.slots.now.len c.args.slots.now.items c.deref_mut.result.now c.kind_seen.new.slots c.args.slots.now.ok.0 c.kind_seen.auto.slots c.deref_mut.ensures.value c.kind_seen.ensures.becomes;
-  of = subst (λ (s : List Slot). (t : Typing) → Meets s t → KindOf t (t c.args.place) c.kind_seen.result) (sym (written_back c.args.slots.now.len c.args.slots.now.items c.kind_seen.new.slots c.args.slots.now.ok.0 (c.kind_seen.auto.slots ∙ ap length c.deref_mut.ensures.value))) c.kind_seen.ensures.of;
+  of = subst (λ (s : List Slot). (t : Typing) → Meets s t → KindOf t (t c.args.variable) c.kind_seen.result) (sym (written_back c.args.slots.now.len c.args.slots.now.items c.kind_seen.new.slots c.args.slots.now.ok.0 (c.kind_seen.auto.slots ∙ ap length c.deref_mut.ensures.value))) c.kind_seen.ensures.of;
   within = subst (λ (s : List Slot). KindWithin (length s) c.kind_seen.result) (sym (written_back c.args.slots.now.len c.args.slots.now.items c.kind_seen.new.slots c.args.slots.now.ok.0 (c.kind_seen.auto.slots ∙ ap length c.deref_mut.ensures.value))) c.kind_seen.ensures.within;
-  unseen = subst (λ (s : List Slot). KindOpen s c.args.place c.kind_seen.result) (sym (written_back c.args.slots.now.len c.args.slots.now.items c.kind_seen.new.slots c.args.slots.now.ok.0 (c.kind_seen.auto.slots ∙ ap length c.deref_mut.ensures.value))) c.kind_seen.ensures.open;
+  unseen = subst (λ (s : List Slot). KindOpen s c.args.variable c.kind_seen.result) (sym (written_back c.args.slots.now.len c.args.slots.now.items c.kind_seen.new.slots c.args.slots.now.ok.0 (c.kind_seen.auto.slots ∙ ap length c.deref_mut.ensures.value))) c.kind_seen.ensures.open;
 }

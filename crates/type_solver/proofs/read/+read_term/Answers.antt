@@ -8,7 +8,7 @@ use Rattle.unification.specs.declared.type_variables.slots.Term.{Term}
 use Rattle.unification.proofs.Growing.{grown}
 use Rattle.unification.proofs.Results.{if_ok_two}
 use Rattle.unification.proofs.Instancing.{all_more, all_push, all_taken}
-use Rattle.type_solver.specs.Arguments.{standing}
+use Rattle.type_solver.specs.Arguments.{stated}
 use Rattle.type_solver.proofs.Parts.{read_as, reads_more, struct_read, tuple_read}
 use Rattle.type_solver.proofs.read.+read_term.Goals as goal
 
@@ -23,18 +23,18 @@ read_term-returns-in_ok-terms-in-Tuple-clause-grows t c = IfOk-weaker c.group_te
 
 pub read_term-returns-in_ok-terms-in-Struct-clause-is : goal.read_term-returns-in_ok-terms-in-Struct-clause-is
 read_term-returns-in_ok-terms-in-Struct-clause-is t c = if_ok_two c.group_terms.result _ _ _ (λ (made : Term) g e u m. e u m ∙
-    struct_read (standing u c.args.arguments) c.in-Struct.id c.types.inside.items.items (map (value u) c.deref-in-Struct-2.result.now) c.args.of.now
+    struct_read (stated u c.args.arguments) c.in-Struct.id c.types.inside.items.items (map (value u) c.deref-in-Struct-2.result.now) c.args.of.now
     (sym c.of.view_is ∙ ap type_of_node c.in-Struct.is ∙ ap (StructType c.in-Struct.id) (sym c.types.view_is))
     (ap (map (value u)) c.deref-in-Struct-2.ensures.value ∙ c.in_ok-terms-in-Struct.ensures.are u (g.back u m tt).0
-    ∙ ap (map (read_as (standing u c.args.arguments))) c.deref-in-Struct.ensures.value))
+    ∙ ap (map (read_as (stated u c.args.arguments))) c.deref-in-Struct.ensures.value))
     c.group_terms.ensures.grows c.group_terms.ensures.is
 
 pub read_term-returns-in_ok-terms-in-Tuple-clause-is : goal.read_term-returns-in_ok-terms-in-Tuple-clause-is
 read_term-returns-in_ok-terms-in-Tuple-clause-is t c = if_ok_two c.group_terms-in-Tuple.result _ _ _ (λ (made : Term) g e u m. e u m ∙
-    tuple_read (standing u c.args.arguments) c.types-in-Tuple.inside.items.items (map (value u) c.deref-in-Tuple-2.result.now) c.args.of.now
+    tuple_read (stated u c.args.arguments) c.types-in-Tuple.inside.items.items (map (value u) c.deref-in-Tuple-2.result.now) c.args.of.now
     (sym c.of.view_is ∙ ap type_of_node c.in-Tuple.is ∙ ap TupleType (sym c.types-in-Tuple.view_is))
     (ap (map (value u)) c.deref-in-Tuple-2.ensures.value ∙ c.in_ok-terms-in-Tuple.ensures.are u (g.back u m tt).0
-    ∙ ap (map (read_as (standing u c.args.arguments))) c.deref-in-Tuple.ensures.value))
+    ∙ ap (map (read_as (stated u c.args.arguments))) c.deref-in-Tuple.ensures.value))
     c.group_terms-in-Tuple.ensures.grows c.group_terms-in-Tuple.ensures.is
 
 pub read_terms-loop-part-preserved : goal.read_terms-loop-part-preserved
@@ -44,7 +44,7 @@ read_terms-loop-part-preserved t c = record {
       (all_push (length c.read_term.new.slots.items) c.loop-part.terms.items c.in_ok-read_term.field-0
       (all_more (length c.loop-part.slots.items) (length c.read_term.new.slots.items) c.loop-part.terms.items c.in_ok-read_term.ensures.grows.longer c.loop-part.invariant.within)
       c.in_ok-read_term.ensures.within);
-  are = λ u m. reads_more u (standing u c.args.arguments) c.loop-part.terms.items c.push.new.self.items c.in_ok-read_term.field-0 c.args.parts.now c.loop-part.part-index c.part-item.result
+  are = λ u m. reads_more u (stated u c.args.arguments) c.loop-part.terms.items c.push.new.self.items c.in_ok-read_term.field-0 c.args.parts.now c.loop-part.part-index c.part-item.result
       (omega (arith, c.loop-part-test.true)) c.part-item.is c.in_ok-push.ensures.items
       (c.loop-part.invariant.are u (c.in_ok-read_term.ensures.grows.back u m tt).0) (c.in_ok-read_term.ensures.is u m);
 }
@@ -53,4 +53,4 @@ pub read_terms-returns-clause-are : goal.read_terms-returns-clause-are
 read_terms-returns-clause-are t c u m =
     let le : c.loop-part.part-index ≤ length c.args.parts.now = omega arith in
     let ge : length c.args.parts.now ≤ c.loop-part.part-index = omega arith in
-    c.loop-part.invariant.are u m ∙ ap (map (read_as (standing u c.args.arguments))) (all_taken c.args.parts.now c.loop-part.part-index le ge)
+    c.loop-part.invariant.are u m ∙ ap (map (read_as (stated u c.args.arguments))) (all_taken c.args.parts.now c.loop-part.part-index le ge)

@@ -1,7 +1,7 @@
 use Rattle.std.proofs.Common.{◌≡◌, ◌≤◌, slice_get, Some, length, refl, sym, ◌∙◌}
 use Rattle.std.proofs.lemmas.Bool.{ltb-true}
 use Rattle.std.proofs.lemmas.Option.{slice_get_past, slice_get_read}
-use Rattle.type_solver.proofs.Standing.{argument_none, argument_some}
+use Rattle.type_solver.proofs.Stated.{argument_none, argument_some}
 use Rattle.type_solver.proofs.read.type_argument.Goals as goal
 
 pub returns-in-Some-clause-is : goal.returns-in-Some-clause-is

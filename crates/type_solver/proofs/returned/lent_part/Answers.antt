@@ -5,7 +5,7 @@ use Rattle.type_solver.proofs.Returning.{part_kept}
 use Rattle.type_solver.proofs.returned.lent_part.Goals as goal
 
 pub returns-then-not-is_shared-clause-said : goal.returns-then-not-is_shared-clause-said
-returns-then-not-is_shared-clause-said c before e i at = part_kept before c.args.slots.now.items e i c.args.place c.args.wanted.now (sym c.is_shared.ensures ∙ c.if-not-is_shared.true)
+returns-then-not-is_shared-clause-said c before e i at = part_kept before c.args.slots.now.items e i c.args.variable c.args.wanted.now (sym c.is_shared.ensures ∙ c.if-not-is_shared.true)
 
 pub returns-clause-keeps : goal.returns-clause-keeps
 returns-clause-keeps c = IfOk-weaker c.lent_as.result _ _ (λ term k. grown c.kind_at-kind.ensures.keeps k) c.lent_as.ensures.keeps

@@ -10,5 +10,5 @@ takes-requires-clause-form c = written_within _ (seen_form c.args.form) c.requir
 pub returns-in_default : goal.returns-in_default
 returns-in_default c = record {
   keeps = c.takes.ensures.keeps;
-  emits = IfOk-weaker c.takes.result _ _ (λ q h w. plain_emits w c.args.slots.now.items c.takes.new.slots.items c.args.place c.args.form q c.requires.written c.in_default.not-Written c.in_default.not-Read (h w)) c.takes.ensures.emits;
+  emits = IfOk-weaker c.takes.result _ _ (λ q h w. plain_emits w c.args.slots.now.items c.takes.new.slots.items c.args.variable c.args.form q c.requires.written c.in_default.not-Written c.in_default.not-Read (h w)) c.takes.ensures.emits;
 }

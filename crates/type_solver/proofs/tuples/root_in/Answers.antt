@@ -14,4 +14,4 @@ pub returns-clause-root : goal.returns-clause-root
 returns-clause-root c = subst (λ (s : List Slot). IsRoot (slot_at s c.root.result)) (sym (written_back c.args.slots.now.len c.args.slots.now.items c.root.new.slots c.args.slots.now.ok.0 (c.root.auto.slots ∙ ap length c.deref_mut.ensures.value))) c.root.ensures.root
 
 pub returns-clause-same : goal.returns-clause-same
-returns-clause-same c = subst (λ (s : List Slot). (t : Typing) → Meets s t → t c.args.place ≡ t c.root.result) (sym (written_back c.args.slots.now.len c.args.slots.now.items c.root.new.slots c.args.slots.now.ok.0 (c.root.auto.slots ∙ ap length c.deref_mut.ensures.value))) c.root.ensures.same
+returns-clause-same c = subst (λ (s : List Slot). (t : Typing) → Meets s t → t c.args.variable ≡ t c.root.result) (sym (written_back c.args.slots.now.len c.args.slots.now.items c.root.new.slots c.args.slots.now.ok.0 (c.root.auto.slots ∙ ap length c.deref_mut.ensures.value))) c.root.ensures.same

@@ -4,4 +4,4 @@ use Rattle.type_solver.specs.Within.{AllWithin}
 use Rattle.type_solver.proofs.within.all_within.Given as goal
 
 abbrev pub invariant-loop-constraint : goal.invariant-loop-constraint
-invariant-loop-constraint l = AllWithin l.places (seen_all (drop l.constraint-index l.constraints)) → AllWithin l.places (seen_all l.constraints)
+invariant-loop-constraint l = AllWithin l.variables (seen_all (drop l.constraint-index l.constraints)) → AllWithin l.variables (seen_all l.constraints)

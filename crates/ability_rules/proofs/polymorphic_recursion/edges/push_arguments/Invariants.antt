@@ -5,4 +5,4 @@ use Rattle.ability_rules.proofs.polymorphic_recursion.edges.push_arguments.Given
 
 abbrev pub invariant-loop-number : goal.invariant-loop-number
 invariant-loop-number l =
-    l.into.items ≡ l.initial.into.items ++ pieces (λ i. of_option (argument_edge l.row (parameter_node l.to i)) (slice_get l.told.types.now (l.first + i))) l.number
+    l.into.items ≡ l.initial.into.items ++ pieces (λ i. of_option (argument_edge l.row (parameter_node l.to i)) (slice_get l.given.types.now (l.first + i))) l.number

@@ -8,25 +8,25 @@ use Rattle.ability_rules.proofs.Pieces.{option_some}
 use Rattle.ability_rules.proofs.Making.{called_parameters, got, row_within}
 use Rattle.ability_rules.proofs.polymorphic_recursion.edges.push_callee.Goals as goal
 
-pub push_arguments-requires-clause-places : goal.push_arguments-requires-clause-places
-push_arguments-requires-clause-places c =
+pub push_arguments-requires-clause-variables : goal.push_arguments-requires-clause-variables
+push_arguments-requires-clause-variables c =
     let all = c.args.all in
-    let arity = called_parameters all.program.now all.told.now all.rows.now all.count c.requires.all.rows c.in-Function.id c.in-Some.number c.in-Some-get.to.now (sym c.in-Some.ensures) (got c.args.all.rows.now c.in-Some.number c.in-Some-get.to.now (ltb-true _ _ (sym c.in-Some-get.ensures.lookup.0)) c.in-Some-get.ensures.lookup.1) in
+    let arity = called_parameters all.program.now all.known.now all.rows.now all.count c.requires.all.rows c.in-Function.id c.in-Some.number c.in-Some-get.to.now (sym c.in-Some.ensures) (got c.args.all.rows.now c.in-Some.number c.in-Some-get.to.now (ltb-true _ _ (sym c.in-Some-get.ensures.lookup.0)) c.in-Some-get.ensures.lookup.1) in
     let same = ap (λ (x : Callee). arity_of (callee_signature all.program.now x)) c.in-Function.is in
-    let places = c.requires.places in
-    omega (arith, arity, same, places)
+    let variables = c.requires.variables in
+    omega (arith, arity, same, variables)
 
 pub push_arguments-requires-clause-called : goal.push_arguments-requires-clause-called
 push_arguments-requires-clause-called c =
     let all = c.args.all in
-    row_within all.program.now all.told.now all.rows.now all.count c.requires.all.rows c.in-Some.number c.in-Some-get.to.now (got c.args.all.rows.now c.in-Some.number c.in-Some-get.to.now (ltb-true _ _ (sym c.in-Some-get.ensures.lookup.0)) c.in-Some-get.ensures.lookup.1)
+    row_within all.program.now all.known.now all.rows.now all.count c.requires.all.rows c.in-Some.number c.in-Some-get.to.now (got c.args.all.rows.now c.in-Some.number c.in-Some-get.to.now (ltb-true _ _ (sym c.in-Some-get.ensures.lookup.0)) c.in-Some-get.ensures.lookup.1)
 
 pub returns-in_ok-push_arguments : goal.returns-in_ok-push_arguments
 returns-in_ok-push_arguments c =
     let rows = c.args.all.rows.now in
     let program = c.args.all.program.now in
     let row = c.args.row in
-    let types = c.args.told.types.now in
+    let types = c.args.given.types.now in
     let first = c.args.first in
     let start = c.args.into.now.items in
     let new = c.push_arguments.new.into.items in

@@ -7,8 +7,8 @@ use Rattle.ability_rules.proofs.polymorphic_recursion.rows.rows_of.Goals as goal
 
 pub loop-number-preserved : goal.loop-number-preserved
 loop-number-preserved c =
-    let told = c.args.told.now in
+    let known = c.args.known.now in
     let n = c.loop-number.number in
     let row : Row = record { first = c.loop-number.count; parameters = c.parameter_count.result } in
-    more_rows c.args.program.now told c.loop-number.rows.items c.push.new.self.items n c.loop-number.count c.in_ok-count.count row _ c.loop-number.invariant
-    (slice_get-get_or told n c.index-told-number.result c.loop-number-test.true) refl c.parameter_count.ensures (c.in_ok-count.ensures ∙ ap (row_end row) c.index-told-number.is) c.in_ok-push.ensures.items
+    more_rows c.args.program.now known c.loop-number.rows.items c.push.new.self.items n c.loop-number.count c.in_ok-count.count row _ c.loop-number.invariant
+    (slice_get-get_or known n c.index-known-number.result c.loop-number-test.true) refl c.parameter_count.ensures (c.in_ok-count.ensures ∙ ap (row_end row) c.index-known-number.is) c.in_ok-push.ensures.items

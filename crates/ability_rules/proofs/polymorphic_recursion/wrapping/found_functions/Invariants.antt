@@ -5,5 +5,5 @@ use Rattle.ability_rules.proofs.polymorphic_recursion.wrapping.found_functions.G
 
 abbrev pub invariant-loop-number : goal.invariant-loop-number
 invariant-loop-number l =
-    (length l.told.items ≡ l.number)
-    × ((n : ℕ) → n < l.number → FoundAt l.all l.found n (slice_index_or l.told.items n false))
+    (length l.known.items ≡ l.number)
+    × ((n : ℕ) → n < l.number → FoundAt l.all l.found n (slice_index_or l.known.items n false))

@@ -7,7 +7,7 @@ pub is_any_found-requires : goal.is_any_found-requires
 is_any_found-requires c =
     let all = c.args.all in
     let at = got all.rows.now c.in-Some-number.first c.in-Some-get.row.now (ltb-true _ _ (sym c.in-Some-get.ensures.lookup.0)) c.in-Some-get.ensures.lookup.1 in
-    let within = row_within all.program.now all.told.now all.rows.now all.count c.requires.all.rows c.in-Some-number.first c.in-Some-get.row.now at in
+    let within = row_within all.program.now all.known.now all.rows.now all.count c.requires.all.rows c.in-Some-number.first c.in-Some-get.row.now at in
     let found = c.requires.found in
     omega (arith, within, found)
 

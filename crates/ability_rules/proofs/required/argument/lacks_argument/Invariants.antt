@@ -1,7 +1,7 @@
 use Rattle.std.proofs.Common.{◌≡◌, ◌+◌, ◌<◌, ℕ, true}
-use Rattle.ability_rules.specs.Bodies.{is_argument, place_told}
+use Rattle.ability_rules.specs.Bodies.{is_argument, judged_variable}
 use Rattle.ability_rules.proofs.required.argument.lacks_argument.Given as goal
 
-abbrev pub invariant-loop-place : goal.invariant-loop-place
-invariant-loop-place l =
-    (i : ℕ) → l.first + i < l.place → is_argument (place_told l.judged.table.now l.judged.places.now (l.first + i)) l.parameters i ≡ true
+abbrev pub invariant-loop-variable : goal.invariant-loop-variable
+invariant-loop-variable l =
+    (i : ℕ) → l.first + i < l.variable → is_argument (judged_variable l.judged.table.now l.judged.variables.now (l.first + i)) l.parameters i ≡ true

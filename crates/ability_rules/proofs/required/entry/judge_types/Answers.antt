@@ -3,16 +3,16 @@ use Rattle.std.proofs.lemmas.List.{length_push}
 use Rattle.typing_rules.specs.Pools.{types}
 use Rattle.ability_rules.specs.declared.required.entry.Judged.{Judged}
 use Rattle.ability_rules.specs.declared.required.entry.JudgedTypes.{JudgedTypes}
-use Rattle.ability_rules.proofs.Entries.{parts_told, told_more}
+use Rattle.ability_rules.proofs.Entries.{parts_known, known_more}
 use Rattle.ability_rules.proofs.required.entry.judge_types.Goals as goal
 
 pub entry_abilities-requires : goal.entry_abilities-requires
 entry_abilities-requires c =
-    parts_told c.loop-number.table c.args.pool.now c.args.start c.loop-number.number c.entry-entry.result.now c.loop-number.invariant.start c.loop-number.auto.number c.loop-number.invariant.len c.requires.parts c.entry-entry.ensures.entry c.entry-entry.ensures.below
+    parts_known c.loop-number.table c.args.pool.now c.args.start c.loop-number.number c.entry-entry.result.now c.loop-number.invariant.start c.loop-number.auto.number c.loop-number.invariant.len c.requires.parts c.entry-entry.ensures.entry c.entry-entry.ensures.below
 
 pub entry_constrained-requires : goal.entry_constrained-requires
 entry_constrained-requires c =
-    parts_told c.loop-number.table c.args.pool.now c.args.start c.loop-number.number c.entry-entry.result.now c.loop-number.invariant.start c.loop-number.auto.number c.loop-number.invariant.len c.requires.parts c.entry-entry.ensures.entry c.entry-entry.ensures.below
+    parts_known c.loop-number.table c.args.pool.now c.args.start c.loop-number.number c.entry-entry.result.now c.loop-number.invariant.start c.loop-number.auto.number c.loop-number.invariant.len c.requires.parts c.entry-entry.ensures.entry c.entry-entry.ensures.below
 
 pub loop-number-preserved : goal.loop-number-preserved
 loop-number-preserved c =
@@ -22,12 +22,12 @@ loop-number-preserved c =
     let start = c.loop-number.invariant.start in
     let first = c.loop-number.auto.number in
     let len = c.loop-number.invariant.len in
-    let parts = parts_told old c.args.pool.now c.args.start c.loop-number.number c.entry-entry.result.now start first len c.requires.parts c.entry-entry.ensures.entry c.entry-entry.ensures.below in
+    let parts = parts_known old c.args.pool.now c.args.start c.loop-number.number c.entry-entry.result.now start first len c.requires.parts c.entry-entry.ensures.entry c.entry-entry.ensures.below in
     let size = ap (λ (xs : List Judged). length xs) c.in_ok-push.ensures.items ∙ length_push old.judged.items judged in
     record {
       start = start;
       len = omega (arith, size, first, len);
-      told = told_more c.args.structs.now c.args.params.now (types c.args.pool.now) old new c.loop-number.number c.entry-entry.result.now judged c.loop-number.invariant.told parts
+      known = known_more c.args.structs.now c.args.params.now (types c.args.pool.now) old new c.loop-number.number c.entry-entry.result.now judged c.loop-number.invariant.known parts
           (omega (arith, start, first)) (omega (arith, start, len)) refl c.in_ok-push.ensures.items c.entry-entry.ensures.one c.entry_abilities.ensures c.entry_constrained.ensures;
     }
 

@@ -7,5 +7,5 @@ abbrev pub invariant-loop-number : goal.invariant-loop-number
 invariant-loop-number l = record {
   start : l.table.start ≡ l.start;
   len : length l.table.judged.items ≡ l.number - l.start;
-  told : TellsTypes l.structs l.params (types l.pool) l.table;
+  known : TellsTypes l.structs l.params (types l.pool) l.table;
 }

@@ -36,7 +36,7 @@ loop-rest-preserved c =
     }
 
 pub returns-in_default-clause-is : goal.returns-in_default-clause-is
-returns-in_default-clause-is c = record { place = c.loop-rest.rest - 1; within = omega arith; lacks = c.in_default.is }
+returns-in_default-clause-is c = record { position = c.loop-rest.rest - 1; within = omega arith; lacks = c.in_default.is }
 
 pub returns-clause-is : goal.returns-clause-is
 returns-clause-is c =

@@ -17,12 +17,12 @@ pub returns-in_default-2-clause-adds : goal.returns-in_default-2-clause-adds
 returns-in_default-2-clause-adds c =
     let v = term_at c.args.pool.now c.args.vector in
     let u = term_at c.args.pool.now c.args.other in
-    let none : HasNoFresh v u = subst (λ o. MatchOption o (HasNoFresh v u) (IsFresh v u)) c.in_default-2.is c.in_ok-place.ensures in
+    let none : HasNoFresh v u = subst (λ o. MatchOption o (HasNoFresh v u) (IsFresh v u)) c.in_default-2.is c.in_ok-position.ensures in
     record { instances = []; adds = adds_none _ _; exactly = no_fresh (type_at c.args.pool.now c.args.of) v u none }
 
 pub returns-clause-adds : goal.returns-clause-adds
 returns-clause-adds c =
     let v = term_at c.args.pool.now c.args.vector in
     let u = term_at c.args.pool.now c.args.other in
-    let fresh : IsFresh v u c.in-Some-2.place = subst (λ o. MatchOption o (HasNoFresh v u) (IsFresh v u)) c.in-Some-2.is c.in_ok-place.ensures in
-    record { instances = _; adds = c.in_ok-ask_same_items.ensures.adds; exactly = pair_here v u c.in-Some-2.place c.in-Some.ensures fresh.least fresh.is_variable }
+    let fresh : IsFresh v u c.in-Some-2.position = subst (λ o. MatchOption o (HasNoFresh v u) (IsFresh v u)) c.in-Some-2.is c.in_ok-position.ensures in
+    record { instances = _; adds = c.in_ok-ask_same_items.ensures.adds; exactly = pair_here v u c.in-Some-2.position c.in-Some.ensures fresh.least fresh.is_variable }

@@ -1,5 +1,5 @@
 use Rattle.std.proofs.Common.{◌≡◌, ◌<◌, List, ℕ, Vec, length, get_or, sym, subst}
-use Rattle.base.specs.Circles.{IsWithin, AreRoots}
+use Rattle.base.specs.GraphReachability.{IsWithin, AreRoots}
 use Rattle.base.specs.Labelling.{label, root_of}
 use Rattle.base.proofs.EdgeLemmas.{sources_within}
 use Rattle.base.proofs.RootLemmas.{both_ok, roots_read}

@@ -4,5 +4,5 @@ use Rattle.base.proofs.cycles.roots.label_all.Goals as goal
 
 pub returns : goal.returns
 returns c =
-    let e : c.loop-place.place ≡ 0 = omega arith in
-    subst (λ (p : ℕ). IsLabelling c.args.sources.now c.args.order.now p c.loop-place.given.labels.items [] NoneIsOpen) e c.loop-place.invariant.labels
+    let e : c.loop-position.position ≡ 0 = omega arith in
+    subst (λ (p : ℕ). IsLabelling c.args.sources.now c.args.order.now p c.loop-position.given.labels.items [] NoneIsOpen) e c.loop-position.invariant.labels

@@ -1,4 +1,4 @@
-use Rattle.std.proofs.Common.{List, length, sym, subst, ◌++◌}
+use Rattle.std.proofs.Common.{List, [], length, sym, subst, ◌++◌}
 use Rattle.base.specs.declared.span.Span.{Span}
 use Rattle.syntax_tree.specs.PatternData.{patterns_of}
 use Rattle.program.specs.declared.code.CodeMany.TheVariants.{TuplePattern}
@@ -15,9 +15,9 @@ resolve_tuple-parenthesized-requires t c = parts-below c.in_ok-parts.ensures.add
 pub resolve_tuple-returns-clause-added : goal.resolve_tuple-returns-clause-added
 resolve_tuple-returns-clause-added t c =
     let trees = pattern_trees (setting c.args.context.now) (length c.args.into.now.locals) (patterns_of c.args.items.now) in
-    let P : List Span → Type 0 = λ own. Added (parenthesized TuplePattern trees) (patterns_spans (patterns_of c.args.items.now) ++ own) (patterns_names (patterns_of c.args.items.now)) c.args.into.now c.parenthesized.new.self c.in_ok-place.place in
+    let P : List Span → Type 0 = λ own. Added (parenthesized TuplePattern trees) (patterns_spans (patterns_of c.args.items.now) ++ own) (patterns_names (patterns_of c.args.items.now)) [] c.args.into.now c.parenthesized.new.self c.in_ok-index.index in
     subst P (sym (patterns_own-is (setting c.args.context.now) (length c.args.into.now.locals) c.args.span (patterns_of c.args.items.now)))
-    (added-parenthesized TuplePattern trees c.args.span c.resolve_patterns.new.into c.parenthesized.new.self c.in_ok-parts.parts c.in_ok-place.place c.in_ok-parts.ensures.added c.in_ok-place.ensures.closed)
+    (added-parenthesized TuplePattern trees c.args.span c.resolve_patterns.new.into c.parenthesized.new.self c.in_ok-parts.parts c.in_ok-index.index c.in_ok-parts.ensures.added c.in_ok-index.ensures.closed)
 
 pub resolve_unpack-close_unpack-requires : goal.resolve_unpack-close_unpack-requires
 resolve_unpack-close_unpack-requires t c = parts-below c.in_ok-parts.ensures.added

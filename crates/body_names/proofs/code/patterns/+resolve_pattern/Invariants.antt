@@ -1,7 +1,7 @@
-use Rattle.std.proofs.Common.{◌≡◌, ◌*◌, ◌+◌, length, drop}
+use Rattle.std.proofs.Common.{◌≡◌, ◌*◌, ◌+◌, drop}
 use Rattle.syntax_tree.specs.PatternData.{pattern_size, patterns_size, field_pattern_size, field_patterns_size, patterns_of, field_patterns_of}
 use Rattle.body_names.specs.CodeSetting.{setting}
-use Rattle.body_names.proofs.CodeRemainsLaws.{RemainsOf}
+use Rattle.body_names.proofs.CodeRemainsLaws.{RemainsOf, before_of}
 use Rattle.body_names.proofs.PatternListings.{pattern_listing, field_pattern_listing}
 use Rattle.body_names.proofs.code.patterns.+resolve_pattern.Given as goal
 
@@ -25,12 +25,12 @@ decreases-resolve_field l = 4 * field_pattern_size l.field.now
 
 abbrev pub invariant-resolve_patterns-loop-one : goal.invariant-resolve_patterns-loop-one
 invariant-resolve_patterns-loop-one l = record {
-  remains : RemainsOf (pattern_listing (setting l.context)) (length l.initial.into.locals) (length l.into.locals) l.patterns (drop l.one-index l.patterns) l.initial.into l.into l.parts;
+  remains : RemainsOf (pattern_listing (setting l.context)) (before_of l.initial.into.scope l.initial.into) (before_of l.into.scope l.into) l.patterns (drop l.one-index l.patterns) l.initial.into l.into l.parts;
   scope : l.into.scope ≡ l.initial.into.scope;
 }
 
 abbrev pub invariant-resolve_fields-loop-one : goal.invariant-resolve_fields-loop-one
 invariant-resolve_fields-loop-one l = record {
-  remains : RemainsOf (field_pattern_listing (setting l.context)) (length l.initial.into.locals) (length l.into.locals) l.fields (drop l.one-index l.fields) l.initial.into l.into l.parts;
+  remains : RemainsOf (field_pattern_listing (setting l.context)) (before_of l.initial.into.scope l.initial.into) (before_of l.into.scope l.into) l.fields (drop l.one-index l.fields) l.initial.into l.into l.parts;
   scope : l.into.scope ≡ l.initial.into.scope;
 }

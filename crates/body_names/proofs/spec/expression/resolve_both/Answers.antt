@@ -8,8 +8,10 @@ use Rattle.body_names.specs.SpecForms.{SpecTrees}
 use Rattle.body_names.specs.SpecSetting.{setting}
 use Rattle.body_names.specs.SpecNames.{variables_of_fields}
 use Rattle.body_names.specs.SpecSpans.{spans_of_fields}
-use Rattle.body_names.specs.SpecTrees.{field_trees, joined}
-use Rattle.body_names.proofs.SpecJoinedLaws.{added-both, bound-count, first-needed, same-fields, second-needed, unknown-more}
+use Rattle.body_names.specs.SpecTrees.{field_trees}
+use Rattle.body_names.specs.Joined.{joined}
+use Rattle.body_names.proofs.SpecJoinedLaws.{added-both, bound-count, same-fields}
+use Rattle.body_names.proofs.JoinedLaws.{first-needed, second-needed, unknown-more}
 use Rattle.body_names.proofs.spec.expression.resolve_both.Goals as goal
 
 pub returns-in_err-resolve_fields-clause-unknown : goal.returns-in_err-resolve_fields-clause-unknown

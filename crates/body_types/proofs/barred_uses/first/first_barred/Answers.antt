@@ -18,8 +18,8 @@ loop-number-preserved c =
     elim c.match-entry.branch [
       | in-Some+in_ok-is_barred w ↦
           subst (λ (o : Option Span). IsFirstOrNone (FirstsBreak program (n + 1)) o) (sym w.found-is)
-          (next_function program n w.in-Some.id.now w.in-Some.function.now (sym w.in-Some.ensures) w.in_ok-is_barred.is_barred c.loop-number.found w.place_if-next.result w.earlier-found.result
-          w.in_ok-is_barred.ensures w.place_if-next.ensures c.loop-number.invariant w.earlier-found.ensures)
+          (next_function program n w.in-Some.id.now w.in-Some.function.now (sym w.in-Some.ensures) w.in_ok-is_barred.is_barred c.loop-number.found w.span_if-next.result w.earlier-found.result
+          w.in_ok-is_barred.ensures w.span_if-next.ensures c.loop-number.invariant w.earlier-found.ensures)
       | in_default w ↦ absurd (nothing_there program.functions n (omega arith) (sym (ap (option_map deref_pair) w.in_default.is) ∙ c.entry.ensures))
     ]
 

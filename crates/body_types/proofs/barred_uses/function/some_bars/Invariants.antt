@@ -5,8 +5,8 @@ use Rattle.typing_rules.specs.Settings.{first_argument}
 use Rattle.body_types.specs.Nodes.{NoneBars}
 use Rattle.body_types.proofs.barred_uses.function.some_bars.Given as goal
 
-abbrev pub invariant-loop-place : goal.invariant-loop-place
-invariant-loop-place l = record {
-  first : l.first ≡ first_argument (function_setting l.program l.function) l.place;
-  none : NoneBars l.program l.function l.facts.own.now l.facts.types.now (Meets l.facts.slots.now) l.place;
+abbrev pub invariant-loop-index : goal.invariant-loop-index
+invariant-loop-index l = record {
+  first : l.first ≡ first_argument (function_setting l.program l.function) l.index;
+  none : NoneBars l.program l.function l.facts.own.now l.facts.types.now (Meets l.facts.slots.now) l.index;
 }

@@ -4,5 +4,5 @@ use Rattle.unification.specs.Choices.{HasDefaults}
 use Rattle.body_types.specs.Fitting.{MisfitAt}
 use Rattle.body_types.proofs.code.fitting.misfits.Given as goal
 
-abbrev pub invariant-loop-place : goal.invariant-loop-place
-invariant-loop-place l = (s : System) → HasDefaults s l.defaulted → length l.body.nodes ≤ s.places → (k : ℕ) → k < l.place → MisfitAt s l.body.nodes k → ⊥
+abbrev pub invariant-loop-variable : goal.invariant-loop-variable
+invariant-loop-variable l = (s : System) → HasDefaults s l.defaulted → length l.body.nodes ≤ s.variables → (k : ℕ) → k < l.variable → MisfitAt s l.body.nodes k → ⊥

@@ -3,4 +3,4 @@ use Rattle.certificates.proofs.BranchLemmas.{cut}
 use Rattle.certificates.proofs.branch.Branch.truncate.Goals as goal
 
 pub returns-clause-entries : goal.returns-clause-entries
-returns-clause-entries c = cut entry_formula c.args.self.now.places c.args.count c.args.self.now.count c.requires.within
+returns-clause-entries c = cut entry_formula c.args.self.now.positions c.args.count c.args.self.now.count c.requires.within

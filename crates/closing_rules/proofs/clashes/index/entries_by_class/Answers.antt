@@ -16,7 +16,7 @@ loop-i-preserved-in_default c = entries_same c.args.branch.now c.args.classes.no
 pub loop-i-preserved : goal.loop-i-preserved
 loop-i-preserved c =
     let e = c.in-Some.entry in
-    entries_more c.args.branch.now c.args.classes.now c.loop-i.i (get nat_eq c.loop-i.by_class) (get nat_eq c.note.new.by_class) e (sym c.in-Some.ensures) (subst (λ (n : ℕ). (k : ℕ) → get nat_eq c.note.new.by_class k ≡ cond (nat_eq n k) (Some c.loop-i.i) (get nat_eq c.loop-i.by_class k)) c.class-class.ensures c.in_ok-note.ensures) c.loop-i.invariant
+    entries_more c.args.branch.now c.args.classes.now c.loop-i.i (get nat_eq c.loop-i.by_class) (get nat_eq c.note.new.table) e (sym c.in-Some.ensures) (subst (λ (n : ℕ). (k : ℕ) → get nat_eq c.note.new.table k ≡ cond (nat_eq n k) (Some c.loop-i.i) (get nat_eq c.loop-i.by_class k)) c.class-class.ensures c.in_ok-note.ensures) c.loop-i.invariant
 
 pub returns : goal.returns
 returns c = entries_done c.args.branch.now c.args.classes.now c.loop-i.i (get nat_eq c.loop-i.by_class) (omega (arith, c.len-i-end.ensures, c.loop-i-test.false)) c.loop-i.invariant

@@ -7,9 +7,6 @@ use Rattle.closing_rules.proofs.clashes.next.clash_at.Goals as goal
 pub is_false_form-requires : goal.is_false_form-requires
 is_false_form-requires c = c.requires.over.formulas c.args.i c.in-Some.entry (sym c.in-Some.ensures)
 
-pub denied-requires : goal.denied-requires
-denied-requires c = c.requires.over.formulas c.args.i c.in-Some.entry (sym c.in-Some.ensures)
-
 pub equates_joined-requires-clause-formula : goal.equates_joined-requires-clause-formula
 equates_joined-requires-clause-formula c = denial_number c.args.pool.now c.in-Some.entry.formula c.in-Some-denied.inner c.in-Some-denied.ensures
 

@@ -6,9 +6,6 @@ use Rattle.closing_rules.proofs.class_closings.entries.denied_by.Goals as goal
 pub returns-in_default : goal.returns-in_default
 returns-in_default c = absurd (past_says c.args.pool.now c.args.branch.now c.args.entry (NotFormula c.requires.denies.formula) c.in_default.ensures c.requires.denies.denies)
 
-pub denied-requires : goal.denied-requires
-denied-requires c = c.requires.over.formulas c.args.entry c.in-Some.found (sym c.in-Some.ensures)
-
 pub returns-in-Some-denied : goal.returns-in-Some-denied
 returns-in-Some-denied c = record { entry = c.in-Some.found; found = sym c.in-Some.ensures; denial = c.in-Some-denied.ensures }
 

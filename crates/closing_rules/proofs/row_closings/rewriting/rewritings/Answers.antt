@@ -5,7 +5,8 @@ use Rattle.term_pool.proofs.GrowthLemmas.{extends_then}
 use Rattle.tableau.specs.PoolBranches.{branch_in}
 use Rattle.tableau.proofs.PushLemmas.{over_still}
 use Rattle.congruence_closure.proofs.OverLemmas.{still_over}
-use Rattle.closing_rules.specs.Rewritings.{HasDeepEntry, IsRewritingOf}
+use Rattle.closing_rules.specs.Rewritings.{IsRewritingOf}
+use Rattle.closing_rules.specs.Depths.{HasDeep}
 use Rattle.closing_rules.proofs.RowClosingsRewritingLemmas.{stand_ins_grown, one_more}
 use Rattle.closing_rules.proofs.SettingLemmas.{same_branch}
 use Rattle.closing_rules.proofs.row_closings.rewriting.rewritings.Goals as goal
@@ -21,13 +22,13 @@ rewriting_of-requires-clause-chosen c = stand_ins_grown c.args.pool.now c.loop-n
 
 pub returns-in-None-clause-found : goal.returns-in-None-clause-found
 returns-in-None-clause-found c =
-    let deep = subst (λ o. MatchOption o (HasDeepEntry (branch_in c.loop-number.pool c.args.branch.now)) (IsRewritingOf c.rewriting_of.new.pool c.args.branch.now c.args.choice.classes.now c.args.choice.names.now (get nat_eq c.args.choice.chosen.now) c.loop-number.number)) c.in-None.is c.in_ok-rewriting.ensures.found in
-    subst HasDeepEntry (same_branch c.args.pool.now c.loop-number.pool c.loop-number.invariant.extends c.args.branch.now c.args.choice.classes.now c.requires.over) deep
+    let deep = subst (λ o. MatchOption o (HasDeep (branch_in c.loop-number.pool c.args.branch.now)) (IsRewritingOf c.rewriting_of.new.pool c.args.branch.now c.args.choice.classes.now c.args.choice.names.now (get nat_eq c.args.choice.chosen.now) c.loop-number.number)) c.in-None.is c.in_ok-rewriting.ensures.found in
+    subst HasDeep (same_branch c.args.pool.now c.loop-number.pool c.loop-number.invariant.extends c.args.branch.now c.args.choice.classes.now c.requires.over) deep
 
 pub loop-number-preserved : goal.loop-number-preserved
 loop-number-preserved c =
     let over = over_still c.args.pool.now c.loop-number.pool c.loop-number.invariant.extends c.args.branch.now c.requires.over in
-    let made = subst (λ o. MatchOption o (HasDeepEntry (branch_in c.loop-number.pool c.args.branch.now)) (IsRewritingOf c.rewriting_of.new.pool c.args.branch.now c.args.choice.classes.now c.args.choice.names.now (get nat_eq c.args.choice.chosen.now) c.loop-number.number)) c.in-Some.is c.in_ok-rewriting.ensures.found in
+    let made = subst (λ o. MatchOption o (HasDeep (branch_in c.loop-number.pool c.args.branch.now)) (IsRewritingOf c.rewriting_of.new.pool c.args.branch.now c.args.choice.classes.now c.args.choice.names.now (get nat_eq c.args.choice.chosen.now) c.loop-number.number)) c.in-Some.is c.in_ok-rewriting.ensures.found in
     record {
       extends = extends_then c.loop-number.invariant.extends c.rewriting_of.ensures.extends;
       sums = c.in_ok-rewriting.ensures.sums;

@@ -13,7 +13,7 @@ pub make-returns-in-Some-clause-walked : goal.make-returns-in-Some-clause-walked
 make-returns-in-Some-clause-walked t c = quantified_walked c.args.pool.now c.args.bound.now c.args.number c.args.nodes.now.classes.nodes c.quantified.new.nodes.classes.nodes c.in-Some-Two.head c.in-Some-Two.a c.in-Some-Two.b c.in-Some.n c.in-Some-Two.field-0 (get nat_eq c.args.known.now) c.quantified.result c.requires.nodes c.requires.known c.in-Some-Two.field-0-is c.in-Some-Two.ensures (c.in-Some.ensures c.args.bound.now) c.quantified.ensures.added
 
 pub node_of-returns-clause-walked : goal.node_of-returns-clause-walked
-node_of-returns-clause-walked t c = noted c.args.pool.now c.args.bound.now c.args.number c.in_ok-node.node c.args.nodes.now.classes.nodes c.make.new.nodes.classes.nodes (get nat_eq c.args.known.now) (get nat_eq c.make.new.known) (get nat_eq c.note.new.known) (sym c.look_up.ensures ∙ c.in_default.is) c.in_ok-node.ensures.walked c.in_ok-note.ensures
+node_of-returns-clause-walked t c = noted c.args.pool.now c.args.bound.now c.args.number c.in_ok-node.node c.args.nodes.now.classes.nodes c.make.new.nodes.classes.nodes (get nat_eq c.args.known.now) (get nat_eq c.make.new.known) (get nat_eq c.note.new.table) (sym c.look_up.ensures ∙ c.in_default.is) c.in_ok-node.ensures.walked c.in_ok-note.ensures
 
 pub one-returns-clause-walked : goal.one-returns-clause-walked
 one-returns-clause-walked t c = one_walked c.args.pool.now c.args.bound.now c.args.number c.args.nodes.now.classes.nodes c.node_of.new.nodes.classes.nodes c.add.new.nodes.classes.nodes c.args.head c.args.a c.in_ok-a.a (get nat_eq c.args.known.now) (get nat_eq c.node_of.new.known) c.add.result c.requires.made (grown_then c.in_ok-walk_list.ensures.grown c.in_ok-a.ensures.walked.grown) c.in_ok-a.ensures.walked.is c.in_ok-a.ensures.found c.add.ensures.number c.add.ensures.nodes
@@ -43,7 +43,7 @@ pub make-returns-in-Some-clause-numbered : goal.make-returns-in-Some-clause-numb
 make-returns-in-Some-clause-numbered t c = known_of_new c.args.pool.now c.args.number c.args.nodes.now.classes.nodes c.quantified.new.nodes.classes.nodes c.args.nodes.now.numbers.items c.quantified.new.nodes.numbers.items (get nat_eq c.args.known.now) c.quantified.result c.requires.numbered c.requires.made_for c.quantified.ensures.numbered
 
 pub node_of-returns-clause-numbered : goal.node_of-returns-clause-numbered
-node_of-returns-clause-numbered t c = noted_made c.args.pool.now c.args.number c.in_ok-node.node c.args.nodes.now.classes.nodes c.make.new.nodes.classes.nodes c.args.nodes.now.numbers.items c.make.new.nodes.numbers.items (get nat_eq c.make.new.known) (get nat_eq c.note.new.known) c.in_ok-node.ensures.numbered c.in_ok-note.ensures
+node_of-returns-clause-numbered t c = noted_made c.args.pool.now c.args.number c.in_ok-node.node c.args.nodes.now.classes.nodes c.make.new.nodes.classes.nodes c.args.nodes.now.numbers.items c.make.new.nodes.numbers.items (get nat_eq c.make.new.known) (get nat_eq c.note.new.table) c.in_ok-node.ensures.numbered c.in_ok-note.ensures
 
 pub one-returns-clause-numbered : goal.one-returns-clause-numbered
 one-returns-clause-numbered t c = one_numbered c.args.pool.now c.args.number c.args.nodes.now.classes.nodes c.walk_list.new.nodes.classes.nodes c.node_of.new.nodes.classes.nodes c.add.new.nodes.classes.nodes c.args.nodes.now.numbers.items c.walk_list.new.nodes.numbers.items c.node_of.new.nodes.numbers.items c.add.new.nodes.numbers.items c.args.head c.args.a c.in_ok-a.a (get nat_eq c.walk_list.new.known) (get nat_eq c.node_of.new.known) c.add.result c.requires.made c.in_ok-walk_list.ensures.numbered c.in_ok-a.ensures.numbered c.add.ensures.number c.add.ensures.nodes c.add.ensures.numbers

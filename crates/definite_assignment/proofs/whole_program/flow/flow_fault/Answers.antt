@@ -15,8 +15,8 @@ use Rattle.definite_assignment.proofs.whole_program.flow.flow_fault.Goals.{in-So
 pub function_rules-requires : goal.function_rules-requires
 function_rules-requires c =
     let n = c.loop-number.number in
-    let told = c.args.told.now in
-    let at = slice_get_read told (length told) n c.index-told-number.result refl c.loop-number-test.true c.index-told-number.is in
+    let known = c.args.known.now in
+    let at = slice_get_read known (length known) n c.index-known-number.result refl c.loop-number-test.true c.index-known-number.is in
     c.requires.each n _ at _ c.in-Some.function.now (sym c.in-Some.ensures)
 
 pub loop-number-init : goal.loop-number-init
@@ -34,11 +34,11 @@ loop-number-preserved c =
     elim c.match-entry.branch [
       | in-Some+in_ok-broken w ↦ record {
         unassigned = subst (λ (o : Option Span). IsFirstOrNone (BreaksAmong program Unassigned (take (n + 1) program.functions)) o) (sym w.unassigned-is)
-            (next_function program Unassigned n _ w.in-Some.function.now w.in_ok-broken.broken.unassigned c.loop-number.unassigned w.place_if-used.result w.earlier-unassigned.result
-            (sym w.in-Some.ensures) w.in_ok-broken.ensures.unassigned w.place_if-used.ensures c.loop-number.invariant.unassigned w.earlier-unassigned.ensures);
+            (next_function program Unassigned n _ w.in-Some.function.now w.in_ok-broken.broken.unassigned c.loop-number.unassigned w.span_if-used.result w.earlier-unassigned.result
+            (sym w.in-Some.ensures) w.in_ok-broken.ensures.unassigned w.span_if-used.ensures c.loop-number.invariant.unassigned w.earlier-unassigned.ensures);
         undropped = subst (λ (o : Option Span). IsFirstOrNone (BreaksAmong program Undropped (take (n + 1) program.functions)) o) (sym w.undropped-is)
-            (next_function program Undropped n _ w.in-Some.function.now w.in_ok-broken.broken.undropped c.loop-number.undropped w.place_if-left.result w.earlier-undropped.result
-            (sym w.in-Some.ensures) w.in_ok-broken.ensures.undropped w.place_if-left.ensures c.loop-number.invariant.undropped w.earlier-undropped.ensures);
+            (next_function program Undropped n _ w.in-Some.function.now w.in_ok-broken.broken.undropped c.loop-number.undropped w.span_if-left.result w.earlier-undropped.result
+            (sym w.in-Some.ensures) w.in_ok-broken.ensures.undropped w.span_if-left.ensures c.loop-number.invariant.undropped w.earlier-undropped.ensures);
       }
       | in_default w ↦ absurd (nothing_there program.functions n (omega (arith, below, same)) (sym (ap (option_map deref_pair) w.in_default.is) ∙ c.entry.ensures))
     ]

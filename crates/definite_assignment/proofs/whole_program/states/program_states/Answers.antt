@@ -11,8 +11,8 @@ use Rattle.definite_assignment.proofs.whole_program.states.program_states.Goals.
 pub function_states-requires : goal.function_states-requires
 function_states-requires c =
     let n = c.loop-number.number in
-    let told = c.args.told.now in
-    let at = slice_get_read told (length told) n c.index-told-number.result refl c.loop-number-test.true c.index-told-number.is in
+    let known = c.args.known.now in
+    let at = slice_get_read known (length known) n c.index-known-number.result refl c.loop-number-test.true c.index-known-number.is in
     c.requires.each n _ at _ c.in-Some.function.now (sym c.in-Some.ensures)
 
 pub loop-number-init : goal.loop-number-init

@@ -6,7 +6,7 @@ use Rattle.ematching.specs.Matches.{AreMatches}
 use Rattle.ematching.proofs.HeadLemmas.{index_later}
 use Rattle.ematching.specs.Instances.{NoInstanceAt, IsQuantifiedAt}
 use Rattle.ematching.proofs.QuantifierLemmas.{free_grown}
-use Rattle.ematching.proofs.StepLemmas.{at_place, on_ok}
+use Rattle.ematching.proofs.StepLemmas.{at_position, on_ok}
 use Rattle.ematching.proofs.instances.due.instance_at.Goals as goal
 
 pub returns-in_default-clause-due : goal.returns-in_default-clause-due
@@ -14,15 +14,15 @@ returns-in_default-clause-due c = subst (λ o. MatchOption o (NoInstanceAt (bran
 
 pub matches-requires : goal.matches-requires
 matches-requires c =
-    let told = subst (λ o. MatchOption o (NoInstanceAt (branch_in c.args.pool.now c.args.branch.now) c.args.i) (IsQuantifiedAt c.args.pool.now (branch_in c.args.pool.now c.args.branch.now) c.args.i)) c.in-Some.is c.in_ok-found.ensures.is in
-    record { over = c.requires.over; index = c.in_ok-grow.ensures; formula = told.is.formula }
+    let known = subst (λ o. MatchOption o (NoInstanceAt (branch_in c.args.pool.now c.args.branch.now) c.args.i) (IsQuantifiedAt c.args.pool.now (branch_in c.args.pool.now c.args.branch.now) c.args.i)) c.in-Some.is c.in_ok-found.ensures.is in
+    record { over = c.requires.over; index = c.in_ok-grow.ensures; formula = known.is.formula }
 
 pub instance_among-requires : goal.instance_among-requires
 instance_among-requires c =
-    let told = subst (λ o. MatchOption o (NoInstanceAt (branch_in c.args.pool.now c.args.branch.now) c.args.i) (IsQuantifiedAt c.args.pool.now (branch_in c.args.pool.now c.args.branch.now) c.args.i)) c.in-Some.is c.in_ok-found.ensures.is in
+    let known = subst (λ o. MatchOption o (NoInstanceAt (branch_in c.args.pool.now c.args.branch.now) c.args.i) (IsQuantifiedAt c.args.pool.now (branch_in c.args.pool.now c.args.branch.now) c.args.i)) c.in-Some.is c.in_ok-found.ensures.is in
     record {
       over = c.requires.over;
-      quantified = told.is;
+      quantified = known.is;
       terms = subst (AreMatches c.args.pool.now (branch_in c.args.pool.now c.args.branch.now) (formula_at c.args.pool.now c.in-Some.quantified.formula)) (sym c.as_slice.ensures.value) c.in_ok-terms.ensures;
     }
 
@@ -34,5 +34,5 @@ returns-clause-free c = on_ok c.instance_among.result (free_grown c.args.pool.no
 
 pub returns-clause-due : goal.returns-clause-due
 returns-clause-due c =
-    let told = subst (λ o. MatchOption o (NoInstanceAt (branch_in c.args.pool.now c.args.branch.now) c.args.i) (IsQuantifiedAt c.args.pool.now (branch_in c.args.pool.now c.args.branch.now) c.args.i)) c.in-Some.is c.in_ok-found.ensures.is in
-    at_place c.instance_among.new.pool (branch_in c.args.pool.now c.args.branch.now) c.in-Some.quantified.entry c.args.i told.place c.instance_among.result c.instance_among.ensures.due
+    let known = subst (λ o. MatchOption o (NoInstanceAt (branch_in c.args.pool.now c.args.branch.now) c.args.i) (IsQuantifiedAt c.args.pool.now (branch_in c.args.pool.now c.args.branch.now) c.args.i)) c.in-Some.is c.in_ok-found.ensures.is in
+    at_position c.instance_among.new.pool (branch_in c.args.pool.now c.args.branch.now) c.in-Some.quantified.entry c.args.i known.position c.instance_among.result c.instance_among.ensures.due

@@ -34,8 +34,8 @@ returns-in-Some-clause-due c =
     let ks = c.instance_at.new.pool in
     let d = c.args.branch.now in
     let grown = c.loop-i.invariant.grown in
-    let told = subst (λ o. MatchOption o (NoInstanceAt (branch_in ms d) c.loop-i.i) (IsInstanceAt ks (branch_in ms d) c.loop-i.i)) c.in-Some.is c.in_ok-found.ensures.due in
-    instance_step ns ks (extends_then grown c.instance_at.ensures.extends) d c.requires.over c.loop-i.i c.in-Some.step c.loop-i.invariant.none (due_back ns ms ks grown d c.requires.over c.loop-i.i c.in-Some.step told)
+    let known = subst (λ o. MatchOption o (NoInstanceAt (branch_in ms d) c.loop-i.i) (IsInstanceAt ks (branch_in ms d) c.loop-i.i)) c.in-Some.is c.in_ok-found.ensures.due in
+    instance_step ns ks (extends_then grown c.instance_at.ensures.extends) d c.requires.over c.loop-i.i c.in-Some.step c.loop-i.invariant.none (due_back ns ms ks grown d c.requires.over c.loop-i.i c.in-Some.step known)
 
 pub loop-i-preserved : goal.loop-i-preserved
 loop-i-preserved c =
@@ -44,12 +44,12 @@ loop-i-preserved c =
     let ks = c.instance_at.new.pool in
     let d = c.args.branch.now in
     let grown = c.loop-i.invariant.grown in
-    let told = subst (λ o. MatchOption o (NoInstanceAt (branch_in ms d) c.loop-i.i) (IsInstanceAt ks (branch_in ms d) c.loop-i.i)) c.in_default.is c.in_ok-found.ensures.due in
+    let known = subst (λ o. MatchOption o (NoInstanceAt (branch_in ms d) c.loop-i.i) (IsInstanceAt ks (branch_in ms d) c.loop-i.i)) c.in_default.is c.in_ok-found.ensures.due in
     record {
       grown = extends_then grown c.instance_at.ensures.extends;
       index = c.in_ok-found.ensures.index;
       free = c.in_ok-found.ensures.free;
-      none = before_next (branch_in ns d) c.loop-i.i c.loop-i.invariant.none (none_before ns ms grown d c.requires.over c.loop-i.i told);
+      none = before_next (branch_in ns d) c.loop-i.i c.loop-i.invariant.none (none_before ns ms grown d c.requires.over c.loop-i.i known);
     }
 
 pub returns-clause-extends : goal.returns-clause-extends

@@ -16,16 +16,16 @@ returns-in-Some-clause-at c =
 pub returns-in-Some-clause-chain : goal.returns-in-Some-clause-chain
 returns-in-Some-clause-chain c = λ b h can. chain_stays c.args.pool.now c.insert.new.self c.insert.ensures.extends b c.args.self.now h
 
-pub returns-in_ok-place-in-None-clause-keeps : goal.returns-in_ok-place-in-None-clause-keeps
-returns-in_ok-place-in-None-clause-keeps c = keeps_more c.args.self.now c.add.new.self c.in_ok-formula.formula c.in_ok-place-in-None.ensures.formulas c.in_ok-place-in-None.ensures.variable
+pub returns-in_ok-position-in-None-clause-keeps : goal.returns-in_ok-position-in-None-clause-keeps
+returns-in_ok-position-in-None-clause-keeps c = keeps_more c.args.self.now c.add.new.self c.in_ok-formula.formula c.in_ok-position-in-None.ensures.formulas c.in_ok-position-in-None.ensures.variable
 
-pub returns-in_ok-place-in-None-clause-at : goal.returns-in_ok-place-in-None-clause-at
-returns-in_ok-place-in-None-clause-at c =
+pub returns-in_ok-position-in-None-clause-at : goal.returns-in_ok-position-in-None-clause-at
+returns-in_ok-position-in-None-clause-at c =
     let it = two_made (Compare Eq) c.insert.ensures.extends (c.requires.term, c.requires.term) c.in_ok-formula.ensures.is in
-    at_end c.insert.new.self c.args.self.now c.add.new.self c.in_ok-formula.formula c.in_ok-place-in-None.place (EqFormula (term_at c.args.pool.now c.args.term) (term_at c.args.pool.now c.args.term)) c.in_ok-place-in-None.ensures.formulas c.in_ok-place-in-None.ensures.place (ap formula_in it.is)
+    at_end c.insert.new.self c.args.self.now c.add.new.self c.in_ok-formula.formula c.in_ok-position-in-None.position (EqFormula (term_at c.args.pool.now c.args.term) (term_at c.args.pool.now c.args.term)) c.in_ok-position-in-None.ensures.formulas c.in_ok-position-in-None.ensures.position (ap formula_in it.is)
 
-pub returns-in_ok-place-in-None-clause-chain : goal.returns-in_ok-place-in-None-clause-chain
-returns-in_ok-place-in-None-clause-chain c = λ b h can.
+pub returns-in_ok-position-in-None-clause-chain : goal.returns-in_ok-position-in-None-clause-chain
+returns-in_ok-position-in-None-clause-chain c = λ b h can.
     itself_grown c.args.pool.now c.insert.new.self c.insert.ensures.extends b c.args.self.now c.add.new.self (term_at c.args.pool.now c.args.term) c.in_ok-formula.formula c.one_number.ensures
     (two_made (Compare Eq) c.insert.ensures.extends (c.requires.term, c.requires.term) c.in_ok-formula.ensures.is)
-    c.in-None.ensures c.in_ok-place-in-None.ensures.formulas c.in_ok-place-in-None.ensures.steps c.in_ok-place-in-None.ensures.variable h can
+    c.in-None.ensures c.in_ok-position-in-None.ensures.formulas c.in_ok-position-in-None.ensures.steps c.in_ok-position-in-None.ensures.variable h can

@@ -1,10 +1,10 @@
 use Rattle.std.proofs.Common.{length, refl}
 use Rattle.explanations.proofs.DeriveLemmas.{whole_linked}
-use Rattle.explanations.proofs.FormulaLemmas.{formula_place, found_in_source, found_end}
+use Rattle.explanations.proofs.FormulaLemmas.{formula_position, found_in_source, found_end}
 use Rattle.explanations.proofs.derived.alike.derive_alike.Goals as goal
 
-pub differences-requires-clause-place : goal.differences-requires-clause-place
-differences-requires-clause-place c = formula_place c.args.pool.now c.args.graph.nodes.now c.args.graph.numbers.now c.args.graph.links.now c.requires.graph c.args.one c.args.other c.requires.one c.requires.other c.new-way.result.items c.new-way.ensures.items
+pub differences-requires-clause-position : goal.differences-requires-clause-position
+differences-requires-clause-position c = formula_position c.args.pool.now c.args.graph.nodes.now c.args.graph.numbers.now c.args.graph.links.now c.requires.graph c.args.one c.args.other c.requires.one c.requires.other c.new-way.result.items c.new-way.ensures.items
 
 pub differences-requires-clause-linked : goal.differences-requires-clause-linked
 differences-requires-clause-linked c = whole_linked c.args.graph.links.now (length c.args.graph.links.now) c.args.one c.args.other refl c.requires.linked

@@ -10,7 +10,7 @@ use Rattle.explanations.proofs.derived.derive.equations.Goals as goal
 pub loop-plan-init : goal.loop-plan-init
 loop-plan-init c = record {
   extends = extends_itself c.args.pool.now;
-  places = c.requires.places;
+  positions = c.requires.positions;
   keeps = keeps_itself c.args.chain.now;
   count = (let l = ap length c.new-equations.ensures.items in let o = c.requires.plans.one_each in omega (arith, l, o));
   each = c.requires.plans.each;
@@ -31,7 +31,7 @@ loop-plan-preserved c =
     let of = plan_next c.args.pool.now c.args.graph.nodes.now c.args.graph.links.now c.args.graph.numbers.now c.args.needed.now c.loop-plan.plans.items c.pop.new.self.items c.in-Some.plan (length c.loop-plan.equations.items) c.in-Some.ensures.items c.loop-plan.invariant.count c.loop-plan.invariant.each in
     record {
       extends = extends_then c.loop-plan.invariant.extends c.next_equation.ensures.extends;
-      places = c.in_ok-next_equation.ensures.places;
+      positions = c.in_ok-next_equation.ensures.positions;
       keeps = keeps_then c.args.chain.now c.loop-plan.chain c.next_equation.new.chain c.loop-plan.invariant.keeps c.in_ok-next_equation.ensures.keeps;
       count = (let l = ap length c.in-Some.ensures.items ∙ length_push c.pop.new.self.items c.in-Some.plan in let m = c.in_ok-next_equation.ensures.long in let o = c.loop-plan.invariant.count in omega (arith, l, m, o));
       each = plans_left c.args.pool.now c.args.graph.nodes.now c.args.graph.links.now c.args.graph.numbers.now c.args.needed.now c.loop-plan.plans.items c.pop.new.self.items c.in-Some.plan c.in-Some.ensures.items c.loop-plan.invariant.each;

@@ -2,7 +2,7 @@ use Rattle.std.proofs.Common.{◌≡◌, ℕ, suc, ◌+◌, length, Some}
 use Rattle.std.specs.Prelude.{slice_get}
 use Rattle.term_pool.specs.Pools.{Extends}
 use Rattle.certificates.specs.BranchesBranch.{Branch}
-use Rattle.explanations.specs.Chains.{HasPlaces, Keeps, IsChain}
+use Rattle.explanations.specs.Chains.{HasPositions, Keeps, IsChain}
 use Rattle.explanations.specs.Plans.{IsPlanOf}
 use Rattle.explanations.specs.Derivations.{ArePlaced, CanBeginAny}
 use Rattle.explanations.specs.declared.derived.plan.Plan.{Plan}
@@ -11,7 +11,7 @@ use Rattle.explanations.proofs.derived.derive.equations.Given as goal
 abbrev pub invariant-loop-plan : goal.invariant-loop-plan
 invariant-loop-plan l = record {
   extends : Extends l.fn.pool l.pool;
-  places : HasPlaces l.chain;
+  positions : HasPositions l.chain;
   keeps : Keeps l.fn.chain l.chain;
   count : length l.plans.items + length l.equations.items ≡ length l.graph.links.now;
   each : (k m : ℕ) (p : Plan) → m + suc k ≡ length l.graph.links.now → slice_get l.plans.items m ≡ Some p → IsPlanOf l.fn.pool l.graph.nodes.now l.graph.links.now l.graph.numbers.now l.needed k p;

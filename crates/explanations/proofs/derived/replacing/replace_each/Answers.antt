@@ -15,7 +15,7 @@ use Rattle.explanations.proofs.derived.replacing.replace_each.Goals as goal
 pub loop-difference-init : goal.loop-difference-init
 loop-difference-init c = record {
   extends = extends_itself c.args.pool.now;
-  places = c.requires.places;
+  positions = c.requires.positions;
   keeps = keeps_itself c.args.chain.now;
   at = λ number f. subst (λ x. IsAt c.args.pool.now c.args.chain.now c.args.source (formula_in x)) (sym (after_none c.args.pool.now c.args.numbers.now (item_at c.args.pool.now number) c.args.differences.now)) (record { number = number; found = f; is = refl });
   chain = λ b h can. h;
@@ -24,15 +24,15 @@ loop-difference-init c = record {
 pub replace-requires-clause-source : goal.replace-requires-clause-source
 replace-requires-clause-source c =
     let found = at_index c.args.differences.now c.loop-difference.difference-index c.difference-item.result c.difference-item.result c.loop-difference-test.true c.difference-item.is in
-    found_at c.args.pool.now c.loop-difference.pool c.loop-difference.invariant.extends c.args.chain.now c.loop-difference.chain c.args.numbers.now (item_at c.args.pool.now c.requires.replaced.number) c.args.differences.now c.requires.replaced.in_turn c.loop-difference.difference-index c.difference-item.result (c.requires.replaced.each c.loop-difference.difference-index c.difference-item.result found).is found c.loop-difference.place (c.loop-difference.invariant.at c.requires.replaced.number c.requires.replaced.found)
+    found_at c.args.pool.now c.loop-difference.pool c.loop-difference.invariant.extends c.args.chain.now c.loop-difference.chain c.args.numbers.now (item_at c.args.pool.now c.requires.replaced.number) c.args.differences.now c.requires.replaced.in_turn c.loop-difference.difference-index c.difference-item.result (c.requires.replaced.each c.loop-difference.difference-index c.difference-item.result found).is found c.loop-difference.position (c.loop-difference.invariant.at c.requires.replaced.number c.requires.replaced.found)
 
 pub replace-requires-clause-replaced : goal.replace-requires-clause-replaced
 replace-requires-clause-replaced c =
     let found = at_index c.args.differences.now c.loop-difference.difference-index c.difference-item.result c.difference-item.result c.loop-difference-test.true c.difference-item.is in
     replace_grown c.args.pool.now c.loop-difference.pool c.loop-difference.invariant.extends c.args.chain.now c.loop-difference.chain c.loop-difference.invariant.keeps c.args.numbers.now c.args.equations.now c.difference-item.result (c.requires.replaced.each c.loop-difference.difference-index c.difference-item.result found)
 
-pub replace-requires-clause-places : goal.replace-requires-clause-places
-replace-requires-clause-places c = c.loop-difference.invariant.places
+pub replace-requires-clause-positions : goal.replace-requires-clause-positions
+replace-requires-clause-positions c = c.loop-difference.invariant.positions
 
 pub loop-difference-preserved : goal.loop-difference-preserved
 loop-difference-preserved c =
@@ -40,7 +40,7 @@ loop-difference-preserved c =
     let can = c.requires.replaced.each c.loop-difference.difference-index c.difference-item.result found in
     record {
       extends = extends_then c.loop-difference.invariant.extends c.replace.ensures.extends;
-      places = c.in_ok-next.ensures.places;
+      positions = c.in_ok-next.ensures.positions;
       keeps = keeps_then c.args.chain.now c.loop-difference.chain c.replace.new.chain c.loop-difference.invariant.keeps c.in_ok-next.ensures.keeps;
       at = λ number f. left_at c.args.pool.now c.loop-difference.pool c.replace.new.pool c.loop-difference.invariant.extends c.replace.new.chain c.args.numbers.now (item_at c.args.pool.now number) c.args.differences.now c.loop-difference.difference-index _ c.difference-item.result can.is found (omega arith) c.in_ok-next.next c.in_ok-next.ensures.at;
       chain = λ b h begin. c.in_ok-next.ensures.chain b (c.loop-difference.invariant.chain b h begin) (begin_grown c.args.pool.now c.loop-difference.pool c.loop-difference.invariant.extends b c.args.chain.now c.loop-difference.chain c.loop-difference.invariant.keeps (number_at c.args.numbers.now c.difference-item.result.from) TermSort can.is.from_term (begin.each c.loop-difference.difference-index c.difference-item.result found));
@@ -48,5 +48,5 @@ loop-difference-preserved c =
 
 pub returns-clause-at : goal.returns-clause-at
 returns-clause-at c = record {
-  at = λ number f. subst (λ ds. IsAt c.loop-difference.pool c.loop-difference.chain c.loop-difference.place (formula_in (after_all c.args.pool.now c.args.numbers.now (item_at c.args.pool.now number) ds))) (take_all c.loop-difference.difference-index c.args.differences.now c.loop-difference-test.false) (c.loop-difference.invariant.at number f);
+  at = λ number f. subst (λ ds. IsAt c.loop-difference.pool c.loop-difference.chain c.loop-difference.position (formula_in (after_all c.args.pool.now c.args.numbers.now (item_at c.args.pool.now number) ds))) (take_all c.loop-difference.difference-index c.args.differences.now c.loop-difference-test.false) (c.loop-difference.invariant.at number f);
 }

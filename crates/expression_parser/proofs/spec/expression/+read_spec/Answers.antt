@@ -120,7 +120,7 @@ read_operated-returns-in_default t c = chain_ends spec_joints (spec_at c.args.bu
 pub read_operated-returns-in_err-right : goal.read_operated-returns-in_err-right
 read_operated-returns-in_err-right t c =
     fault_hands_on c.from_residual-in_err-right.result _ _ _ c.from_residual-in_err-right.ensures.1
-    (IfNoTree-weaker _ (operated_is_stuck (type_at c.args.budget) (spec_at c.args.budget) c.args.packs c.args.minimum _ _ (length c.in_ok-first.behind.now + 1 - (c.loop.counter + 1)) _ _ c.in-Some.inside.now c.in-Some.operator c.in-Some.place _ c.loop.invariant (omega arith) (search rules) c.right_level.ensures) c.in_err-right.ensures)
+    (IfNoTree-weaker _ (operated_is_stuck (type_at c.args.budget) (spec_at c.args.budget) c.args.packs c.args.minimum _ _ (length c.in_ok-first.behind.now + 1 - (c.loop.counter + 1)) _ _ c.in-Some.inside.now c.in-Some.operator c.in-Some.span _ c.loop.invariant (omega arith) (search rules) c.right_level.ensures) c.in_err-right.ensures)
 
 pub read_operated-loop-preserved : goal.read_operated-loop-preserved
 read_operated-loop-preserved t c =

@@ -19,4 +19,4 @@ returns-then-not-branch c = λ before a.
     let name = c.in_ok-try_clone.ensures ∙ ap (λ (f : SumModuleData). f.name) c.found.view_is in
     subst (HasUnbuilt (before ++ (c.args.file, c.args.source_module.now) ∷ []) c.args.file) (sym c.breaks-fault-then-not-branch.ensures)
     (taken_again before c.args.self.now.modules.items c.args.self.now.taken c.args.file c.args.source_module.now c.in-Ok.found _ (c.found.inside.address, c.in_ok-try_clone.field-0) c.in_ok-insert.field-0 a c.in-Ok.ensures
-    (λ i. (address i, name i)) c.in_ok-insert.ensures.added c.if-not-branch.true (ap (λ (s : Span). s.start) c.module_place.ensures))
+    (λ i. (address i, name i)) c.in_ok-insert.ensures.added c.if-not-branch.true (ap (λ (s : Span). s.start) c.module_span.ensures))

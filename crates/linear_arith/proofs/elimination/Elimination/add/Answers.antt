@@ -1,7 +1,7 @@
 use Rattle.std.proofs.Common.{◌∷◌, ◌++◌, [], ap, ◌∙◌, sym, refl, subst, List}
 use Rattle.std.specs.Prelude.{Contains}
 use Rattle.std.proofs.lemmas.List.Elements.{Contains-push}
-use Rattle.linear_arith.proofs.GrowthLemmas.{grown_same, grown_with}
+use Rattle.linear_arith.proofs.GrowthLemmas.{extended_same, extended_with}
 use Rattle.linear_arith.specs.Inequality.{Inequality}
 use Rattle.linear_arith.specs.declared.elimination.Elimination.{Elimination}
 use Rattle.linear_arith.proofs.StageLemmas.{under_way_with, limit_with, under_way_same, negated, negated_false}
@@ -33,8 +33,8 @@ returns-clause-grown c = λ width rows u d. elim c.if-branch.branch [
   | then-branch+in_ok-try_clone+in_ok-push+in_ok-push-2+else-as_slice-ge-MOST_ROWS w ↦
       let old = c.args.self.now in
       let found = w.in_ok-push.ensures.ok ∙ ap (λ (r : Inequality). old.found ++ r ∷ []) w.in_ok-try_clone.ensures in
-      grown_with width rows old c.if-branch.self c.args.made d (ap (λ (e : Elimination). e.unknowns.items) w.self-is) (ap (λ (e : Elimination). e.found) w.self-is ∙ found) (ap (λ (e : Elimination). e.live.items) w.self-is ∙ w.in_ok-push-2.ensures.items) (ap (λ (e : Elimination). e.stages.items) w.self-is)
-  | else-branch w ↦ rw w.self-is (grown_same c.args.self.now (record c.args.self.now { keys = c.insert.new.self }) refl refl refl refl)
+      extended_with width rows old c.if-branch.self c.args.made d (ap (λ (e : Elimination). e.unknowns.items) w.self-is) (ap (λ (e : Elimination). e.found) w.self-is ∙ found) (ap (λ (e : Elimination). e.live.items) w.self-is ∙ w.in_ok-push-2.ensures.items) (ap (λ (e : Elimination). e.stages.items) w.self-is)
+  | else-branch w ↦ rw w.self-is (extended_same c.args.self.now (record c.args.self.now { keys = c.insert.new.self }) refl refl refl refl)
 ]
 
 pub returns-clause-added : goal.returns-clause-added

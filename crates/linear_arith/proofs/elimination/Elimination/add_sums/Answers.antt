@@ -3,7 +3,7 @@ use Rattle.std.specs.Prelude.{All}
 use Rattle.linear_arith.specs.Closure.{HasSum}
 use Rattle.linear_arith.specs.declared.elimination.Derived.{Derived}
 use Rattle.linear_arith.proofs.ClosureLemmas.{sum_stays}
-use Rattle.linear_arith.proofs.GrowthLemmas.{grown_twice, stage_grown, pair_of_stage}
+use Rattle.linear_arith.proofs.GrowthLemmas.{extended_twice, stage_extended, pair_of_stage}
 use Rattle.linear_arith.proofs.ListLemmas.{get_or-any_default}
 use Rattle.linear_arith.proofs.elimination.Elimination.add_sums.Goals as goal
 
@@ -20,8 +20,8 @@ loop-lower-preserved c =
     record {
       unknowns = e.unknowns ∙ inv.unknowns;
       under_way = e.ok;
-      before = stage_grown c.args.system.now.width c.args.system.now.rows.now stage old new e.ok e.grown inv.before;
-      grown = grown_twice c.args.self.now old new inv.grown e.grown;
+      before = stage_extended c.args.system.now.width c.args.system.now.rows.now stage old new e.ok e.grown inv.before;
+      grown = extended_twice c.args.self.now old new inv.grown e.grown;
       sums = λ k d l i b m. sum_stays old.found new.found unknown (get_or stage.upper.items k d).row (get_or stage.lower.items i b).row e.grown.found (inv.sums k d l i b m);
       here = λ k d l. below_more (λ (k : ℕ). (d : Derived) → HasSum new.found unknown upper.row (get_or stage.lower.items k d).row) c.loop-lower.lower-index (λ k l d. sum_stays old.found new.found unknown upper.row (get_or stage.lower.items k d).row e.grown.found (inv.here k d l)) (λ d. subst (λ (m : Derived). HasSum new.found unknown upper.row m.row) (c.lower-item.is ∙ ap (λ (xs : List Derived). get_or xs c.loop-lower.lower-index lower) c.deref-lower-items.ensures.value ∙ get_or-any_default stage.lower.items c.loop-lower.lower-index lower d (omega arith)) e.sum) k l d;
     }

@@ -3,7 +3,7 @@ use Rattle.std.specs.Prelude.{Contains}
 use Rattle.std.proofs.lemmas.Result.{err_from_is_err_and}
 use Rattle.linear_arith.specs.Inequality.{Inequality, padded}
 use Rattle.linear_arith.specs.Stages.{IsDerived}
-use Rattle.linear_arith.proofs.GrowthLemmas.{keeps_grown, caught_up_first, begun}
+use Rattle.linear_arith.proofs.GrowthLemmas.{keeps_extended, caught_up_first, begun}
 use Rattle.linear_arith.proofs.WholeLemmas.{no_stages}
 use Rattle.linear_arith.proofs.elimination.Elimination.new.Goals as goal
 
@@ -20,7 +20,7 @@ loop-i-preserved c =
       stages = grown.stages ∙ inv.stages;
       unknowns = c.in_ok-add.ensures.unknowns ∙ inv.unknowns;
       under_way = c.in_ok-add.ensures.ok width rows inv.under_way derived;
-      keeps = keeps_grown old new grown inv.keeps;
+      keeps = keeps_extended old new grown inv.keeps;
       begins = λ k d l. below_more (λ (k : ℕ). (d : Inequality) → Contains new.found (padded width (get_or rows k d))) c.loop-i.i (λ k l d. grown.found (padded width (get_or rows k d)) (inv.begins k d l)) (λ d. subst (λ (r : Inequality). Contains new.found r) (c.in_ok-given.ensures.row d) (c.in_ok-add.ensures.added width rows inv.under_way)) k l d;
     }
 

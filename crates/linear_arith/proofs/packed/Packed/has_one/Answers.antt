@@ -11,7 +11,7 @@ use Rattle.linear_arith.proofs.packed.Packed.has_one.Goals as goal
 has_one : (entries : List Entry) (n i : ℕ) (entry : Entry) (whole : List ℤ) → spread entries ++ replicate n (pos 0) ≡ whole → i < length entries → entry ≡ get_or entries i entry → entry.number ≡ pos 1 → HasOne whole
 has_one entries n i entry whole e l is one =
     let at = spread_at entries i entry l is in
-    record { place = at.0; is_one = sym (ap (number at.0) e) ∙ number_trailing (spread entries) n at.0 ∙ at.1 ∙ one }
+    record { position = at.0; is_one = sym (ap (number at.0) e) ∙ number_trailing (spread entries) n at.0 ∙ at.1 ∙ one }
 
 pub returns-then-entry-eq1 : goal.returns-then-entry-eq1
 returns-then-entry-eq1 c = λ _.

@@ -1,6 +1,6 @@
 use Rattle.std.proofs.Common.{◌≡◌, ◌∷◌, [], length, arith, length-append}
 use Rattle.program.specs.Trees.{IsBelow}
-use Rattle.program.proofs.Standing.{below-push, trees-push, stays-push}
+use Rattle.program.proofs.Present.{below-push, trees-push, stays-push}
 use Rattle.program.proofs.arena.Arena.add.Goals as goal
 
 pub invariant_of-self-2 : goal.invariant_of-self-2

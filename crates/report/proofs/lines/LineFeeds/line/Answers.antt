@@ -7,10 +7,10 @@ use Rattle.report.proofs.lines.LineFeeds.line.Goals as goal
 
 pub returns : goal.returns
 returns c = λ bytes e.
-    let place = c.args.place in
+    let position = c.args.position in
     let same : line_feeds bytes ≡ c.deref.result.now = sym (c.deref.ensures.value ∙ c.self.view_is ∙ e) in
     let rising : IsNonDecreasingBy (λ f. f) c.deref.result.now = subst (λ (fs : List ℕ). IsNonDecreasingBy (λ f. f) fs) same (feeds_sorted bytes) in
-    let found = IsPartitionPoint-from_clause (λ f. ltb f place) c.deref.result.now c.partition_point.result c.partition_point.ensures.partitioned
-    (IsPartitionedBy-ltb (λ f. f) c.deref.result.now place rising) (λ a r f k. search rules) in
-    line_from_partition bytes place c.partition_point.result (omega (arith, ap length same, c.partition_point.ensures.bound))
-    (subst (λ (fs : List ℕ). IsPartitionPoint (λ y. ltb y place ≡ true) (λ y. ltb y place ≡ false) fs c.partition_point.result) (sym same) found)
+    let found = IsPartitionPoint-from_clause (λ f. ltb f position) c.deref.result.now c.partition_point.result c.partition_point.ensures.partitioned
+    (IsPartitionedBy-ltb (λ f. f) c.deref.result.now position rising) (λ a r f k. search rules) in
+    line_from_partition bytes position c.partition_point.result (omega (arith, ap length same, c.partition_point.ensures.bound))
+    (subst (λ (fs : List ℕ). IsPartitionPoint (λ y. ltb y position ≡ true) (λ y. ltb y position ≡ false) fs c.partition_point.result) (sym same) found)

@@ -2,5 +2,5 @@ use Rattle.std.proofs.Common.{◌≡◌, take}
 use Rattle.report.specs.Lines.{line_feeds}
 use Rattle.report.proofs.lines.LineFeeds.new.Given as goal
 
-abbrev pub invariant-loop-place : goal.invariant-loop-place
-invariant-loop-place l = l.places.items ≡ line_feeds (take l.place l.bytes)
+abbrev pub invariant-loop-position : goal.invariant-loop-position
+invariant-loop-position l = l.positions.items ≡ line_feeds (take l.position l.bytes)

@@ -4,4 +4,4 @@ use Rattle.resolution.specs.SpecDeclarations.{variables_in}
 use Rattle.resolution.proofs.clauses.schemas.variables_named.Given as goal
 
 abbrev pub invariant-loop-tree : goal.invariant-loop-tree
-invariant-loop-tree l = typed_names (record { environment = l.place.environment.now; parameters = l.place.parameters.now; is_spec = l.place.is_spec }) (variables_in (take l.tree-index l.trees)) ≡ Some l.variables
+invariant-loop-tree l = typed_names (record { environment = l.context.environment.now; parameters = l.context.parameters.now; is_spec = l.context.is_spec }) (variables_in (take l.tree-index l.trees)) ≡ Some l.variables

@@ -36,7 +36,7 @@ loop-term-preserved c =
     elim c.if-is_better.branch [
       | then-is_better+in_ok-note w ↦
           subst (λ (xs : List ℕ). AreShallowest ns names xs (get nat_eq c.if-is_better.chosen)) (sym (take_more terms i 0 c.loop-term-test.true))
-          (rw w.chosen-is (improved ns names (take i terms) n (get nat_eq c.loop-term.chosen) (get nat_eq w.note.new.chosen) (c.if-not-is_no_sum.ensures.0 refl) w.if-is_better.ensures w.in_ok-note.ensures c.loop-term.invariant))
+          (rw w.chosen-is (improved ns names (take i terms) n (get nat_eq c.loop-term.chosen) (get nat_eq w.note.new.table) (c.if-not-is_no_sum.ensures.0 refl) w.if-is_better.ensures w.in_ok-note.ensures c.loop-term.invariant))
       | else-is_better w ↦
           subst (λ (xs : List ℕ). AreShallowest ns names xs (get nat_eq c.if-is_better.chosen)) (sym (take_more terms i 0 c.loop-term-test.true))
           (rw w.chosen-is (as_shallow ns names (take i terms) n (get nat_eq c.loop-term.chosen) w.if-is_better.ensures c.loop-term.invariant))

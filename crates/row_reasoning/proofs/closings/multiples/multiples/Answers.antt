@@ -12,7 +12,7 @@ abbrev no_origin : RowOrigin
 no_origin = record { entry = 0; is_turned = false }
 
 pub loop-i-init : goal.loop-i-init
-loop-i-init c = subst (AreCitedSoFar c.args.origins.now c.args.multipliers.now c.args.places.now 0) (sym c.new-cited.ensures.items) (cited_begun c.args.origins.now c.args.multipliers.now c.args.places.now)
+loop-i-init c = subst (AreCitedSoFar c.args.origins.now c.args.multipliers.now c.args.positions.now 0) (sym c.new-cited.ensures.items) (cited_begun c.args.origins.now c.args.multipliers.now c.args.positions.now)
 
 pub loop-i-preserved-then-multiplier-eq0 : goal.loop-i-preserved-then-multiplier-eq0
 loop-i-preserved-then-multiplier-eq0 c =
@@ -23,7 +23,7 @@ loop-i-preserved-then-multiplier-eq0 c =
     let v : i < length c.args.multipliers.now = omega (arith, one, w) in
     let word : FitsSigned w128 m = search rules in
     let fits : Fits m = fits_positive m (c.requires.positive i (pos 0) v) word in
-    cited_same c.args.origins.now c.args.multipliers.now c.args.places.now i c.loop-i.cited.items no_origin (pos 0) w v (zero_word m fits c.if-multiplier-eq0.true) c.loop-i.invariant
+    cited_same c.args.origins.now c.args.multipliers.now c.args.positions.now i c.loop-i.cited.items no_origin (pos 0) w v (zero_word m fits c.if-multiplier-eq0.true) c.loop-i.invariant
 
 pub loop-i-preserved-in_default : goal.loop-i-preserved-in_default
 loop-i-preserved-in_default c =
@@ -32,7 +32,7 @@ loop-i-preserved-in_default c =
     let one = c.requires.one_each in
     let w = c.loop-i-test.true in
     let v : i < length c.args.multipliers.now = omega (arith, one, w) in
-    cited_nowhere c.args.origins.now c.args.multipliers.now c.args.places.now i c.loop-i.cited.items no_origin (pos 0) w v (λ e. c.if-multiplier-eq0.false (zero_is m e)) (sym c.in_default.ensures)
+    cited_nowhere c.args.origins.now c.args.multipliers.now c.args.positions.now i c.loop-i.cited.items no_origin (pos 0) w v (λ e. c.if-multiplier-eq0.false (zero_is m e)) (sym c.in_default.ensures)
 
 pub signed-requires : goal.signed-requires
 signed-requires c =
@@ -57,8 +57,8 @@ loop-i-preserved c =
     let f : Fits m = fits_positive m (c.requires.positive i (pos 0) v) in_word in
     let is : c.signed.result ≡ signed origin.is_turned m = c.signed.ensures ∙ ap (signed origin.is_turned) (word_is m f) in
     let word : to_z w128 (of_z w128 c.signed.result) ≡ signed origin.is_turned m = word_is c.signed.result (subst Fits (sym is) (signed_fits origin.is_turned m f)) ∙ is in
-    cited_more c.args.origins.now c.args.multipliers.now c.args.places.now i c.loop-i.cited.items c.push.new.self.items no_origin (pos 0) c.in-Some.place w v (λ e. c.if-multiplier-eq0.false (zero_is m e)) (sym c.in-Some.ensures)
-    (c.in_ok-push.ensures.items ∙ ap (λ (z : ℤ). c.loop-i.cited.items ++ record { entry = c.in-Some.place; multiplier = z } ∷ []) word) c.loop-i.invariant
+    cited_more c.args.origins.now c.args.multipliers.now c.args.positions.now i c.loop-i.cited.items c.push.new.self.items no_origin (pos 0) c.in-Some.position w v (λ e. c.if-multiplier-eq0.false (zero_is m e)) (sym c.in-Some.ensures)
+    (c.in_ok-push.ensures.items ∙ ap (λ (z : ℤ). c.loop-i.cited.items ++ record { entry = c.in-Some.position; multiplier = z } ∷ []) word) c.loop-i.invariant
 
 pub returns : goal.returns
-returns c = cited_done c.args.origins.now c.args.multipliers.now c.args.places.now c.loop-i.i c.loop-i.cited.items c.loop-i-test.false (let one = c.requires.one_each in let w = c.loop-i-test.false in omega (arith, one, w)) c.loop-i.invariant
+returns c = cited_done c.args.origins.now c.args.multipliers.now c.args.positions.now c.loop-i.i c.loop-i.cited.items c.loop-i-test.false (let one = c.requires.one_each in let w = c.loop-i-test.false in omega (arith, one, w)) c.loop-i.invariant

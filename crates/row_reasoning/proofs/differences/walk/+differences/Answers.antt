@@ -1,6 +1,6 @@
 use Rattle.std.proofs.Common.{nat_eq, arith}
 use Rattle.indexmap.specs.IndexMap.{get}
-use Rattle.row_reasoning.proofs.PlaceLemmas.{first_place, second_place, both_found}
+use Rattle.row_reasoning.proofs.PositionLemmas.{first_position, second_position, both_found}
 use Rattle.row_reasoning.proofs.differences.walk.+differences.Goals as goal
 
 pub parts-differences-requires : goal.parts-differences-requires
@@ -10,7 +10,7 @@ parts-differences-requires t c = (
     c.requires.over,
     (
       c.requires.history,
-      first_place c.args.pool.now c.args.choice.classes.now c.args.choice.names.now (get nat_eq c.args.choice.chosen.now) c.args.way.now c.args.one c.args.other c.requires.sides c.in_ok-first.first.items c.in_ok-first.ensures,
+      first_position c.args.pool.now c.args.choice.classes.now c.args.choice.names.now (get nat_eq c.args.choice.chosen.now) c.args.way.now c.args.one c.args.other c.requires.sides c.in_ok-first.first.items c.in_ok-first.ensures,
     ),
   ),
 )
@@ -22,7 +22,7 @@ parts-differences-requires-2 t c = (
     c.requires.over,
     (
       c.requires.history,
-      second_place c.args.pool.now c.args.choice.classes.now c.args.choice.names.now (get nat_eq c.args.choice.chosen.now) c.args.way.now c.args.one c.args.other c.requires.sides c.in_ok-second.second.items c.in_ok-second.ensures,
+      second_position c.args.pool.now c.args.choice.classes.now c.args.choice.names.now (get nat_eq c.args.choice.chosen.now) c.args.way.now c.args.one c.args.other c.requires.sides c.in_ok-second.second.items c.in_ok-second.ensures,
     ),
   ),
 )

@@ -1,6 +1,6 @@
 use Rattle.std.proofs.Common.{nat_eq}
 use Rattle.indexmap.specs.IndexMap.{get}
-use Rattle.row_reasoning.proofs.PlaceLemmas.{is_unknown, numeral_same, parts_of, no_parts}
+use Rattle.row_reasoning.proofs.PositionLemmas.{is_unknown, numeral_same, parts_of, no_parts}
 use Rattle.row_reasoning.proofs.differences.walk.turn_at.Goals as goal
 
 pub returns-in-Unknown : goal.returns-in-Unknown

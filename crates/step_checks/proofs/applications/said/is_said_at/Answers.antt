@@ -9,4 +9,4 @@ returns-in_default c = no_entry c.args.pool.now c.args.branch.now c.requires c.a
 
 pub returns : goal.returns
 returns c =
-    vec_ok c.is_said_of.result (λ told h. said_given c.args.pool.now c.args.branch.now c.args.i c.in-Some.entry (sym c.in-Some.ensures) c.args.of.now c.args.term.now told h) c.is_said_of.ensures
+    vec_ok c.is_said_of.result (λ known h. said_given c.args.pool.now c.args.branch.now c.args.i c.in-Some.entry (sym c.in-Some.ensures) c.args.of.now c.args.term.now known h) c.is_said_of.ensures

@@ -1,7 +1,7 @@
 use Rattle.tableau.specs.PoolBranches.{branch_in}
 use Rattle.tableau.proofs.NumberLemmas.{vec_ok}
 use Rattle.tableau.specs.Terms.{term_at}
-use Rattle.step_checks.proofs.DecisionsTruthLemmas.{not_told}
+use Rattle.step_checks.proofs.DecisionsTruthLemmas.{refuted}
 use Rattle.step_checks.proofs.OrderLemmas.{triggered_as_indexes, triggered_as_differing}
 use Rattle.step_checks.proofs.axiom_rules.orders.are_triggered.Goals as goal
 
@@ -11,4 +11,4 @@ returns-then-indexes-clause-exact c =
 
 pub returns-clause-exact : goal.returns-clause-exact
 returns-clause-exact c =
-    vec_ok c.are_said_to_differ.result (λ told h. triggered_as_differing (branch_in c.args.pool.now c.args.branch.now) (term_at c.args.pool.now c.args.left) (term_at c.args.pool.now c.args.right) (not_told c.in_ok-indexes.indexes c.if-indexes.false c.in_ok-indexes.ensures) told h) c.are_said_to_differ.ensures.exact
+    vec_ok c.are_said_to_differ.result (λ known h. triggered_as_differing (branch_in c.args.pool.now c.args.branch.now) (term_at c.args.pool.now c.args.left) (term_at c.args.pool.now c.args.right) (refuted c.in_ok-indexes.indexes c.if-indexes.false c.in_ok-indexes.ensures) known h) c.are_said_to_differ.ensures.exact

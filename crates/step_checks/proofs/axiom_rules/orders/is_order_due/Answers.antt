@@ -38,4 +38,4 @@ is_order_of-requires-clause-right c = record { number = c.in-Some.ensures.right;
 
 pub returns-clause-exact : goal.returns-clause-exact
 returns-clause-exact c =
-    vec_ok c.is_order_of.result (λ told h. order_due c.args.pool.now (branch_in c.args.pool.now c.args.branch.now) (formula_at c.args.pool.now c.args.formula) c.args.generation (c.in-Some.left, c.in-Some.right) c.in-Some.ensures (c.if-not-is_generation_of.ensures.0 refl) (record { new = λ s. (let both : false ≡ true = c.if-stands.ensures.1 s in absurd (cc)) }) (shallow_at c.args.pool.now c.args.formula c.depth.result c.requires.formula c.depth.ensures c.if-depth-gt-MOST_DEPTH.false) told h) c.is_order_of.ensures.exact
+    vec_ok c.is_order_of.result (λ known h. order_due c.args.pool.now (branch_in c.args.pool.now c.args.branch.now) (formula_at c.args.pool.now c.args.formula) c.args.generation (c.in-Some.left, c.in-Some.right) c.in-Some.ensures (c.if-not-is_generation_of.ensures.0 refl) (record { new = λ s. (let both : false ≡ true = c.if-stands.ensures.1 s in absurd (cc)) }) (shallow_at c.args.pool.now c.args.formula c.depth.result c.requires.formula c.depth.ensures c.if-depth-gt-MOST_DEPTH.false) known h) c.is_order_of.ensures.exact

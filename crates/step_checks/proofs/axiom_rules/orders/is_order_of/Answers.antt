@@ -4,7 +4,7 @@ use Rattle.tableau.specs.Numbers.{formula_at}
 use Rattle.tableau.proofs.NumberLemmas.{vec_ok}
 use Rattle.tableau.specs.Terms.{term_at}
 use Rattle.axiom_strategy.proofs.GrownLemmas.{branch_term_grown, over_grown, classes_grown}
-use Rattle.step_checks.proofs.DecisionsTruthLemmas.{not_told}
+use Rattle.step_checks.proofs.DecisionsTruthLemmas.{refuted}
 use Rattle.step_checks.proofs.OrderLemmas.{order_fails, order_tells, pair_before}
 use Rattle.step_checks.proofs.axiom_rules.orders.is_order_of.Goals as goal
 
@@ -16,7 +16,7 @@ is_instance-requires-clause-right c = c.requires.right.number
 
 pub returns-then-not-same-clause-exact : goal.returns-then-not-same-clause-exact
 returns-then-not-same-clause-exact c =
-    order_fails (branch_in c.args.pool.now c.args.branch.now) (term_at c.args.pool.now c.args.left) (term_at c.args.pool.now c.args.right) (formula_at c.args.pool.now c.args.formula) (not_told c.in_ok-same.same c.if-not-same.true c.in_ok-same.ensures.exact)
+    order_fails (branch_in c.args.pool.now c.args.branch.now) (term_at c.args.pool.now c.args.left) (term_at c.args.pool.now c.args.right) (formula_at c.args.pool.now c.args.formula) (refuted c.in_ok-same.same c.if-not-same.true c.in_ok-same.ensures.exact)
 
 pub is_pair_due-requires-clause-over : goal.is_pair_due-requires-clause-over
 is_pair_due-requires-clause-over c = over_grown c.args.pool.now c.is_instance.new.pool c.is_instance.ensures.extends c.args.branch.now c.requires.over
@@ -35,4 +35,4 @@ returns-clause-extends c = extends_then c.is_instance.ensures.extends c.is_pair_
 
 pub returns-clause-exact : goal.returns-clause-exact
 returns-clause-exact c =
-    vec_ok c.is_pair_due.result (λ told h. order_tells (branch_in c.args.pool.now c.args.branch.now) (term_at c.args.pool.now c.args.left) (term_at c.args.pool.now c.args.right) (formula_at c.args.pool.now c.args.formula) told (c.in_ok-same.ensures.exact.0 c.if-not-same.false) (pair_before c.args.pool.now c.is_instance.new.pool c.is_instance.ensures.extends c.args.branch.now c.requires.over c.args.left c.args.right c.requires.left.number c.requires.right.number told h)) c.is_pair_due.ensures.exact
+    vec_ok c.is_pair_due.result (λ known h. order_tells (branch_in c.args.pool.now c.args.branch.now) (term_at c.args.pool.now c.args.left) (term_at c.args.pool.now c.args.right) (formula_at c.args.pool.now c.args.formula) known (c.in_ok-same.ensures.exact.0 c.if-not-same.false) (pair_before c.args.pool.now c.is_instance.new.pool c.is_instance.ensures.extends c.args.branch.now c.requires.over c.args.left c.args.right c.requires.left.number c.requires.right.number known h)) c.is_pair_due.ensures.exact

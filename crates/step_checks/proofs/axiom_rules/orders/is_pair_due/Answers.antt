@@ -3,13 +3,13 @@ use Rattle.tableau.specs.PoolBranches.{branch_in}
 use Rattle.tableau.proofs.NumberLemmas.{vec_ok}
 use Rattle.tableau.specs.Terms.{term_at}
 use Rattle.axiom_strategy.proofs.GrownLemmas.{number_grown, over_grown, classes_grown}
-use Rattle.step_checks.proofs.DecisionsTruthLemmas.{not_told}
+use Rattle.step_checks.proofs.DecisionsTruthLemmas.{refuted}
 use Rattle.step_checks.proofs.OrderLemmas.{pair_fails, pair_tells, triggered_before}
 use Rattle.step_checks.proofs.axiom_rules.orders.is_pair_due.Goals as goal
 
 pub returns-then-not-unordered-clause-exact : goal.returns-then-not-unordered-clause-exact
 returns-then-not-unordered-clause-exact c =
-    pair_fails (branch_in c.args.pool.now c.args.branch.now) (term_at c.args.pool.now c.args.left) (term_at c.args.pool.now c.args.right) (not_told c.in_ok-unordered.unordered c.if-not-unordered.true c.in_ok-unordered.ensures.exact)
+    pair_fails (branch_in c.args.pool.now c.args.branch.now) (term_at c.args.pool.now c.args.left) (term_at c.args.pool.now c.args.right) (refuted c.in_ok-unordered.unordered c.if-not-unordered.true c.in_ok-unordered.ensures.exact)
 
 pub are_triggered_numbers-requires-clause-over : goal.are_triggered_numbers-requires-clause-over
 are_triggered_numbers-requires-clause-over c = over_grown c.args.pool.now c.are_unordered.new.pool c.are_unordered.ensures.extends c.args.branch.now c.requires.over
@@ -28,4 +28,4 @@ returns-clause-extends c = extends_then c.are_unordered.ensures.extends c.are_tr
 
 pub returns-clause-exact : goal.returns-clause-exact
 returns-clause-exact c =
-    vec_ok c.are_triggered_numbers.result (λ told h. pair_tells (branch_in c.args.pool.now c.args.branch.now) (term_at c.args.pool.now c.args.left) (term_at c.args.pool.now c.args.right) told (c.in_ok-unordered.ensures.exact.0 c.if-not-unordered.false) (triggered_before c.args.pool.now c.are_unordered.new.pool c.are_unordered.ensures.extends c.args.branch.now c.requires.over c.args.left c.args.right c.requires.left.number c.requires.right.number told h)) c.are_triggered_numbers.ensures.exact
+    vec_ok c.are_triggered_numbers.result (λ known h. pair_tells (branch_in c.args.pool.now c.args.branch.now) (term_at c.args.pool.now c.args.left) (term_at c.args.pool.now c.args.right) known (c.in_ok-unordered.ensures.exact.0 c.if-not-unordered.false) (triggered_before c.args.pool.now c.are_unordered.new.pool c.are_unordered.ensures.extends c.args.branch.now c.requires.over c.args.left c.args.right c.requires.left.number c.requires.right.number known h)) c.are_triggered_numbers.ensures.exact

@@ -3,7 +3,7 @@ use Rattle.tableau.specs.PoolBranches.{branch_in}
 use Rattle.tableau.specs.Numbers.{formula_at}
 use Rattle.tableau.proofs.NumberLemmas.{number_stays, vec_ok}
 use Rattle.axiom_strategy.proofs.GrownLemmas.{over_grown, classes_grown}
-use Rattle.step_checks.proofs.DecisionsTruthLemmas.{not_told}
+use Rattle.step_checks.proofs.DecisionsTruthLemmas.{refuted}
 use Rattle.step_checks.proofs.AxiomLemmas.{by_table, no_table, decision_before}
 use Rattle.step_checks.proofs.axiom_rules.triggered.is_axiom_due.Goals as goal
 
@@ -25,4 +25,4 @@ returns-clause-extends c = extends_then c.is_listed.ensures.extends c.is_decisio
 
 pub returns-clause-exact : goal.returns-clause-exact
 returns-clause-exact c =
-    vec_ok c.is_decision_due.result (λ told h. no_table c.args.shapes.now (branch_in c.args.pool.now c.args.branch.now) c.args.step.name (formula_at c.args.pool.now c.args.step.formula) c.args.step.generation (not_told c.in_ok-listed.listed c.if-listed.false c.in_ok-listed.ensures.exact) told (decision_before c.args.pool.now c.is_listed.new.pool c.is_listed.ensures.extends c.args.branch.now c.requires.over c.args.step.name c.args.step.formula c.args.step.generation c.requires.formula told h)) c.is_decision_due.ensures.exact
+    vec_ok c.is_decision_due.result (λ known h. no_table c.args.shapes.now (branch_in c.args.pool.now c.args.branch.now) c.args.step.name (formula_at c.args.pool.now c.args.step.formula) c.args.step.generation (refuted c.in_ok-listed.listed c.if-listed.false c.in_ok-listed.ensures.exact) known (decision_before c.args.pool.now c.is_listed.new.pool c.is_listed.ensures.extends c.args.branch.now c.requires.over c.args.step.name c.args.step.formula c.args.step.generation c.requires.formula known h)) c.is_decision_due.ensures.exact

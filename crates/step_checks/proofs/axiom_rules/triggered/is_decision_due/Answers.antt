@@ -11,4 +11,4 @@ returns-then-not-is_trichotomy-clause-exact c =
 
 pub returns-clause-exact : goal.returns-clause-exact
 returns-clause-exact c =
-    vec_ok c.is_order_due.result (λ told h. that_axiom (branch_in c.args.pool.now c.args.branch.now) c.args.step.name (formula_at c.args.pool.now c.args.step.formula) c.args.step.generation (c.if-not-is_trichotomy.ensures.0 refl) told h) c.is_order_due.ensures.exact
+    vec_ok c.is_order_due.result (λ known h. that_axiom (branch_in c.args.pool.now c.args.branch.now) c.args.step.name (formula_at c.args.pool.now c.args.step.formula) c.args.step.generation (c.if-not-is_trichotomy.ensures.0 refl) known h) c.is_order_due.ensures.exact

@@ -5,7 +5,7 @@ use Rattle.std.proofs.lemmas.List.Elements.{All-more, Contains-get_or}
 use Rattle.tableau.specs.PoolBranches.{branch_in}
 use Rattle.tableau.proofs.BranchLemmas.{known_term}
 use Rattle.tableau.proofs.NearLemmas.{nth_term}
-use Rattle.axiom_strategy.proofs.PlaceLemmas.{read_terms}
+use Rattle.axiom_strategy.proofs.PositionLemmas.{read_terms}
 use Rattle.step_checks.specs.Pairs.{IsMeeting}
 use Rattle.step_checks.proofs.ReadLemmas.{met, not_met}
 use Rattle.step_checks.proofs.decisions.indexes.are_read_in_one.Goals as goal
@@ -21,8 +21,8 @@ is_meeting-requires-clause-from c = λ p read. (
     let long = c.requires.groups.one_each in
     omega (arith, within, long))
 
-pub is_meeting-requires-clause-place : goal.is_meeting-requires-clause-place
-is_meeting-requires-clause-place c = λ p read. (
+pub is_meeting-requires-clause-position : goal.is_meeting-requires-clause-position
+is_meeting-requires-clause-position c = λ p read. (
     let ns = c.args.pool.now in
     let term = nth_term ns (branch_in ns c.args.branch.now) c.args.terms.now c.requires.terms c.loop-number.number-index c.loop-number-test.true in
     known_term ns c.one_number.ensures c.args.branch.now c.requires.over c.args.classes.now c.requires.classes p.1 (read_terms ns c.one_number.ensures c.args.branch.now c.requires.over c.args.classes.now c.requires.classes (get_or c.args.terms.now c.loop-number.number-index 0) p term read).1)

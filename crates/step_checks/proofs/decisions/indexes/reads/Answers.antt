@@ -5,7 +5,7 @@ use Rattle.tableau.specs.PoolBranches.{branch_in}
 use Rattle.congruence_closure.specs.Known.{class_of}
 use Rattle.tableau.proofs.BranchLemmas.{known_term}
 use Rattle.tableau.proofs.NearLemmas.{nth_term}
-use Rattle.axiom_strategy.proofs.PlaceLemmas.{AreSeen, seen_begun, seen_same, seen_more, read_terms}
+use Rattle.axiom_strategy.proofs.PositionLemmas.{AreSeen, seen_begun, seen_same, seen_more, read_terms}
 use Rattle.step_checks.proofs.ReadLemmas.{reads_done}
 use Rattle.step_checks.proofs.decisions.indexes.reads.Goals as goal
 
@@ -20,7 +20,7 @@ class-class-requires c =
     let ns = c.args.pool.now in
     let n = get_or c.args.terms.now c.loop-number.number-index 0 in
     let term = nth_term ns (branch_in ns c.args.branch.now) c.args.terms.now c.requires.terms c.loop-number.number-index c.loop-number-test.true in
-    known_term ns c.one_number.ensures c.args.branch.now c.requires.over c.args.classes.now c.requires.classes c.in-Some.place (read_terms ns c.one_number.ensures c.args.branch.now c.requires.over c.args.classes.now c.requires.classes n (c.in-Some.from, c.in-Some.place) term c.in-Some.ensures).1
+    known_term ns c.one_number.ensures c.args.branch.now c.requires.over c.args.classes.now c.requires.classes c.in-Some.position (read_terms ns c.one_number.ensures c.args.branch.now c.requires.over c.args.classes.now c.requires.classes n (c.in-Some.from, c.in-Some.position) term c.in-Some.ensures).1
 
 pub loop-number-preserved-in_default : goal.loop-number-preserved-in_default
 loop-number-preserved-in_default c = subst (λ (xs : List ℕ). AreSeen c.args.pool.now c.args.classes.now c.args.groups.now xs c.loop-number.seen) (sym (take_more c.args.terms.now c.loop-number.number-index 0 c.loop-number-test.true)) (seen_same c.args.pool.now c.args.classes.now c.args.groups.now (take c.loop-number.number-index c.args.terms.now) c.loop-number.seen (get_or c.args.terms.now c.loop-number.number-index 0) c.loop-number.invariant c.in_default.ensures)
@@ -28,8 +28,8 @@ loop-number-preserved-in_default c = subst (λ (xs : List ℕ). AreSeen c.args.p
 pub loop-number-preserved : goal.loop-number-preserved
 loop-number-preserved c =
     let d = c.args.classes.now in
-    let added : AreMore c.loop-number.seen c.add.new.self (get_or c.args.groups.now c.in-Some.from 0, class_of d c.in-Some.place) = subst (λ (k : ℕ). AreMore c.loop-number.seen c.add.new.self (get_or c.args.groups.now c.in-Some.from 0, k)) c.class-class.ensures c.in_ok-add.ensures.pairs in
-    subst (λ (xs : List ℕ). AreSeen c.args.pool.now d c.args.groups.now xs c.add.new.self) (sym (take_more c.args.terms.now c.loop-number.number-index 0 c.loop-number-test.true)) (seen_more c.args.pool.now d c.args.groups.now (take c.loop-number.number-index c.args.terms.now) c.loop-number.seen c.add.new.self (get_or c.args.terms.now c.loop-number.number-index 0) (c.in-Some.from, c.in-Some.place) c.loop-number.invariant c.in-Some.ensures added)
+    let added : AreMore c.loop-number.seen c.add.new.self (get_or c.args.groups.now c.in-Some.from 0, class_of d c.in-Some.position) = subst (λ (k : ℕ). AreMore c.loop-number.seen c.add.new.self (get_or c.args.groups.now c.in-Some.from 0, k)) c.class-class.ensures c.in_ok-add.ensures.pairs in
+    subst (λ (xs : List ℕ). AreSeen c.args.pool.now d c.args.groups.now xs c.add.new.self) (sym (take_more c.args.terms.now c.loop-number.number-index 0 c.loop-number-test.true)) (seen_more c.args.pool.now d c.args.groups.now (take c.loop-number.number-index c.args.terms.now) c.loop-number.seen c.add.new.self (get_or c.args.terms.now c.loop-number.number-index 0) (c.in-Some.from, c.in-Some.position) c.loop-number.invariant c.in-Some.ensures added)
 
 pub returns : goal.returns
 returns c =

@@ -1,5 +1,5 @@
 use Rattle.std.proofs.Common.{take}
-use Rattle.axiom_strategy.proofs.PlaceLemmas.{AreSeen}
+use Rattle.axiom_strategy.proofs.PositionLemmas.{AreSeen}
 use Rattle.step_checks.proofs.decisions.indexes.reads.Given as goal
 
 abbrev pub invariant-loop-number : goal.invariant-loop-number

@@ -21,4 +21,4 @@ returns-clause-extends c = extends_then c.is_number.ensures.extends c.is_number-
 
 pub returns-clause-exact : goal.returns-clause-exact
 returns-clause-exact c =
-    vec_ok c.is_number-2.result (λ told h. both_so (branch_in c.args.pool.now c.args.branch.now) (term_at c.args.pool.now c.args.left) (term_at c.args.pool.now c.args.right) (c.in_ok-one.ensures.exact.0 c.if-not-one.false) told (number_there c.args.pool.now c.is_number.new.pool c.is_number.ensures.extends c.args.branch.now c.requires.over c.args.right c.requires.right told h)) c.is_number-2.ensures.exact
+    vec_ok c.is_number-2.result (λ known h. both_so (branch_in c.args.pool.now c.args.branch.now) (term_at c.args.pool.now c.args.left) (term_at c.args.pool.now c.args.right) (c.in_ok-one.ensures.exact.0 c.if-not-one.false) known (number_there c.args.pool.now c.is_number.new.pool c.is_number.ensures.extends c.args.branch.now c.requires.over c.args.right c.requires.right known h)) c.is_number-2.ensures.exact

@@ -3,7 +3,7 @@ use Rattle.term_pool.proofs.GrowthLemmas.{extends_then}
 use Rattle.tableau.specs.Terms.{term_at}
 use Rattle.axiom_strategy.proofs.CutLemmas.{equation_parts}
 use Rattle.axiom_strategy.proofs.GrownLemmas.{over_grown}
-use Rattle.step_checks.proofs.DecisionsNumberLemmas.{told_before, denial_parts, denial_made}
+use Rattle.step_checks.proofs.DecisionsNumberLemmas.{known_before, denial_parts, denial_made}
 use Rattle.step_checks.proofs.decisions.numbers.are_said_to_differ.Goals as goal
 
 pub insert-requires : goal.insert-requires
@@ -25,4 +25,4 @@ returns-clause-extends c = extends_then c.insert.ensures.extends c.insert-2.ensu
 pub returns-clause-exact : goal.returns-clause-exact
 returns-clause-exact c =
     let number = denial_made c.args.pool.now c.insert.new.self c.insert.ensures.extends c.args.left c.args.right c.in_ok-equation.equation c.requires.left c.requires.right c.in_ok-equation.ensures.is c.insert-2.new.self c.insert-2.ensures.extends c.in_ok-denial.denial c.in_ok-denial.ensures.is in
-    told_before c.args.pool.now c.insert-2.new.self (extends_then c.insert.ensures.extends c.insert-2.ensures.extends) c.args.branch.now c.requires.over (NotFormula (EqFormula (term_at c.args.pool.now c.args.left) (term_at c.args.pool.now c.args.right))) c.in_ok-denial.denial number c.stands.result c.stands.ensures
+    known_before c.args.pool.now c.insert-2.new.self (extends_then c.insert.ensures.extends c.insert-2.ensures.extends) c.args.branch.now c.requires.over (NotFormula (EqFormula (term_at c.args.pool.now c.args.left) (term_at c.args.pool.now c.args.right))) c.in_ok-denial.denial number c.stands.result c.stands.ensures

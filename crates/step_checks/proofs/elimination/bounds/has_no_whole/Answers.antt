@@ -14,8 +14,8 @@ returns-then-are_met c =
     let bounds = c.args.bounds.now in
     let f = c.floor_quotient-below.result in
     let ff : FitsSigned w128 f = search rules in
-    let told : Decides c.are_met.result (AreMetAt bounds f (pos 1)) = simp to_z-of_z at c.are_met.ensures in
-    decided_false (HasNoWhole bounds) (λ none. none f (told.0 c.if-are_met.true))
+    let known : Decides c.are_met.result (AreMetAt bounds f (pos 1)) = simp to_z-of_z at c.are_met.ensures in
+    decided_false (HasNoWhole bounds) (λ none. none f (known.0 c.if-are_met.true))
 
 pub returns : goal.returns
 returns c =

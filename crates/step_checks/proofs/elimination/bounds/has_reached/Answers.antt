@@ -19,9 +19,9 @@ loop-bound-preserved c =
     let fp : FitsSigned w128 p = c.ranges.numerator in
     let fq : FitsSigned w128 q = c.ranges.denominator in
     let blank : Bound = record { coefficient = pos 0; bound = pos 0 } in
-    let told = simp to_z-of_z at c.is_reached.ensures in
+    let known = simp to_z-of_z at c.is_reached.ensures in
     let before = simp to_z-of_z at c.loop-bound.invariant in
-    rw (to_z-of_z w128 p fp, to_z-of_z w128 q fq) (reached_more bounds p q i blank (omega arith) (λ h. refused c.is_reached.result (IsReachedAt p q (get_or bounds i blank)) c.if-is_reached.false told h) before)
+    rw (to_z-of_z w128 p fp, to_z-of_z w128 q fq) (reached_more bounds p q i blank (omega arith) (λ h. refused c.is_reached.result (IsReachedAt p q (get_or bounds i blank)) c.if-is_reached.false known h) before)
 
 pub returns-then-is_reached : goal.returns-then-is_reached
 returns-then-is_reached c =
@@ -32,8 +32,8 @@ returns-then-is_reached c =
     let fp : FitsSigned w128 p = c.ranges.numerator in
     let fq : FitsSigned w128 q = c.ranges.denominator in
     let blank : Bound = record { coefficient = pos 0; bound = pos 0 } in
-    let told = simp to_z-of_z at c.is_reached.ensures in
-    decided_true (HasReached bounds p q) (reached_at bounds p q i blank (omega arith) (told.0 c.if-is_reached.true))
+    let known = simp to_z-of_z at c.is_reached.ensures in
+    decided_true (HasReached bounds p q) (reached_at bounds p q i blank (omega arith) (known.0 c.if-is_reached.true))
 
 pub returns : goal.returns
 returns c =

@@ -15,8 +15,8 @@ returns-then-not-are_met c =
     let value = c.args.value.now in
     let fp : FitsSigned w128 value.numerator = search rules in
     let fq : FitsSigned w128 value.denominator = search rules in
-    let told : Decides c.are_met.result (AreMetAt bounds value.numerator value.denominator) = simp to_z-of_z at c.are_met.ensures in
-    decided_false (IsBetween bounds value) (λ h. refused c.are_met.result (AreMetAt bounds value.numerator value.denominator) c.if-not-are_met.true told (between_met bounds value h))
+    let known : Decides c.are_met.result (AreMetAt bounds value.numerator value.denominator) = simp to_z-of_z at c.are_met.ensures in
+    decided_false (IsBetween bounds value) (λ h. refused c.are_met.result (AreMetAt bounds value.numerator value.denominator) c.if-not-are_met.true known (between_met bounds value h))
 
 pub returns-then-value-eq1 : goal.returns-then-value-eq1
 returns-then-value-eq1 c =
@@ -24,9 +24,9 @@ returns-then-value-eq1 c =
     let value = c.args.value.now in
     let fp : FitsSigned w128 value.numerator = search rules in
     let fq : FitsSigned w128 value.denominator = search rules in
-    let told : Decides c.are_met.result (AreMetAt bounds value.numerator value.denominator) = simp to_z-of_z at c.are_met.ensures in
+    let known : Decides c.are_met.result (AreMetAt bounds value.numerator value.denominator) = simp to_z-of_z at c.are_met.ensures in
     let one : value.denominator ≡ pos 1 = omega (arith, ints) in
-    let met : AreMetAt bounds value.numerator (pos 1) = subst (λ (z : ℤ). AreMetAt bounds value.numerator z) one (told.0 c.if-not-are_met.false) in
+    let met : AreMetAt bounds value.numerator (pos 1) = subst (λ (z : ℤ). AreMetAt bounds value.numerator z) one (known.0 c.if-not-are_met.false) in
     let near : Decides c.is_nearest.result (IsNearest bounds value.numerator) = simp to_z-of_z at c.is_nearest.ensures in
     whole_between bounds value c.is_nearest.result one met near
 
@@ -50,7 +50,7 @@ returns c =
     let g = c.greatest_common_divisor-common.result in
     let fp : FitsSigned w128 value.numerator = search rules in
     let fq : FitsSigned w128 value.denominator = search rules in
-    let told : Decides c.are_met.result (AreMetAt bounds value.numerator value.denominator) = simp to_z-of_z at c.are_met.ensures in
+    let known : Decides c.are_met.result (AreMetAt bounds value.numerator value.denominator) = simp to_z-of_z at c.are_met.ensures in
     let n : value.denominator ≢ pos 1 = omega (arith, ints) in
     let positive : pos 0 <ℤ value.denominator = omega (arith, ints) in
     let u : c.unsigned_abs.result ≡ unsigned_abs value.numerator = simp to_z-of_z at c.unsigned_abs.ensures.value in
@@ -58,4 +58,4 @@ returns c =
     let gcd : IsGcd (unsigned_abs value.numerator) (unsigned_abs value.denominator) g = subst (λ (m : ℕ). IsGcd m (unsigned_abs value.denominator) g) u (subst (λ (m : ℕ). IsGcd c.unsigned_abs.result m g) v c.greatest_common_divisor-common.ensures) in
     let lowest : IsGcd (unsigned_abs value.numerator) (unsigned_abs value.denominator) 1 = subst (λ (m : ℕ). IsGcd (unsigned_abs value.numerator) (unsigned_abs value.denominator) m) c.if-common-ne1.false gcd in
     let reached : Decides c.has_reached.result (HasReached bounds value.numerator value.denominator) = simp to_z-of_z at c.has_reached.ensures in
-    quotient_decided bounds value c.has_no_whole.result positive n (told.0 c.if-not-are_met.false) lowest (reached.0 c.if-not-has_reached.false) c.has_no_whole.ensures
+    quotient_decided bounds value c.has_no_whole.result positive n (known.0 c.if-not-are_met.false) lowest (reached.0 c.if-not-has_reached.false) c.has_no_whole.ensures

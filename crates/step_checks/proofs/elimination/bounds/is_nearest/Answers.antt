@@ -19,9 +19,9 @@ returns-then-number-gt0 c =
     let fp : FitsSigned w128 p = c.ranges.number in
     let h : pos 0 <ℤ p = omega (arith, ints) in
     let f : FitsSigned w128 (p -ℤ pos 1) = search rules in
-    let told = simp to_z-of_z at c.are_met.ensures in
+    let known = simp to_z-of_z at c.are_met.ensures in
     let met = c.requires in
-    nearest_above c.args.bounds.now p c.are_met.result met h told
+    nearest_above c.args.bounds.now p c.are_met.result met h known
 
 pub returns-else-number-gt0 : goal.returns-else-number-gt0
 returns-else-number-gt0 c =
@@ -29,6 +29,6 @@ returns-else-number-gt0 c =
     let fp : FitsSigned w128 p = c.ranges.number in
     let h : p <ℤ pos 0 = omega (arith, ints) in
     let f : FitsSigned w128 (p +ℤ pos 1) = search rules in
-    let told = simp to_z-of_z at c.are_met-else-number-gt0.ensures in
+    let known = simp to_z-of_z at c.are_met-else-number-gt0.ensures in
     let met = c.requires in
-    nearest_below c.args.bounds.now p c.are_met-else-number-gt0.result met h told
+    nearest_below c.args.bounds.now p c.are_met-else-number-gt0.result met h known

@@ -3,7 +3,7 @@ use Rattle.std.specs.Prelude.{slice_get}
 use Rattle.std.proofs.lemmas.Bool.{ltb-true}
 use Rattle.std.proofs.lemmas.Option.{slice_get_read}
 use Rattle.step_checks.specs.Given.{IsOfStage, IsSumOfTwo}
-use Rattle.step_checks.proofs.CheckLemmas.{decided_false, same_sum, sum_of_places}
+use Rattle.step_checks.proofs.CheckLemmas.{decided_false, same_sum, sum_of_positions}
 use Rattle.step_checks.proofs.elimination.origins.is_sum_of_two.Goals as goal
 
 pub returns-in-Some-2 : goal.returns-in-Some-2
@@ -20,7 +20,7 @@ returns-in-Some-2 c =
     let us : IsOfStage unknowns of.step upper = c.is_of_stage.ensures.0 c.if-not-is_of_stage.false in
     let ls : IsOfStage unknowns of.step lower = c.is_of_stage-else-not-is_of_stage.ensures.0 c.if-not-is_of_stage-2.false in
     let some = rw c.in-Some-2.is at c.in_ok-sum.ensures.some in
-    sum_of_places unknowns before of c.args.row.now unknown upper lower c.in-Some-2.sum c.are_same.result e f g us ls some c.are_same.ensures
+    sum_of_positions unknowns before of c.args.row.now unknown upper lower c.in-Some-2.sum c.are_same.result e f g us ls some c.are_same.ensures
 
 pub returns-in-None : goal.returns-in-None
 returns-in-None c =

@@ -5,7 +5,7 @@ use Rattle.step_checks.specs.Given.{rows_of, width_of}
 use Rattle.step_checks.specs.GivenValues.{AreGivenValues}
 use Rattle.step_checks.specs.Sets.{IsNumberSet}
 use Rattle.step_checks.proofs.CheckLemmas.{refused, decided_false}
-use Rattle.step_checks.proofs.GivenValueLemmas.{valued, distinct_unknowns, different_unknowns, valued_of, given_decided, if_told}
+use Rattle.step_checks.proofs.GivenValueLemmas.{valued, distinct_unknowns, different_unknowns, valued_of, given_decided, if_decided}
 use Rattle.step_checks.proofs.EliminationNumberLemmas.{AreDistinct}
 use Rattle.step_checks.proofs.ValueLemmas.{different_of}
 use Rattle.step_checks.proofs.elimination.values.are_given_values.Goals as goal
@@ -49,4 +49,4 @@ returns c =
     let found : c.in_ok-found.found ≡ rows_of given.rows.items = c.in_ok-found.ensures ∙ ap rows_of c.as_slice-3.ensures.value in
     let distinct = rw c.in-Some.is at c.in_ok-eliminated.ensures.different in
     let elimination = c.in_ok-is_complete_elimination.ensures.0 c.if-not-branch.false in
-    if_told c.are_values.result (AreValues c.in_ok-found.found c.as_slice-unknowns.result.now [] values) (AreGivenValues rows given values) (given_decided rows given values c.in_ok-found.found c.as_slice-unknowns.result.now found c.as_slice-unknowns.ensures.value elimination distinct covered) c.are_values.ensures
+    if_decided c.are_values.result (AreValues c.in_ok-found.found c.as_slice-unknowns.result.now [] values) (AreGivenValues rows given values) (given_decided rows given values c.in_ok-found.found c.as_slice-unknowns.result.now found c.as_slice-unknowns.ensures.value elimination distinct covered) c.are_values.ensures

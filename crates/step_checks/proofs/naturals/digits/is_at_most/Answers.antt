@@ -3,8 +3,8 @@ use Rattle.step_checks.proofs.DigitLemmas.{AreDigits, decided_here, decided_belo
 use Rattle.step_checks.proofs.naturals.digits.is_at_most.Goals as goal
 use Rattle.step_checks.proofs.naturals.digits.is_at_most.Goals.{then-digit-other, else-digit-other}
 
-pub loop-place-preserved : goal.loop-place-preserved
-loop-place-preserved c =
+pub loop-position-preserved : goal.loop-position-preserved
+loop-position-preserved c =
     let xs = c.args.left.now in
     let ys = c.args.right.now in
     let are : AreDigits xs = record { below = λ k. (let h = c.type_inv.left k in omega (arith, h)) } in
@@ -12,4 +12,4 @@ loop-place-preserved c =
     let d = c.digit_at-digit.result in
     let e = c.digit_at-other.result in
     let r = c.if-digit-other.is_at_most in
-    elim c.if-digit-other.branch [ then-digit-other w ↦ decided_here xs ys c.loop-place.place r d e are others c.digit_at-digit.ensures c.digit_at-other.ensures w.if-digit-other.true w.is_at_most-is | else-digit-other w ↦ decided_below xs ys c.loop-place.place r d e are others c.digit_at-digit.ensures c.digit_at-other.ensures c.loop-place.is_at_most w.if-digit-other.false w.is_at_most-is c.loop-place.invariant ]
+    elim c.if-digit-other.branch [ then-digit-other w ↦ decided_here xs ys c.loop-position.position r d e are others c.digit_at-digit.ensures c.digit_at-other.ensures w.if-digit-other.true w.is_at_most-is | else-digit-other w ↦ decided_below xs ys c.loop-position.position r d e are others c.digit_at-digit.ensures c.digit_at-other.ensures c.loop-position.is_at_most w.if-digit-other.false w.is_at_most-is c.loop-position.invariant ]

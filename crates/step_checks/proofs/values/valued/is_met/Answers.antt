@@ -20,4 +20,4 @@ returns c =
     let b = branch_in ns c.args.branch.now in
     let v = c.args.values.now in
     let are : AreValuedRows ns b v c.in-Some.made = subst (λ m. MatchOption m (HasNoRows ns b v) (AreValuedRows ns b v)) c.in-Some.is c.in_ok-made.ensures in
-    ok_map c.meets_rows.result (λ told h. met_exactly ns c.one_number.ensures c.args.branch.now c.requires.over v c.in-Some.made are told h) (rw c.as_slice.ensures at c.meets_rows.ensures)
+    ok_map c.meets_rows.result (λ known h. met_exactly ns c.one_number.ensures c.args.branch.now c.requires.over v c.in-Some.made are known h) (rw c.as_slice.ensures at c.meets_rows.ensures)

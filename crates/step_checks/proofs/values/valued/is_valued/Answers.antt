@@ -29,5 +29,5 @@ returns c =
     let b = branch_in ns c.args.branch.now in
     let v = c.args.values.now in
     let are : AreValuedRows ns b v c.in-Some.made = subst (λ m. MatchOption m (HasNoRows ns b v) (AreValuedRows ns b v)) c.in-Some.is c.in_ok-made.ensures in
-    ok_map c.are_open_values.result (λ told h. valued_exactly ns c.one_number.ensures c.args.branch.now c.requires.over v c.in-Some.made are told h)
+    ok_map c.are_open_values.result (λ known h. valued_exactly ns c.one_number.ensures c.args.branch.now c.requires.over v c.in-Some.made are known h)
     (rw c.as_slice-2.ensures at (c.are_open_values.ensures are.class (subst (AreNames ns b are.class) (sym c.as_slice.ensures.value) are.all_named)))

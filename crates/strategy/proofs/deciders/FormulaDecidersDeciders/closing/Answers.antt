@@ -4,7 +4,7 @@ use Rattle.axiom_strategy.proofs.KnownLemmas.{known_stay}
 use Rattle.ematching.proofs.QuantifierLemmas.{free_grown}
 use Rattle.search.proofs.ApplicationLemmas.{length_in}
 use Rattle.strategy.specs.Known.{shapes_of}
-use Rattle.strategy.proofs.StayLemmas.{index_stays}
+use Rattle.ematching.proofs.HeadLemmas.{index_stays}
 use Rattle.strategy.proofs.deciders.FormulaDecidersDeciders.closing.Goals as goal
 
 pub follow_with_variable-requires-clause-state : goal.follow_with_variable-requires-clause-state

@@ -1,5 +1,5 @@
 use Rattle.ematching.proofs.QuantifierLemmas.{free_grown}
-use Rattle.strategy.proofs.StayLemmas.{index_stays}
+use Rattle.ematching.proofs.HeadLemmas.{index_stays}
 use Rattle.strategy.proofs.deciders.FormulaDecidersDeciders.early.Goals as goal
 
 pub follow_entries-requires-clause-state : goal.follow_entries-requires-clause-state

@@ -2,7 +2,7 @@ use Rattle.tableau.proofs.StateLemmas.{state_stays}
 use Rattle.axiom_strategy.proofs.KnownLemmas.{known_stay}
 use Rattle.ematching.proofs.QuantifierLemmas.{free_grown}
 use Rattle.strategy.specs.Known.{shapes_of}
-use Rattle.strategy.proofs.StayLemmas.{index_stays}
+use Rattle.ematching.proofs.HeadLemmas.{index_stays}
 use Rattle.strategy.proofs.deciders.FormulaDecidersDeciders.late.Goals as goal
 
 pub follow-requires-clause-state : goal.follow-requires-clause-state

@@ -17,7 +17,7 @@ pub returns-then-is_range_instance : goal.returns-then-is_range_instance
 returns-then-is_range_instance c =
     let xs = c.args.instances.now in
     let i = c.loop-instance.instance-index in
-    (λ e. record { place = i; instance = get_or xs i none; found = slice_get-get_or xs i none c.loop-instance-test.true; is = c.if-is_range_instance.ensures.0 refl }, λ l. refl)
+    (λ e. record { position = i; instance = get_or xs i none; found = slice_get-get_or xs i none c.loop-instance-test.true; is = c.if-is_range_instance.ensures.0 refl }, λ l. refl)
 
 pub loop-instance-preserved : goal.loop-instance-preserved
 loop-instance-preserved c =

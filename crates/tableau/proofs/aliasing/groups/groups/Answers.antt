@@ -2,7 +2,7 @@ use Rattle.std.proofs.Common.{ℕ, List, [], get_or, take, replicate, nat_eq, Ve
 use Rattle.std.proofs.lemmas.List.{take_more, take_all}
 use Rattle.std.specs.Map.{lookup}
 use Rattle.indexmap.specs.IndexMap.{get}
-use Rattle.base.specs.Circles.{AreRoots}
+use Rattle.base.specs.GraphReachability.{AreRoots}
 use Rattle.tableau.specs.PoolBranches.{branch_in}
 use Rattle.tableau.specs.Graphs.{IsClassJoined, IsLinking}
 use Rattle.tableau.proofs.BranchLemmas.{known_term}

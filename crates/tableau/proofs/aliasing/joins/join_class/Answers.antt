@@ -5,4 +5,4 @@ use Rattle.tableau.proofs.aliasing.joins.join_class.Goals as goal
 
 pub returns-in-Some : goal.returns-in-Some
 returns-in-Some c =
-    ok_then c.join.result (λ (j : IsJoined c.args.graph.now c.join.new.graph c.args.number c.in-Some.first). ToFirst c.in-Some.first (sym c.first_of.ensures ∙ c.in-Some.is) refl j) c.join.ensures
+    ok_then c.join.result (λ (j : IsJoined c.args.graph.now c.join.new.graph c.args.number c.in-Some.first). ToFirst c.in-Some.first (sym c.look_up.ensures ∙ c.in-Some.is) refl j) c.join.ensures

@@ -9,7 +9,7 @@ use Rattle.row_reasoning.specs.Rows.{AreNames}
 use Rattle.step_checks.specs.Rows.{HasNoRows, AreValuedRows}
 use Rattle.tree_checks.specs.Chosen.{AreChosenFor}
 use Rattle.tree_checks.specs.Firsts.{IsNameOf, IsFirstNamed}
-use Rattle.tree_checks.proofs.BoundsTruthLemmas.{never, not_told}
+use Rattle.tree_checks.proofs.BoundsTruthLemmas.{never, refuted}
 use Rattle.tree_checks.proofs.AskLemmas.{no_rows_ask, asks_solved, asks_named, asks_exactly}
 use Rattle.tree_checks.proofs.bounds.bound.ask_for_bound.Goals as goal
 
@@ -31,7 +31,7 @@ returns-then-not-met c =
     let made = c.in-Some.made in
     let are : AreValuedRows ns b v made = subst (λ m. MatchOption m (HasNoRows ns b v) (AreValuedRows ns b v)) c.in-Some.is c.in_ok-made.ensures in
     let met = subst (λ vs. IsTrue c.in_ok-met.met ↔ IsSolution made.rows.rows vs) c.as_slice-values.ensures c.in_ok-met.ensures in
-    never (λ h. not_told c.in_ok-met.met c.if-not-met.true met (asks_solved ns c.one_number.ensures c.args.branch.now c.requires.over v made are c.args.term c.requires.term c.args.number grounds.elimination h))
+    never (λ h. refuted c.in_ok-met.met c.if-not-met.true met (asks_solved ns c.one_number.ensures c.args.branch.now c.requires.over v made are c.args.term c.requires.term c.args.number grounds.elimination h))
 
 pub name_of-name-requires-clause-named : goal.name_of-name-requires-clause-named
 name_of-name-requires-clause-named c =
@@ -67,7 +67,7 @@ returns-then-not-first c =
     let of_number = subst (λ z. IsTrue c.in_ok-first.first ↔ IsFirstNamed b are.class made.rows.classes.keys name z c.as_slice-values.result.now) (to_z-of_z w128 c.args.number c.ranges.number) by_call in
     let of_values = subst (λ vs. IsTrue c.in_ok-first.first ↔ IsFirstNamed b are.class made.rows.classes.keys name c.args.number vs) c.as_slice-values.ensures of_number in
     let first = subst (λ ks. IsTrue c.in_ok-first.first ↔ IsFirstNamed b are.class ks name c.args.number v.values) are.keys of_values in
-    never (λ h. not_told c.in_ok-first.first c.if-not-first.true first (asks_named ns c.one_number.ensures c.args.branch.now c.requires.over v made are c.args.term c.requires.term c.args.number grounds.elimination name named h))
+    never (λ h. refuted c.in_ok-first.first c.if-not-first.true first (asks_named ns c.one_number.ensures c.args.branch.now c.requires.over v made are c.args.term c.requires.term c.args.number grounds.elimination name named h))
 
 pub returns : goal.returns
 returns c =

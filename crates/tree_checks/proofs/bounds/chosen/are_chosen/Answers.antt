@@ -23,4 +23,4 @@ returns c =
     let found = subst (λ m. MatchOption m (All (IsWithin c.width_of_first-width.result) c.as_slice-2.result.now → ⊥) (ArePadded c.width_of_first-width.result c.as_slice-2.result.now)) c.in-Some.is c.in_ok-padded.ensures in
     let are = subst (λ rs. ArePadded (width_of_first c.args.given.now.rows.items) rs c.in-Some.padded) c.as_slice-2.ensures (subst (λ w. ArePadded w c.as_slice-2.result.now c.in-Some.padded) same found) in
     let few = c.if-width-most.false in
-    chosen_exactly c.args.most c.args.given.now c.args.values.now c.args.rows.now c.in-Some.padded (omega (arith, same, few)) are c.in_ok-told.told c.in_ok-told.ensures
+    chosen_exactly c.args.most c.args.given.now c.args.values.now c.args.rows.now c.in-Some.padded (omega (arith, same, few)) are c.in_ok-known.known c.in_ok-known.ensures

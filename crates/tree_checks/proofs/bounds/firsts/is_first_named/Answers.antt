@@ -26,5 +26,5 @@ returns c = λ class names. (
     let P = IsTriggered ks c.args.name c.args.number in
     let by_call = subst (λ z. MatchOption c.first_triggered.result (HasNoneWith (IsTriggered ks c.args.name z) vs) (IsFirstWith (IsTriggered ks c.args.name z) vs)) (to_z-of_z w128 c.args.number c.ranges.number) c.first_triggered.ensures in
     let first = subst (λ m. MatchOption m (HasNoneWith P vs) (IsFirstWith P vs)) c.in-Some.is by_call in
-    let positive = All-take (λ (v : Fraction). pos 0 <ℤ v.denominator) c.in-Some.place vs c.requires.positive in
-    first_exactly (branch_in c.args.pool.now c.args.branch.now) class ks c.args.name c.args.number vs c.args.pool.now c.in-Some.place first positive c.in_ok-bound.bound c.is_none.result (c.in_ok-bound.ensures class names) c.is_none.ensures)
+    let positive = All-take (λ (v : Fraction). pos 0 <ℤ v.denominator) c.in-Some.position vs c.requires.positive in
+    first_exactly (branch_in c.args.pool.now c.args.branch.now) class ks c.args.name c.args.number vs c.args.pool.now c.in-Some.position first positive c.in_ok-bound.bound c.is_none.result (c.in_ok-bound.ensures class names) c.is_none.ensures)

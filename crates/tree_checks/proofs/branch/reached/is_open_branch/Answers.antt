@@ -31,4 +31,4 @@ returns-clause-exact c =
 pub returns-clause-open : goal.returns-clause-open
 returns-clause-open c = λ p e. (
     let grown = rw c.in-Some.is at (c.in_ok-branch.ensures.grown p e) in
-    ok_map c.is_open.result (λ r h told. open_grown c.args.shapes.now p c.is_grown.new.pool (branch_in c.is_grown.new.pool c.in-Some.branch) c.args.values.now grown (h.0 told)) c.is_open.ensures.exact)
+    ok_map c.is_open.result (λ r h known. open_grown c.args.shapes.now p c.is_grown.new.pool (branch_in c.is_grown.new.pool c.in-Some.branch) c.args.values.now grown (h.0 known)) c.is_open.ensures.exact)

@@ -7,7 +7,7 @@ use Rattle.tableau.specs.PoolBranches.{branch_in}
 use Rattle.search.specs.declared.trees.application.Reason.TheVariants.{Axiom}
 use Rattle.tree_checks.proofs.GrowthLemmas.{not_due, due_tells, no_formula, one_number, one_tells}
 use Rattle.tree_checks.proofs.GrownKeptLemmas.{kept_stays}
-use Rattle.tree_checks.proofs.GrownTruthLemmas.{not_told, weaker}
+use Rattle.tree_checks.proofs.GrownTruthLemmas.{refuted, weaker}
 use Rattle.tree_checks.proofs.grown.axiom.is_axiom_growing.Goals as goal
 
 pub returns-in_default-clause-exact : goal.returns-in_default-clause-exact
@@ -34,7 +34,7 @@ returns-then-crowded-clause-exact c =
 pub is_axiom_due-requires-clause-room : goal.is_axiom_due-requires-clause-room
 is_axiom_due-requires-clause-room c =
     let b = branch_in c.args.pool.now c.args.branch.now in
-    let none = not_told c.is_past-crowded.result c.if-crowded.false c.is_past-crowded.ensures in
+    let none = refuted c.is_past-crowded.result c.if-crowded.false c.is_past-crowded.ensures in
     let same = c.in_ok-above.ensures.is in
     record { number = above_all (formulas b); is_variable = omega (arith, none, same); is_new = all_new (above_all (formulas b)) (formulas b) (omega arith) }
 
@@ -51,9 +51,9 @@ returns-clause-exact c =
     let shapes = c.args.shapes.now in
     let b = branch_in ns c.args.branch.now in
     let g = c.args.extension.now in
-    let none = not_told c.is_past-crowded.result c.if-crowded.false c.is_past-crowded.ensures in
+    let none = refuted c.is_past-crowded.result c.if-crowded.false c.is_past-crowded.ensures in
     let same = c.in_ok-above.ensures.is in
     let room : above_all (formulas b) < 2 ^ 32 = omega (arith, none, same) in
-    due_tells shapes ns b g (Axiom c.args.name) c.requires.reason c.requires.numbers tt c.in_ok-told.told
-    (one_tells ns g.formulas.items c.in-Some.formula (rw c.as_slice.ensures.value at c.in-Some.ensures) (λ p. AxiomDue shapes b c.args.name p g.generation × (above_all (formulas b) < 2 ^ 32)) c.in_ok-told.told
-    (weaker c.in_ok-told.told (λ due. (due, room)) (λ d. d.0) c.in_ok-told.ensures.exact))
+    due_tells shapes ns b g (Axiom c.args.name) c.requires.reason c.requires.numbers tt c.in_ok-known.known
+    (one_tells ns g.formulas.items c.in-Some.formula (rw c.as_slice.ensures.value at c.in-Some.ensures) (λ p. AxiomDue shapes b c.args.name p g.generation × (above_all (formulas b) < 2 ^ 32)) c.in_ok-known.known
+    (weaker c.in_ok-known.known (λ due. (due, room)) (λ d. d.0) c.in_ok-known.ensures.exact))

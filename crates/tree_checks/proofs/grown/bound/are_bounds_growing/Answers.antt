@@ -9,13 +9,13 @@ use Rattle.search.specs.declared.trees.application.Reason.TheVariants.{Bound}
 use Rattle.tree_checks.specs.Sides.{AreBoundsOf}
 use Rattle.tree_checks.proofs.BoundLemmas.{no_bounds, said_tells}
 use Rattle.tree_checks.proofs.GrowthLemmas.{other_generation, not_due, due_tells, no_two, left_number, right_number, terms_named}
-use Rattle.tree_checks.proofs.GrownTruthLemmas.{not_told}
+use Rattle.tree_checks.proofs.GrownTruthLemmas.{refuted}
 use Rattle.tree_checks.proofs.grown.bound.are_bounds_growing.Goals as goal
 
 pub returns-then-not-own-clause-exact : goal.returns-then-not-own-clause-exact
 returns-then-not-own-clause-exact c = λ shapes. (
     let ns = c.args.pool.now in
-    other_generation shapes ns (branch_in ns c.args.branch.now) c.args.extension.now (Bound c.args.entry c.args.term c.args.number) c.requires.reason c.requires.numbers (not_told c.is_own-own.result c.if-not-own.true (c.is_own-own.ensures ns)))
+    other_generation shapes ns (branch_in ns c.args.branch.now) c.args.extension.now (Bound c.args.entry c.args.term c.args.number) c.requires.reason c.requires.numbers (refuted c.is_own-own.result c.if-not-own.true (c.is_own-own.ensures ns)))
 
 pub returns-in_default-clause-exact : goal.returns-in_default-clause-exact
 returns-in_default-clause-exact c = λ shapes. (
@@ -42,7 +42,7 @@ returns-then-not-bounds-clause-exact c = λ shapes. (
     let b = branch_in ns c.args.branch.now in
     let g = c.args.extension.now in
     let tells : IsTrue c.are_bounds-bounds.result ↔ AreBoundsOf ns (term_at ns c.args.term) c.args.number c.in-Some.below c.in-Some.above = subst (λ z. IsTrue c.are_bounds-bounds.result ↔ AreBoundsOf ns (term_at ns c.args.term) z c.in-Some.below c.in-Some.above) (to_z-of_z w128 c.args.number c.ranges.number) c.are_bounds-bounds.ensures in
-    let none = not_told c.are_bounds-bounds.result c.if-not-bounds.true tells in
+    let none = refuted c.are_bounds-bounds.result c.if-not-bounds.true tells in
     not_due shapes ns b g (Bound c.args.entry c.args.term c.args.number) c.requires.reason c.requires.numbers (no_bounds ns (term_at ns c.args.term) c.args.number c.in-Some.below c.in-Some.above g.formulas.items (rw c.as_slice.ensures.value at c.in-Some.ensures) b c.args.entry none))
 
 pub is_said-requires-clause-term : goal.is_said-requires-clause-term
@@ -57,5 +57,5 @@ returns-clause-exact c = λ shapes. (
     let g = c.args.extension.now in
     let tells : IsTrue c.are_bounds-bounds.result ↔ AreBoundsOf ns (term_at ns c.args.term) c.args.number c.in-Some.below c.in-Some.above = subst (λ z. IsTrue c.are_bounds-bounds.result ↔ AreBoundsOf ns (term_at ns c.args.term) z c.in-Some.below c.in-Some.above) (to_z-of_z w128 c.args.number c.ranges.number) c.are_bounds-bounds.ensures in
     let bounds = tells.0 c.if-not-bounds.false in
-    due_tells shapes ns b g (Bound c.args.entry c.args.term c.args.number) c.requires.reason c.requires.numbers ((c.is_own-own.ensures ns).0 c.if-not-own.false) c.in_ok-told.told
-    (said_tells ns (term_at ns c.args.term) c.args.number c.in-Some.below c.in-Some.above g.formulas.items (rw c.as_slice.ensures.value at c.in-Some.ensures) b c.args.entry bounds c.in_ok-told.told c.in_ok-told.ensures.exact))
+    due_tells shapes ns b g (Bound c.args.entry c.args.term c.args.number) c.requires.reason c.requires.numbers ((c.is_own-own.ensures ns).0 c.if-not-own.false) c.in_ok-known.known
+    (said_tells ns (term_at ns c.args.term) c.args.number c.in-Some.below c.in-Some.above g.formulas.items (rw c.as_slice.ensures.value at c.in-Some.ensures) b c.args.entry bounds c.in_ok-known.known c.in_ok-known.ensures.exact))

@@ -7,7 +7,7 @@ use Rattle.search.specs.Applications.{term_at}
 use Rattle.search.specs.declared.trees.application.Reason.TheVariants.{Cut}
 use Rattle.tree_checks.proofs.GrowthLemmas.{not_due, due_tells, no_two, left_number, right_number, two_are, first_is, second_is, terms_named}
 use Rattle.tree_checks.proofs.GrownKeptLemmas.{kept_stays}
-use Rattle.tree_checks.proofs.GrownTruthLemmas.{not_told, weaker}
+use Rattle.tree_checks.proofs.GrownTruthLemmas.{refuted, weaker}
 use Rattle.tree_checks.proofs.grown.cut.is_cut_growing.Goals as goal
 
 pub returns-in_default-clause-exact : goal.returns-in_default-clause-exact
@@ -42,13 +42,13 @@ returns-then-not-sides-clause-exact c = λ shapes. (
     let u = term_at ns c.args.right in
     let pair : ℕ × ℕ = (c.in-Some.equation, c.in-Some.denial) in
     let is = rw c.as_slice.ensures.value at c.in-Some.ensures in
-    let none = not_told c.are_cut_sides-sides.result c.if-not-sides.true c.are_cut_sides-sides.ensures in
+    let none = refuted c.are_cut_sides-sides.result c.if-not-sides.true c.are_cut_sides-sides.ensures in
     not_due shapes ns (branch_in ns c.args.branch.now) g (Cut c.args.left c.args.right) c.requires.reason c.requires.numbers (λ d. none (first_is ns g.formulas.items pair is (EqFormula t u) (DifferFormula t u) d.0, second_is ns g.formulas.items pair is (EqFormula t u) (DifferFormula t u) d.0)))
 
 pub returns-then-not-fits-clause-exact : goal.returns-then-not-fits-clause-exact
 returns-then-not-fits-clause-exact c = λ shapes. (
     let ns = c.args.pool.now in
-    let none = not_told c.is_generation_of-fits.result c.if-not-fits.true c.is_generation_of-fits.ensures in
+    let none = refuted c.is_generation_of-fits.result c.if-not-fits.true c.is_generation_of-fits.ensures in
     not_due shapes ns (branch_in ns c.args.branch.now) c.args.extension.now (Cut c.args.left c.args.right) c.requires.reason c.requires.numbers (λ d. none d.1.1))
 
 pub returns-clause-kept : goal.returns-clause-kept
@@ -63,8 +63,8 @@ returns-clause-exact c = λ shapes. (
     let u = term_at ns c.args.right in
     let sides = c.are_cut_sides-sides.ensures.0 c.if-not-sides.false in
     let fits = c.is_generation_of-fits.ensures.0 c.if-not-fits.false in
-    due_tells shapes ns (branch_in ns c.args.branch.now) g (Cut c.args.left c.args.right) c.requires.reason c.requires.numbers tt c.in_ok-told.told
-    (weaker c.in_ok-told.told (λ due. (two_are ns g.formulas.items (c.in-Some.equation, c.in-Some.denial) (rw c.as_slice.ensures.value at c.in-Some.ensures) (EqFormula t u) (DifferFormula t u) sides.0 sides.1, (due, fits))) (λ d. d.1.0) c.in_ok-told.ensures.exact))
+    due_tells shapes ns (branch_in ns c.args.branch.now) g (Cut c.args.left c.args.right) c.requires.reason c.requires.numbers tt c.in_ok-known.known
+    (weaker c.in_ok-known.known (λ due. (two_are ns g.formulas.items (c.in-Some.equation, c.in-Some.denial) (rw c.as_slice.ensures.value at c.in-Some.ensures) (EqFormula t u) (DifferFormula t u) sides.0 sides.1, (due, fits))) (λ d. d.1.0) c.in_ok-known.ensures.exact))
 
 pub is_generation_of-fits-requires-clause-left : goal.is_generation_of-fits-requires-clause-left
 is_generation_of-fits-requires-clause-left c =

@@ -27,5 +27,5 @@ returns-clause-exact c = λ shapes. (
     let ns = c.args.pool.now in
     let b = branch_in ns c.args.branch.now in
     let g = c.args.extension.now in
-    due_tells shapes ns b g (Instance c.args.entry c.args.term) c.requires.reason c.requires.numbers tt c.in_ok-told.told
-    (one_tells ns g.formulas.items c.in-Some.formula (rw c.as_slice.ensures.value at c.in-Some.ensures) (λ p. InstanceDue b c.args.entry (term_at ns c.args.term) p g.generation) c.in_ok-told.told c.in_ok-told.ensures.exact))
+    due_tells shapes ns b g (Instance c.args.entry c.args.term) c.requires.reason c.requires.numbers tt c.in_ok-known.known
+    (one_tells ns g.formulas.items c.in-Some.formula (rw c.as_slice.ensures.value at c.in-Some.ensures) (λ p. InstanceDue b c.args.entry (term_at ns c.args.term) p g.generation) c.in_ok-known.known c.in_ok-known.ensures.exact))

@@ -1,6 +1,6 @@
 use Rattle.tableau.specs.PoolBranches.{branch_in}
 use Rattle.tableau.specs.Terms.{term_at}
-use Rattle.tree_checks.proofs.FamilyLemmas.{not_told}
+use Rattle.tree_checks.proofs.FamilyLemmas.{refuted}
 use Rattle.tree_checks.proofs.ApplicationLemmas.{not_late, early_cut, other_generation, cut_tells}
 use Rattle.tree_checks.proofs.late.cuts.is_cut_application_due.Goals as goal
 
@@ -11,7 +11,7 @@ pub returns-then-not-late-clause-shown : goal.returns-then-not-late-clause-shown
 returns-then-not-late-clause-shown c = λ shapes tells t. absurd (cc)
 
 pub returns-then-not-fits-clause-exact : goal.returns-then-not-fits-clause-exact
-returns-then-not-fits-clause-exact c = λ shapes tells. other_generation shapes (branch_in c.args.pool.now c.args.branch.now) (term_at c.args.pool.now c.args.left) (term_at c.args.pool.now c.args.right) c.args.generation (not_told c.is_generation_of-fits.result c.if-not-fits.true c.is_generation_of-fits.ensures)
+returns-then-not-fits-clause-exact c = λ shapes tells. other_generation shapes (branch_in c.args.pool.now c.args.branch.now) (term_at c.args.pool.now c.args.left) (term_at c.args.pool.now c.args.right) c.args.generation (refuted c.is_generation_of-fits.result c.if-not-fits.true c.is_generation_of-fits.ensures)
 
 pub returns-then-not-fits-clause-shown : goal.returns-then-not-fits-clause-shown
 returns-then-not-fits-clause-shown c = λ shapes tells t. absurd (cc)

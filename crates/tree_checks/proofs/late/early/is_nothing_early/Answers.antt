@@ -3,12 +3,12 @@ use Rattle.tableau.specs.PoolBranches.{branch_in}
 use Rattle.tableau.proofs.PushLemmas.{over_still}
 use Rattle.tableau.proofs.VariablesLemmas.{above_grown}
 use Rattle.tree_checks.specs.Late.{HasNoRangeApplication}
-use Rattle.tree_checks.proofs.FamilyLemmas.{weaker, not_told, there, back}
+use Rattle.tree_checks.proofs.FamilyLemmas.{weaker, refuted, there, back}
 use Rattle.tree_checks.proofs.LateLemmas.{entries_early, ranges_tell}
 use Rattle.tree_checks.proofs.late.early.is_nothing_early.Goals as goal
 
 pub returns-then-not-entries-clause-exact : goal.returns-then-not-entries-clause-exact
-returns-then-not-entries-clause-exact c = entries_early c.args.shapes.now (branch_in c.args.pool.now c.args.branch.now) (not_told c.in_ok-entries.entries c.if-not-entries.true c.in_ok-entries.ensures.exact)
+returns-then-not-entries-clause-exact c = entries_early c.args.shapes.now (branch_in c.args.pool.now c.args.branch.now) (refuted c.in_ok-entries.entries c.if-not-entries.true c.in_ok-entries.ensures.exact)
 
 pub has_no_range_application-requires-clause-over : goal.has_no_range_application-requires-clause-over
 has_no_range_application-requires-clause-over c = over_still c.args.pool.now c.has_no_entry_application.new.pool c.has_no_entry_application.ensures.extends c.args.branch.now c.requires.over

@@ -3,14 +3,14 @@ use Rattle.term_pool.proofs.GrowthLemmas.{extends_then}
 use Rattle.tableau.specs.PoolBranches.{branch_in}
 use Rattle.tableau.proofs.PushLemmas.{over_still}
 use Rattle.tableau.specs.Numbers.{formula_at}
-use Rattle.tree_checks.proofs.FamilyLemmas.{not_told}
+use Rattle.tree_checks.proofs.FamilyLemmas.{refuted}
 use Rattle.tree_checks.proofs.ApplicationLemmas.{range_back, no_cases, late_split, range_split, range_shows, not_late}
 use Rattle.tree_checks.proofs.late.splits.is_split_application_due.Goals as goal
 
 pub returns-then-not-due-clause-exact : goal.returns-then-not-due-clause-exact
 returns-then-not-due-clause-exact c = λ tells. (
     let ns = c.args.pool.now in
-    no_cases c.args.shapes.now (branch_in ns c.args.branch.now) c.args.entry (map (formula_at ns) c.args.formulas.now) (not_told c.in_ok-due.due c.if-not-due.true c.in_ok-due.ensures.exact))
+    no_cases c.args.shapes.now (branch_in ns c.args.branch.now) c.args.entry (map (formula_at ns) c.args.formulas.now) (refuted c.in_ok-due.due c.if-not-due.true c.in_ok-due.ensures.exact))
 
 pub returns-then-not-due-clause-shown : goal.returns-then-not-due-clause-shown
 returns-then-not-due-clause-shown c = λ tells t. absurd (cc)

@@ -3,7 +3,7 @@ use Rattle.certificates.specs.CertView.{close_of_node}
 use Rattle.certificates.specs.ProofTraces.{ClosesBranch}
 use Rattle.tableau.specs.PoolBranches.{BranchData, branch_in}
 use Rattle.explanations.specs.Chains.{step_in}
-use Rattle.tree_checks.proofs.EndLemmas.{none_ends, too_many_links, ends_told}
+use Rattle.tree_checks.proofs.EndLemmas.{none_ends, too_many_links, ends_known}
 use Rattle.tree_checks.proofs.partial.ending.ends_among.Goals as goal
 
 pub returns-then-not-walk : goal.returns-then-not-walk
@@ -22,5 +22,5 @@ pub returns : goal.returns
 returns c = λ shapes. (
     let ns = c.args.pool.now in
     let closing = c.args.given.now.closing in
-    let told = subst (λ (d : BranchData). IsTrue c.in_ok-told.told ↔ ClosesBranch shapes (branch_in ns d) (map (step_in ns) closing.chain.items) (close_of_node closing.by)) c.read.ensures.branch (c.in_ok-told.ensures shapes) in
-    ends_told shapes ns c.args.walk.now c.args.given.now c.if-not-walk.false (omega arith) c.in_ok-told.told told)
+    let known = subst (λ (d : BranchData). IsTrue c.in_ok-known.known ↔ ClosesBranch shapes (branch_in ns d) (map (step_in ns) closing.chain.items) (close_of_node closing.by)) c.read.ensures.branch (c.in_ok-known.ensures shapes) in
+    ends_known shapes ns c.args.walk.now c.args.given.now c.if-not-walk.false (omega arith) c.in_ok-known.known known)

@@ -11,4 +11,4 @@ pub returns-in-Bound-clause-exact : goal.returns-in-Bound-clause-exact
 returns-in-Bound-clause-exact c =
     let ns = c.args.pool.now in
     let g = c.in-Bound.bound in
-    rw c.in-Bound.is (subst (λ z. IfOk c.is_bound.result (λ told. IsTrue told ↔ IsBoundBy c.args.shapes.now ns (branch_in ns c.args.branch.now) (term_at ns c.args.term) z g.values g.elimination)) (to_z-of_z w128 c.args.number c.ranges.number) c.is_bound.ensures.exact)
+    rw c.in-Bound.is (subst (λ z. IfOk c.is_bound.result (λ known. IsTrue known ↔ IsBoundBy c.args.shapes.now ns (branch_in ns c.args.branch.now) (term_at ns c.args.term) z g.values g.elimination)) (to_z-of_z w128 c.args.number c.ranges.number) c.is_bound.ensures.exact)

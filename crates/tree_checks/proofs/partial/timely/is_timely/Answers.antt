@@ -24,4 +24,4 @@ pub returns-in-Bound-clause-exact : goal.returns-in-Bound-clause-exact
 returns-in-Bound-clause-exact c =
     let ns = c.args.pool.now in
     let fits : FitsSigned w128 c.in-Bound.number = search rules in
-    rw c.in-Bound.is (subst (λ z. IfOk c.is_put_timely.result (λ told. IsTrue told ↔ IsPutBy c.args.shapes.now ns (branch_in ns c.args.branch.now) (term_at ns c.in-Bound.term) z c.args.grounds.now)) (to_z-of_z w128 c.in-Bound.number fits) c.is_put_timely.ensures.exact)
+    rw c.in-Bound.is (subst (λ z. IfOk c.is_put_timely.result (λ known. IsTrue known ↔ IsPutBy c.args.shapes.now ns (branch_in ns c.args.branch.now) (term_at ns c.in-Bound.term) z c.args.grounds.now)) (to_z-of_z w128 c.in-Bound.number fits) c.is_put_timely.ensures.exact)

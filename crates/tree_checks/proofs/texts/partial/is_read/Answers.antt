@@ -26,11 +26,11 @@ take_turn-requires-clause-numbers c =
     let first = All-head (IsApplicationNumbered ns) c.in-Some.application c.next.new.self.rest.items (subst (All (IsApplicationNumbered ns)) c.in-Some.ensures.steps.0 l.invariant.numbers) in
     application_later c.args.shapes.now ns l.pool l.invariant.extends c.in-Some.application first
 
-pub returns-in_err-told-clause-extends : goal.returns-in_err-told-clause-extends
-returns-in_err-told-clause-extends c = extends_then c.loop-application.invariant.extends c.take_turn.ensures.extends
+pub returns-in_err-known-clause-extends : goal.returns-in_err-known-clause-extends
+returns-in_err-known-clause-extends c = extends_then c.loop-application.invariant.extends c.take_turn.ensures.extends
 
-pub returns-then-not-told-clause-extends : goal.returns-then-not-told-clause-extends
-returns-then-not-told-clause-extends c = extends_then c.loop-application.invariant.extends c.take_turn.ensures.extends
+pub returns-then-not-known-clause-extends : goal.returns-then-not-known-clause-extends
+returns-then-not-known-clause-extends c = extends_then c.loop-application.invariant.extends c.take_turn.ensures.extends
 
 pub loop-application-preserved : goal.loop-application-preserved
 loop-application-preserved c =
@@ -40,9 +40,9 @@ loop-application-preserved c =
     let less : steps_of c.in-Some.application + (l.left - c.steps_of-steps.result) ≡ l.left = omega arith in
     record {
       extends = extends_then l.invariant.extends c.take_turn.ensures.extends;
-      walk = c.in_ok-told.ensures.walk;
+      walk = c.in_ok-known.ensures.walk;
       numbers = All-tail (IsApplicationNumbered ns) c.in-Some.application c.next.new.self.rest.items (subst (All (IsApplicationNumbered ns)) next l.invariant.numbers);
-      read = λ n number is. read_on c.args.shapes.now ns n c.args.text.items c.args.budget l.pool l.walk l.left l.application-iterator.rest.items c.next.new.self.rest.items c.in-Some.application (l.invariant.read n number is) next c.take_turn.new.pool c.take_turn.new.walk (c.in_ok-told.ensures.taken c.if-not-told.false) c.take_turn.ensures.extends c.in_ok-told.ensures.walk (l.left - c.steps_of-steps.result) less;
+      read = λ n number is. read_on c.args.shapes.now ns n c.args.text.items c.args.budget l.pool l.walk l.left l.application-iterator.rest.items c.next.new.self.rest.items c.in-Some.application (l.invariant.read n number is) next c.take_turn.new.pool c.take_turn.new.walk (c.in_ok-known.ensures.taken c.if-not-known.false) c.take_turn.ensures.extends c.in_ok-known.ensures.walk (l.left - c.steps_of-steps.result) less;
     }
 
 pub ends-requires-clause-named : goal.ends-requires-clause-named

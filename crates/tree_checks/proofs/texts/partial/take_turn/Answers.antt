@@ -25,7 +25,7 @@ returns-clause-taken c = λ t. (
     let w = c.args.walk.now in
     let later = opened c.take.new.pool c.take.new.walk in
     let same = opened_same ns ms c.with_grounds.ensures.extends w c.requires.walk in
-    let there = rw t at c.in_ok-told.ensures.exact in
+    let there = rw t at c.in_ok-known.ensures.exact in
     record {
       pool = ms;
       extends = c.with_grounds.ensures.extends;

@@ -4,8 +4,8 @@ use Rattle.body_types.specs.SpecTyped.{SpecTypingSays}
 use Rattle.type_check.proofs.Placing.{TypesTo}
 use Rattle.type_check.proofs.clauses.arguments.types_between.Given as goal
 
-abbrev pub invariant-loop-place : goal.invariant-loop-place
-invariant-loop-place l = record {
-  begins : l.first ≤ l.place;
-  types : (s : System) → SpecTypingSays s l.pool l.typing → TypesTo s l.first l.place l.terms.items;
+abbrev pub invariant-loop-variable : goal.invariant-loop-variable
+invariant-loop-variable l = record {
+  begins : l.first ≤ l.variable;
+  types : (s : System) → SpecTypingSays s l.pool l.typing → TypesTo s l.first l.variable l.terms.items;
 }

@@ -13,12 +13,12 @@ returns c =
     let s = clause_system program names (block_of c.args.block) types c.args.clause.now in
     let says = c.in_ok-typing.ensures.says in
     record {
-      says = λ place. record {
+      says = λ span. record {
         untyped = or_untyped s program c.args.clause.now.form _ _ (c.is_untypable.ensures s _ says) c.includes_improper-is_improper.ensures;
         unsettled = c.is_ambiguous.ensures s _ says;
-        included = c.in_ok-included.ensures names types place says;
+        included = c.in_ok-included.ensures names types span says;
         typing = says;
       };
-      place_is = refl;
+      span_is = refl;
       of_let = c.in_ok-of.ensures s says;
     }

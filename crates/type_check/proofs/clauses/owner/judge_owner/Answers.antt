@@ -4,7 +4,7 @@ use Rattle.std.proofs.lemmas.Option.{slice_get_read}
 use Rattle.type_constraints.specs.SpecSettings.{let_of, lets_of, owner_names, owner_types}
 use Rattle.type_constraints.specs.declared.spec.setting.LetType.{LetType}
 use Rattle.type_constraints.specs.Blocks.{block_of}
-use Rattle.type_check.specs.Judged.{ClauseTold}
+use Rattle.type_check.specs.Judged.{ClauseKnown}
 use Rattle.type_check.proofs.Owning.{all_said, first_more, none_said, said_again}
 use Rattle.type_check.proofs.clauses.owner.judge_owner.Goals as goal
 
@@ -24,7 +24,7 @@ loop-clause-preserved c =
     (sym (ap lets_of c.in_ok-push-2.ensures.items ∙ map-append let_of lets (c.in_ok-one.of ∷ []))) (sym c.in_ok-push.ensures.items) (sym (add-one n))
     (first_more c.args.program.now (owner_names c.args.owner) (block_of c.args.block) (owner_types c.args.owner) c.args.clauses.now (lets_of lets) c.loop-clause.judged.items n c.clause-item.result
     c.in_ok-one.of c.in_ok-one.one c.loop-clause.invariant at
-    (subst (λ (ls : List (Option LetType)). ClauseTold c.args.program.now (owner_names c.args.owner (lets_of ls)) (block_of c.args.block) (owner_types c.args.owner) c.clause-item.result c.in_ok-one.one c.in_ok-one.of)
+    (subst (λ (ls : List (Option LetType)). ClauseKnown c.args.program.now (owner_names c.args.owner (lets_of ls)) (block_of c.args.block) (owner_types c.args.owner) c.clause-item.result c.in_ok-one.one c.in_ok-one.of)
     c.as_slice.ensures.value c.in_ok-one.ensures))
 
 pub returns : goal.returns

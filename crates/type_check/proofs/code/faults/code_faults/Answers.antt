@@ -6,7 +6,7 @@ use Rattle.type_check.proofs.code.faults.code_faults.Goals as goal
 pub returns-clause-untyped : goal.returns-clause-untyped
 returns-clause-untyped c =
     let program = c.args.program.now in
-    first_of_both (FunctionAt program (FunctionBreaks program)) (λ place. ConstantAt program (ConstantBreaks program) place ⊎ StructAt program (StructBreaks program) place)
+    first_of_both (FunctionAt program (FunctionBreaks program)) (λ span. ConstantAt program (ConstantBreaks program) span ⊎ StructAt program (StructBreaks program) span)
     c.function_faults-functions.result.untyped c.earlier-later.result _ c.function_faults-functions.ensures.untyped
     (first_of_both (ConstantAt program (ConstantBreaks program)) (StructAt program (StructBreaks program)) c.in_ok-constants.constants.untyped c.struct_fault-fields.result c.earlier-later.result
     c.in_ok-constants.ensures.untyped c.struct_fault-fields.ensures c.earlier-later.ensures)

@@ -13,7 +13,7 @@ use Rattle.type_check.proofs.code.faults.constant_faults.Goals.{in-Some+in_ok-br
 pub loop-number-init : goal.loop-number-init
 loop-number-init c =
     let program = c.args.program.now in
-    none_in (λ (d : ConstantId × Constant). d.1.place) (λ d. ConstantBreaks program d.1) (λ d. ConstantIsOpen program d.1) c.no_faults-faults.result c.no_faults-faults.ensures.untyped c.no_faults-faults.ensures.unsettled
+    none_in (λ (d : ConstantId × Constant). d.1.span) (λ d. ConstantBreaks program d.1) (λ d. ConstantIsOpen program d.1) c.no_faults-faults.result c.no_faults-faults.ensures.untyped c.no_faults-faults.ensures.unsettled
 
 pub loop-number-preserved : goal.loop-number-preserved
 loop-number-preserved c =
@@ -21,8 +21,8 @@ loop-number-preserved c =
     let n = c.loop-number.number in
     elim c.match-entry.branch [
       | in-Some+in_ok-broken w ↦
-          subst (λ (o : CodeFaults). AreFaultsOf (λ (d : ConstantId × Constant). d.1.place) (λ d. ConstantBreaks program d.1) (λ d. ConstantIsOpen program d.1) (take (n + 1) program.constants) o) (sym w.faults-is)
-          (next_in (λ (d : ConstantId × Constant). d.1.place) (λ d. ConstantBreaks program d.1) (λ d. ConstantIsOpen program d.1) program.constants n (_, w.in-Some.constant.now)
+          subst (λ (o : CodeFaults). AreFaultsOf (λ (d : ConstantId × Constant). d.1.span) (λ d. ConstantBreaks program d.1) (λ d. ConstantIsOpen program d.1) (take (n + 1) program.constants) o) (sym w.faults-is)
+          (next_in (λ (d : ConstantId × Constant). d.1.span) (λ d. ConstantBreaks program d.1) (λ d. ConstantIsOpen program d.1) program.constants n (_, w.in-Some.constant.now)
           w.in_ok-broken.broken c.loop-number.faults w.faults_at-found.result w.both-faults.result (sym w.in-Some.ensures)
           w.in_ok-broken.ensures.untyped w.in_ok-broken.ensures.unsettled
           w.faults_at-found.ensures.untyped w.faults_at-found.ensures.unsettled c.loop-number.invariant w.both-faults.ensures)
@@ -32,5 +32,5 @@ loop-number-preserved c =
 pub returns : goal.returns
 returns c =
     let program = c.args.program.now in
-    all_in (λ (d : ConstantId × Constant). d.1.place) (λ d. ConstantBreaks program d.1) (λ d. ConstantIsOpen program d.1) program.constants c.loop-number.number c.loop-number.faults
+    all_in (λ (d : ConstantId × Constant). d.1.span) (λ d. ConstantBreaks program d.1) (λ d. ConstantIsOpen program d.1) program.constants c.loop-number.number c.loop-number.faults
     (omega arith) c.loop-number.invariant

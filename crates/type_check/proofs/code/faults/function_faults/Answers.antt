@@ -14,7 +14,7 @@ use Rattle.type_check.proofs.code.faults.function_faults.Goals.{in-Some, in_defa
 pub loop-number-init : goal.loop-number-init
 loop-number-init c =
     let program = c.args.program.now in
-    none_in (λ (d : FunctionId × Function). d.1.place) (λ d. FunctionBreaks program d.0 d.1) (λ d. FunctionIsOpen program d.0 d.1) c.no_faults-faults.result c.no_faults-faults.ensures.untyped c.no_faults-faults.ensures.unsettled
+    none_in (λ (d : FunctionId × Function). d.1.span) (λ d. FunctionBreaks program d.0 d.1) (λ d. FunctionIsOpen program d.0 d.1) c.no_faults-faults.result c.no_faults-faults.ensures.untyped c.no_faults-faults.ensures.unsettled
 
 pub loop-number-preserved : goal.loop-number-preserved
 loop-number-preserved c =
@@ -27,8 +27,8 @@ loop-number-preserved c =
       | in-Some w ↦
           let read = slice_get_read typings (length typings) n w.index-typings-number.result refl below w.index-typings-number.is in
           let is = c.requires.typings.each n _ read _ w.in-Some.function.now (sym w.in-Some.ensures) in
-          subst (λ (o : CodeFaults). AreFaultsOf (λ (d : FunctionId × Function). d.1.place) (λ d. FunctionBreaks program d.0 d.1) (λ d. FunctionIsOpen program d.0 d.1) (take (n + 1) program.functions) o) (sym w.faults-is)
-          (next_in (λ (d : FunctionId × Function). d.1.place) (λ d. FunctionBreaks program d.0 d.1) (λ d. FunctionIsOpen program d.0 d.1) program.functions n (_, w.in-Some.function.now)
+          subst (λ (o : CodeFaults). AreFaultsOf (λ (d : FunctionId × Function). d.1.span) (λ d. FunctionBreaks program d.0 d.1) (λ d. FunctionIsOpen program d.0 d.1) (take (n + 1) program.functions) o) (sym w.faults-is)
+          (next_in (λ (d : FunctionId × Function). d.1.span) (λ d. FunctionBreaks program d.0 d.1) (λ d. FunctionIsOpen program d.0 d.1) program.functions n (_, w.in-Some.function.now)
           w.function_rules-broken.result c.loop-number.faults w.faults_at-found.result w.both-faults.result (sym w.in-Some.ensures)
           (w.function_rules-broken.ensures.untyped program _ w.in-Some.function.now is (c.requires.wrapping n _ w.in-Some.function.now (sym w.in-Some.ensures)))
           (w.function_rules-broken.ensures.unsettled program w.in-Some.function.now is)
@@ -41,5 +41,5 @@ returns c =
     let program = c.args.program.now in
     let end = c.loop-number-test.false in
     let same = c.requires.typings.same_length in
-    all_in (λ (d : FunctionId × Function). d.1.place) (λ d. FunctionBreaks program d.0 d.1) (λ d. FunctionIsOpen program d.0 d.1) program.functions c.loop-number.number c.loop-number.faults
+    all_in (λ (d : FunctionId × Function). d.1.span) (λ d. FunctionBreaks program d.0 d.1) (λ d. FunctionIsOpen program d.0 d.1) program.functions c.loop-number.number c.loop-number.faults
     (omega (arith, end, same)) c.loop-number.invariant

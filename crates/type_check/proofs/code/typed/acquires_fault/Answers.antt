@@ -16,19 +16,19 @@ use Rattle.type_check.proofs.code.typed.acquires_fault.Goals.{in-Some+in_ok-lack
 pub lacks_acquires-requires-clause-typed : goal.lacks_acquires-requires-clause-typed
 lacks_acquires-requires-clause-typed c =
     let n = c.loop-number.number in
-    let told = c.args.told.now in
-    let at = slice_get_read told (length told) n c.index-told-number.result refl c.loop-number-test.true c.index-told-number.is in
+    let known = c.args.known.now in
+    let at = slice_get_read known (length known) n c.index-known-number.result refl c.loop-number-test.true c.index-known-number.is in
     (c.requires.each n _ at _ c.in-Some.function.now (sym c.in-Some.ensures)).typed
 
 pub lacks_acquires-requires-clause-within : goal.lacks_acquires-requires-clause-within
 lacks_acquires-requires-clause-within c =
     let n = c.loop-number.number in
-    let told = c.args.told.now in
-    let at = slice_get_read told (length told) n c.index-told-number.result refl c.loop-number-test.true c.index-told-number.is in
+    let known = c.args.known.now in
+    let at = slice_get_read known (length known) n c.index-known-number.result refl c.loop-number-test.true c.index-known-number.is in
     (c.requires.each n _ at _ c.in-Some.function.now (sym c.in-Some.ensures)).within
 
 pub loop-number-init : goal.loop-number-init
-loop-number-init c = none_yet (λ (d : FunctionId × Function). d.1.place) (λ d. LacksAcquires c.args.program.now d.0 d.1)
+loop-number-init c = none_yet (λ (d : FunctionId × Function). d.1.span) (λ d. LacksAcquires c.args.program.now d.0 d.1)
 
 pub loop-number-preserved : goal.loop-number-preserved
 loop-number-preserved c =
@@ -38,9 +38,9 @@ loop-number-preserved c =
     let same = c.requires.same_length in
     elim c.match-entry.branch [
       | in-Some+in_ok-lacks w ↦
-          subst (λ (o : Option Span). IsFirstOrNone (OneAt (λ (d : FunctionId × Function). d.1.place) (λ d. LacksAcquires program d.0 d.1) (take (n + 1) program.functions)) o) (sym w.found-is)
-          (next (λ (d : FunctionId × Function). d.1.place) (λ d. LacksAcquires program d.0 d.1) program.functions n (w.in-Some.id.now, w.in-Some.function.now) w.in_ok-lacks.lacks c.loop-number.found w.place_if-next.result w.earlier-found.result
-          (sym w.in-Some.ensures) w.in_ok-lacks.ensures w.place_if-next.ensures c.loop-number.invariant w.earlier-found.ensures)
+          subst (λ (o : Option Span). IsFirstOrNone (OneAt (λ (d : FunctionId × Function). d.1.span) (λ d. LacksAcquires program d.0 d.1) (take (n + 1) program.functions)) o) (sym w.found-is)
+          (next (λ (d : FunctionId × Function). d.1.span) (λ d. LacksAcquires program d.0 d.1) program.functions n (w.in-Some.id.now, w.in-Some.function.now) w.in_ok-lacks.lacks c.loop-number.found w.span_if-next.result w.earlier-found.result
+          (sym w.in-Some.ensures) w.in_ok-lacks.ensures w.span_if-next.ensures c.loop-number.invariant w.earlier-found.ensures)
       | in_default w ↦ absurd (nothing_there program.functions n (omega (arith, below, same)) (sym (ap (option_map deref_pair) w.in_default.is) ∙ c.entry.ensures))
     ]
 
@@ -50,5 +50,5 @@ returns c =
     let end = c.loop-number-test.false in
     let same = c.requires.same_length in
     acquires_named program c.loop-number.found
-    (of_all (λ (d : FunctionId × Function). d.1.place) (λ d. LacksAcquires program d.0 d.1) program.functions c.loop-number.number c.loop-number.found
+    (of_all (λ (d : FunctionId × Function). d.1.span) (λ d. LacksAcquires program d.0 d.1) program.functions c.loop-number.number c.loop-number.found
     (omega (arith, end, same)) c.loop-number.invariant)

@@ -2,15 +2,15 @@ use Rattle.std.proofs.Common.{◌≡◌, ℕ, Some, length}
 use Rattle.std.specs.Prelude.{slice_get}
 use Rattle.program.specs.declared.declaration.Function.{Function}
 use Rattle.program.specs.declared.program.Program.{Program}
-use Rattle.definite_assignment.specs.Told.{IsTypedBy}
-use Rattle.definite_assignment.specs.declared.whole_program.told.FunctionTypes.{FunctionTypes}
+use Rattle.definite_assignment.specs.KnownState.{IsTypedBy}
+use Rattle.definite_assignment.specs.declared.whole_program.known.FunctionTypes.{FunctionTypes}
 use Rattle.type_check.specs.Functions.{IsTypingOf}
 use Rattle.type_check.specs.declared.code.functions.FunctionTyping.{FunctionTyping}
 use Rattle.type_check.proofs.code.typed.function_types.Given as goal
 
 abbrev pub invariant-loop-number : goal.invariant-loop-number
 invariant-loop-number l = record {
-  count : length l.told.items ≡ l.number;
-  each : (n : ℕ) (p : FunctionTypes) → slice_get l.told.items n ≡ Some p → (t : FunctionTyping) → slice_get l.typings n ≡ Some t
+  count : length l.known.items ≡ l.number;
+  each : (n : ℕ) (p : FunctionTypes) → slice_get l.known.items n ≡ Some p → (t : FunctionTyping) → slice_get l.typings n ≡ Some t
       → (program : Program) (f : Function) → IsTypingOf program f t → IsTypedBy program f p;
 }

@@ -24,8 +24,8 @@ returns c = elim c.match-entry.branch [
       subst (λ (k : Closure). slice_get (listed k.known) c.args.number ≡ Some i) (sym w.closure-is) (listed_at old.known c.args.number _ (sym w.in-Some.ensures)) in
       let closed : IsClosedTo c.args.program.now mid c.args.number = subst (λ (k : Closure). IsClosedTo c.args.program.now k c.args.number) (sym w.closure-is) c.requires.closed in
       let items : w.in_ok-judged-in-Some.judged.items ≡ c.match-entry.judged.items = ap (λ v. v.items) (sym w.judged-is) in
-      let told : w.in_ok-judged-in-Some.judged.items ≡ c.deref-3.result.now = items ∙ sym c.deref-3.ensures.value in
-      let says : InstanceSays c.args.program.now i c.deref-3.result.now = subst (λ (js : List JudgedClause). InstanceSays c.args.program.now i js) told w.in_ok-judged-in-Some.ensures.says in
+      let given : w.in_ok-judged-in-Some.judged.items ≡ c.deref-3.result.now = items ∙ sym c.deref-3.ensures.value in
+      let says : InstanceSays c.args.program.now i c.deref-3.result.now = subst (λ (js : List JudgedClause). InstanceSays c.args.program.now i js) given w.in_ok-judged-in-Some.ensures.says in
       let owner : OwnerOf c.args.program.now i c.match-entry.judged.items = subst (λ (js : List JudgedClause). OwnerOf c.args.program.now i js) items w.in_ok-judged-in-Some.ensures.owner in
       let same : c.deref.result.now ≡ c.deref-3.result.now = c.deref.ensures.value ∙ sym c.deref-3.ensures.value in
       let same2 : c.deref-2.result.now ≡ c.deref-3.result.now = c.deref-2.ensures.value ∙ sym c.deref-3.ensures.value in

@@ -22,7 +22,7 @@ loop-one-preserved c =
       keyed = c.in_ok-included.ensures.keyed;
       numbered = more_numbered c.args.judged.now (listed c.loop-one.known) (listed c.number_of.new.known) c.loop-one.roots.items c.push.new.self.items n c.one-item.result _ c.in_ok-included.included
           (slice_get_read c.args.judged.now (length c.args.judged.now) n c.one-item.result refl c.loop-one-test.true c.one-item.is)
-          c.loop-one.invariant.numbered number (record { place = refl; untyped = refl; unsettled = refl; included = number.stands }) c.in_ok-push.ensures.items;
+          c.loop-one.invariant.numbered number (record { span = refl; untyped = refl; unsettled = refl; included = number.stands }) c.in_ok-push.ensures.items;
     }
 
 pub returns-clause-keyed : goal.returns-clause-keyed

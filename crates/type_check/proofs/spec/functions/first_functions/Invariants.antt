@@ -9,6 +9,6 @@ use Rattle.type_check.proofs.spec.functions.first_functions.Given as goal
 
 abbrev pub invariant-loop-number : goal.invariant-loop-number
 invariant-loop-number l = record {
-  untyped : IsFirstOrNone (Among (λ (d : FunctionId × SpecFunction). d.1.place) (λ d. SpecFunctionBreaks l.program Typing d.1) (take l.number l.program.spec_functions)) l.untyped;
-  unsettled : IsFirstOrNone (Among (λ (d : FunctionId × SpecFunction). d.1.place) (λ d. SpecFunctionBreaks l.program Settling d.1) (take l.number l.program.spec_functions)) l.unsettled;
+  untyped : IsFirstOrNone (Among (λ (d : FunctionId × SpecFunction). d.1.span) (λ d. SpecFunctionBreaks l.program Typing d.1) (take l.number l.program.spec_functions)) l.untyped;
+  unsettled : IsFirstOrNone (Among (λ (d : FunctionId × SpecFunction). d.1.span) (λ d. SpecFunctionBreaks l.program Settling d.1) (take l.number l.program.spec_functions)) l.unsettled;
 }

@@ -13,9 +13,9 @@ loop-one-preserved c =
     let n = c.loop-one.one-index in
     let items = c.as_slice-one-items.result.now in
     let at = slice_get_read items (length items) n c.one-item.result refl c.loop-one-test.true c.one-item.is in
-    more_loops c.args.program.now c.args.function.now c.args.locals.now c.loop-one.judged.items c.push.new.self.items n c.one-item.result c.in_ok-told.told
+    more_loops c.args.program.now c.args.function.now c.args.locals.now c.loop-one.judged.items c.push.new.self.items n c.one-item.result c.in_ok-known.known
     (ap (λ (ls : List LoopClause). slice_get ls n) (sym c.as_slice-one-items.ensures) ∙ at)
-    (c.in_ok-told.ensures.says c.one-item.result.clause.block) c.in_ok-told.ensures.place_is c.in_ok-push.ensures.items c.loop-one.invariant
+    (c.in_ok-known.ensures.says c.one-item.result.clause.block) c.in_ok-known.ensures.span_is c.in_ok-push.ensures.items c.loop-one.invariant
 
 pub returns : goal.returns
 returns c =

@@ -12,18 +12,18 @@ use Rattle.type_check.proofs.spec.roots.all_functions.Goals.{in-Some+in_ok-more+
 pub loop-number-init : goal.loop-number-init
 loop-number-init c = some_none c.args.program.now (IsOfFunction c.args.program.now) c.args.program.now.functions c.new-judged.result.items c.new-judged.ensures.items
 
-pub function_clauses-requires-clause-told : goal.function_clauses-requires-clause-told
-function_clauses-requires-clause-told c =
-    let told = c.args.told.now in
+pub function_clauses-requires-clause-known : goal.function_clauses-requires-clause-known
+function_clauses-requires-clause-known c =
+    let known = c.args.known.now in
     let n = c.loop-number.number in
-    let at = slice_get_read told (length told) n c.index-told-number.result refl c.loop-number-test.true c.index-told-number.is in
-    c.requires.told.each n _ at _ c.in-Some.function.now (sym c.in-Some.ensures)
+    let at = slice_get_read known (length known) n c.index-known-number.result refl c.loop-number-test.true c.index-known-number.is in
+    c.requires.known.each n _ at _ c.in-Some.function.now (sym c.in-Some.ensures)
 
 pub loop-number-preserved : goal.loop-number-preserved
 loop-number-preserved c =
     let program = c.args.program.now in
     let n = c.loop-number.number in
-    let below : n < length program.functions = (let t = c.loop-number-test.true in let is = c.requires.told.same_length in omega (arith, t, is)) in
+    let below : n < length program.functions = (let t = c.loop-number-test.true in let is = c.requires.known.same_length in omega (arith, t, is)) in
     elim c.match-entry.branch [
       | in-Some+in_ok-more+in_ok-append w ↦
           subst (λ (js : List JudgedClause). TellsOf program (OfSome (IsOfFunction program) (take (n + 1) program.functions)) js) (sym (ap (λ v. v.items) w.judged-is ∙ w.in_ok-append.ensures.items))
@@ -36,5 +36,5 @@ loop-number-preserved c =
 pub returns : goal.returns
 returns c =
     let program = c.args.program.now in
-    let past : length program.functions ≤ c.loop-number.number = (let t = c.loop-number-test.false in let is = c.requires.told.same_length in omega (arith, t, is)) in
+    let past : length program.functions ≤ c.loop-number.number = (let t = c.loop-number-test.false in let is = c.requires.known.same_length in omega (arith, t, is)) in
     some_all program (IsOfFunction program) program.functions c.loop-number.number c.loop-number.judged.items past c.loop-number.invariant

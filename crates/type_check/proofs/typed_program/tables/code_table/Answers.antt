@@ -14,5 +14,5 @@ unreachable-requires-in-Ambiguous c =
 
 pub returns : goal.returns
 returns c = λ s nodes says.
-    let told = subst (λ t. TypingSays s nodes c.args.pool t) c.in-Typed.is says in
-    (told.0, told.1)
+    let known = subst (λ t. TypingSays s nodes c.args.pool t) c.in-Typed.is says in
+    (known.0, known.1)

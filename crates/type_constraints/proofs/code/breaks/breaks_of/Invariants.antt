@@ -1,10 +1,10 @@
 use Rattle.std.proofs.Common.{◌≡◌, length}
 use Rattle.program.specs.Trees.{trees}
-use Rattle.type_constraints.specs.CodeTold.{TellsBreaks}
+use Rattle.type_constraints.specs.CodeKnown.{TellsBreaks}
 use Rattle.type_constraints.proofs.code.breaks.breaks_of.Given as goal
 
-abbrev pub invariant-loop-place : goal.invariant-loop-place
-invariant-loop-place l = record {
-  len : length l.told.items ≡ l.place;
-  told : TellsBreaks l.told.items (trees l.body.nodes);
+abbrev pub invariant-loop-index : goal.invariant-loop-index
+invariant-loop-index l = record {
+  len : length l.known.items ≡ l.index;
+  known : TellsBreaks l.known.items (trees l.body.nodes);
 }

@@ -2,8 +2,8 @@ use Rattle.std.proofs.Common.{◌≡◌, ℕ, ◌<◌, ◌+◌, ◌&&◌, ◌||�
 use Rattle.std.specs.Prelude.{ltb}
 use Rattle.type_constraints.proofs.code.loops.mark.Given as goal
 
-abbrev pub invariant-loop-place : goal.invariant-loop-place
-invariant-loop-place l = record {
-  len : length l.told.items ≡ length l.fn.told.items;
-  marked : (n : ℕ) → n < length l.fn.told.items → get_or l.told.items n false ≡ (get_or l.fn.told.items n false || (ltb n l.place && ltb l.body (n + l.size)));
+abbrev pub invariant-loop-variable : goal.invariant-loop-variable
+invariant-loop-variable l = record {
+  len : length l.known.items ≡ length l.fn.known.items;
+  marked : (n : ℕ) → n < length l.fn.known.items → get_or l.known.items n false ≡ (get_or l.fn.known.items n false || (ltb n l.variable && ltb l.body (n + l.size)));
 }

@@ -1,10 +1,10 @@
 use Rattle.std.proofs.Common.{◌≡◌, length}
 use Rattle.program.specs.Trees.{trees}
-use Rattle.type_constraints.specs.CodeTold.{TellsSizes}
+use Rattle.type_constraints.specs.CodeKnown.{TellsSizes}
 use Rattle.type_constraints.proofs.code.loops.sizes_of.Given as goal
 
-abbrev pub invariant-loop-place : goal.invariant-loop-place
-invariant-loop-place l = record {
-  len : length l.told.items ≡ l.place;
-  told : TellsSizes l.told.items (trees l.body.nodes);
+abbrev pub invariant-loop-index : goal.invariant-loop-index
+invariant-loop-index l = record {
+  len : length l.known.items ≡ l.index;
+  known : TellsSizes l.known.items (trees l.body.nodes);
 }

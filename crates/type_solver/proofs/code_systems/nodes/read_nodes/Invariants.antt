@@ -8,11 +8,11 @@ use Rattle.type_solver.specs.Equations.{reading_of}
 use Rattle.type_solver.specs.Walking.{IsWalk}
 use Rattle.type_solver.proofs.code_systems.nodes.read_nodes.Given as goal
 
-abbrev pub invariant-loop-place : goal.invariant-loop-place
-invariant-loop-place l = record {
-  walk : (steps : List (List Constraint)) → IsWalk (reading_of l.tables) l.places steps l.fn.slots.items l.fn.before →
-      IsWalk (reading_of l.tables) l.places (steps ++ take l.place (constraints_from (setting_of l.setting) 0 l.setting.body.now.nodes)) l.slots.items l.progress;
+abbrev pub invariant-loop-variable : goal.invariant-loop-variable
+invariant-loop-variable l = record {
+  walk : (steps : List (List Constraint)) → IsWalk (reading_of l.tables) l.variables steps l.fn.slots.items l.fn.before →
+      IsWalk (reading_of l.tables) l.variables (steps ++ take l.variable (constraints_from (setting_of l.setting) 0 l.setting.body.now.nodes)) l.slots.items l.progress;
   fits : Fits l.slots.items;
-  longer : l.places ≤ length l.slots.items;
-  first : l.first ≡ first_argument (setting_of l.setting) l.place;
+  longer : l.variables ≤ length l.slots.items;
+  first : l.first ≡ first_argument (setting_of l.setting) l.variable;
 }

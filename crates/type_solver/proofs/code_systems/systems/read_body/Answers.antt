@@ -13,7 +13,7 @@ returns-then-count-nodes c =
     let w = reading_of c.args.tables in
     let begin : IsWalk w (length c.args.slots.now.items) [] c.args.slots.now.items c.start-begun.result = subst (λ (xs : List Slot). IsWalk w (length xs) [] xs c.start-begun.result) c.deref.ensures.value (c.start-begun.ensures w) in
     IfOk-weaker c.read_nodes.result _ _
-    (λ after more. body_part w (length c.args.slots.now.items) c.len-places.result c.args.count c.args.slots.now.items c.read_step.new.slots.items c.read_nodes.new.slots.items c.start-begun.result c.in_ok-first.first after (setting_of c.args.setting) (seen_all c.args.declared.now) (seen c.args.whole ∷ [])
+    (λ after more. body_part w (length c.args.slots.now.items) c.len-variables.result c.args.count c.args.slots.now.items c.read_step.new.slots.items c.read_nodes.new.slots.items c.start-begun.result c.in_ok-first.first after (setting_of c.args.setting) (seen_all c.args.declared.now) (seen c.args.whole ∷ [])
     (omega (arith, c.args.slots.now.ok.0)) (omega arith) begin c.in_ok-first.ensures.walk more)
     c.read_nodes.ensures.walk
 
@@ -22,6 +22,6 @@ returns c =
     let w = reading_of c.args.tables in
     let begin : IsWalk w (length c.args.slots.now.items) [] c.args.slots.now.items c.start-begun.result = subst (λ (xs : List Slot). IsWalk w (length xs) [] xs c.start-begun.result) c.deref.ensures.value (c.start-begun.ensures w) in
     IfOk-weaker c.read_step-2.result _ _
-    (λ after end. body_whole w (length c.args.slots.now.items) c.len-places.result c.args.count c.len-nodes.result c.args.slots.now.items c.read_step.new.slots.items c.read_nodes-2.new.slots.items c.read_step-2.new.slots.items c.start-begun.result c.in_ok-first.first c.in_ok-last.last after (setting_of c.args.setting) (seen_all c.args.declared.now) (seen c.args.whole ∷ [])
+    (λ after end. body_whole w (length c.args.slots.now.items) c.len-variables.result c.args.count c.len-nodes.result c.args.slots.now.items c.read_step.new.slots.items c.read_nodes-2.new.slots.items c.read_step-2.new.slots.items c.start-begun.result c.in_ok-first.first c.in_ok-last.last after (setting_of c.args.setting) (seen_all c.args.declared.now) (seen c.args.whole ∷ [])
     (omega (arith, c.args.slots.now.ok.0)) c.len-nodes.ensures (omega arith) begin c.in_ok-first.ensures.walk c.in_ok-last.ensures.walk end)
     c.read_step-2.ensures.walk

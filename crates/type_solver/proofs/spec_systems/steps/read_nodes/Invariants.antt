@@ -7,10 +7,10 @@ use Rattle.type_constraints.specs.SpecSettings.{setting_of}
 use Rattle.type_solver.specs.Equations.{reading_of}
 use Rattle.type_solver.proofs.spec_systems.steps.read_nodes.Given as goal
 
-abbrev pub invariant-loop-place : goal.invariant-loop-place
-invariant-loop-place l = record {
-  walk : (steps : List (List Constraint)) → IsWalk (reading_of l.tables) l.places steps l.fn.slots.items l.fn.before →
-      IsWalk (reading_of l.tables) l.places (steps ++ take l.place (spec_constraints_from (setting_of l.setting) 0 l.setting.body.now.nodes)) l.slots.items l.progress;
+abbrev pub invariant-loop-index : goal.invariant-loop-index
+invariant-loop-index l = record {
+  walk : (steps : List (List Constraint)) → IsWalk (reading_of l.tables) l.variables steps l.fn.slots.items l.fn.before →
+      IsWalk (reading_of l.tables) l.variables (steps ++ take l.index (spec_constraints_from (setting_of l.setting) 0 l.setting.body.now.nodes)) l.slots.items l.progress;
   fits : Fits l.slots.items;
-  longer : l.places ≤ length l.slots.items;
+  longer : l.variables ≤ length l.slots.items;
 }

@@ -1,5 +1,5 @@
 use Rattle.std.proofs.Common.{◌≡◌}
-use Rattle.typing_rules.proofs.Standing.{types-push}
+use Rattle.typing_rules.proofs.Stated.{types-push}
 use Rattle.typing_rules.proofs.type_pool.TypePool.add.Goals as goal
 
 pub returns-clause-types : goal.returns-clause-types

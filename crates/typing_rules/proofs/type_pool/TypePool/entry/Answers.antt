@@ -1,4 +1,4 @@
-use Rattle.typing_rules.proofs.Standing.{type_read}
+use Rattle.typing_rules.proofs.Stated.{type_read}
 use Rattle.typing_rules.proofs.type_pool.TypePool.entry.Goals as goal
 
 pub returns-clause-one : goal.returns-clause-one

@@ -4,5 +4,5 @@ use Rattle.unification.specs.declared.type_variables.slots.Sort.TheVariants.{Int
 use Rattle.unification.specs.declared.type_variables.slots.Slot.TheVariants.{Open}
 use Rattle.unification.proofs.solution.choice.has_open_integer.Given as goal
 
-abbrev pub invariant-loop-place : goal.invariant-loop-place
-invariant-loop-place l = (p : ℕ) → p < l.place → slot_at l.slots p ≡ Open Integer → ⊥
+abbrev pub invariant-loop-variable : goal.invariant-loop-variable
+invariant-loop-variable l = (p : ℕ) → p < l.variable → slot_at l.slots p ≡ Open Integer → ⊥

@@ -19,4 +19,4 @@ table-requires-clause-order c =
 pub returns-in_ok-numbers-in-Some-clause-says : goal.returns-in_ok-numbers-in-Some-clause-says
 returns-in_ok-numbers-in-Some-clause-says c =
     let is = at_some _ ((t : Typing) → Meets c.args.slots.now t → ⊥) (λ r. IsRanking c.args.slots.now r.ranks.items r.order.items) c.in-Some.ranking c.in-Some.is c.in_ok-ranks.ensures in
-    types_alone c.args.slots.now c.args.places c.table.new.pool c.in_ok-numbers-in-Some.numbers.items (rank_at c.in-Some.ranking.ranks.items) is.is_rank c.in_ok-numbers-in-Some.ensures.says
+    types_alone c.args.slots.now c.args.variables c.table.new.pool c.in_ok-numbers-in-Some.numbers.items (rank_at c.in-Some.ranking.ranks.items) is.is_rank c.in_ok-numbers-in-Some.ensures.says

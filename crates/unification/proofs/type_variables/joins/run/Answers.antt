@@ -6,8 +6,8 @@ use Rattle.unification.proofs.Asking.{within_less}
 use Rattle.unification.proofs.Joining.{taken, refused, accepted}
 use Rattle.unification.proofs.type_variables.joins.run.Goals as goal
 
-pub step-requires-clause-place : goal.step-requires-clause-place
-step-requires-clause-place c = (within_less _ c.loop-ask.asks.items c.pop.new.self.items c.in-Some.ask c.in-Some.ensures.items c.loop-ask.invariant.asks).0
+pub step-requires-clause-variable : goal.step-requires-clause-variable
+step-requires-clause-variable c = (within_less _ c.loop-ask.asks.items c.pop.new.self.items c.in-Some.ask c.in-Some.ensures.items c.loop-ask.invariant.asks).0
 
 pub step-requires-clause-term : goal.step-requires-clause-term
 step-requires-clause-term c = (within_less _ c.loop-ask.asks.items c.pop.new.self.items c.in-Some.ask c.in-Some.ensures.items c.loop-ask.invariant.asks).1

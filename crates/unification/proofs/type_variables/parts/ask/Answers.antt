@@ -6,8 +6,8 @@ use Rattle.unification.proofs.Asking.{adds_one, within_more}
 use Rattle.unification.proofs.type_variables.parts.ask.Goals as goal
 
 pub returns-clause-adds : goal.returns-clause-adds
-returns-clause-adds c = adds_one c.args.asks.now.items c.push.new.self.items (λ t. t c.args.place ≡ value t c.args.term) record { place = c.args.place; term = c.args.term } c.in_ok-push.ensures.items (λ t f. f) (λ t f. f)
+returns-clause-adds c = adds_one c.args.asks.now.items c.push.new.self.items (λ t. t c.args.variable ≡ value t c.args.term) record { variable = c.args.variable; term = c.args.term } c.in_ok-push.ensures.items (λ t f. f) (λ t f. f)
 
 pub returns-clause-within : goal.returns-clause-within
-returns-clause-within c = subst (λ (asks : List Ask). AsksWithin c.args.places asks) (sym c.in_ok-push.ensures.items)
-    (within_more c.args.places c.args.asks.now.items record { place = c.args.place; term = c.args.term } c.requires.within c.requires.place c.requires.term)
+returns-clause-within c = subst (λ (asks : List Ask). AsksWithin c.args.variables asks) (sym c.in_ok-push.ensures.items)
+    (within_more c.args.variables c.args.asks.now.items record { variable = c.args.variable; term = c.args.term } c.requires.within c.requires.variable c.requires.term)

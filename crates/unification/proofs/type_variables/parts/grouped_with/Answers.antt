@@ -7,19 +7,19 @@ use Rattle.unification.proofs.Asking.{adds_said, says_said, grouped_same, length
 use Rattle.unification.proofs.type_variables.parts.grouped_with.Goals as goal
 use Rattle.unification.proofs.type_variables.parts.grouped_with.Goals.{else-same_group-via-then-same_group+else-count-number, else-same_group-via-else-same_group}
 
-pub returns-in_ok-ask_places-in-Grouped-clause-says : goal.returns-in_ok-ask_places-in-Grouped-clause-says
-returns-in_ok-ask_places-in-Grouped-clause-says c =
+pub returns-in_ok-ask_variables-in-Grouped-clause-says : goal.returns-in_ok-ask_variables-in-Grouped-clause-says
+returns-in_ok-ask_variables-in-Grouped-clause-says c =
     let start = c.in-Grouped.start in
     let same : (t : Typing) → grouped c.args.group (types_of (list_at t start c.args.count)) ≡ value t c.args.other = λ t.
     c.if-same_group.ensures.one refl (types_of (list_at t start c.args.count))
     ∙ ap (λ (n : ℕ). grouped c.in-Grouped.maker (types_of (list_at t start n))) c.if-count-number.true
     ∙ sym (ap (value t) c.in-Grouped.is) in
-    adds_said c.args.asks.now.items c.ask_places.new.asks.items
+    adds_said c.args.asks.now.items c.ask_variables.new.asks.items
     (λ t. list_at t c.args.first c.args.count ≡ list_at t start c.args.count)
     (λ t. grouped c.args.group (types_of (list_at t c.args.first c.args.count)) ≡ value t c.args.other)
     (λ t e. grouped_same c.args.group (list_at t c.args.first c.args.count) (list_at t start c.args.count) (e ∙ sym (same t)))
     (λ t e. ap (λ (ts : List TypeData). grouped c.args.group (types_of ts)) e ∙ same t)
-    c.in_ok-ask_places-in-Grouped.ensures.adds
+    c.in_ok-ask_variables-in-Grouped.ensures.adds
 
 pub returns-else-same_group-clause-says : goal.returns-else-same_group-clause-says
 returns-else-same_group-clause-says c t e =

@@ -7,10 +7,10 @@ use Rattle.unification.proofs.type_variables.parts.wrapped_parts.Goals as goal
 
 pub returns-in_ok-ask-in-Made-clause-says : goal.returns-in_ok-ask-in-Made-clause-says
 returns-in_ok-ask-in-Made-clause-says c = adds_said c.args.asks.now.items c.ask.new.asks.items
-    (λ t. t c.args.part ≡ t c.in-Made.place)
+    (λ t. t c.args.part ≡ t c.in-Made.variable)
     (λ t. wrapped c.args.wrap (t c.args.part) ≡ value t c.args.other)
-    (λ t e. wrapped_same c.args.wrap (t c.args.part) (t c.in-Made.place) (e ∙ ap (value t) c.in-Made.is ∙ ap (λ w. wrapped w (t c.in-Made.place)) (sym (c.if-same_wrap.ensures.0 refl))))
-    (λ t e. ap (wrapped c.args.wrap) e ∙ ap (λ w. wrapped w (t c.in-Made.place)) (c.if-same_wrap.ensures.0 refl) ∙ sym (ap (value t) c.in-Made.is))
+    (λ t e. wrapped_same c.args.wrap (t c.args.part) (t c.in-Made.variable) (e ∙ ap (value t) c.in-Made.is ∙ ap (λ w. wrapped w (t c.in-Made.variable)) (sym (c.if-same_wrap.ensures.0 refl))))
+    (λ t e. ap (wrapped c.args.wrap) e ∙ ap (λ w. wrapped w (t c.in-Made.variable)) (c.if-same_wrap.ensures.0 refl) ∙ sym (ap (value t) c.in-Made.is))
     c.in_ok-ask-in-Made.ensures.adds
 
 pub returns-in-Closed-clause-says : goal.returns-in-Closed-clause-says

@@ -6,7 +6,7 @@ abbrev pub invariant-loop-next : goal.invariant-loop-next
 invariant-loop-next l = record {
   within : l.at < length l.slots;
   becomes : Becomes l.fn.slots (λ t. Unit {0}) l.slots (λ t. Unit {0});
-  same : (t : Typing) → Meets l.slots t → t l.place ≡ t l.at;
+  same : (t : Typing) → Meets l.slots t → t l.variable ≡ t l.at;
   stays : (p : ℕ) → IsRoot (slot_at l.fn.slots p) → slot_at l.slots p ≡ slot_at l.fn.slots p;
   less : work l.slots ≤ work l.fn.slots;
 }

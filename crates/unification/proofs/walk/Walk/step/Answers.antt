@@ -13,7 +13,7 @@ returns-then-ranked-parts c =
     let ranks = c.args.self.now.ranks.items in
     let seen = c.args.self.now.seen.items in
     let k = c.ranked_parts-ranked.result in
-    let lt : at < length slots = c.requires.way.places.0 in
+    let lt : at < length slots = c.requires.way.variables.0 in
     let known : at < length seen = subst (λ (n : ℕ). c.args.at < n) (sym c.requires.walk.long) lt in
     let e = slot_read slots at c.index-slots-at.result lt c.index-slots-at.is in
     let ef = c.slot_parts-parts.ensures.first ∙ sym (ap first_part e) in
@@ -29,7 +29,7 @@ returns-then-len-slots c = goes_round c.args.slots.now c.args.start c.args.at c.
 
 pub overflow_add-parts : goal.overflow_add-parts
 overflow_add-parts c =
-    let lt : c.args.at < length c.args.slots.now = c.requires.way.places.0 in
+    let lt : c.args.at < length c.args.slots.now = c.requires.way.variables.0 in
     let e = slot_read c.args.slots.now c.args.at c.index-slots-at.result lt c.index-slots-at.is in
     let ef = c.slot_parts-parts.ensures.first ∙ sym (ap first_part e) in
     let ec = c.slot_parts-parts.ensures.count ∙ sym (ap part_count e) in
@@ -45,7 +45,7 @@ returns c =
     let way = c.args.self.now.way.items in
     let k = c.ranked_parts-ranked.result in
     let first = c.slot_parts-parts.result.first in
-    let lt : at < length slots = c.requires.way.places.0 in
+    let lt : at < length slots = c.requires.way.variables.0 in
     let known : at < length seen = subst (λ (n : ℕ). c.args.at < n) (sym c.requires.walk.long) lt in
     let e = slot_read slots at c.index-slots-at.result lt c.index-slots-at.is in
     let ef : c.slot_parts-parts.result.first ≡ first_part (slot_at c.args.slots.now c.args.at) = c.slot_parts-parts.ensures.first ∙ sym (ap first_part e) in

@@ -1,6 +1,6 @@
 use Rattle.std.proofs.Common.{ℕ, ◌<◌, ◌-◌, ◌++◌, List, [], ◌∷◌, length, get_or, set, take, sym, ◌∙◌, ap, subst}
 use Rattle.std.proofs.lemmas.List.{get_or_read, get_or-set_same}
-use Rattle.base.specs.Circles.{AreMirrored}
+use Rattle.base.specs.GraphReachability.{AreMirrored}
 use Rattle.base.proofs.EdgeLemmas.{mirrored_pushed, restored, unchanged, on_ok, on_err, below_same}
 use Rattle.base.proofs.cycles.graph.Graph.add_edge.Goals as goal
 

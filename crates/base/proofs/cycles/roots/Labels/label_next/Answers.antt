@@ -8,7 +8,7 @@ use Rattle.base.proofs.cycles.roots.Labels.label_next.Goals.{then-is_none+in_ok-
 
 pub loop-source-init : goal.loop-source-init
 loop-source-init c = record {
-  labels = label_open c.args.sources.now c.args.order.now c.args.place c.args.self.now.labels.items c.args.node (reverse c.args.self.now.work.items) c.requires.labels;
+  labels = label_open c.args.sources.now c.args.order.now c.args.position c.args.self.now.labels.items c.args.node (reverse c.args.self.now.work.items) c.requires.labels;
   own = c.requires.labels.pending c.args.node (inl refl);
   less = omega arith;
 }
@@ -32,7 +32,7 @@ loop-source-preserved c =
     let sources = c.args.sources.now in
     let order = c.args.order.now in
     let node = c.args.node in
-    let place = c.args.place in
+    let position = c.args.position in
     let slice = c.as_slice-source-items.result.now in
     let labels = c.loop-source.self.labels.items in
     let work = reverse c.loop-source.self.work.items in
@@ -50,18 +50,18 @@ loop-source-preserved c =
       | then-is_none+in_ok-push w ↦ (
           let fresh : label labels source ≡ None = sym read ∙ none_of _ w.if-is_none.ensures in
           let e = reverse_push c.loop-source.self.work.items w.push.new.self.items source w.in_ok-push.ensures.items in
-          let less = waiting_set labels c.loop-source.self.work.items w.push.new.self.items source place inside fresh w.in_ok-push.ensures.items in
+          let less = waiting_set labels c.loop-source.self.work.items w.push.new.self.items source position inside fresh w.in_ok-push.ensures.items in
           let before = inv.less in
           rw w.self-is (record {
-            labels = subst (λ (p : List ℕ). IsLabelling sources order place (set labels source (Some place)) p (IsFrom node (next + 1))) (sym e) (label_source sources order place labels node work next source inv.own m is inside fresh inv.labels);
-            own = label_kept labels source node place place fresh inv.own;
+            labels = subst (λ (p : List ℕ). IsLabelling sources order position (set labels source (Some position)) p (IsFrom node (next + 1))) (sym e) (label_source sources order position labels node work next source inv.own m is inside fresh inv.labels);
+            own = label_kept labels source node position position fresh inv.own;
             less = omega arith;
           }))
       | else-is_none w ↦ (
           let had = some_of _ w.if-is_none.ensures in
           let h : label labels (get_or (get_or sources node []) next 0) ≡ Some had.0 = ap (λ (x : ℕ). label labels x) is ∙ sym read ∙ had.1 in
           rw w.self-is (record {
-            labels = label_pass sources order place labels node work next had.0 inv.own h inv.labels;
+            labels = label_pass sources order position labels node work next had.0 inv.own h inv.labels;
             own = inv.own;
             less = inv.less;
           }))
@@ -72,4 +72,4 @@ returns-clause-labels c =
     let t = targets_are c.args.sources.now c.args.node c.index-sources-node.result c.as_slice-source-items.result.now c.requires.node c.index-sources-node.is c.as_slice-source-items.ensures in
     let q = ap (λ (xs : List ℕ). length xs) t in
     let l = c.loop-source-test.false in
-    label_close c.args.sources.now c.args.order.now c.args.place c.loop-source.self.labels.items c.args.node (reverse c.loop-source.self.work.items) c.loop-source.source-index (omega arith) c.loop-source.invariant.labels
+    label_close c.args.sources.now c.args.order.now c.args.position c.loop-source.self.labels.items c.args.node (reverse c.loop-source.self.work.items) c.loop-source.source-index (omega arith) c.loop-source.invariant.labels

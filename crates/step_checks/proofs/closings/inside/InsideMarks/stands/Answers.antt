@@ -14,5 +14,5 @@ returns-in-Some-clause-exact c = (
 pub returns-clause-exact : goal.returns-clause-exact
 returns-clause-exact c =
     let ns = c.args.pool.now in
-    let told = marks_tell ns c.args.branch.now c.requires.over c.one_number.ensures c.args.term c.requires.term c.make.new.marks.items c.in_ok-make.ensures.swept in
-    subst (λ v. IsTrue v ↔ StandsInside (branch_in ns c.args.branch.now) (term_at ns c.args.term)) (sym (read_mark ns c.args.branch.now c.make.new.marks.items c.in_ok-make.ensures.swept c.args.term c.index.result.now c.requires.term.within c.index.ensures)) told
+    let known = marks_tell ns c.args.branch.now c.requires.over c.one_number.ensures c.args.term c.requires.term c.make.new.marks.items c.in_ok-make.ensures.swept in
+    subst (λ v. IsTrue v ↔ StandsInside (branch_in ns c.args.branch.now) (term_at ns c.args.term)) (sym (read_mark ns c.args.branch.now c.make.new.marks.items c.in_ok-make.ensures.swept c.args.term c.index.result.now c.requires.term.within c.index.ensures)) known

@@ -1,6 +1,0 @@
-use Rattle.std.proofs.Common.{take}
-use Rattle.axiom_strategy.specs.Places.{AreByClass}
-use Rattle.axiom_strategy.proofs.decisions.places.by_class.Given as goal
-
-abbrev pub invariant-loop-candidate : goal.invariant-loop-candidate
-invariant-loop-candidate l = AreByClass l.classes (take l.candidate-index l.candidates) l.lists

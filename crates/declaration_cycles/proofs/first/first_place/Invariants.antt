@@ -1,7 +1,0 @@
-use Rattle.std.proofs.Common.{take}
-use Rattle.program.specs.Order.{IsFirstOrNone}
-use Rattle.declaration_cycles.specs.Circular.{IsPlaceAmong, places_in}
-use Rattle.declaration_cycles.proofs.first.first_place.Given as goal
-
-abbrev pub invariant-loop-number : goal.invariant-loop-number
-invariant-loop-number l = IsFirstOrNone (IsPlaceAmong (places_in l.program l.kind) (take l.number-index l.numbers)) l.first

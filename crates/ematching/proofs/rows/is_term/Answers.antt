@@ -1,8 +1,0 @@
-use Rattle.ematching.proofs.HeldLemmas.{is_term_number, no_term_number}
-use Rattle.ematching.proofs.rows.is_term.Goals as goal
-
-pub returns-in-Some : goal.returns-in-Some
-returns-in-Some c = is_term_number c.args.pool.now c.args.number c.in-Some.node c.in-Some.ensures c.is_term_node.result c.is_term_node.ensures
-
-pub returns-in-None : goal.returns-in-None
-returns-in-None c = no_term_number c.args.pool.now c.args.number c.in-None.ensures

@@ -1,7 +1,0 @@
-use Rattle.std.proofs.Common.{◌≡◌, Some, take}
-use Rattle.scopes.specs.Meanings.{each}
-use Rattle.resolution.specs.Includes.{place_of}
-use Rattle.resolution.proofs.clauses.bindings.places_of.Given as goal
-
-abbrev pub invariant-loop-variable : goal.invariant-loop-variable
-invariant-loop-variable l = each (place_of l.names l.roots) (take l.variable-index l.variables) ≡ Some l.places

@@ -1,7 +1,0 @@
-use Rattle.std.proofs.Common.{◌≡◌}
-use Rattle.typing_rules.specs.Settings.{first_argument}
-use Rattle.type_constraints.specs.CodeSettings.{setting_of}
-use Rattle.type_solver.proofs.code_systems.counts.place_count.Given as goal
-
-abbrev pub invariant-loop-place : goal.invariant-loop-place
-invariant-loop-place l = l.first ≡ first_argument (setting_of l.setting) l.place
