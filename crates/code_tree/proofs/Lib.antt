@@ -1,0 +1,9 @@
+pub mod Combined
+pub mod PassLaw
+pub mod VisitLaw
+pub mod MatchCombined
+pub mod SameEnds
+pub mod ModularLaw
+pub mod RenamedTruth
+pub mod Added
+pub mod Made

@@ -1,0 +1,13 @@
+pub mod Outcomes
+pub mod Codes
+pub mod Passes
+pub mod Visits
+pub mod PassLaws
+pub mod Ends
+pub mod ModularRuns
+pub mod Matching
+pub mod ModularLaws
+pub mod FreeCodes
+pub mod Renamed
+pub mod Faults
+pub mod Growing

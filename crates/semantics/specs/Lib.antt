@@ -1,0 +1,10 @@
+pub mod States
+pub mod Operations
+pub mod TypedTrees
+pub mod Runs
+pub mod SpecTruth
+pub mod Clauses
+pub mod Keeping
+pub mod TypedBodies
+pub mod SpecTrees
+pub mod Programs
